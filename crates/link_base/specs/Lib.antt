@@ -1,0 +1,5 @@
+pub mod Bytes
+pub mod NameText
+pub mod LineText
+pub mod KindWord
+pub mod FaultLine

@@ -1,0 +1,128 @@
+//! Why an input is refused, as one word of a diagnostic's line.
+
+ghost use Rattle.std.specs.Prelude.{◌≡◌};
+ghost use Rattle.link_base.specs.KindWord.{object_fault_word, kind_word, target_fault_word};
+
+/// What is wrong with an object file, in the order of the tests. The index beside it says where: a section
+/// (from 1), a symbol record (from 0), or 0.
+#[derive(Clone, Copy, Debug, PartialEq, Eq)]
+pub enum ObjFault {
+    /// The file header or the section headers leave the file.
+    Truncated,
+    /// The machine is neither x86-64 nor unknown.
+    Machine,
+    /// The data of a section leave the file.
+    SectionRange,
+    /// The relocations of a section leave the file, or their extended count is 0.
+    RelocationRange,
+    /// A symbol record leaves the file, or its auxiliary records leave the table.
+    SymbolRange,
+    /// The string table leaves the file, or a long name is not in it.
+    StringTable,
+    /// A section's alignment is not one of the format.
+    Alignment,
+    /// A symbol's section number is none of the file's, nor a special one.
+    SectionNumber,
+    /// A symbol's value is above its section's size.
+    SymbolValue,
+    /// A symbol lacks the auxiliary record that its class or its section needs, or the record is malformed.
+    Aux,
+    /// A COMDAT section's selection is not one of the format.
+    Selection,
+    /// An associative COMDAT section's parent is not a section, or a chain of parents comes back.
+    Associative,
+}
+
+/// A form of input that is refused, or not read yet.
+#[derive(Clone, Copy, Debug, PartialEq, Eq)]
+pub enum Kind {
+    /// An archive that names its members and does not hold them.
+    ThinLibrary,
+    /// LLVM bitcode.
+    Bitcode,
+    /// An executable image.
+    Image,
+    /// A compiled resource file.
+    Resource,
+    /// An object with more than 65,279 sections.
+    BigObject,
+    /// An anonymous object of another class.
+    Anonymous,
+    /// An object with a section that the linker makes itself.
+    LinkerSection,
+    /// A section or symbol name of more than 32,000 bytes.
+    LongName,
+    /// A form that this linker does not read yet.
+    NotBuilt,
+}
+
+/// Why a relocation's or the entry's target has no address that can be used.
+#[derive(Clone, Copy, Debug, PartialEq, Eq)]
+pub enum TargetFault {
+    /// A local symbol that stands in no section.
+    Local,
+    /// A local symbol in a section that was not selected.
+    Discarded,
+    /// A place in a section that does not come into the image.
+    Unplaced,
+    /// A relative field to an absolute value.
+    AbsRelative,
+    /// A section number or offset of what lies in no section.
+    NoSection,
+    /// An address of 32 bits in an image that may lie above them.
+    NeedsLow,
+    /// A field of the exception table that is no RVA.
+    PdataField,
+}
+
+/// The word that names what is wrong with an object.
+pub(crate) fn object_fault_word(kind: ObjFault) -> &'static [u8]
+    ensures { result.now ≡ object_fault_word kind }
+{
+    match kind {
+        ObjFault::Truncated => b"Truncated",
+        ObjFault::Machine => b"Machine",
+        ObjFault::SectionRange => b"SectionRange",
+        ObjFault::RelocationRange => b"RelocationRange",
+        ObjFault::SymbolRange => b"SymbolRange",
+        ObjFault::StringTable => b"StringTable",
+        ObjFault::Alignment => b"Alignment",
+        ObjFault::SectionNumber => b"SectionNumber",
+        ObjFault::SymbolValue => b"SymbolValue",
+        ObjFault::Aux => b"Aux",
+        ObjFault::Selection => b"Selection",
+        ObjFault::Associative => b"Associative",
+    }
+}
+
+/// The word that names a form of input.
+pub(crate) fn kind_word(kind: Kind) -> &'static [u8]
+    ensures { result.now ≡ kind_word kind }
+{
+    match kind {
+        Kind::ThinLibrary => b"ThinLibrary",
+        Kind::Bitcode => b"Bitcode",
+        Kind::Image => b"Image",
+        Kind::Resource => b"Resource",
+        Kind::BigObject => b"BigObject",
+        Kind::Anonymous => b"Anonymous",
+        Kind::LinkerSection => b"LinkerSection",
+        Kind::LongName => b"LongName",
+        Kind::NotBuilt => b"NotBuilt",
+    }
+}
+
+/// The word that names why a target cannot be used.
+pub(crate) fn target_fault_word(kind: TargetFault) -> &'static [u8]
+    ensures { result.now ≡ target_fault_word kind }
+{
+    match kind {
+        TargetFault::Local => b"Local",
+        TargetFault::Discarded => b"Discarded",
+        TargetFault::Unplaced => b"Unplaced",
+        TargetFault::AbsRelative => b"AbsRelative",
+        TargetFault::NoSection => b"NoSection",
+        TargetFault::NeedsLow => b"NeedsLow",
+        TargetFault::PdataField => b"PdataField",
+    }
+}

@@ -1,0 +1,15 @@
+//! Names, fields of bytes, and the diagnostics of a link.
+#![tactic(auto)]
+
+mod fault;
+mod field;
+mod kind;
+mod line;
+mod memory;
+mod name;
+
+pub use fault::{Fault, fault_line};
+pub use field::{cstr, field_u16, field_u32, field_u64};
+pub use kind::{Kind, ObjFault, TargetFault};
+pub use memory::Memory;
+pub use name::Name;

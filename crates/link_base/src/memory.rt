@@ -1,0 +1,19 @@
+//! The error of a call that can fail for want of memory alone.
+
+use std::alloc::{AllocError, AllocFailed};
+
+/// Want of memory: an allocation was refused.
+#[derive(Clone, Copy, Debug, PartialEq, Eq)]
+pub struct Memory;
+
+impl From<AllocError> for Memory {
+    fn from(_error: AllocError) -> Memory {
+        Memory
+    }
+}
+
+impl<T: Drop> From<AllocFailed<T>> for Memory {
+    fn from(_error: AllocFailed<T>) -> Memory {
+        Memory
+    }
+}
