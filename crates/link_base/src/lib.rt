@@ -10,6 +10,6 @@ mod name;
 
 pub use fault::{Fault, fault_line};
 pub use field::{cstr, field_u16, field_u32, field_u64};
-pub use kind::{Kind, ObjFault, TargetFault};
+pub use kind::{ImageKind, Kind, ObjFault, TargetFault};
 pub use memory::Memory;
 pub use name::Name;
