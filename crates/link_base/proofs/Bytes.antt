@@ -9,7 +9,7 @@ use Rattle.std.proofs.lemmas.Bool.{cases_lt, false≢true}
 use Rattle.byteorder.specs.Endian.{little_from, little_number}
 use Rattle.link_base.specs.Bytes.{number_at, field, is_nul, text_at}
 
-little_from-drop : (width offset i : ℕ) (bytes : List ℕ) → little_from i width (drop offset bytes) ≡ little_from (offset + i) width bytes
+pub little_from-drop : (width offset i : ℕ) (bytes : List ℕ) → little_from i width (drop offset bytes) ≡ little_from (offset + i) width bytes
 little_from-drop zero offset i bytes = refl
 little_from-drop (suc width) offset i bytes =
     rw (get_or-drop, little_from-drop width offset (suc i) bytes) (ap (λ (k : ℕ). slice_index bytes (offset + i) + 256 * little_from k width bytes) (omega arith))

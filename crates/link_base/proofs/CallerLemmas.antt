@@ -1,7 +1,9 @@
 -- What callers may cite: the least number that passes, in a loop that counts up, and what all numbers below one pass.
-use Rattle.std.proofs.Common.{◌≡◌, ℕ, zero, suc, ◌+◌, ◌<◌, Bool, true, false, cond, ◌&&◌, Option, Some, None, refl, sym, ap, ◌∙◌, inl, inr, ◌⊎◌, add-one, arith}
+use Rattle.std.proofs.Common.{List, ◌++◌, length, drop, ◌^◌, ◌≡◌, ℕ, zero, suc, ◌+◌, ◌<◌, Bool, true, false, cond, ◌&&◌, Option, Some, None, refl, sym, ap, ◌∙◌, inl, inr, ◌⊎◌, add-one, arith}
 use Rattle.std.proofs.lemmas.Bool.{false≢true, cases_lt}
-use Rattle.link_base.specs.Bytes.{all_below, first_below, first_of}
+use Rattle.byteorder.specs.Numbers.{little_number-reads_back, length-bytes_low_first}
+use Rattle.link_base.specs.Bytes.{all_below, first_below, first_of, number_at, number_bytes}
+use Rattle.link_base.proofs.Bytes.{little_from-drop}
 
 -- ---- the least number that passes
 
@@ -96,3 +98,19 @@ all_below-fails (suc n) k test lt fails =
     and_false : (b : Bool) → (b && false) ≡ false
     and_false true = refl
     and_false false = refl
+
+-- ---- a number that is written and read back
+
+-- a number that fits its width reads back at the start of a list that begins with its bytes
+pub number_at-number_bytes : (width number : ℕ) (rest : List ℕ) → number < 256 ^ width → number_at width (number_bytes width number ++ rest) 0 ≡ number
+unfolding number_at number_bytes
+number_at-number_bytes width number rest fits = little_number-reads_back width number rest fits
+
+pub length-number_bytes : (width number : ℕ) → length (number_bytes width number) ≡ width
+unfolding number_bytes
+length-number_bytes width number = length-bytes_low_first 0 width number
+
+-- a number stands at an offset where it stands at the start of what follows
+pub number_at-drop : (width offset i : ℕ) (bytes : List ℕ) → number_at width (drop offset bytes) i ≡ number_at width bytes (offset + i)
+unfolding number_at
+number_at-drop width offset i bytes = little_from-drop width offset i bytes

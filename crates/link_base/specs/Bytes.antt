@@ -1,11 +1,15 @@
 -- Numbers and texts in a list of bytes. The formats of a link hold numbers with the lowest byte first
 -- (PE Format, "COFF File Header (Object and Image)" and the tables after it).
 use Rattle.std.specs.Prelude.{ℕ, zero, suc, ◌+◌, Bool, true, ◌&&◌, ◌==◌, nat_le, if◌then◌else◌, List, length, take, drop, Option, Some, None, option_map, position}
-use Rattle.byteorder.specs.Endian.{little_from}
+use Rattle.byteorder.specs.Endian.{little_from, little_bytes}
 
 -- the number in the `width` bytes from `offset` on, the lowest byte first
 unfoldable pub number_at : ℕ → List ℕ → ℕ → ℕ
 number_at width bytes offset = little_from offset width bytes
+
+-- the lowest `width` bytes of a number, the lowest first
+unfoldable pub number_bytes : ℕ → ℕ → List ℕ
+number_bytes width number = little_bytes width number
 
 abbrev pub u16_at : List ℕ → ℕ → ℕ
 u16_at bytes offset = number_at 2 bytes offset
