@@ -1,4 +1,5 @@
 pub mod Bytes
+pub mod Fields
 pub mod NameText
 pub mod LineText
 pub mod KindWord

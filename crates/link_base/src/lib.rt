@@ -14,4 +14,4 @@ pub use field::{cstr, field_u16, field_u32, field_u64};
 pub use kind::{ImageKind, Kind, ObjFault, TargetFault};
 pub use memory::Memory;
 pub use name::Name;
-pub use numbers::{push_u8, push_u16, push_u32, push_u64};
+pub use numbers::{Field, push_fields};

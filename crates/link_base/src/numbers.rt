@@ -2,39 +2,66 @@
 
 ghost use Rattle.std.specs.Prelude.{◌≡◌, ◌++◌, OnOk};
 ghost use Rattle.link_base.specs.Bytes.{number_bytes};
+ghost use Rattle.link_base.specs.Fields.{field_bytes, fields};
 
 use crate::memory::Memory;
 use byteorder::{LittleEndian, WriteBytesExt};
 
-/// Appends the number in one byte.
-#[tactic(auto, unfolding(crate::specs::Bytes::number_bytes))]
-pub fn push_u8(out: &mut Vec<u8>, value: u8) -> Result<(), Memory>
-    ensures { OnOk result (out.new.items ≡ out.old.items ++ number_bytes 1 value) }
+/// A number and the width that a table gives it.
+#[derive(Clone, Copy)]
+pub enum Field {
+    U8(u8),
+    U16(u16),
+    U32(u32),
+    U64(u64),
+}
+
+/// Appends the fields of a table, one after the other.
+pub fn push_fields(out: &mut Vec<u8>, table: &[Field]) -> Result<(), Memory>
+    ensures { OnOk result (out.new.items ≡ out.old.items ++ fields table.now) }
 {
-    out.push(value)?;
+    for field in table {
+        push_field(out, *field)?;
+    }
     Ok(())
 }
 
-/// Appends the number in two bytes.
-#[tactic(auto, unfolding(crate::specs::Bytes::number_bytes))]
-pub fn push_u16(out: &mut Vec<u8>, value: u16) -> Result<(), Memory>
-    ensures { OnOk result (out.new.items ≡ out.old.items ++ number_bytes 2 value) }
+fn push_field(out: &mut Vec<u8>, field: Field) -> Result<(), Memory>
+    ensures { OnOk result (out.new.items ≡ out.old.items ++ field_bytes field) }
 {
-    out.write_u16::<LittleEndian>(value).map_err(|_| Memory)
+    match field {
+        Field::U8(number) => push_u8(out, number),
+        Field::U16(number) => push_u16(out, number),
+        Field::U32(number) => push_u32(out, number),
+        Field::U64(number) => push_u64(out, number),
+    }
 }
 
-/// Appends the number in four bytes.
 #[tactic(auto, unfolding(crate::specs::Bytes::number_bytes))]
-pub fn push_u32(out: &mut Vec<u8>, value: u32) -> Result<(), Memory>
-    ensures { OnOk result (out.new.items ≡ out.old.items ++ number_bytes 4 value) }
+fn push_u8(out: &mut Vec<u8>, number: u8) -> Result<(), Memory>
+    ensures { OnOk result (out.new.items ≡ out.old.items ++ number_bytes 1 number) }
 {
-    out.write_u32::<LittleEndian>(value).map_err(|_| Memory)
+    out.push(number)?;
+    Ok(())
 }
 
-/// Appends the number in eight bytes.
 #[tactic(auto, unfolding(crate::specs::Bytes::number_bytes))]
-pub fn push_u64(out: &mut Vec<u8>, value: u64) -> Result<(), Memory>
-    ensures { OnOk result (out.new.items ≡ out.old.items ++ number_bytes 8 value) }
+fn push_u16(out: &mut Vec<u8>, number: u16) -> Result<(), Memory>
+    ensures { OnOk result (out.new.items ≡ out.old.items ++ number_bytes 2 number) }
 {
-    out.write_u64::<LittleEndian>(value).map_err(|_| Memory)
+    out.write_u16::<LittleEndian>(number).map_err(|_| Memory)
+}
+
+#[tactic(auto, unfolding(crate::specs::Bytes::number_bytes))]
+fn push_u32(out: &mut Vec<u8>, number: u32) -> Result<(), Memory>
+    ensures { OnOk result (out.new.items ≡ out.old.items ++ number_bytes 4 number) }
+{
+    out.write_u32::<LittleEndian>(number).map_err(|_| Memory)
+}
+
+#[tactic(auto, unfolding(crate::specs::Bytes::number_bytes))]
+fn push_u64(out: &mut Vec<u8>, number: u64) -> Result<(), Memory>
+    ensures { OnOk result (out.new.items ≡ out.old.items ++ number_bytes 8 number) }
+{
+    out.write_u64::<LittleEndian>(number).map_err(|_| Memory)
 }

@@ -1,0 +1,5 @@
+pub mod ImageFormat
+pub mod HeaderTable
+pub mod PermittedBase
+pub mod BaseBlocks
+pub mod LoadedImage

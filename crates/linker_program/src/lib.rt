@@ -1,0 +1,8 @@
+//! The linker as a library.
+#![tactic(auto)]
+
+mod header_sums;
+mod headers;
+mod pe_format;
+
+pub use headers::{Headers, SectionRow};
