@@ -13,14 +13,8 @@ use std::alloc::Global;
 pub(crate) fn push_escaped(line: &mut Vec<u8>, name: &Name<'_>) -> Result<(), Memory>
     ensures { OnOk result (line.new.items ≡ line.old.items ++ escaped name.now) }
 {
-    line.extend_from_slice(prefix_of(name))?;
+    line.extend_from_slice(name.prefix())?;
     push_escaped_bytes(line, name.rest())
-}
-
-fn prefix_of(name: &Name<'_>) -> &'static [u8]
-    ensures { result.now ≡ import_prefix_of name.now }
-{
-    if name.is_import() { b"__imp_" } else { b"" }
 }
 
 fn push_escaped_bytes(line: &mut Vec<u8>, text: &[u8]) -> Result<(), Memory>

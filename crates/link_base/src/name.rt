@@ -1,9 +1,9 @@
 //! Names: of symbols, and of the files and members that a diagnostic prints.
 
-ghost use Rattle.std.specs.Prelude.{◌≡◌, ◌++◌, nat_eq};
+ghost use Rattle.std.specs.Prelude.{◌≡◌, ◌++◌, nat_eq, OnOk};
 ghost use Rattle.std.specs.Ordering.{nat_cmp};
 ghost use Rattle.std.specs.Cmp.Lexicographic.{slice_cmp};
-ghost use Rattle.link_base.specs.NameText.{import_prefix, begins_import, behind_import, name_hash_input};
+ghost use Rattle.link_base.specs.NameText.{import_prefix, import_prefix_of, begins_import, behind_import, name_hash_input};
 ghost use lib.Pointwise.{pointwise};
 ghost use Rattle.std.proofs.Common.{rules, refl};
 ghost use Rattle.std.specs.Cmp.{partial_equiv_from_equiv};
@@ -12,6 +12,7 @@ ghost use Rattle.std.proofs.lemmas.Cmp.{nat_list_eq_equiv, nat_list_cmp_total};
 ghost use Rattle.std.specs.Cmp.Rules.{comparing, hashing};
 ghost use Rattle.std.specs.Ordering.{as_partial_cmp};
 
+use crate::memory::Memory;
 use std::cmp::Ordering;
 use std::hash::{Hash, Hasher};
 use std::marker::Model;
@@ -76,6 +77,22 @@ impl<'a> Name<'a> {
         ensures { result.now ≡ behind_import self.now }
     {
         self.rest
+    }
+
+    /// The prefix where the name begins with it, and else nothing.
+    pub(crate) fn prefix(&self) -> &'static [u8]
+        ensures { result.now ≡ import_prefix_of self.now }
+    {
+        if self.is_import { IMPORT_PREFIX } else { b"" }
+    }
+
+    /// Appends the name's bytes to a buffer.
+    pub fn push_to(&self, out: &mut Vec<u8>) -> Result<(), Memory>
+        ensures { OnOk result (out.new.items ≡ out.old.items ++ self.now) }
+    {
+        out.extend_from_slice(self.prefix())?;
+        out.extend_from_slice(self.rest)?;
+        Ok(())
     }
 
     /// An equal name.

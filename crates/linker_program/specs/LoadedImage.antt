@@ -175,19 +175,19 @@ first_failed (test ∷ tests) = if test.1 then first_failed tests else Some test
 unfoldable pub image_fault : List ℕ → Option ImageKind
 image_fault image =
     first_failed
-      ((bad.Dos, has_dos_header image)
-      ∷ (bad.Signature, has_signature image)
-      ∷ (bad.Machine, has_machine image)
-      ∷ (bad.OptionalSize, has_optional_header image)
-      ∷ (bad.Magic, has_magic image)
-      ∷ (bad.Alignment, has_alignments image)
-      ∷ (bad.Directories, has_directories image)
-      ∷ (bad.ImageSize, has_size image)
-      ∷ (bad.Headers, has_headers image)
-      ∷ (bad.Sections, has_sections image)
-      ∷ (bad.Raw, has_raw_bytes image)
-      ∷ (bad.Blocks, has_blocks image)
-      ∷ [])
+    ((bad.Dos, has_dos_header image)
+    ∷ (bad.Signature, has_signature image)
+    ∷ (bad.Machine, has_machine image)
+    ∷ (bad.OptionalSize, has_optional_header image)
+    ∷ (bad.Magic, has_magic image)
+    ∷ (bad.Alignment, has_alignments image)
+    ∷ (bad.Directories, has_directories image)
+    ∷ (bad.ImageSize, has_size image)
+    ∷ (bad.Headers, has_headers image)
+    ∷ (bad.Sections, has_sections image)
+    ∷ (bad.Raw, has_raw_bytes image)
+    ∷ (bad.Blocks, has_blocks image)
+    ∷ [])
 
 -- how much a base lies above the image's own, modulo 2^64
 abbrev pub base_delta : List ℕ → ℕ → ℕ

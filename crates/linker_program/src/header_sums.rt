@@ -1,7 +1,8 @@
 //! What the headers say of all sections together.
 
 ghost use Rattle.std.specs.Prelude.{◌≡◌, ◌<◌, ◌^◌, IsTrue};
-ghost use Rattle.linker_program.specs.ImageFormat.{has_flag};
+ghost use Rattle.std.specs.Int.{next_multiple_of};
+ghost use Rattle.linker_program.specs.ImageFormat.{file_alignment};
 ghost use Rattle.linker_program.specs.HeaderTable.{size_of_code, size_of_initialized_data, size_of_uninitialized_data, base_of_code};
 
 use crate::headers::SectionRow;
@@ -13,7 +14,11 @@ pub(crate) fn code_size(rows: &[SectionRow<'_>]) -> u32
     ensures { result ≡ size_of_code rows.now }
 {
     rows.iter()
-        .map(|row| if row.flags & SCN_CNT_CODE != 0 { row.raw_size } else { 0 })
+        .map(|row| if row.flags & SCN_CNT_CODE != 0 {
+            row.raw_size
+        } else {
+            0
+        })
         .sum()
 }
 
@@ -23,8 +28,34 @@ pub(crate) fn initialized_data_size(rows: &[SectionRow<'_>]) -> u32
     ensures { result ≡ size_of_initialized_data rows.now }
 {
     rows.iter()
-        .map(|row| if row.flags & SCN_CNT_CODE != 0 { 0 } else { row.raw_size })
+        .map(|row| if row.flags & SCN_CNT_CODE != 0 {
+            0
+        } else {
+            row.raw_size
+        })
         .sum()
+}
+
+/// The sum of the sizes in memory, each rounded up as in the file, of the sections without bytes in the file.
+pub(crate) fn uninitialized_data_size(rows: &[SectionRow<'_>]) -> u32
+    requires { size_of_uninitialized_data rows.now < 2 ^ 32 }
+    ensures { result ≡ size_of_uninitialized_data rows.now }
+{
+    let sum: u64 = rows
+        .iter()
+        .map(|row| if row.flags & SCN_CNT_UNINITIALIZED_DATA != 0 {
+            file_aligned(row.size)
+        } else {
+            0
+        })
+        .sum();
+    sum as u32
+}
+
+fn file_aligned(size: u32) -> u64
+    ensures { result ≡ next_multiple_of size file_alignment }
+{
+    u64::from(size).next_multiple_of(u64::from(FILE_ALIGNMENT))
 }
 
 /// The RVA of the first section with code, or 0.

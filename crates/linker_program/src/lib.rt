@@ -1,8 +1,9 @@
 //! The linker as a library.
 #![tactic(auto)]
 
+mod bytes_out;
 mod header_sums;
 mod headers;
 mod pe_format;
 
-pub use headers::{Headers, SectionRow};
+pub use headers::{Headers, SectionRow, push_headers};

@@ -4,4 +4,4 @@ use Rattle.link_base.proofs.line.push_escaped.Goals as goal
 
 pub returns : goal.returns
 returns c =
-    appends_parts _ _ _ c.args.line.now.items _ c.args.name.now (c.in_ok-extend_from_slice.ensures.items ∙ ap (λ (t : List ℕ). c.args.line.now.items ++ t) c.prefix_of.ensures) c.rest.ensures c.push_escaped_bytes.ensures
+    appends_parts _ _ _ c.args.line.now.items _ c.args.name.now (c.in_ok-extend_from_slice.ensures.items ∙ ap (λ (t : List ℕ). c.args.line.now.items ++ t) c.prefix.ensures) c.rest.ensures c.push_escaped_bytes.ensures
