@@ -1,0 +1,6 @@
+pub mod Store
+pub mod Reading
+pub mod Writing
+pub mod Putting
+pub mod FaultPlan
+pub mod MemFiles
