@@ -4,3 +4,5 @@ pub mod Writing
 pub mod Putting
 pub mod FaultPlan
 pub mod MemFiles
+pub mod MemSink
+pub mod HostCounts

@@ -3,6 +3,8 @@
 ghost use Rattle.std.specs.Prelude.{◌<◌, ◌-◌, ◌^◌, ℕ, List, Option};
 ghost use Rattle.link_files.specs.Putting.{PutsBytes};
 
+use std::alloc::AllocError;
+
 /// Why a put did not take all of its bytes.
 #[derive(Clone, Copy, Debug, PartialEq, Eq)]
 pub enum PutError {
@@ -10,6 +12,17 @@ pub enum PutError {
     Fault,
     /// Memory was refused, and nothing was taken.
     Memory,
+}
+
+impl From<AllocError> for PutError {
+    ghost use Rattle.std.specs.Prelude.{◌≡◌};
+    ghost use Rattle.link_files.specs.declared.sink.PutError.TheVariants as put;
+
+    ghost from_gives = { λ _ error. error ≡ put.Memory };
+
+    fn from(_error: AllocError) -> PutError {
+        PutError::Memory
+    }
 }
 
 /// Takes bytes one after another. Contracts may know what it has taken: the bytes are then told.
