@@ -1,0 +1,72 @@
+//! The trusted edge of the output: a writer of the system.
+
+ghost use Rattle.std.specs.Prelude.{◌≡◌};
+
+use crate::sink::{PutError, Sink};
+use std::io::{ErrorKind, Write};
+use std::marker::Model;
+
+/// A real writer, of which nothing is told.
+#[derive(Drop)]
+pub struct HostSink<W: Write> {
+    out: W,
+    faults: u64,
+}
+
+impl<W: Write> Model for HostSink<W> {
+    ghost use Rattle.std.specs.Prelude.{ℕ};
+
+    ghost Value = { ℕ };
+
+    ghost view = { λ it. it.faults };
+}
+
+impl<W: Write> HostSink<W> {
+    /// A sink over this writer, of which no put has failed.
+    pub fn new(out: W) -> HostSink<W>
+        ensures { result ≡ 0 }
+    {
+        HostSink { out, faults: 0 }
+    }
+}
+
+impl<W: Write> Sink for HostSink<W> {
+    ghost use Rattle.std.specs.Prelude.{None};
+
+    ghost taken = { λ _. None };
+
+    ghost faults = { λ count. count };
+
+    fn put(&mut self, bytes: &[u8]) -> Result<(), PutError> {
+        match write_whole(&mut self.out, bytes) {
+            Err(PutError::Fault) => {
+                self.faults += 1;
+                Err(PutError::Fault)
+            }
+            answer => answer,
+        }
+    }
+}
+
+/// Writes all of the bytes and flushes. Want of memory is answered where nothing was written yet; every other
+/// error, and a write that takes nothing, is a fault.
+pub(crate) fn write_whole<W: Write>(out: &mut W, bytes: &[u8]) -> Result<(), PutError> {
+    let mut rest = bytes;
+    while !rest.is_empty() {
+        match out.write(rest) {
+            Ok(0) => return Err(PutError::Fault),
+            Ok(count) => rest = &rest[count..],
+            Err(error) => {
+                let is_first = rest.len() == bytes.len();
+                if is_first && error.kind() == ErrorKind::OutOfMemory {
+                    return Err(PutError::Memory);
+                }
+                return Err(PutError::Fault);
+            }
+        }
+    }
+    match out.flush() {
+        Ok(()) => Ok(()),
+        Err(_) => Err(PutError::Fault),
+    }
+}
