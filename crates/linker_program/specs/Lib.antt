@@ -3,3 +3,4 @@ pub mod HeaderTable
 pub mod PermittedBase
 pub mod BaseBlocks
 pub mod LoadedImage
+pub mod ExpectedImage
