@@ -4,3 +4,7 @@ pub mod PermittedBase
 pub mod BaseBlocks
 pub mod LoadedImage
 pub mod ExpectedImage
+pub mod LinkWords
+pub mod Placement
+pub mod Outcome
+pub mod LinkRun

@@ -5,5 +5,7 @@ mod bytes_out;
 mod header_sums;
 mod headers;
 mod pe_format;
+mod status;
 
 pub use headers::{Headers, SectionRow, push_headers};
+pub use status::Status;
