@@ -1,0 +1,5 @@
+pub mod NameLemmas
+pub mod FirstFormLemmas
+pub mod Readable
+pub mod CallerLemmas
+mod WorkedObject
