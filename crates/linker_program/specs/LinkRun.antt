@@ -68,28 +68,28 @@ pub record LinkDone (words : List (List ℕ)) (before after : Files) (plan : Pla
   pub outcome : Expects words before (Linked plan)
   pub means : MeansPlan plan.image image
   pub files : OutputWritten before after plan.output image
-  pub line : line ≡ summary_line plan.output (length plan.modules) (length plan.image.rows) (length image)
+  pub says : line ≡ summary_line plan.output (length plan.modules) (length plan.image.rows) (length image)
 
 pub record InputRefused (words : List (List ℕ)) (before after : Files) (fault : Fault) (line : List ℕ) : Type 0 where
   pub outcome : Expects words before (Refused fault)
   pub files : AreUntouched before after
-  pub line : line ≡ fault_line_text fault
+  pub says : line ≡ fault_line_text fault
 
 pub record WordsRefused (words : List (List ℕ)) (before after : Files) (index : ℕ) (kind line : List ℕ) : Type 0 where
   pub outcome : (store : Store) → HasOutcome words store (Usage index kind)
   pub files : AreUntouched before after
-  pub line : line ≡ usage_line index kind
+  pub says : line ≡ usage_line index kind
 
 pub record InputUnread (words : List (List ℕ)) (before after : Files) (request : LinkRequest) (line : List ℕ) : Type 0 where
-  pub request : requested words ≡ Some request
+  pub asked : requested words ≡ Some request
   pub files : ReadFailed before after
-  pub line : line ≡ read_failure_line request.input
+  pub says : line ≡ read_failure_line request.input
 
 pub record OutputUnwritten (words : List (List ℕ)) (before after : Files) (plan : Plan) (image line : List ℕ) : Type 0 where
   pub outcome : Expects words before (Linked plan)
   pub means : MeansPlan plan.image image
   pub files : OutputTorn before after plan.output image
-  pub line : line ≡ write_failure_line plan.output
+  pub says : line ≡ write_failure_line plan.output
 
 -- an answer with its line: what the run found and did before it printed the line
 abbrev pub Answers : List (List ℕ) → Files → Files → Status → List ℕ → Type 0
@@ -142,12 +142,12 @@ pub record NothingPrinted (before after : Printed) : Type 0 where
 
 -- an answer whose line was printed
 pub record Answered (words : List (List ℕ)) (before after : Files) (shown shown_after : Printed) (answer : Status) (line : List ℕ) : Type 0 where
-  pub answer : Answers words before after answer line
+  pub found : Answers words before after answer line
   pub printed : LinePrinted shown shown_after line
 
 -- an answer whose line could not be printed
 pub record Unprinted (words : List (List ℕ)) (before after : Files) (shown shown_after : Printed) (answer : Status) (line : List ℕ) : Type 0 where
-  pub answer : Answers words before after answer line
+  pub found : Answers words before after answer line
   pub printed : LineTorn shown shown_after line
 
 pub record RanOutOfMemory (words : List (List ℕ)) (before after : Files) (shown shown_after : Printed) : Type 0 where
