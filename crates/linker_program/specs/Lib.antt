@@ -5,6 +5,7 @@ pub mod BaseBlocks
 pub mod LoadedImage
 pub mod ExpectedImage
 pub mod LinkWords
+pub mod RequestView
 pub mod Placement
 pub mod Outcome
 pub mod LinkRun

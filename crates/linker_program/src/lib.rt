@@ -6,6 +6,8 @@ mod header_sums;
 mod headers;
 mod pe_format;
 mod status;
+mod words;
 
 pub use headers::{Headers, SectionRow, push_headers};
 pub use status::Status;
+pub use words::{Request, request_of};
