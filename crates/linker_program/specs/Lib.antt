@@ -7,5 +7,6 @@ pub mod ExpectedImage
 pub mod LinkWords
 pub mod RequestView
 pub mod Placement
+pub mod PlanView
 pub mod Outcome
 pub mod LinkRun

@@ -5,9 +5,11 @@ mod bytes_out;
 mod header_sums;
 mod headers;
 mod pe_format;
+mod plan;
 mod status;
 mod words;
 
 pub use headers::{Headers, SectionRow, push_headers};
+pub use plan::ImagePlan;
 pub use status::Status;
 pub use words::{Request, request_of};
