@@ -10,7 +10,7 @@ use crate::name::Name;
 use std::alloc::Global;
 
 /// Appends the name, with each byte that is no visible ASCII character escaped.
-pub(crate) fn push_escaped(line: &mut Vec<u8>, name: &Name<'_>) -> Result<(), Memory>
+pub fn push_escaped(line: &mut Vec<u8>, name: &Name<'_>) -> Result<(), Memory>
     ensures { OnOk result (line.new.items ≡ line.old.items ++ escaped name.now) }
 {
     line.extend_from_slice(name.prefix())?;
@@ -56,7 +56,7 @@ fn digit_of(value: u8) -> u8
 }
 
 /// Appends the number in decimal.
-pub(crate) fn push_number(alloc: Global, line: &mut Vec<u8>, number: u64) -> Result<(), Memory>
+pub fn push_number(alloc: Global, line: &mut Vec<u8>, number: u64) -> Result<(), Memory>
     ensures { OnOk result (line.new.items ≡ line.old.items ++ decimal number) }
 {
     let text = number.to_string(alloc)?;

@@ -1,3 +1,4 @@
 pub mod BufferLemmas
 pub mod ImageTheorems
 pub mod WordLemmas
+pub mod RawBytes

@@ -4,12 +4,15 @@
 mod bytes_out;
 mod header_sums;
 mod headers;
+mod image;
+mod lines;
 mod pe_format;
 mod plan;
 mod status;
 mod words;
 
 pub use headers::{Headers, SectionRow, push_headers};
-pub use plan::ImagePlan;
+pub use image::image;
+pub use plan::{ImagePlan, plan_of};
 pub use status::Status;
 pub use words::{Request, request_of};

@@ -1,0 +1,70 @@
+//! The lines that a run prints, other than those of diagnostics.
+
+ghost use Rattle.std.specs.Prelude.{◌≡◌, ◌++◌, OnOk, IfOk};
+ghost use Rattle.linker_program.specs.Outcome.{counted, usage_line, summary_line, read_failure_line, write_failure_line};
+
+use link_base::{Memory, Name, push_escaped, push_number};
+use std::alloc::Global;
+
+/// The line for words that are refused: the index of the word and the kind of the refusal.
+pub(crate) fn usage_line(alloc: Global, index: u64, kind: &[u8]) -> Result<Vec<u8>, Memory>
+    ensures { IfOk result (λ line. line.items ≡ usage_line index kind.now) }
+{
+    let mut line = Vec::new(alloc);
+    line.extend_from_slice(b"usage ")?;
+    push_number(alloc, &mut line, index)?;
+    line.push(b' ')?;
+    line.extend_from_slice(kind)?;
+    line.push(b'\n')?;
+    Ok(line)
+}
+
+/// The line for a link that is done.
+pub(crate) fn summary_line(
+    alloc: Global,
+    output: &str,
+    modules: u64,
+    sections: u64,
+    len: u64,
+) -> Result<Vec<u8>, Memory>
+    ensures { IfOk result (λ line. line.items ≡ summary_line output.now modules sections len) }
+{
+    let mut line = Vec::new(alloc);
+    line.extend_from_slice(b"linked ")?;
+    push_escaped(&mut line, &Name::of(output.as_bytes()))?;
+    line.extend_from_slice(b": ")?;
+    push_counted(alloc, &mut line, modules, b" modules, ")?;
+    push_counted(alloc, &mut line, sections, b" sections, ")?;
+    push_counted(alloc, &mut line, len, b" bytes\n")?;
+    Ok(line)
+}
+
+fn push_counted(alloc: Global, line: &mut Vec<u8>, number: u64, things: &[u8]) -> Result<(), Memory>
+    ensures { OnOk result (line.new.items ≡ line.old.items ++ counted number things.now) }
+{
+    push_number(alloc, line, number)?;
+    line.extend_from_slice(things)?;
+    Ok(())
+}
+
+/// The line for a file whose read failed.
+pub(crate) fn read_failure_line(alloc: Global, name: &str) -> Result<Vec<u8>, Memory>
+    ensures { IfOk result (λ line. line.items ≡ read_failure_line name.now) }
+{
+    let mut line = Vec::new(alloc);
+    line.extend_from_slice(b"read fault ")?;
+    push_escaped(&mut line, &Name::of(name.as_bytes()))?;
+    line.push(b'\n')?;
+    Ok(line)
+}
+
+/// The line for a file whose write failed.
+pub(crate) fn write_failure_line(alloc: Global, name: &str) -> Result<Vec<u8>, Memory>
+    ensures { IfOk result (λ line. line.items ≡ write_failure_line name.now) }
+{
+    let mut line = Vec::new(alloc);
+    line.extend_from_slice(b"write fault ")?;
+    push_escaped(&mut line, &Name::of(name.as_bytes()))?;
+    line.push(b'\n')?;
+    Ok(line)
+}
