@@ -10,3 +10,4 @@ pub mod Placement
 pub mod PlanView
 pub mod Outcome
 pub mod LinkRun
+pub mod Steps

@@ -1,6 +1,7 @@
 //! The linker as a library.
 #![tactic(auto)]
 
+mod answer;
 mod bytes_out;
 mod header_sums;
 mod headers;
@@ -10,6 +11,7 @@ mod pe_format;
 mod plan;
 mod status;
 mod words;
+mod write;
 
 pub use headers::{Headers, SectionRow, push_headers};
 pub use image::image;

@@ -1,0 +1,53 @@
+-- What the steps of a run promise to one another.
+use Rattle.std.specs.Prelude.{◌≡◌, ◌≤◌, ℕ, List, length, Option, Some, ◌⊎◌}
+use Rattle.std.specs.Option.{ForSome}
+use Rattle.link_base.specs.declared.fault.Fault.{Fault}
+use Rattle.link_base.specs.FaultLine.{fault_line_text}
+use Rattle.link_files.specs.Store.{Store, file_of}
+use Rattle.linker_program.specs.declared.status.Status.{Status}
+use Rattle.linker_program.specs.declared.status.Status.TheVariants as status
+use Rattle.linker_program.specs.declared.answer.Answer.{Answer}
+use Rattle.linker_program.specs.LinkWords.{LinkRequest, requested}
+use Rattle.linker_program.specs.Outcome.{summary_line, write_failure_line}
+use Rattle.linker_program.specs.LinkRun.{Files, Printed, OutputWritten, OutputTorn, NothingWritten}
+
+-- the files of an object, as far as they are known
+abbrev pub files_of : {S : Type 0} → (S → Option Store) → (S → ℕ) → (S → ℕ) → S → Files
+files_of store read_faults write_faults files =
+    record { store = store files; read_faults = read_faults files; write_faults = write_faults files }
+
+-- what a sink printed, as far as it is known
+abbrev pub printed_by : {S : Type 0} → (S → Option (List ℕ)) → (S → ℕ) → S → Printed
+printed_by taken faults sink = record { taken = taken sink; faults = faults sink }
+
+-- the words ask for this, and where the files are told, its input has these bytes
+pub record IsLoaded (words : List (List ℕ)) (files : Files) (request : LinkRequest) (bytes : List ℕ) : Type 0 where
+  pub asked : requested words ≡ Some request
+  pub told : ForSome files.store (λ store. file_of store request.input ≡ Some bytes)
+
+-- an answer that refuses the input
+pub record Refuses (answer : Answer) (fault : Fault) : Type 0 where
+  pub status : answer.status ≡ status.Refused
+  pub line : answer.line.items ≡ fault_line_text fault
+
+-- the image was written, and the answer says so; or the write failed, and the answer says that
+pub record WroteImage (before after : Files) (output image line : List ℕ) : Type 0 where
+  pub files : OutputWritten before after output image
+  pub says : line ≡ summary_line output 1 1 (length image)
+
+pub record FailedToWrite (before after : Files) (output image line : List ℕ) : Type 0 where
+  pub files : OutputTorn before after output image
+  pub says : line ≡ write_failure_line output
+
+abbrev pub AnswersWrite : Files → Files → List ℕ → List ℕ → Status → List ℕ → Type 0
+AnswersWrite before after output image status.Done line = WroteImage before after output image line
+AnswersWrite before after output image status.WriteFailed line = FailedToWrite before after output image line
+AnswersWrite before after output image status.Refused line = ⊥
+AnswersWrite before after output image status.Usage line = ⊥
+AnswersWrite before after output image status.OutOfMemory line = ⊥
+AnswersWrite before after output image status.ReadFailed line = ⊥
+AnswersWrite before after output image status.PutFailed line = ⊥
+
+-- memory ran out before the write, or behind one that failed
+abbrev pub LeftByWrite : Files → Files → List ℕ → List ℕ → Type 0
+LeftByWrite before after output image = NothingWritten before after ⊎ OutputTorn before after output image
