@@ -1,3 +1,5 @@
 pub mod BufferLemmas
+pub mod StandsAt
+pub mod HeaderParts
 pub mod ImageTheorems
 pub mod WordLemmas
