@@ -4,5 +4,7 @@ pub mod HeaderParts
 pub mod HeaderFields
 pub mod RowPlaces
 pub mod SectionFields
+pub mod FileBytes
+pub mod ImageTests
 pub mod ImageTheorems
 pub mod WordLemmas

@@ -48,6 +48,21 @@ file_after (first ∷ rows) zero start row e =
     let same : first ≡ row = cc in ap (λ (r : SectionRow). start + r.raw_size) same
 file_after (first ∷ rows) (suc k) start row e = file_after rows k (start + first.raw_size) row e
 
+file_step : (rows : List SectionRow) (n start : ℕ) → file_at rows start n ≤ file_at rows start (suc n)
+file_step [] zero start = omega arith
+file_step [] (suc n) start = omega arith
+file_step (row ∷ rows) zero start = omega arith
+file_step (row ∷ rows) (suc n) start = file_step rows n (start + row.raw_size)
+
+pub file_monotone : (rows : List SectionRow) (j k start : ℕ) → j ≤ k → file_at rows start j ≤ file_at rows start k
+file_monotone rows j zero start le =
+    let same : j ≡ 0 = omega arith in rw same (omega arith)
+file_monotone rows j (suc k) start le =
+    elim (cases_lt k j) [
+      | inl last ↦ let same : j ≡ suc k = omega arith in rw same (omega arith)
+      | inr before ↦ omega (arith, file_monotone rows j k start before, file_step rows k start)
+    ]
+
 -- the section whose raw bytes hold an offset
 pub holder : (rows : List SectionRow) (n start offset : ℕ) → n ≤ length rows → start ≤ offset → offset < file_at rows start n → (k : ℕ) × ((k < n) × ((file_at rows start k ≤ offset) × (offset < file_at rows start (suc k))))
 holder rows zero start offset le low high = absurd (omega arith)
