@@ -1,5 +1,5 @@
 -- The bytes of the file of a plan: those of the headers, those of each section, and no more.
-use Rattle.std.proofs.Common.{◌≡◌, ℕ, zero, suc, ◌+◌, ◌<◌, ◌≤◌, ◌==◌, Bool, true, false, cond, length, slice_index, slice_get, Some, refl, sym, ap, ◌∙◌, length-append, arith}
+use Rattle.std.proofs.Common.{◌≡◌, ℕ, suc, ◌+◌, ◌<◌, ◌≤◌, ◌==◌, cond, length, slice_index, slice_get, Some, ap, ◌∙◌, length-append, arith}
 use Rattle.std.specs.List.{flat_map}
 use Rattle.std.proofs.lemmas.Bool.{cond-false, ne_eqb}
 use Rattle.std.proofs.lemmas.Option.{slice_get_within}
@@ -39,6 +39,7 @@ header_byte plan offset placed lt =
   where
     zero_before : (n : ℕ) → n ≡ 0 + n
     zero_before n = omega arith
+
     inside : (i n len : ℕ) → i < n → len ≡ n → i < len
     inside i n len lt e = omega arith
 
@@ -62,10 +63,10 @@ raw_in_file plan k row placed e some =
     let within = slice_get_within plan.rows k row e in
     let upto = file_monotone plan.rows (suc k) (length plan.rows) (size_of_headers (length plan.rows)) (omega arith) in
     ends row.file_offset (file_place plan k) row.raw_size (file_place plan (suc k)) (file_place plan (length plan.rows)) (length (image_file plan))
-      (offset_is_place plan k row placed e some)
-      (file_after plan.rows k (size_of_headers (length plan.rows)) row e)
-      upto
-      (file_length plan placed)
+    (offset_is_place plan k row placed e some)
+    (file_after plan.rows k (size_of_headers (length plan.rows)) row e)
+    upto
+    (file_length plan placed)
   where
     ends : (offset place size next last len : ℕ) → offset ≡ place → next ≡ place + size → next ≤ last → len ≡ last → offset + size ≤ len
     ends offset place size next last len a b c d = omega arith

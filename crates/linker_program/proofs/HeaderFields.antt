@@ -1,12 +1,10 @@
 -- The fields of the headers, read back from the file of a plan.
-use Rattle.std.proofs.Common.{◌≡◌, ℕ, zero, suc, ◌+◌, ◌*◌, ◌^◌, ◌<◌, ◌≤◌, Bool, true, false, cond, List, [], ◌∷◌, ◌++◌, length, replicate, slice_get, Some, refl, ap, ◌∙◌, length-append, arith}
-use Rattle.std.specs.List.{flat_map}
+use Rattle.std.proofs.Common.{◌≡◌, ℕ, ◌+◌, ◌^◌, ◌<◌, ◌≤◌, Bool, true, false, cond, [], ◌++◌, length, replicate, refl, ap, ◌∙◌, length-append, arith}
 use Rattle.link_base.specs.Bytes.{number_at, number_bytes}
 use Rattle.link_base.proofs.CallerLemmas.{length-number_bytes}
-use Rattle.linker_program.specs.declared.headers.Headers.{Headers}
 use Rattle.linker_program.specs.ImageFormat.{dos_magic, pe_signature, machine_amd64, optional_header_len, pe32_plus_magic, page_size, file_alignment, directory_count, has_flag, file_relocs_stripped, file_executable, file_large_address_aware, file_dll, image_limit}
-use Rattle.linker_program.specs.HeaderTable.{dos_header, directory_fields, characteristics, size_of_headers}
-use Rattle.linker_program.specs.LoadedImage.{signature_at, file_header_at, optional_at, section_count, file_characteristics, image_base, size_of_image, headers_size, directory_rva, directory_size, is_fixed, is_large}
+use Rattle.linker_program.specs.HeaderTable.{directory_fields, size_of_headers}
+use Rattle.linker_program.specs.LoadedImage.{signature_at, file_header_at, optional_at, section_count, file_characteristics, image_base, size_of_image, headers_size, directory_size, is_fixed, is_large}
 use Rattle.linker_program.specs.ExpectedImage.{ImagePlan, IsPlaced, image_file}
 use Rattle.linker_program.proofs.StandsAt.{StandsAt, first_part, second_part, behind, reads, part_at}
 use Rattle.linker_program.proofs.HeaderParts.{dos_stands, parts_stand, length-directory_fields}

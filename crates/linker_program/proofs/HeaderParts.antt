@@ -1,5 +1,5 @@
 -- Where the parts of the headers stand in the file of a plan.
-use Rattle.std.proofs.Common.{◌≡◌, ℕ, ◌+◌, ◌-◌, ◌*◌, ◌<◌, ◌≤◌, List, ◌++◌, length, refl, ap, ◌∙◌, take, replicate, min, arith, length-append, length-take}
+use Rattle.std.proofs.Common.{◌≡◌, ℕ, ◌-◌, ◌*◌, ◌≤◌, List, ◌++◌, length, refl, ap, ◌∙◌, take, replicate, arith, length-append, length-take}
 use Rattle.std.specs.List.{flat_map}
 use Rattle.std.proofs.lemmas.List.{length-replicate}
 use Rattle.link_base.proofs.CallerLemmas.{length-number_bytes}
@@ -65,7 +65,7 @@ places dos file standard version sizes reserve directories bytes d f s v z r h =
       version_at = first_part version (sizes ++ (reserve ++ directories)) 112 bytes h112;
       sizes_at = first_part sizes (reserve ++ directories) 144 bytes h144;
       reserve_at = first_part reserve directories 160 bytes h160;
-      directories_at = second_part reserve directories 160 40 200 bytes r refl h160
+      directories_at = second_part reserve directories 160 40 200 bytes r refl h160;
     }
 
 pub headers_stand : (plan : ImagePlan) → StandsAt (plan_headers plan) 0 (image_file plan)
@@ -87,13 +87,13 @@ dos_stands plan = first_part dos_header _ 0 (image_file plan) (fixed_stands plan
 pub parts_stand : (plan : ImagePlan) → HeaderPlaces (file_header plan.headers (length plan.rows)) (standard_fields plan.headers plan.rows) (version_fields plan.headers) (size_fields plan.headers (length plan.rows) plan.size) (reserve_fields plan.headers) (flat_map directory_fields plan.headers.directories) (image_file plan)
 parts_stand plan =
     places dos_header (file_header plan.headers (length plan.rows)) (standard_fields plan.headers plan.rows) (version_fields plan.headers) (size_fields plan.headers (length plan.rows) plan.size) (reserve_fields plan.headers) (flat_map directory_fields plan.headers.directories) (image_file plan)
-      length-dos_header
-      (length-file_header plan.headers (length plan.rows))
-      (length-standard_fields plan.headers plan.rows)
-      (length-version_fields plan.headers)
-      (length-size_fields plan.headers (length plan.rows) plan.size)
-      (length-reserve_fields plan.headers)
-      (fixed_stands plan)
+    length-dos_header
+    (length-file_header plan.headers (length plan.rows))
+    (length-standard_fields plan.headers plan.rows)
+    (length-version_fields plan.headers)
+    (length-size_fields plan.headers (length plan.rows) plan.size)
+    (length-reserve_fields plan.headers)
+    (fixed_stands plan)
 
 -- ---- the whole table
 
@@ -103,13 +103,13 @@ length_of_all d f s v z r t ed ef es ev ez er et = simp (length-append, ed, ef, 
 pub length-fixed_headers : (f : Headers) (rows : List SectionRow) (size : ℕ) → length f.directories ≡ 16 → length (fixed_headers f rows size) ≡ 328
 length-fixed_headers f rows size e =
     length_of_all dos_header (file_header f (length rows)) (standard_fields f rows) (version_fields f) (size_fields f (length rows) size) (reserve_fields f) (flat_map directory_fields f.directories)
-      length-dos_header
-      (length-file_header f (length rows))
-      (length-standard_fields f rows)
-      (length-version_fields f)
-      (length-size_fields f (length rows) size)
-      (length-reserve_fields f)
-      (length-parts directory_fields 8 length-directory_fields f.directories ∙ ap (λ (k : ℕ). 8 * k) e)
+    length-dos_header
+    (length-file_header f (length rows))
+    (length-standard_fields f rows)
+    (length-version_fields f)
+    (length-size_fields f (length rows) size)
+    (length-reserve_fields f)
+    (length-parts directory_fields 8 length-directory_fields f.directories ∙ ap (λ (k : ℕ). 8 * k) e)
 
 pub sections_stand : (plan : ImagePlan) → length plan.headers.directories ≡ 16 → StandsAt (flat_map section_header plan.rows) 328 (image_file plan)
 sections_stand plan e =
@@ -124,7 +124,7 @@ length-plan_headers plan e =
     let fixed = fixed_headers plan.headers plan.rows plan.size in
     let sections = flat_map section_header plan.rows in
     length-padded (size_of_headers (length plan.rows)) (fixed ++ sections)
-      (fits fixed sections (length plan.rows) (length-fixed_headers plan.headers plan.rows plan.size e) (length-parts section_header 40 length-section_header plan.rows))
+    (fits fixed sections (length plan.rows) (length-fixed_headers plan.headers plan.rows plan.size e) (length-parts section_header 40 length-section_header plan.rows))
   where
     fits : (fixed sections : List ℕ) (count : ℕ) → length fixed ≡ 328 → length sections ≡ 40 * count → length (fixed ++ sections) ≤ size_of_headers count
     fits fixed sections count a b = omega (arith, length-append fixed sections)

@@ -1,11 +1,10 @@
 -- The file of a plan passes each test of an image.
-use Rattle.std.proofs.Common.{◌≡◌, ℕ, zero, suc, ◌+◌, ◌-◌, ◌*◌, ◌%◌, ◌<◌, ◌≤◌, ◌==◌, nat_le, nat_lt, Bool, true, false, ◌&&◌, ◌||◌, List, length, slice_get, Option, Some, None, refl, sym, ap, ◌∙◌, inl, inr, arith, eq-eqb, le-leb, lt-ltb}
+use Rattle.std.proofs.Common.{◌≡◌, ℕ, zero, suc, ◌+◌, ◌<◌, ◌≤◌, ◌==◌, nat_le, Bool, true, ◌||◌, length, None, refl, sym, inl, inr, arith, eq-eqb, le-leb, lt-ltb}
 use Rattle.std.proofs.lemmas.Bool.{and_from, or_left, or_right, cases_lt}
-use Rattle.link_base.specs.Bytes.{number_at, all_below}
-use Rattle.linker_program.specs.declared.headers.SectionRow.{SectionRow}
-use Rattle.linker_program.specs.ImageFormat.{image_limit, page_size}
+use Rattle.link_base.specs.Bytes.{all_below}
+use Rattle.linker_program.specs.ImageFormat.{image_limit}
 use Rattle.linker_program.specs.HeaderTable.{size_of_headers}
-use Rattle.linker_program.specs.LoadedImage.{signature_at, section_count, size_of_image, headers_size, directory_size, virtual_size, virtual_address, raw_size, raw_offset, has_dos_header, has_signature, has_machine, has_optional_header, has_magic, has_alignments, has_directories, has_size, has_headers, has_sections, has_raw_bytes, has_blocks, end_before, is_section_placed, is_section_in_file, image_fault}
+use Rattle.linker_program.specs.LoadedImage.{has_dos_header, has_signature, has_machine, has_optional_header, has_magic, has_alignments, has_directories, has_size, has_headers, has_sections, has_raw_bytes, has_blocks, end_before, is_section_placed, is_section_in_file, image_fault}
 use Rattle.linker_program.specs.ExpectedImage.{ImagePlan, IsPlaced, image_file}
 use Rattle.linker_program.proofs.HeaderFields.{dos_reads, signature_place, pe_reads, machine_reads, count_reads, optional_len_reads, magic_reads, page_size_reads, file_alignment_reads, size_reads, headers_size_reads, directory_count_reads, relocations_size_reads}
 use Rattle.linker_program.proofs.RowPlaces.{row_there, end_at, end_after}
@@ -61,7 +60,7 @@ headers_pass : (plan : ImagePlan) → IsPlaced plan → has_headers (image_file 
 unfolding has_headers
 headers_pass plan placed =
     rw (signature_place plan, count_reads plan placed, headers_size_reads plan placed, size_reads plan placed) (
-      and_from _ _ (le-leb _ _ (omega arith)) (and_from _ _ (le-leb _ _ (headers_in_file plan placed)) (le-leb _ _ placed.headers_inside)))
+    and_from _ _ (le-leb _ _ (omega arith)) (and_from _ _ (le-leb _ _ (headers_in_file plan placed)) (le-leb _ _ placed.headers_inside)))
 
 -- ---- the sections
 
@@ -83,7 +82,7 @@ section_passes plan k placed lt =
     let said = row_reads plan k there.0 placed there.1 in
     let place = placed_row plan k there.0 placed there.1 in
     rw (end_before_is plan k placed lt, said.rva, said.size, size_reads plan placed) (
-      and_from _ _ (eq-eqb _ _ place.aligned) (and_from _ _ (le-leb _ _ place.above) (le-leb _ _ place.inside)))
+    and_from _ _ (eq-eqb _ _ place.aligned) (and_from _ _ (le-leb _ _ place.above) (le-leb _ _ place.inside)))
 
 sections_pass : (plan : ImagePlan) → IsPlaced plan → has_sections (image_file plan) ≡ true
 unfolding has_sections

@@ -6,5 +6,7 @@ pub mod RowPlaces
 pub mod SectionFields
 pub mod FileBytes
 pub mod ImageTests
+pub mod ImageMemory
+pub mod ImageSlack
 pub mod ImageTheorems
 pub mod WordLemmas

@@ -1,8 +1,8 @@
 -- Where the sections of a plan stand, in the memory and in the file.
-use Rattle.std.proofs.Common.{◌≡◌, ℕ, zero, suc, ◌+◌, ◌<◌, ◌≤◌, List, [], ◌∷◌, ◌++◌, length, map, slice_index, slice_get, Some, None, refl, ap, ◌∙◌, subst, inl, inr, length-append, arith}
-use Rattle.std.specs.List.{range_with_len, flat_map}
+use Rattle.std.proofs.Common.{◌≡◌, ℕ, zero, suc, ◌+◌, ◌<◌, ◌≤◌, List, [], ◌∷◌, ◌++◌, length, slice_index, slice_get, Some, refl, ap, ◌∙◌, subst, inl, inr, length-append, arith}
+use Rattle.std.specs.List.{flat_map}
 use Rattle.std.proofs.lemmas.Bool.{cases_lt}
-use Rattle.std.proofs.lemmas.Option.{slice_get_cases, slice_get_within}
+use Rattle.std.proofs.lemmas.Option.{slice_get_cases}
 use Rattle.std.proofs.lemmas.List.FromFn.{length-map-range_with_len, get_or-map-range_with_len}
 use Rattle.linker_program.specs.declared.headers.SectionRow.{SectionRow}
 use Rattle.linker_program.specs.ExpectedImage.{PlacedPiece, IsRowPlaced, AreRowsPlaced, raw_byte, raw_bytes}
@@ -84,8 +84,8 @@ raw_stands pieces (first ∷ rows) zero start row bytes h e =
     subst (λ (r : SectionRow). StandsAt (raw_bytes pieces r) start bytes) same (first_part (raw_bytes pieces first) (flat_map (raw_bytes pieces) rows) start bytes h)
 raw_stands pieces (first ∷ rows) (suc k) start row bytes h e =
     raw_stands pieces rows k (start + first.raw_size) row bytes
-      (second_part (raw_bytes pieces first) (flat_map (raw_bytes pieces) rows) start first.raw_size (start + first.raw_size) bytes (length-raw_bytes pieces first) refl h)
-      e
+    (second_part (raw_bytes pieces first) (flat_map (raw_bytes pieces) rows) start first.raw_size (start + first.raw_size) bytes (length-raw_bytes pieces first) refl h)
+    e
 
 pub raw_byte_there : (pieces : List PlacedPiece) (rows : List SectionRow) (k start j : ℕ) (row : SectionRow) (bytes : List ℕ) → StandsAt (flat_map (raw_bytes pieces) rows) start bytes → slice_get rows k ≡ Some row → j < row.raw_size → slice_index bytes (file_at rows start k + j) ≡ raw_byte pieces row j
 raw_byte_there pieces rows k start j row bytes h e lt =
@@ -96,7 +96,7 @@ pub length-all_raw : (pieces : List PlacedPiece) (rows : List SectionRow) (start
 length-all_raw pieces [] start = omega arith
 length-all_raw pieces (row ∷ rows) start =
     add_more start (length (raw_bytes pieces row ++ flat_map (raw_bytes pieces) rows)) row.raw_size (length (flat_map (raw_bytes pieces) rows))
-      (length-append (raw_bytes pieces row) (flat_map (raw_bytes pieces) rows) ∙ ap (λ (k : ℕ). k + length (flat_map (raw_bytes pieces) rows)) (length-raw_bytes pieces row))
+    (length-append (raw_bytes pieces row) (flat_map (raw_bytes pieces) rows) ∙ ap (λ (k : ℕ). k + length (flat_map (raw_bytes pieces) rows)) (length-raw_bytes pieces row))
     ∙ length-all_raw pieces rows (start + row.raw_size)
   where
     add_more : (start all one rest : ℕ) → all ≡ one + rest → start + all ≡ start + one + rest

@@ -20,7 +20,7 @@ pub second_part : (first second : List ℕ) (place len next : ℕ) (bytes : List
 second_part first second place len next bytes e at h =
     record {
       rest = h.rest;
-      is = ap (λ (k : ℕ). drop k bytes) (sym at) ∙ sym (drop-drop len place bytes) ∙ ap (drop len) (h.is ∙ append_assoc first second h.rest) ∙ drop_at first (second ++ h.rest) len e
+      is = ap (λ (k : ℕ). drop k bytes) (sym at) ∙ sym (drop-drop len place bytes) ∙ ap (drop len) (h.is ∙ append_assoc first second h.rest) ∙ drop_at first (second ++ h.rest) len e;
     }
 
 pub byte_of : (part : List ℕ) (place i : ℕ) (bytes : List ℕ) → StandsAt part place bytes → i < length part → slice_index bytes (place + i) ≡ slice_index part i
