@@ -11,3 +11,5 @@ pub mod ImageSlack
 pub mod ImageTheorems
 pub mod WordLemmas
 pub mod RawBytes
+pub mod OutcomeLemmas
+pub mod PlacedImage

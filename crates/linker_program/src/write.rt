@@ -7,7 +7,7 @@ ghost use Rattle.linker_program.specs.PlanView.{plan_view};
 ghost use Rattle.linker_program.specs.Steps.{files_of, AnswersWrite, LeftByWrite};
 
 use crate::answer::Answer;
-use crate::image::image;
+use crate::image_bytes::image;
 use crate::lines::{summary_line, write_failure_line};
 use crate::plan::ImagePlan;
 use crate::status::Status;

@@ -3,7 +3,7 @@ use Rattle.std.proofs.lemmas.List.{append-nil}
 use Rattle.linker_program.specs.HeaderTable.{header_table}
 use Rattle.linker_program.specs.ExpectedImage.{image_file, raw_bytes}
 use Rattle.linker_program.proofs.RawBytes.{raw_bytes-one}
-use Rattle.linker_program.proofs.image.image.Goals as goal
+use Rattle.linker_program.proofs.image_bytes.image.Goals as goal
 
 pub returns : goal.returns
 unfolding image_file
