@@ -13,3 +13,5 @@ pub mod WordLemmas
 pub mod RawBytes
 pub mod OutcomeLemmas
 pub mod PlacedImage
+pub mod StepLemmas
+pub mod ReadLemmas

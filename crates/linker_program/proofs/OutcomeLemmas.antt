@@ -1,5 +1,5 @@
 -- Which outcome a request has, by what was found of its input.
-use Rattle.std.proofs.Common.{◌≡◌, ℕ, ◌<◌, ◌≤◌, true, false, List, length, Option, Some, None, refl, sym, ap, ◌∙◌, arith}
+use Rattle.std.proofs.Common.{◌≡◌, ℕ, ◌<◌, ◌≤◌, true, false, List, length, Some, None, refl}
 use Rattle.std.proofs.lemmas.Bool.{lt-ltb, le-ltb}
 use Rattle.link_base.specs.declared.fault.Fault.TheVariants.{NotFound, FileTooLarge, Unsupported, Undefined}
 use Rattle.link_base.specs.declared.kind.Kind.TheVariants.{NotBuilt}
@@ -10,7 +10,7 @@ use Rattle.linker_program.specs.LinkWords.{LinkRequest, requested}
 use Rattle.linker_program.specs.Placement.{image_of}
 use Rattle.std.specs.Prelude.{codes, []}
 use Rattle.std.specs.Prelude.{◌∷◌}
-use Rattle.linker_program.specs.Outcome.{Outcome, Usage, Refused, Linked, Plan, HasOutcome, expected, request_outcome, file_limit, definition_of}
+use Rattle.linker_program.specs.Outcome.{Usage, Refused, Linked, Plan, HasOutcome, expected, request_outcome, file_limit, definition_of}
 
 pub outcome_usage : (words : List (List ℕ)) (store : Store) → requested words ≡ None → HasOutcome words store (Usage 0 (codes "NotBuilt"))
 unfolding expected

@@ -1,22 +1,21 @@
 -- The image of an object of one section is placed, so its file loads as planned.
-use Rattle.std.proofs.Common.{◌≡◌, ℕ, zero, suc, ◌+◌, ◌-◌, ◌<◌, ◌≤◌, ◌%◌, ◌^◌, true, false, Bool, cond, ◌&&◌, eqb, leb, ltb, min, List, [], ◌∷◌, length, refl, sym, ap, ◌∙◌, subst, arith}
-use Rattle.std.specs.Prelude.{Some, None, unwrap_or, slice_get}
+use Rattle.std.proofs.Common.{◌≡◌, ℕ, zero, suc, ◌+◌, ◌<◌, ◌≤◌, true, leb, ltb, min, List, [], ◌∷◌, length, refl, sym, ap, ◌∙◌, subst, arith}
+use Rattle.std.specs.Prelude.{Some, unwrap_or}
 use Rattle.std.specs.Int.{next_multiple_of}
 use Rattle.std.proofs.lemmas.Bool.{leb-true, ltb-true, ne_eqb}
-use Rattle.link_base.specs.Bytes.{bytes_at}
 use Rattle.coff_object.specs.FirstForm.{is_first_form}
-use Rattle.coff_object.specs.ObjectFile.{raw_size_of, raw_offset_of, body_of}
+use Rattle.coff_object.specs.ObjectFile.{raw_size_of, body_of}
 use Rattle.coff_object.proofs.CallerLemmas.{first_section_facts}
 use Rattle.coff_object.proofs.FirstFormLemmas.{and_left, and_right}
 use Rattle.linker_program.specs.declared.headers.SectionRow.{SectionRow}
-use Rattle.linker_program.specs.ImageFormat.{page_size, file_alignment, image_limit}
-use Rattle.linker_program.specs.Placement.{image_of, row_of, piece_of, image_size_of}
+use Rattle.linker_program.specs.ImageFormat.{page_size, file_alignment}
+use Rattle.linker_program.specs.Placement.{image_of, row_of, piece_of}
 use Rattle.linker_program.specs.Outcome.{file_limit}
-use Rattle.linker_program.specs.ExpectedImage.{ImagePlan, IsPlaced, MeansPlan, image_file, PlacedPiece, AreInRows, holds}
+use Rattle.linker_program.specs.ExpectedImage.{IsPlaced, MeansPlan, image_file, PlacedPiece, AreInRows, holds}
 use Rattle.linker_program.proofs.ImageTheorems.{file_means_plan}
 
 -- the next multiple is at or above the number, and less than the unit above it
-multiple_above : (n unit : ℕ) → n ≤ next_multiple_of n unit
+pub multiple_above : (n unit : ℕ) → n ≤ next_multiple_of n unit
 multiple_above n unit = omega arith
 
 multiple_below : (n unit : ℕ) → 0 < unit → next_multiple_of n unit < n + unit
@@ -68,7 +67,8 @@ image_of-placed object entry form small =
           file_fits = omega arith;
           file_place = rw (ne_eqb (next_multiple_of size file_alignment) 0 some_raw) refl;
         },
-        tt);
+        tt,
+      );
       pieces = in_one_row (piece_of object) (row_of object) refl len raw_above;
     }
 

@@ -1,5 +1,5 @@
 -- The raw bytes of the one section of a plan: those of its piece, and zeros behind them.
-use Rattle.std.proofs.Common.{◌≡◌, ℕ, ◌+◌, ◌-◌, ◌<◌, ◌≤◌, List, [], ◌∷◌, ◌++◌, length, map, get_or, replicate, refl, sym, ap, ◌∙◌, length-append, arith, inl, inr}
+use Rattle.std.proofs.Common.{◌≡◌, ℕ, ◌+◌, ◌-◌, ◌<◌, ◌≤◌, List, [], ◌∷◌, ◌++◌, length, map, get_or, replicate, refl, sym, ◌∙◌, length-append, arith, inl, inr}
 use Rattle.std.specs.List.{range_with_len}
 use Rattle.std.proofs.lemmas.Bool.{lt-ltb, le-ltb, le-leb, cases_lt}
 use Rattle.std.proofs.lemmas.Grind.{same_number_lists}
@@ -30,8 +30,8 @@ same_byte bytes row k len lt =
     elim (cases_lt k (length bytes)) [
       | inl low ↦ inside bytes row k len low ∙ sym (get_or_append_left bytes (replicate (row.raw_size - length bytes) 0) 0 k low)
       | inr high ↦
-        behind bytes row k len high
-        ∙ sym (get_or-append_right bytes (replicate (row.raw_size - length bytes) 0) (length bytes) k 0 refl high ∙ get_or-replicate (row.raw_size - length bytes) (k - length bytes) 0 0 (omega arith))
+          behind bytes row k len high
+          ∙ sym (get_or-append_right bytes (replicate (row.raw_size - length bytes) 0) (length bytes) k 0 refl high ∙ get_or-replicate (row.raw_size - length bytes) (k - length bytes) 0 0 (omega arith))
     ]
 
 pub raw_bytes-one : (bytes : List ℕ) (row : SectionRow) → length bytes ≡ row.size → row.size ≤ row.raw_size → raw_bytes (record { rva = row.rva; bytes = bytes } ∷ []) row ≡ bytes ++ replicate (row.raw_size - length bytes) 0
@@ -41,5 +41,5 @@ raw_bytes-one bytes row len le =
     let made : length (map f (range_with_len 0 row.raw_size)) ≡ row.raw_size = length-map-range_with_len f 0 row.raw_size in
     let whole : length (map f (range_with_len 0 row.raw_size)) ≡ length (bytes ++ zeros) = omega (arith, made, length-append bytes zeros, length-replicate {A = ℕ} (row.raw_size - length bytes) 0) in
     same_number_lists (map f (range_with_len 0 row.raw_size)) (bytes ++ zeros) whole (λ k lt.
-      let below : k < row.raw_size = omega (arith, made) in
-      get_or-map-range_with_len f 0 row.raw_size k k 0 below (omega arith) ∙ same_byte bytes row k len below)
+    let below : k < row.raw_size = omega (arith, made) in
+    get_or-map-range_with_len f 0 row.raw_size k k 0 below (omega arith) ∙ same_byte bytes row k len below)

@@ -1,6 +1,6 @@
 -- The headers of an image, byte by byte (PE Format, "MS-DOS Stub (Image Only)" to "Section Table (Section
 -- Headers)"; the linker version, the time and the order of sums are own).
-use Rattle.std.specs.Prelude.{ℕ, ◌+◌, ◌-◌, ◌*◌, Bool, true, false, cond, ◌==◌, if◌then◌else◌, List, [], ◌∷◌, ◌++◌, length, take, replicate, sum_by, codes}
+use Rattle.std.specs.Prelude.{ℕ, ◌+◌, ◌-◌, ◌*◌, cond, if◌then◌else◌, List, [], ◌∷◌, ◌++◌, length, take, replicate, sum_by}
 use Rattle.std.specs.Int.{next_multiple_of}
 use Rattle.std.specs.List.{flat_map}
 use Rattle.link_base.specs.declared.numbers.Field.TheVariants.{U8, U16, U32, U64}

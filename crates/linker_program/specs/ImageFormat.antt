@@ -1,6 +1,6 @@
 -- The numbers of the image format (PE Format, "Optional Header (Image Only)", "Section Flags",
 -- "Characteristics").
-use Rattle.std.specs.Prelude.{ℕ, ◌^◌, Bool, not, ◌==◌, bit_and}
+use Rattle.std.specs.Prelude.{ℕ, Bool, not, ◌==◌, bit_and}
 
 -- what sections are aligned to in memory, and their raw bytes in the file
 abbrev pub page_size : ℕ

@@ -1,5 +1,5 @@
 -- The words that ask for a link. Own: so far one input, the entry and the output, in this order.
-use Rattle.std.specs.Prelude.{ℕ, ◌+◌, Bool, ◌&&◌, ◌||◌, not, ◌==◌, nat_le, nat_lt, nat_eq, if◌then◌else◌, List, [], ◌∷◌, length, drop, slice_index, Option, Some, None, codes}
+use Rattle.std.specs.Prelude.{ℕ, Bool, ◌&&◌, ◌||◌, not, ◌==◌, nat_le, nat_lt, nat_eq, if◌then◌else◌, List, [], ◌∷◌, length, drop, slice_index, Option, Some, None, codes}
 use Rattle.std.specs.List.{list_any, starts_with}
 use lib.Pointwise.{pointwise}
 use Rattle.link_base.specs.Bytes.{is_nul}

@@ -1,11 +1,11 @@
 -- Where the sections of an image stand: each at the least page boundary behind what is before it (PE Format,
 -- "Section Table"; the order of sections and the defaults of the headers are own).
-use Rattle.std.specs.Prelude.{ℕ, ◌+◌, true, false, List, [], ◌∷◌, length, replicate, Option, unwrap_or, bit_and, bit_or}
+use Rattle.std.specs.Prelude.{ℕ, ◌+◌, true, false, List, [], ◌∷◌, replicate, unwrap_or, bit_and, bit_or}
 use Rattle.std.specs.Int.{next_multiple_of}
 use Rattle.coff_object.specs.ObjectFile.{section_name_of, raw_size_of, flags_of, body_of}
 use Rattle.linker_program.specs.declared.headers.Headers.{Headers}
 use Rattle.linker_program.specs.declared.headers.SectionRow.{SectionRow}
-use Rattle.linker_program.specs.ImageFormat.{page_size, file_alignment, scn_attributes, scn_cnt_code, scn_cnt_initialized_data, directory_count}
+use Rattle.linker_program.specs.ImageFormat.{page_size, file_alignment, scn_attributes, scn_cnt_code, scn_cnt_initialized_data}
 use Rattle.linker_program.specs.HeaderTable.{size_of_headers}
 use Rattle.linker_program.specs.ExpectedImage.{ImagePlan, PlacedPiece}
 

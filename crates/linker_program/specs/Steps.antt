@@ -1,5 +1,5 @@
 -- What the steps of a run promise to one another.
-use Rattle.std.specs.Prelude.{◌≡◌, ◌≤◌, ℕ, List, length, Option, Some, ◌⊎◌}
+use Rattle.std.specs.Prelude.{◌≡◌, ℕ, List, length, Option, Some, ◌⊎◌, codes}
 use Rattle.std.specs.Option.{ForSome}
 use Rattle.link_base.specs.declared.fault.Fault.{Fault}
 use Rattle.link_base.specs.FaultLine.{fault_line_text}
@@ -8,7 +8,7 @@ use Rattle.linker_program.specs.declared.status.Status.{Status}
 use Rattle.linker_program.specs.declared.status.Status.TheVariants as status
 use Rattle.linker_program.specs.declared.answer.Answer.{Answer}
 use Rattle.linker_program.specs.LinkWords.{LinkRequest, requested}
-use Rattle.linker_program.specs.Outcome.{summary_line, write_failure_line}
+use Rattle.linker_program.specs.Outcome.{usage_line, summary_line, read_failure_line, write_failure_line}
 use Rattle.linker_program.specs.LinkRun.{Files, Printed, OutputWritten, OutputTorn, NothingWritten}
 
 -- the files of an object, as far as they are known
@@ -29,6 +29,16 @@ pub record IsLoaded (words : List (List ℕ)) (files : Files) (request : LinkReq
 pub record Refuses (answer : Answer) (fault : Fault) : Type 0 where
   pub status : answer.status ≡ status.Refused
   pub line : answer.line.items ≡ fault_line_text fault
+
+-- an answer that refuses the words
+pub record RefusesWords (answer : Answer) : Type 0 where
+  pub status : answer.status ≡ status.Usage
+  pub line : answer.line.items ≡ usage_line 0 (codes "NotBuilt")
+
+-- an answer for a read that failed
+pub record TellsReadFailure (answer : Answer) (name : List ℕ) : Type 0 where
+  pub status : answer.status ≡ status.ReadFailed
+  pub line : answer.line.items ≡ read_failure_line name
 
 -- the image was written, and the answer says so; or the write failed, and the answer says that
 pub record WroteImage (before after : Files) (output image line : List ℕ) : Type 0 where

@@ -1,12 +1,11 @@
 //! The answers of a run, each with the line that is printed.
 
-ghost use Rattle.std.specs.Prelude.{◌≡◌, IfOk};
-ghost use Rattle.linker_program.specs.Outcome.{read_failure_line};
-ghost use Rattle.linker_program.specs.Steps.{Refuses};
+ghost use Rattle.std.specs.Prelude.{◌≡◌, None, IfOk};
+ghost use Rattle.linker_program.specs.Steps.{Refuses, RefusesWords, TellsReadFailure};
 
-use crate::lines::read_failure_line;
+use crate::lines::{read_failure_line, usage_line};
 use crate::status::Status;
-use link_base::{Fault, Memory, fault_line};
+use link_base::{Fault, Memory, Name, fault_line};
 use std::alloc::Global;
 
 /// How the work of a run ended, and the line that says so.
@@ -25,4 +24,46 @@ pub(crate) fn refused(alloc: Global, fault: &Fault<'_>) -> Result<Answer, Memory
         status: Status::Refused,
         line,
     })
+}
+
+/// The answer that refuses the words: they have no form that is read so far.
+pub(crate) fn words_refused(alloc: Global) -> Result<Answer, Memory>
+    ensures { IfOk result (λ answer. RefusesWords answer) }
+{
+    let line = usage_line(alloc, 0, b"NotBuilt")?;
+    Ok(Answer {
+        status: Status::Usage,
+        line,
+    })
+}
+
+/// The answer for a file whose read failed.
+pub(crate) fn read_failed(alloc: Global, name: &str) -> Result<Answer, Memory>
+    ensures { IfOk result (λ answer. TellsReadFailure answer name.now) }
+{
+    let line = read_failure_line(alloc, name)?;
+    Ok(Answer {
+        status: Status::ReadFailed,
+        line,
+    })
+}
+
+/// The fault of an input that is not there.
+pub(crate) fn not_found(input: &str) -> Fault<'_>
+    ensures { result ≡ Fault.NotFound input.now None }
+{
+    Fault::NotFound {
+        file: Name::of(input.as_bytes()),
+        member: None,
+    }
+}
+
+/// The fault of an input that has too many bytes.
+pub(crate) fn too_large(input: &str) -> Fault<'_>
+    ensures { result ≡ Fault.FileTooLarge input.now None }
+{
+    Fault::FileTooLarge {
+        file: Name::of(input.as_bytes()),
+        member: None,
+    }
 }

@@ -21,7 +21,12 @@ pub fn image(alloc: Global, plan: &ImagePlan<'_>) -> Result<Vec<u8>, Memory>
 {
     let raw_size = plan.row.raw_size as usize;
     let mut out = Vec::with_capacity(alloc, headers_size(1) as usize + raw_size)?;
-    push_headers(&mut out, &plan.headers, slice::from_ref(&plan.row), plan.size)?;
+    push_headers(
+        &mut out,
+        &plan.headers,
+        slice::from_ref(&plan.row),
+        plan.size,
+    )?;
     out.extend_from_slice(plan.bytes)?;
     push_zeros(&mut out, raw_size - plan.bytes.len())?;
     Ok(out)

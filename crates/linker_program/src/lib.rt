@@ -8,6 +8,7 @@ mod headers;
 mod image_bytes;
 mod lines;
 mod link;
+mod linker;
 mod pe_format;
 mod plan;
 mod status;
@@ -16,6 +17,7 @@ mod write;
 
 pub use headers::{Headers, SectionRow, push_headers};
 pub use image_bytes::image;
+pub use linker::run;
 pub use plan::{ImagePlan, plan_of};
 pub use status::Status;
 pub use words::{Request, request_of};

@@ -29,11 +29,11 @@ pub(crate) fn link_object<F: Files>(
     ensures answered { IfOk result (λ answer. (words : List (List ℕ))
         → IsLoaded words (files_of F.store F.read_faults F.write_faults files.old) (request_view request.now) bytes.now
         → Answers words (files_of F.store F.read_faults F.write_faults files.old)
-            (files_of F.store F.read_faults F.write_faults files.new) answer.status answer.line.items) }
+        (files_of F.store F.read_faults F.write_faults files.new) answer.status answer.line.items) }
     ensures memory { OnErr result ((words : List (List ℕ))
         → IsLoaded words (files_of F.store F.read_faults F.write_faults files.old) (request_view request.now) bytes.now
         → LeftByMemory words (files_of F.store F.read_faults F.write_faults files.old)
-            (files_of F.store F.read_faults F.write_faults files.new)) }
+        (files_of F.store F.read_faults F.write_faults files.new)) }
 {
     match Object::open(bytes) {
         Ok(object) => link_opened(alloc, files, request, &object),
@@ -62,11 +62,11 @@ fn link_opened<F: Files>(
     ensures answered { IfOk result (λ answer. (words : List (List ℕ))
         → IsLoaded words (files_of F.store F.read_faults F.write_faults files.old) (request_view request.now) object.now
         → Answers words (files_of F.store F.read_faults F.write_faults files.old)
-            (files_of F.store F.read_faults F.write_faults files.new) answer.status answer.line.items) }
+        (files_of F.store F.read_faults F.write_faults files.new) answer.status answer.line.items) }
     ensures memory { OnErr result ((words : List (List ℕ))
         → IsLoaded words (files_of F.store F.read_faults F.write_faults files.old) (request_view request.now) object.now
         → LeftByMemory words (files_of F.store F.read_faults F.write_faults files.old)
-            (files_of F.store F.read_faults F.write_faults files.new)) }
+        (files_of F.store F.read_faults F.write_faults files.new)) }
 {
     let entry = Name::of(request.entry.as_bytes());
     match plan_of(object, &entry) {

@@ -21,3 +21,20 @@ pub enum Status {
     /// A put failed.
     PutFailed,
 }
+
+impl Status {
+    /// The number that the program ends with.
+    pub fn code(self) -> u8
+        ensures { result ≡ status_code self }
+    {
+        match self {
+            Status::Done => 0,
+            Status::Refused => 1,
+            Status::Usage => 2,
+            Status::OutOfMemory => 3,
+            Status::ReadFailed => 4,
+            Status::WriteFailed => 5,
+            Status::PutFailed => 6,
+        }
+    }
+}

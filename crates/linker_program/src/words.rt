@@ -103,13 +103,7 @@ fn output_of(word: &str) -> Option<&str>
         return None;
     }
     match behind(word, "/OUT:") {
-        Some(name) => {
-            if name.is_empty() {
-                None
-            } else {
-                Some(name)
-            }
-        }
+        Some(name) => { if name.is_empty() { None } else { Some(name) } }
         None => None,
     }
 }

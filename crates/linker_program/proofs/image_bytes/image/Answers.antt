@@ -1,4 +1,4 @@
-use Rattle.std.proofs.Common.{◌≡◌, ◌++◌, ◌∷◌, List, ℕ, [], length, ◌-◌, replicate, refl, ap, ◌∙◌, sym, append_assoc}
+use Rattle.std.proofs.Common.{◌++◌, ◌∷◌, List, ℕ, [], length, ◌-◌, replicate, ap, ◌∙◌, sym, append_assoc}
 use Rattle.std.proofs.lemmas.List.{append-nil}
 use Rattle.linker_program.specs.HeaderTable.{header_table}
 use Rattle.linker_program.specs.ExpectedImage.{image_file, raw_bytes}
@@ -15,4 +15,4 @@ returns c =
     let zeros = replicate (row.raw_size - length bytes) 0 in
     let raw = raw_bytes (record { rva = row.rva; bytes = bytes } ∷ []) row in
     rw (c.in_ok-push_zeros.ensures, c.in_ok-extend_from_slice.ensures.items, c.in_ok-push_headers.ensures, c.in_ok-out.ensures.items, c.from_ref.ensures.value) (
-      append_assoc headers bytes zeros ∙ ap (λ (t : List ℕ). headers ++ t) (sym (raw_bytes-one bytes row c.requires.whole c.requires.raw) ∙ sym (append-nil raw)))
+    append_assoc headers bytes zeros ∙ ap (λ (t : List ℕ). headers ++ t) (sym (raw_bytes-one bytes row c.requires.whole c.requires.raw) ∙ sym (append-nil raw)))

@@ -1,4 +1,4 @@
-use Rattle.std.proofs.Common.{◌≡◌, ◌<◌, ◌+◌, refl, sym, arith, ◌∙◌, ap, subst}
+use Rattle.std.proofs.Common.{refl, sym, arith, ◌∙◌}
 use Rattle.link_base.specs.Bytes.{first_below}
 use Rattle.link_base.proofs.CallerLemmas.{first_below-found, first_below-more}
 use Rattle.coff_object.specs.ObjectFile.{record_total}

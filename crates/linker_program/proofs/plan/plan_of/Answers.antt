@@ -1,4 +1,4 @@
-use Rattle.std.proofs.Common.{◌≡◌, ◌<◌, sym, ◌∙◌, arith}
+use Rattle.std.proofs.Common.{sym, arith}
 use Rattle.link_base.proofs.CallerLemmas.{first_below-some}
 use Rattle.coff_object.specs.ObjectFile.{record_total}
 use Rattle.coff_object.proofs.CallerLemmas.{first_symbol_facts}

@@ -41,5 +41,5 @@ returns c =
       c.section-section.ensures.flags,
       c.section-section.ensures.size,
       c.section-section.ensures.body,
-      c.first_rva_of-rva.ensures
+      c.first_rva_of-rva.ensures,
     ) refl
