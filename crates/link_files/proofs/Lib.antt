@@ -1,2 +1,3 @@
 pub mod StoreLemmas
 pub mod CallerLemmas
+pub mod HostLemmas

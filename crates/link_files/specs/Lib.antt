@@ -6,3 +6,4 @@ pub mod FaultPlan
 pub mod MemFiles
 pub mod MemSink
 pub mod HostCounts
+pub mod HostWrites

@@ -1,6 +1,7 @@
 //! The trusted edge of the output: a writer of the system.
 
 ghost use Rattle.std.specs.Prelude.{◌≡◌};
+ghost use Rattle.link_files.specs.HostWrites.{WritesWhole};
 
 use crate::sink::{PutError, Sink};
 use std::io::{ErrorKind, Write};
@@ -50,12 +51,14 @@ impl<W: Write> Sink for HostSink<W> {
 
 /// Writes all of the bytes and flushes. Want of memory is answered where nothing was written yet; every other
 /// error, and a write that takes nothing, is a fault.
-pub(crate) fn write_whole<W: Write>(out: &mut W, bytes: &[u8]) -> Result<(), PutError> {
+pub(crate) fn write_whole<W: Write>(out: &mut W, bytes: &[u8]) -> Result<(), PutError>
+    ensures { WritesWhole (W.contents out.old) (W.contents out.new) bytes.now result }
+{
     let mut rest = bytes;
     while !rest.is_empty() {
         match out.write(rest) {
             Ok(0) => return Err(PutError::Fault),
-            Ok(count) => rest = &rest[count..],
+            Ok(count) => (_, rest) = rest.split_at(count),
             Err(error) => {
                 let is_first = rest.len() == bytes.len();
                 if is_first && error.kind() == ErrorKind::OutOfMemory {

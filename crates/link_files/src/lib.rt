@@ -13,6 +13,8 @@ mod mem_files;
 mod mem_sink;
 mod never_fails;
 mod sink;
+#[cfg(test)]
+mod tests;
 
 pub use files::{FileError, Files, WriteError};
 pub use host_files::HostFiles;
