@@ -11,8 +11,11 @@ mod numbers;
 
 pub use fault::{Fault, fault_line};
 pub use field::{cstr, field_u16, field_u32, field_u64};
-pub use line::{push_escaped, push_number};
 pub use kind::{ImageKind, Kind, ObjFault, TargetFault};
+pub use line::{push_escaped, push_number};
 pub use memory::Memory;
 pub use name::Name;
 pub use numbers::{Field, push_fields};
+
+#[cfg(test)]
+mod tests;

@@ -15,3 +15,4 @@ pub mod OutcomeLemmas
 pub mod PlacedImage
 pub mod StepLemmas
 pub mod ReadLemmas
+mod WorkedLink
