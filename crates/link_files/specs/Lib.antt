@@ -7,3 +7,4 @@ pub mod MemFiles
 pub mod MemSink
 pub mod HostCounts
 pub mod HostWrites
+pub mod HostReads

@@ -1,7 +1,8 @@
 //! The trusted edge of the files: those of the system.
 
-ghost use Rattle.std.specs.Prelude.{◌≡◌, ◌≤◌, ◌<◌, length, IfOk, OnOk, vec_len};
+ghost use Rattle.std.specs.Prelude.{◌≡◌, ◌≤◌, ◌<◌, length, take, IfOk, OnOk, vec_len};
 ghost use Rattle.link_files.specs.HostCounts.{no_faults};
+ghost use Rattle.link_files.specs.HostReads.{ReadsBehind, GivesUpTo};
 
 use crate::files::{FileError, Files, WriteError};
 use crate::host_sink::write_whole;
@@ -114,21 +115,56 @@ fn read_on<F: Read, A: Allocator>(
     most: usize,
 ) -> Result<(), FileError>
     requires { vec_len bytes.old ≤ most }
-    ensures { OnOk result (vec_len bytes.new ≤ most) }
+    ensures { OnOk result (GivesUpTo (F.remaining file.old) (F.remaining file.new) bytes.new.items most) }
 {
     let mut filled = 0;
     while filled < most {
-        if filled == bytes.len() {
-            bytes.resize(filled.saturating_mul(2).max(1).min(most), 0)?;
+        make_room(bytes, filled, most)?;
+        let count = read_behind(file, bytes, filled)?;
+        if count == 0 {
+            bytes.truncate(filled);
+            return Ok(());
         }
-        match file.read(&mut bytes[filled..]) {
-            Ok(0) => break,
-            Ok(count) => filled += count,
-            Err(error) => return Err(read_error(&error)),
-        }
+        filled += count;
     }
     bytes.truncate(filled);
     Ok(())
+}
+
+/// Makes more room, at most `most`, where all of it is filled.
+fn make_room<A: Allocator>(
+    bytes: &mut Vec<u8, A>,
+    filled: usize,
+    most: usize,
+) -> Result<(), FileError>
+    requires within { filled ≤ vec_len bytes.old }
+    requires below { vec_len bytes.old ≤ most }
+    requires wanted { filled < most }
+    ensures room { OnOk result (filled < vec_len bytes.new) }
+    ensures most { OnOk result (vec_len bytes.new ≤ most) }
+    ensures front { take filled bytes.new.items ≡ take filled bytes.old.items }
+{
+    if filled == bytes.len() {
+        bytes.resize(filled.saturating_mul(2).max(1).min(most), 0)?;
+    }
+    Ok(())
+}
+
+/// One read, into the room behind the bytes that are filled.
+fn read_behind<F: Read, A: Allocator>(
+    file: &mut F,
+    bytes: &mut Vec<u8, A>,
+    filled: usize,
+) -> Result<usize, FileError>
+    requires { filled < vec_len bytes.old }
+    ensures len { vec_len bytes.new ≡ vec_len bytes.old }
+    ensures read { IfOk result (ReadsBehind (F.remaining file.old) (F.remaining file.new)
+        bytes.old.items bytes.new.items filled) }
+{
+    match file.read(&mut bytes[filled..]) {
+        Ok(count) => Ok(count),
+        Err(error) => Err(read_error(&error)),
+    }
 }
 
 /// Makes the file, or empties it, and writes the bytes. Once that is done every error is a fault.
