@@ -3,6 +3,9 @@ use Rattle.std.specs.Prelude.{ℕ}
 
 -- ---- "Machine Types"
 
+abbrev pub FILE_MACHINE_UNKNOWN : ℕ
+FILE_MACHINE_UNKNOWN = 0
+
 abbrev pub FILE_MACHINE_AMD64 : ℕ
 FILE_MACHINE_AMD64 = 0x8664
 

@@ -1,3 +1,4 @@
 pub mod Constants
 pub mod ObjectFile
-pub mod FirstForm
+pub mod ObjectFaults
+pub mod TextEnd
