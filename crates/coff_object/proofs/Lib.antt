@@ -4,3 +4,5 @@ pub mod WholeLemmas
 pub mod LoopLemmas
 pub mod RowLemmas
 pub mod Readable
+pub mod CallerLemmas
+mod WorkedObject

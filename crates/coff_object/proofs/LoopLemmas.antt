@@ -1,5 +1,5 @@
 -- The least section, or the least symbol, that fails: steps of a loop that counts up.
-use Rattle.std.proofs.Common.{◌≡◌, ℕ, ◌+◌, ◌<◌, ◌≤◌, Bool, true, false, ◌&&◌, ltb, eqb, List, Option, Some, None, lt-ltb, refl, sym, ap, ◌∙◌, arith}
+use Rattle.std.proofs.Common.{◌≡◌, ℕ, ◌+◌, ◌<◌, ◌≤◌, Bool, true, false, ◌&&◌, ltb, List, Some, None, lt-ltb, refl, ap, ◌∙◌, arith}
 use Rattle.std.specs.Cmp.Derive.{both_true}
 use Rattle.link_base.specs.Bytes.{first_below}
 use Rattle.link_base.proofs.CallerLemmas.{first_below-more, first_below-found, first_below-none}

@@ -1,12 +1,12 @@
 -- What the readers need of an object's bytes, and that a well formed object has it.
-use Rattle.std.proofs.Common.{◌≡◌, ℕ, zero, suc, ◌+◌, ◌-◌, ◌*◌, ◌<◌, ◌≤◌, Bool, true, false, cond, ◌&&◌, ◌||◌, not, eqb, leb, ltb, List, length, Option, Some, None, refl, sym, ap, ◌∙◌, subst, arith}
-use Rattle.std.proofs.lemmas.Bool.{false≢true, ltb-true, eqb-true, eq-eqb}
+use Rattle.std.proofs.Common.{◌≡◌, ℕ, ◌+◌, ◌-◌, ◌*◌, ◌<◌, ◌≤◌, Bool, true, false, cond, ◌&&◌, eqb, ltb, List, length, None, refl, sym, subst, arith}
+use Rattle.std.proofs.lemmas.Bool.{false≢true, ltb-true}
 use Rattle.link_base.specs.Bytes.{u32_at}
 use Rattle.coff_object.specs.ObjectFile.{section_header, section_total, relocation_field_of, relocations_offset_of, relocation_record, has_overflow_count, relocation_total, record_total, symbol_record, aux_total_of, aux_left, starts_symbol}
-use Rattle.coff_object.specs.ObjectFaults.{leaves_file, is_truncated, first_section, body_leaves, counted_leave, relocations_leave, record_leaves, aux_leave, symbol_leaves, symbol_range_fault, table_leaves, string_table_fault, object_fault}
+use Rattle.coff_object.specs.ObjectFaults.{leaves_file, is_truncated, body_leaves, counted_leave, relocations_leave, record_leaves, aux_leave, symbol_leaves, symbol_range_fault, table_leaves, object_fault}
 use Rattle.coff_object.proofs.WholeLemmas.{or_left, or_right, and_second, ltb_false, range_whole, file_whole, header_whole, leaves_not, record_whole}
 use Rattle.coff_object.proofs.LoopLemmas.{section_passes}
-use Rattle.coff_object.proofs.RowLemmas.{RangesHold, ranges_hold, values_hold, fault_none, table_stays}
+use Rattle.coff_object.proofs.RowLemmas.{ranges_hold, values_hold, fault_none, table_stays}
 
 -- a section's header and data, and its relocations, are in the file
 pub record ReadableSection (bytes : List ℕ) (section : ℕ) : Type 0 where

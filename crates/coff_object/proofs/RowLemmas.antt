@@ -1,9 +1,9 @@
 -- What an object is in which no kind of fault stands.
-use Rattle.std.proofs.Common.{◌≡◌, ℕ, Bool, true, false, cond, List, Option, Some, None, refl, arith}
+use Rattle.std.proofs.Common.{◌≡◌, ℕ, Bool, true, false, List, Option, Some, None, refl}
 use Rattle.link_base.specs.declared.kind.ObjFault.{ObjFault}
 use Rattle.coff_object.specs.declared.error.ObjError.{ObjError}
 use Rattle.link_base.specs.Bytes.{first_of}
-use Rattle.coff_object.specs.ObjectFaults.{at_start, first_section, first_symbol, is_truncated, is_other_machine, body_leaves, relocations_leave, symbol_range_fault, table_leaves, lacks_section_name, lacks_symbol_name, string_table_fault, has_no_alignment, has_no_section, value_exceeds, row, first_row, first_standing, range_rows, value_rows, object_fault}
+use Rattle.coff_object.specs.ObjectFaults.{at_start, first_section, first_symbol, is_truncated, is_other_machine, body_leaves, relocations_leave, symbol_range_fault, table_leaves, string_table_fault, has_no_alignment, has_no_section, value_exceeds, row, first_row, range_rows, value_rows, object_fault}
 
 neither_row : (first later : Option ObjError) → first_row first later ≡ None → (first ≡ None) × (later ≡ None)
 neither_row None later e = (refl, e)

@@ -1,7 +1,7 @@
 -- Which texts end in a table, by its last NUL.
-use Rattle.std.proofs.Common.{◌≡◌, ℕ, ◌+◌, ◌-◌, ◌<◌, ◌≤◌, Bool, true, false, cond, Some, None, List, drop, take, length, slice_index, le-ltb, lt-ltb, inl, inr, refl, sym, ap, ◌∙◌, subst, arith}
-use Rattle.std.specs.Prelude.{is_some, option_map, nat_lt}
-use Rattle.std.specs.List.{position, position_or_len}
+use Rattle.std.proofs.Common.{◌≡◌, ℕ, ◌+◌, ◌-◌, ◌<◌, ◌≤◌, true, false, Some, None, List, drop, length, slice_index, le-ltb, lt-ltb, inl, inr, refl, sym, ap, ◌∙◌, arith}
+use Rattle.std.specs.Prelude.{is_some, nat_lt}
+use Rattle.std.specs.List.{position_or_len}
 use Rattle.std.proofs.lemmas.List.{length-drop, get_or-drop}
 use Rattle.std.proofs.lemmas.List.Sums.{passes_at_first, fails_before_first}
 use Rattle.std.proofs.lemmas.Bool.{cases_lt, false≢true}
@@ -20,9 +20,9 @@ first_is_near text k passes =
 pub text_there : (table : List ℕ) (offset k : ℕ) → offset ≤ k → k < length table → is_nul (slice_index table k) ≡ true → is_some (text_at table offset) ≡ true
 text_there table offset k le lt passes =
     let here : is_nul (slice_index (drop offset table) (k - offset)) ≡ true =
-      ap is_nul (get_or-drop offset table (k - offset) 0 ∙ ap (λ (m : ℕ). slice_index table m) (omega arith)) ∙ passes in
+    ap is_nul (get_or-drop offset table (k - offset) 0 ∙ ap (λ (m : ℕ). slice_index table m) (omega arith)) ∙ passes in
     let near : position_or_len is_nul (drop offset table) < length (drop offset table) =
-      omega (arith, first_is_near (drop offset table) (k - offset) here, length-drop offset table) in
+    omega (arith, first_is_near (drop offset table) (k - offset) here, length-drop offset table) in
     rw (lt-ltb _ _ near) refl
 
 -- no NUL at or after the offset: none does

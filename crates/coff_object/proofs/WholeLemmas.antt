@@ -1,10 +1,9 @@
 -- What is whole in a file, by the kinds that do not stand.
-use Rattle.std.proofs.Common.{◌≡◌, ℕ, ◌+◌, ◌-◌, ◌*◌, ◌<◌, ◌≤◌, Bool, true, false, ◌&&◌, ◌||◌, not, cond, eqb, leb, ltb, List, length, None, refl, sym, ◌∙◌, inl, inr, lt-ltb, le-leb, arith}
+use Rattle.std.proofs.Common.{◌≡◌, ℕ, ◌+◌, ◌*◌, ◌<◌, ◌≤◌, Bool, true, false, ◌&&◌, ◌||◌, cond, eqb, leb, ltb, List, length, None, refl, sym, ◌∙◌, inl, inr, lt-ltb, le-leb, arith}
 use Rattle.std.proofs.lemmas.Bool.{false≢true, cases_lt, eq-eqb}
-use Rattle.link_base.specs.Bytes.{first_below}
 use Rattle.link_base.proofs.CallerLemmas.{first_below-none}
-use Rattle.coff_object.specs.ObjectFile.{section_header, section_total, optional_header_size, symbols_offset, record_total, symbol_record, symbol_section_field, aux_total_of, aux_left}
-use Rattle.coff_object.specs.ObjectFaults.{leaves_file, headers_leave, is_truncated, record_leaves, aux_leave, symbol_leaves, symbol_range_fault, of_symbol, has_no_section}
+use Rattle.coff_object.specs.ObjectFile.{section_header, section_total, optional_header_size, record_total, symbol_record, symbol_section_field, aux_left}
+use Rattle.coff_object.specs.ObjectFaults.{leaves_file, headers_leave, is_truncated, record_leaves, symbol_leaves, symbol_range_fault, of_symbol, has_no_section}
 
 -- ---- a test of two parts that fails
 

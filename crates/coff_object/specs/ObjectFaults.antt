@@ -1,13 +1,13 @@
 -- What is wrong with an object, as a table of kinds. Each kind says of which sections, or of which symbol
 -- records, it stands; it is judged where no earlier kind stands, and the least place counts. Own; the fields
 -- are those of the PE Format specification.
-use Rattle.std.specs.Prelude.{ℕ, ◌+◌, ◌*◌, Bool, true, false, ◌||◌, ◌&&◌, not, ◌==◌, nat_le, nat_lt, if◌then◌else◌, List, [], ◌∷◌, length, Option, Some, None, option_map, is_none}
+use Rattle.std.specs.Prelude.{ℕ, ◌+◌, ◌*◌, Bool, ◌||◌, ◌&&◌, not, ◌==◌, nat_le, nat_lt, if◌then◌else◌, List, [], ◌∷◌, length, Option, Some, None, option_map, is_none}
 use Rattle.link_base.specs.Bytes.{u32_at, first_below, first_of}
 use Rattle.link_base.specs.declared.kind.ObjFault.{ObjFault}
 use Rattle.link_base.specs.declared.kind.ObjFault.TheVariants as kind
 use Rattle.coff_object.specs.declared.error.ObjError.{ObjError}
 use Rattle.coff_object.specs.Constants.{FILE_MACHINE_AMD64, FILE_MACHINE_UNKNOWN, SCN_TYPE_NO_PAD, SYM_CLASS_EXTERNAL, SYM_CLASS_STATIC, SYM_CLASS_LABEL}
-use Rattle.coff_object.specs.ObjectFile.{machine_of, section_total, symbols_offset, record_total, optional_header_size, string_table_offset, string_table_size, text_in_table, short_name_at, names_an_offset, long_section_name, section_header, raw_size_of, raw_offset_of, relocations_offset_of, relocation_field_of, flags_of, has_flag, alignment_value, is_uninitialised, has_overflow_count, symbol_record, symbol_value_of, symbol_section_field, symbol_class_of, aux_total_of, aux_left}
+use Rattle.coff_object.specs.ObjectFile.{machine_of, section_total, record_total, optional_header_size, string_table_offset, string_table_size, text_in_table, short_name_at, names_an_offset, long_section_name, section_header, raw_size_of, raw_offset_of, relocations_offset_of, relocation_field_of, flags_of, has_flag, alignment_value, is_uninitialised, has_overflow_count, symbol_record, symbol_value_of, symbol_section_field, symbol_class_of, aux_total_of, aux_left}
 
 -- ---- places
 
@@ -107,8 +107,8 @@ lacks_symbol_name bytes index =
 unfoldable pub string_table_fault : List ℕ → Option ℕ
 string_table_fault bytes =
     first_of (at_start (table_leaves bytes))
-      (first_of (first_section bytes (lacks_section_name bytes))
-        (option_map (λ index. section_total bytes + index) (first_symbol bytes (lacks_symbol_name bytes))))
+    (first_of (first_section bytes (lacks_section_name bytes))
+    (option_map (λ index. section_total bytes + index) (first_symbol bytes (lacks_symbol_name bytes))))
 
 -- ---- 7 Alignment
 
@@ -154,21 +154,21 @@ first_standing (fault ∷ rest) = first_row fault (first_standing rest)
 unfoldable pub range_rows : List ℕ → Option ObjError
 range_rows bytes =
     first_standing
-      (row kind.Truncated (at_start (is_truncated bytes))
-      ∷ row kind.Machine (at_start (is_other_machine bytes))
-      ∷ row kind.SectionRange (first_section bytes (body_leaves bytes))
-      ∷ row kind.RelocationRange (first_section bytes (relocations_leave bytes))
-      ∷ row kind.SymbolRange (symbol_range_fault bytes)
-      ∷ [])
+    (row kind.Truncated (at_start (is_truncated bytes))
+    ∷ row kind.Machine (at_start (is_other_machine bytes))
+    ∷ row kind.SectionRange (first_section bytes (body_leaves bytes))
+    ∷ row kind.RelocationRange (first_section bytes (relocations_leave bytes))
+    ∷ row kind.SymbolRange (symbol_range_fault bytes)
+    ∷ [])
 
 unfoldable pub value_rows : List ℕ → Option ObjError
 value_rows bytes =
     first_standing
-      (row kind.StringTable (string_table_fault bytes)
-      ∷ row kind.Alignment (first_section bytes (has_no_alignment bytes))
-      ∷ row kind.SectionNumber (first_symbol bytes (has_no_section bytes))
-      ∷ row kind.SymbolValue (first_symbol bytes (value_exceeds bytes))
-      ∷ [])
+    (row kind.StringTable (string_table_fault bytes)
+    ∷ row kind.Alignment (first_section bytes (has_no_alignment bytes))
+    ∷ row kind.SectionNumber (first_symbol bytes (has_no_section bytes))
+    ∷ row kind.SymbolValue (first_symbol bytes (value_exceeds bytes))
+    ∷ [])
 
 -- the first kind that stands, with its least place: none where the object is well formed
 unfoldable pub object_fault : List ℕ → Option ObjError

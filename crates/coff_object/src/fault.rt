@@ -7,7 +7,8 @@ use crate::error::ObjError;
 use crate::fields::leaves_file;
 use crate::header::section_total;
 use crate::section_fault::{
-    alignment_fault, body_fault, is_other_machine, is_truncated, relocation_fault, section_name_fault,
+    alignment_fault, body_fault, is_other_machine, is_truncated, relocation_fault,
+    section_name_fault,
 };
 use crate::strings::{string_table, string_table_offset, string_table_size, texts_end};
 use crate::symbol_fault::{

@@ -5,7 +5,7 @@
 //! memory.
 #![tactic(auto)]
 
-mod constants;
+pub mod constants;
 mod error;
 mod fault;
 mod fields;
@@ -25,3 +25,5 @@ pub use relocation::Relocation;
 pub use section::Section;
 pub use symbol::Symbol;
 
+#[cfg(test)]
+mod tests;

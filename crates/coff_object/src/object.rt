@@ -1,6 +1,6 @@
 //! An object file, as a view of its bytes.
 
-ghost use Rattle.std.specs.Prelude.{◌≡◌, ◌<◌, ◌≤◌, ◌^◌, length, IfOk, OnOk, IfErr, true, None};
+ghost use Rattle.std.specs.Prelude.{◌≡◌, ◌<◌, ◌≤◌, ◌^◌, length, IfOk, OnOk, IfErr, is_ok, is_none, true, None, Some};
 ghost use Rattle.std.specs.Option.{option_copied};
 ghost use Rattle.coff_object.specs.ObjectFile.{section_total, section_name_of, raw_size_of, flags_of, alignment_of, body_of, relocation_total, relocation_offset_of, relocation_symbol_of, relocation_kind_of, record_total, starts_symbol, symbol_name_of, symbol_value_of, symbol_section_of, symbol_kind_of, symbol_class_of, aux_total_of, aux_record};
 ghost use Rattle.coff_object.specs.ObjectFaults.{object_fault};
@@ -40,6 +40,7 @@ impl<'a> Object<'a> {
         ensures same_bytes { IfOk result (λ object. object ≡ bytes.now) }
         ensures well_formed { OnOk result (object_fault bytes.now ≡ None) }
         ensures refused { IfErr result (λ error. object_fault bytes.now ≡ Some error) }
+        ensures opens { is_ok result ≡ is_none (object_fault bytes.now) }
     {
         match object_fault(bytes) {
             Some(error) => Err(error),

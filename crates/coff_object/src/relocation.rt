@@ -52,7 +52,11 @@ pub(crate) fn relocations_leave(bytes: &[u8], section: u32) -> bool
     if has_overflow_count(bytes, section) {
         counted_leave(bytes, start)
     } else {
-        leaves_file(bytes, start, 10 * usize::from(relocation_field(bytes, section)))
+        leaves_file(
+            bytes,
+            start,
+            10 * usize::from(relocation_field(bytes, section)),
+        )
     }
 }
 

@@ -167,7 +167,8 @@ fn value_exceeds(bytes: &[u8], index: u32, left: u8) -> bool
     if number == 0 || number > LAST_SECTION_NUMBER {
         return false;
     }
-    means_a_place(bytes[start + 16]) && u32_in(bytes, start + 8) > raw_size(bytes, u32::from(number))
+    means_a_place(bytes[start + 16])
+        && u32_in(bytes, start + 8) > raw_size(bytes, u32::from(number))
 }
 
 /// Whether symbols of a storage class mean places where they have a section.

@@ -1,5 +1,3 @@
-use Rattle.std.proofs.Common.{sym, ◌∙◌, ap, List, ℕ}
-use Rattle.coff_object.specs.ObjectFile.{section_name_of}
 use Rattle.coff_object.proofs.Readable.{readable, section_of}
 use Rattle.coff_object.proofs.object.Object.section.Goals as goal
 

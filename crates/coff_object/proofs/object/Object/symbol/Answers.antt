@@ -1,5 +1,3 @@
-use Rattle.std.proofs.Common.{sym, ◌∙◌, ap, List, ℕ}
-use Rattle.coff_object.specs.ObjectFile.{symbol_name_of}
 use Rattle.coff_object.proofs.Readable.{readable, symbol_of}
 use Rattle.coff_object.proofs.object.Object.symbol.Goals as goal
 
