@@ -12,7 +12,7 @@ use crate::header::{record_total, symbols_offset};
 use link_base::{Name, cstr};
 use memchr::memrchr;
 
-/// Where the string table begins, and the texts of it that the sections and symbols name.
+/// Where the string table begins: behind the symbol records.
 pub(crate) fn string_table_offset(bytes: &[u8]) -> usize
     requires { 20 ≤ length bytes.now }
     ensures place { result ≡ string_table_offset bytes.now }
@@ -80,7 +80,7 @@ pub(crate) fn has_text(bytes: &[u8], offset: u32, texts_end: usize) -> bool
 pub(crate) fn names_an_offset(text: &[u8]) -> bool
     ensures { result ≡ names_an_offset text.now }
 {
-    text.len() > 0 && text[0] == b'/'
+    !text.is_empty() && text[0] == b'/'
 }
 
 /// The name that the text of a section's name field refers to.
