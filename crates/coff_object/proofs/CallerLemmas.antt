@@ -1,17 +1,17 @@
 -- What callers may cite of a well formed object: what is in the file, what the fields can be, and where symbols
 -- start.
-use Rattle.std.proofs.Common.{◌≡◌, ℕ, zero, suc, ◌+◌, ◌-◌, ◌^◌, ◌<◌, ◌≤◌, Bool, true, false, cond, ◌&&◌, not, eqb, leb, ltb, List, length, drop, None, refl, sym, ap, ◌∙◌, inl, inr, lt-ltb, le-leb, lit≤, arith}
+use Rattle.std.proofs.Common.{◌≡◌, ℕ, zero, suc, ◌+◌, ◌-◌, ◌*◌, ◌^◌, ◌<◌, ◌≤◌, Bool, true, false, cond, ◌&&◌, not, eqb, leb, ltb, List, length, drop, None, refl, sym, ap, ◌∙◌, inl, inr, lt-ltb, le-leb, lit≤, arith}
 use Rattle.std.specs.Cmp.Derive.{both_true}
-use Rattle.std.proofs.lemmas.Bool.{false≢true, eq-eqb, eqb-true}
+use Rattle.std.proofs.lemmas.Bool.{cases_lt, false≢true, eq-eqb, eqb-true}
 use Rattle.std.proofs.lemmas.Bool.Decides.{eqb_tells}
 use Rattle.std.proofs.lemmas.List.{length-take-le, length-drop}
 use Rattle.link_base.specs.Bytes.{bytes_at}
 use Rattle.coff_object.specs.Constants.{SCN_TYPE_NO_PAD}
-use Rattle.coff_object.specs.ObjectFile.{section_total, flags_of, has_flag, alignment_value, alignment_of, raw_size_of, raw_offset_of, is_uninitialised, record_total, symbol_section_field, symbol_class_of, symbol_value_of, aux_total_of, aux_left, starts_symbol}
+use Rattle.coff_object.specs.ObjectFile.{section_total, flags_of, has_flag, alignment_value, alignment_of, raw_size_of, raw_offset_of, is_uninitialised, relocation_total, relocations_offset_of, has_overflow_count, record_total, symbol_section_field, symbol_class_of, symbol_value_of, aux_total_of, aux_left, starts_symbol}
 use Rattle.coff_object.specs.ObjectFaults.{leaves_file, body_leaves, has_no_alignment, has_no_section, value_exceeds, means_a_place, object_fault}
-use Rattle.coff_object.proofs.WholeLemmas.{and_second, ltb_false, range_whole, number_inside}
+use Rattle.coff_object.proofs.WholeLemmas.{record_whole, and_second, ltb_false, range_whole, number_inside}
 use Rattle.coff_object.proofs.LoopLemmas.{section_passes, symbol_passes}
-use Rattle.coff_object.proofs.RowLemmas.{values_hold, fault_none}
+use Rattle.coff_object.proofs.RowLemmas.{ranges_hold, values_hold, fault_none}
 use Rattle.coff_object.proofs.Readable.{readable, starts_below, starts_with_none}
 
 -- ---- where symbols start
@@ -61,7 +61,30 @@ starts_next bytes j next starts is lt =
 pub symbol_room : (bytes : List ℕ) (j : ℕ) → object_fault bytes ≡ None → starts_symbol bytes j ≡ true → j + 1 + aux_total_of bytes j ≤ record_total bytes
 symbol_room bytes j e starts = ((readable bytes e).symbols j starts).room
 
+-- no more records than the file holds
+pub records_fit : (bytes : List ℕ) → object_fault bytes ≡ None → 18 * record_total bytes ≤ length bytes
+records_fit bytes e =
+    elim (cases_lt 0 (record_total bytes)) [
+      | inl some ↦ omega (arith, record_whole bytes (record_total bytes - 1) (ranges_hold bytes (fault_none bytes e).0).symbols (omega arith))
+      | inr none ↦ omega arith
+    ]
+
 -- ---- sections
+
+-- no more relocations of a section than the file holds
+pub relocations_fit : (bytes : List ℕ) (section : ℕ) → object_fault bytes ≡ None → 1 ≤ section → section ≤ section_total bytes → 10 * relocation_total bytes section ≤ length bytes
+relocations_fit bytes section e first last =
+    fit bytes (relocations_offset_of bytes section) (relocation_total bytes section) (has_overflow_count bytes section) (((readable bytes e).sections section first last).relocations)
+  where
+    fit : (bytes : List ℕ) (offset total : ℕ) (overflow : Bool) → ((k : ℕ) → k < total → offset + 10 * cond overflow (k + 1) k + 10 ≤ length bytes) → 10 * total ≤ length bytes
+    fit bytes offset total true whole = elim (cases_lt 0 total) [
+      | inl some ↦ omega (arith, whole (total - 1) (omega arith))
+      | inr none ↦ omega arith
+    ]
+    fit bytes offset total false whole = elim (cases_lt 0 total) [
+      | inl some ↦ omega (arith, whole (total - 1) (omega arith))
+      | inr none ↦ omega arith
+    ]
 
 part_length : (offset count : ℕ) (bytes : List ℕ) → leaves_file bytes offset count ≡ false → length (bytes_at bytes offset count) ≡ count
 part_length offset zero bytes e = refl
