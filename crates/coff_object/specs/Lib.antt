@@ -2,3 +2,4 @@ pub mod Constants
 pub mod ObjectFile
 pub mod ObjectFaults
 pub mod TextEnd
+pub mod FirstForm

@@ -1,0 +1,17 @@
+use Rattle.std.proofs.Common.{arith, rules, sym, refl}
+use Rattle.link_base.specs.Bytes.{all_below}
+use Rattle.link_base.proofs.CallerLemmas.{all_below-more, all_below-fails}
+use Rattle.coff_object.specs.FirstForm.{has_plain_symbols, is_plain_symbol}
+use Rattle.coff_object.proofs.first_form.has_plain_symbols.Goals as goal
+
+pub loop-index-init : goal.loop-index-init
+unfolding all_below
+loop-index-init c = refl
+
+pub returns-then-not-is_plain_symbol : goal.returns-then-not-is_plain_symbol
+unfolding has_plain_symbols
+returns-then-not-is_plain_symbol c =
+    sym (all_below-fails _ c.loop-index.index (is_plain_symbol c.args.bytes.now) (omega (arith, c.record_total-index-end.ensures)) (search rules))
+
+pub loop-index-preserved : goal.loop-index-preserved
+loop-index-preserved c = all_below-more _ _ c.loop-index.invariant (search rules)
