@@ -1,107 +1,152 @@
--- What callers may cite: what a file of the first form is, and where symbols start.
-use Rattle.std.proofs.Common.{◌≡◌, ℕ, ◌+◌, ◌<◌, ◌≤◌, Bool, true, false, cond, ◌||◌, not, eqb, leb, List, length, drop, refl, sym, ap, ◌∙◌, arith}
-use Rattle.std.specs.Prelude.{Some, None, bit_and}
+-- What callers may cite of a well formed object: what is in the file, what the fields can be, and where symbols
+-- start.
+use Rattle.std.proofs.Common.{◌≡◌, ℕ, zero, suc, ◌+◌, ◌-◌, ◌*◌, ◌^◌, ◌<◌, ◌≤◌, Bool, true, false, cond, ◌&&◌, not, eqb, leb, ltb, List, length, drop, None, refl, sym, ap, ◌∙◌, inl, inr, lt-ltb, le-leb, lit≤, arith}
 use Rattle.std.specs.Cmp.Derive.{both_true}
-use Rattle.std.proofs.lemmas.Bool.{false≢true, eqb-true, leb-true, lt-ltb}
+use Rattle.std.proofs.lemmas.Bool.{cases_lt, false≢true, eq-eqb, eqb-true}
+use Rattle.std.proofs.lemmas.Bool.Decides.{eqb_tells}
 use Rattle.std.proofs.lemmas.List.{length-take-le, length-drop}
-use Rattle.std.proofs.lemmas.Slice.Eq.{bytes_eq-Decides}
 use Rattle.link_base.specs.Bytes.{bytes_at}
-use Rattle.link_base.proofs.CallerLemmas.{all_below-each}
-use Rattle.coff_object.specs.Constants.{SCN_CNT_UNINITIALIZED_DATA, SYM_CLASS_EXTERNAL}
-use Rattle.coff_object.specs.ObjectFile.{section_total, flags_of, alignment_value, raw_size_of, raw_offset_of, is_uninitialised, body_of, relocation_field_of, relocation_total, record_total, starts_symbol, aux_left, symbol_name_of, symbol_value_of, symbol_section_field, symbol_class_of, aux_total_of}
-use Rattle.coff_object.specs.FirstForm.{lacks_flag, is_plain_for_linker, has_plain_data, has_plain_flags, is_plain_external, is_plain_symbol, has_same_name, is_new_name, has_distinct_names, is_first_form}
-use Rattle.coff_object.proofs.FirstFormLemmas.{and_left, and_right, four_true, plain_symbol}
-use Rattle.coff_object.proofs.Readable.{section_parts, symbol_parts, first_section, sections_one, data_whole, no_total, starts_each}
+use Rattle.coff_object.specs.Constants.{SCN_TYPE_NO_PAD}
+use Rattle.coff_object.specs.ObjectFile.{section_total, flags_of, has_flag, alignment_value, alignment_of, raw_size_of, raw_offset_of, is_uninitialised, relocation_total, relocations_offset_of, has_overflow_count, record_total, symbol_section_field, symbol_class_of, symbol_value_of, aux_total_of, aux_left, starts_symbol}
+use Rattle.coff_object.specs.ObjectFaults.{leaves_file, body_leaves, has_no_alignment, has_no_section, value_exceeds, means_a_place, object_fault}
+use Rattle.coff_object.proofs.WholeLemmas.{record_whole, and_second, ltb_false, range_whole, number_inside}
+use Rattle.coff_object.proofs.LoopLemmas.{section_passes, symbol_passes}
+use Rattle.coff_object.proofs.RowLemmas.{ranges_hold, values_hold, fault_none}
+use Rattle.coff_object.proofs.Readable.{readable, starts_below, starts_with_none}
+
+-- ---- where symbols start
 
 -- a symbol starts at record 0, where there is one
 pub starts_first : (bytes : List ℕ) → 0 < record_total bytes → starts_symbol bytes 0 ≡ true
 unfolding aux_left
 starts_first bytes lt = both_true (lt-ltb 0 (record_total bytes) lt) refl
 
--- the section of a file of the first form
-pub record FirstSection (bytes : List ℕ) : Type 0 where
-  pub sections : section_total bytes ≡ 1
-  pub size : 1 ≤ raw_size_of bytes 1
-  pub inside : raw_offset_of bytes 1 + raw_size_of bytes 1 ≤ length bytes
-  pub body : body_of bytes 1 ≡ Some (bytes_at bytes (raw_offset_of bytes 1) (raw_size_of bytes 1))
-  pub body_len : length (bytes_at bytes (raw_offset_of bytes 1) (raw_size_of bytes 1)) ≡ raw_size_of bytes 1
-  pub alignment : alignment_value (flags_of bytes 1) ≤ 13
-  pub relocations : relocation_total bytes 1 ≡ 0
+not_zero : (n : ℕ) → 0 < n → eqb n 0 ≡ false
+not_zero n some =
+    elim (eqb_tells n 0) [
+      | inl is ↦ absurd (omega (arith, is.1))
+      | inr other ↦ other.0
+    ]
 
--- a symbol of such a file, by its record
-pub record FirstSymbol (bytes : List ℕ) (index : ℕ) : Type 0 where
-  pub starts : starts_symbol bytes index ≡ true
-  pub class : symbol_class_of bytes index ≡ SYM_CLASS_EXTERNAL
-  pub section : symbol_section_field bytes index ≡ 1
-  pub aux : aux_total_of bytes index ≡ 0
-  pub value : symbol_value_of bytes index ≤ raw_size_of bytes 1
+left_next : (left aux n : ℕ) → left ≡ n → 0 < n → cond (eqb left 0) aux (left - 1) ≡ n - 1
+left_next left aux n e some = rw (e, not_zero n some) refl
 
-not_both : (marked nowhere : Bool) → marked ≡ false → nowhere ≡ false → (marked || nowhere) ≡ false
-not_both marked nowhere e f = rw (e, f) refl
+left_first : (left aux : ℕ) → left ≡ 0 → cond (eqb left 0) aux (left - 1) ≡ aux
+left_first left aux e = rw e refl
 
-not_true : (b : Bool) → not b ≡ true → b ≡ false
-not_true true e = absurd (false≢true e)
-not_true false e = refl
+-- behind a symbol its auxiliary records are left, one less at each
+pub left_at : (bytes : List ℕ) (j i : ℕ) → aux_left bytes j ≡ 0 → i ≤ aux_total_of bytes j → aux_left bytes (suc j + i) ≡ aux_total_of bytes j - i
+unfolding aux_left
+left_at bytes j zero starts le =
+    let place : suc j + 0 ≡ suc j = omega arith in
+    let all : aux_total_of bytes j - 0 ≡ aux_total_of bytes j = omega arith in
+    ap (aux_left bytes) place ∙ left_first (aux_left bytes j) (aux_total_of bytes j) starts ∙ sym all
+left_at bytes j (suc i) starts le =
+    let place : suc j + suc i ≡ suc (suc j + i) = omega arith in
+    let less : aux_total_of bytes j - i - 1 ≡ aux_total_of bytes j - suc i = omega arith in
+    ap (aux_left bytes) place
+    ∙ left_next (aux_left bytes (suc j + i)) (aux_total_of bytes (suc j + i)) (aux_total_of bytes j - i) (left_at bytes j i starts (omega arith)) (omega arith)
+    ∙ less
 
-initialised : (bytes : List ℕ) → has_plain_data bytes ≡ true → has_plain_flags bytes ≡ true → is_uninitialised bytes 1 ≡ false
-unfolding has_plain_data has_plain_flags
-initialised bytes e f =
-    let h = four_true (not (eqb (raw_offset_of bytes 1) 0)) (leb 1 (raw_size_of bytes 1)) (leb (raw_offset_of bytes 1 + raw_size_of bytes 1) (length bytes)) (eqb (relocation_field_of bytes 1) 0) e in
-    let lacks = and_left (lacks_flag (flags_of bytes 1) SCN_CNT_UNINITIALIZED_DATA) (is_plain_for_linker (flags_of bytes 1)) (and_right (leb (alignment_value (flags_of bytes 1)) 13) _ f) in
-    not_both (not (eqb (bit_and (flags_of bytes 1) SCN_CNT_UNINITIALIZED_DATA) 0)) (eqb (raw_offset_of bytes 1) 0) (ap not lacks) (not_true (eqb (raw_offset_of bytes 1) 0) h.0)
+-- and behind each symbol and its auxiliary records, where there is one more
+pub starts_next : (bytes : List ℕ) (j next : ℕ) → starts_symbol bytes j ≡ true → next ≡ j + 1 + aux_total_of bytes j → next < record_total bytes → starts_symbol bytes next ≡ true
+starts_next bytes j next starts is lt =
+    let none = eqb-true (aux_left bytes j) 0 (starts_with_none bytes j starts) in
+    let place : next ≡ suc j + aux_total_of bytes j = omega arith in
+    let rest : aux_total_of bytes j - aux_total_of bytes j ≡ 0 = omega arith in
+    let left = ap (aux_left bytes) place ∙ left_at bytes j (aux_total_of bytes j) none (omega arith) ∙ rest in
+    both_true (lt-ltb next (record_total bytes) lt) (eq-eqb (aux_left bytes next) 0 left)
 
-size_some : (bytes : List ℕ) → has_plain_data bytes ≡ true → 1 ≤ raw_size_of bytes 1
-unfolding has_plain_data
-size_some bytes e =
-    let h = four_true (not (eqb (raw_offset_of bytes 1) 0)) (leb 1 (raw_size_of bytes 1)) (leb (raw_offset_of bytes 1 + raw_size_of bytes 1) (length bytes)) (eqb (relocation_field_of bytes 1) 0) e in
-    leb-true 1 (raw_size_of bytes 1) h.1
+-- a symbol's auxiliary records are in the table
+pub symbol_room : (bytes : List ℕ) (j : ℕ) → object_fault bytes ≡ None → starts_symbol bytes j ≡ true → j + 1 + aux_total_of bytes j ≤ record_total bytes
+symbol_room bytes j e starts = ((readable bytes e).symbols j starts).room
 
-alignment_low : (bytes : List ℕ) → has_plain_flags bytes ≡ true → alignment_value (flags_of bytes 1) ≤ 13
-unfolding has_plain_flags
-alignment_low bytes e = leb-true (alignment_value (flags_of bytes 1)) 13 (and_left (leb (alignment_value (flags_of bytes 1)) 13) _ e)
+-- no more records than the file holds
+pub records_fit : (bytes : List ℕ) → object_fault bytes ≡ None → 18 * record_total bytes ≤ length bytes
+records_fit bytes e =
+    elim (cases_lt 0 (record_total bytes)) [
+      | inl some ↦ omega (arith, record_whole bytes (record_total bytes - 1) (ranges_hold bytes (fault_none bytes e).0).symbols (omega arith))
+      | inr none ↦ omega arith
+    ]
 
-choose_second : {A : Type 0} (b : Bool) (x y : A) → b ≡ false → cond b x y ≡ y
-choose_second b x y e = rw e refl
+-- ---- sections
 
-part_length : (offset count : ℕ) (bytes : List ℕ) → offset + count ≤ length bytes → length (bytes_at bytes offset count) ≡ count
-part_length offset count bytes le = length-take-le count (drop offset bytes) (omega (arith, length-drop offset bytes))
+-- no more relocations of a section than the file holds
+pub relocations_fit : (bytes : List ℕ) (section : ℕ) → object_fault bytes ≡ None → 1 ≤ section → section ≤ section_total bytes → 10 * relocation_total bytes section ≤ length bytes
+relocations_fit bytes section e first last =
+    fit bytes (relocations_offset_of bytes section) (relocation_total bytes section) (has_overflow_count bytes section) (((readable bytes e).sections section first last).relocations)
+  where
+    fit : (bytes : List ℕ) (offset total : ℕ) (overflow : Bool) → ((k : ℕ) → k < total → offset + 10 * cond overflow (k + 1) k + 10 ≤ length bytes) → 10 * total ≤ length bytes
+    fit bytes offset total true whole = elim (cases_lt 0 total) [
+      | inl some ↦ omega (arith, whole (total - 1) (omega arith))
+      | inr none ↦ omega arith
+    ]
+    fit bytes offset total false whole = elim (cases_lt 0 total) [
+      | inl some ↦ omega (arith, whole (total - 1) (omega arith))
+      | inr none ↦ omega arith
+    ]
 
-pub first_section_facts : (bytes : List ℕ) → is_first_form bytes ≡ true → FirstSection bytes
-first_section_facts bytes e =
-    let parts = section_parts bytes (first_section bytes e) in
-    let whole = data_whole bytes parts.1.0 in
-    record {
-      sections = sections_one bytes parts.0.0;
-      size = size_some bytes parts.1.0;
-      inside = whole.0;
-      body = choose_second (is_uninitialised bytes 1) None (Some (bytes_at bytes (raw_offset_of bytes 1) (raw_size_of bytes 1))) (initialised bytes parts.1.0 parts.1.1);
-      body_len = part_length (raw_offset_of bytes 1) (raw_size_of bytes 1) bytes whole.0;
-      alignment = alignment_low bytes parts.1.1;
-      relocations = no_total bytes whole.1;
-    }
+part_length : (offset count : ℕ) (bytes : List ℕ) → leaves_file bytes offset count ≡ false → length (bytes_at bytes offset count) ≡ count
+part_length offset zero bytes e = refl
+part_length offset (suc count) bytes e =
+    length-take-le (suc count) (drop offset bytes) (omega (arith, length-drop offset bytes, range_whole bytes offset (suc count) e (omega arith)))
 
-external_facts : (bytes : List ℕ) (index : ℕ) → is_plain_symbol bytes index ≡ true → starts_symbol bytes index ≡ true → FirstSymbol bytes index
-unfolding is_plain_symbol is_plain_external
-external_facts bytes index e starts =
-    let h = four_true (eqb (symbol_class_of bytes index) SYM_CLASS_EXTERNAL) (eqb (symbol_section_field bytes index) 1) (eqb (aux_total_of bytes index) 0) (leb (symbol_value_of bytes index) (raw_size_of bytes 1)) (and_left (is_plain_external bytes index) _ e) in
-    record {
-      starts = starts;
-      class = eqb-true (symbol_class_of bytes index) SYM_CLASS_EXTERNAL h.0;
-      section = eqb-true (symbol_section_field bytes index) 1 h.1;
-      aux = eqb-true (aux_total_of bytes index) 0 h.2;
-      value = leb-true (symbol_value_of bytes index) (raw_size_of bytes 1) h.3;
-    }
+body_stays : (bytes : List ℕ) (section : ℕ) → body_leaves bytes section ≡ false → is_uninitialised bytes section ≡ false → leaves_file bytes (raw_offset_of bytes section) (raw_size_of bytes section) ≡ false
+unfolding body_leaves
+body_stays bytes section e initialised = and_second (not (is_uninitialised bytes section)) _ (ap not initialised) e
 
-pub first_symbol_facts : (bytes : List ℕ) (index : ℕ) → is_first_form bytes ≡ true → index < record_total bytes → FirstSymbol bytes index
-first_symbol_facts bytes index e lt =
-    let parts = symbol_parts bytes e in
-    external_facts bytes index (plain_symbol bytes index parts.1.0 lt) (starts_each bytes index parts.1.0 lt)
+-- an initialised section has as many bytes of data as its size says
+pub body_length : (bytes : List ℕ) (section : ℕ) → object_fault bytes ≡ None → 1 ≤ section → section ≤ section_total bytes → is_uninitialised bytes section ≡ false → length (bytes_at bytes (raw_offset_of bytes section) (raw_size_of bytes section)) ≡ raw_size_of bytes section
+body_length bytes section e first last initialised =
+    part_length (raw_offset_of bytes section) (raw_size_of bytes section) bytes (body_stays bytes section ((readable bytes e).sections section first last).body initialised)
 
--- two symbols of such a file have different names
-pub first_names_differ : (bytes : List ℕ) (earlier index : ℕ) → is_first_form bytes ≡ true → earlier < index → index < record_total bytes → symbol_name_of bytes earlier ≡ symbol_name_of bytes index → ⊥
-unfolding has_distinct_names is_new_name has_same_name
-first_names_differ bytes earlier index e before lt same =
-    let parts = symbol_parts bytes e in
-    let new = all_below-each (record_total bytes) (is_new_name bytes) parts.1.1 index lt in
-    let differ = all_below-each index (λ (k : ℕ). not (has_same_name bytes k index)) new earlier before in
-    false≢true (sym (not_true (has_same_name bytes earlier index) differ) ∙ (bytes_eq-Decides (symbol_name_of bytes earlier) (symbol_name_of bytes index)).1 same)
+-- an alignment is a power of two of at most 8,192
+pub record IsAlignment (alignment : ℕ) : Type 0 where
+  pub power : ℕ
+  pub small : power ≤ 13
+  pub is : alignment ≡ 2 ^ power
+
+unpadded : (value : ℕ) → value < 16 → (eqb value 15) ≡ false → IsAlignment (cond (eqb value 0) 16 (2 ^ (value - 1)))
+unpadded value low free =
+    elim (eqb_tells value 0) [
+      | inl none ↦ record { power = 4; small = lit≤ tt; is = rw none.0 refl }
+      | inr some ↦ record { power = value - 1; small = below value low free; is = rw some.0 refl }
+    ]
+  where
+    below : (value : ℕ) → value < 16 → (eqb value 15) ≡ false → value - 1 ≤ 13
+    below value low free = elim (eqb_tells value 15) [
+      | inl last ↦ absurd (false≢true (sym free ∙ last.0))
+      | inr other ↦ omega (arith, other.1)
+    ]
+
+aligned : (no_pad : Bool) (value : ℕ) → value < 16 → (not no_pad && eqb value 15) ≡ false → IsAlignment (cond no_pad 1 (cond (eqb value 0) 16 (2 ^ (value - 1))))
+aligned true value low free = record { power = 0; small = lit≤ tt; is = refl }
+aligned false value low free = unpadded value low free
+
+pub section_alignment : (bytes : List ℕ) (section : ℕ) → object_fault bytes ≡ None → 1 ≤ section → section ≤ section_total bytes → IsAlignment (alignment_of (flags_of bytes section))
+unfolding has_no_alignment
+section_alignment bytes section e first last =
+    let free = section_passes bytes (has_no_alignment bytes) section first last (values_hold bytes (fault_none bytes e).1).alignments in
+    aligned (has_flag (flags_of bytes section) SCN_TYPE_NO_PAD) (alignment_value (flags_of bytes section)) (omega arith) free
+
+-- ---- symbols
+
+-- a symbol's section number that is one is that of a section
+pub symbol_section_inside : (bytes : List ℕ) (j : ℕ) → object_fault bytes ≡ None → starts_symbol bytes j ≡ true → symbol_section_field bytes j ≤ 65279 → symbol_section_field bytes j ≤ section_total bytes
+symbol_section_inside bytes j e starts low =
+    let passes = symbol_passes bytes (has_no_section bytes) j (starts_below bytes j starts) (values_hold bytes (fault_none bytes e).1).numbers in
+    number_inside bytes j passes (eqb-true (aux_left bytes j) 0 (starts_with_none bytes j starts)) low
+
+value_stays : (bytes : List ℕ) (j : ℕ) → value_exceeds bytes j ≡ false → 0 < symbol_section_field bytes j → symbol_section_field bytes j ≤ 65279 → means_a_place (symbol_class_of bytes j) ≡ true → symbol_value_of bytes j ≤ raw_size_of bytes (symbol_section_field bytes j)
+unfolding value_exceeds
+value_stays bytes j e some low place =
+    let field = symbol_section_field bytes j in
+    let here = both_true (lt-ltb 0 field some) (le-leb field 65279 low) in
+    let rest = and_second (ltb 0 field && leb field 65279) _ here e in
+    ltb_false (raw_size_of bytes field) (symbol_value_of bytes j) (and_second (means_a_place (symbol_class_of bytes j)) _ place rest)
+
+-- the value of an external symbol, a static one or a label in a section is at most the section's size
+pub symbol_value_inside : (bytes : List ℕ) (j : ℕ) → object_fault bytes ≡ None → starts_symbol bytes j ≡ true → 0 < symbol_section_field bytes j → symbol_section_field bytes j ≤ 65279 → means_a_place (symbol_class_of bytes j) ≡ true → symbol_value_of bytes j ≤ raw_size_of bytes (symbol_section_field bytes j)
+symbol_value_inside bytes j e starts some low place =
+    let passes = symbol_passes bytes (value_exceeds bytes) j (starts_below bytes j starts) (values_hold bytes (fault_none bytes e).1).values in
+    value_stays bytes j (and_second (eqb (aux_left bytes j) 0) (value_exceeds bytes j) (starts_with_none bytes j starts) passes) some low place

@@ -2,7 +2,7 @@
 use Rattle.std.proofs.Common.{◌≡◌, ℕ, ◌+◌, ◌*◌, ◌<◌, ◌≤◌, Bool, true, false, ◌&&◌, not, eqb, leb, List, length, refl, arith}
 use Rattle.std.proofs.lemmas.Bool.{false≢true, eqb-true, leb-true}
 use Rattle.link_base.proofs.CallerLemmas.{all_below-each}
-use Rattle.coff_object.specs.ObjectFile.{machine_of, section_header, section_total, optional_header_size, symbols_offset, record_total, symbol_record, symbol_name_of, short_name_at}
+use Rattle.coff_object.specs.ObjectFile.{machine_of, section_header, section_total, optional_header_size, symbols_offset, record_total, symbol_record, symbol_name_of, name_at, short_name_at}
 use Rattle.coff_object.specs.Constants.{FILE_MACHINE_AMD64}
 use Rattle.coff_object.specs.FirstForm.{has_one_section, has_records, is_plain_external, is_plain_symbol, has_plain_symbols, has_first_section}
 
@@ -52,7 +52,7 @@ record_whole bytes index e lt = omega (arith, records_whole bytes e)
 
 -- ---- names
 
-not_true : (b : Bool) → not b ≡ true → b ≡ false
+pub not_true : (b : Bool) → not b ≡ true → b ≡ false
 not_true true e = absurd (false≢true e)
 not_true false e = refl
 
@@ -61,7 +61,7 @@ unfolding has_plain_symbols
 plain_symbol bytes index e lt = all_below-each (record_total bytes) (is_plain_symbol bytes) e index lt
 
 pub name_is_short : (bytes : List ℕ) (index : ℕ) → has_plain_symbols bytes ≡ true → index < record_total bytes → symbol_name_of bytes index ≡ short_name_at bytes (symbol_record bytes index)
-unfolding is_plain_symbol symbol_name_of
+unfolding is_plain_symbol name_at
 name_is_short bytes index e lt =
     let p = and_right (is_plain_external bytes index) _ (plain_symbol bytes index e lt) in
     rw (not_true _ p) refl

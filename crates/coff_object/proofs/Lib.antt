@@ -1,5 +1,11 @@
 pub mod NameLemmas
-pub mod FirstFormLemmas
+pub mod TextLemmas
+pub mod WholeLemmas
+pub mod LoopLemmas
+pub mod RowLemmas
 pub mod Readable
 pub mod CallerLemmas
 mod WorkedObject
+pub mod FirstFormLemmas
+pub mod FirstFormFacts
+pub mod FirstFormOpens

@@ -1,9 +1,10 @@
 -- The definitions on a small object: one section `.text` of three bytes, and one external symbol `main` in it.
-use Rattle.std.proofs.Common.{◌≡◌, ℕ, List, [], ◌∷◌, ◌++◌, true, Some, refl}
+use Rattle.std.proofs.Common.{◌≡◌, ℕ, List, [], ◌∷◌, ◌++◌, take, true, Some, None, refl}
 use Rattle.std.specs.Prelude.{codes}
-use Rattle.link_base.specs.Bytes.{number_at, all_below}
-use Rattle.coff_object.specs.ObjectFile.{section_name_of, raw_size_of, flags_of, alignment_of, body_of, record_total, starts_symbol, symbol_name_of, symbol_value_of, aux_left}
-use Rattle.coff_object.specs.FirstForm.{has_one_section, is_named_text, has_plain_data, has_plain_flags, is_plain_for_linker, has_records, is_plain_external, is_plain_symbol, has_plain_symbols, has_same_name, is_new_name, has_distinct_names, has_empty_strings, has_first_section, has_first_symbols, is_first_form}
+use Rattle.link_base.specs.Bytes.{number_at, first_below}
+use Rattle.link_base.specs.declared.kind.ObjFault.TheVariants as kind
+use Rattle.coff_object.specs.ObjectFile.{name_at, text_in_table, decimal_number, long_section_name, section_name_of, raw_size_of, flags_of, alignment_of, body_of, record_total, starts_symbol, symbol_name_of, symbol_value_of, aux_left}
+use Rattle.coff_object.specs.ObjectFaults.{first_section, first_symbol, is_truncated, is_other_machine, body_leaves, counted_leave, relocations_leave, symbol_leaves, symbol_range_fault, lacks_section_name, lacks_symbol_name, string_table_fault, has_no_alignment, has_no_section, value_exceeds, range_rows, value_rows, object_fault}
 
 file_header : List ℕ
 file_header =
@@ -27,9 +28,18 @@ string_row = 0x04 ∷ 0x00 ∷ 0x00 ∷ 0x00 ∷ []
 object : List ℕ
 object = file_header ++ (section_row ++ (section_body ++ (symbol_row ++ string_row)))
 
-object-first_form : is_first_form object ≡ true
-unfolding object file_header section_row section_body symbol_row string_row number_at all_below symbol_name_of has_one_section is_named_text has_plain_data has_plain_flags is_plain_for_linker has_records is_plain_external is_plain_symbol has_plain_symbols has_same_name is_new_name has_distinct_names has_empty_strings has_first_section has_first_symbols is_first_form
-object-first_form = refl
+object-well_formed : object_fault object ≡ None
+unfolding object file_header section_row section_body symbol_row string_row number_at first_below aux_left text_in_table decimal_number long_section_name first_section first_symbol is_truncated is_other_machine body_leaves counted_leave relocations_leave symbol_leaves symbol_range_fault lacks_section_name lacks_symbol_name string_table_fault has_no_alignment has_no_section value_exceeds range_rows value_rows object_fault
+object-well_formed = refl
+
+-- cut inside the section header, and inside the data
+object-cut_header : object_fault (take 59 object) ≡ Some (record { kind = kind.Truncated; index = 0 })
+unfolding object file_header section_row section_body symbol_row string_row number_at first_below aux_left text_in_table decimal_number long_section_name first_section first_symbol is_truncated is_other_machine body_leaves counted_leave relocations_leave symbol_leaves symbol_range_fault lacks_section_name lacks_symbol_name string_table_fault has_no_alignment has_no_section value_exceeds range_rows value_rows object_fault
+object-cut_header = refl
+
+object-cut_data : object_fault (take 62 object) ≡ Some (record { kind = kind.SectionRange; index = 1 })
+unfolding object file_header section_row section_body symbol_row string_row number_at first_below aux_left text_in_table decimal_number long_section_name first_section first_symbol is_truncated is_other_machine body_leaves counted_leave relocations_leave symbol_leaves symbol_range_fault lacks_section_name lacks_symbol_name string_table_fault has_no_alignment has_no_section value_exceeds range_rows value_rows object_fault
+object-cut_data = refl
 
 object-section_name : section_name_of object 1 ≡ codes ".text"
 unfolding object file_header section_row section_body symbol_row string_row number_at section_name_of
@@ -60,7 +70,7 @@ unfolding object file_header section_row section_body symbol_row string_row numb
 object-symbol = refl
 
 object-symbol_name : symbol_name_of object 0 ≡ codes "main"
-unfolding object file_header section_row section_body symbol_row string_row number_at symbol_name_of
+unfolding object file_header section_row section_body symbol_row string_row number_at name_at
 object-symbol_name = refl
 
 object-symbol_value : symbol_value_of object 0 ≡ 0

@@ -1,3 +1,5 @@
 pub mod Constants
 pub mod ObjectFile
+pub mod ObjectFaults
+pub mod TextEnd
 pub mod FirstForm

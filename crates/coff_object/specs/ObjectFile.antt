@@ -1,8 +1,8 @@
 -- An object file by its fields (PE Format, "COFF File Header (Object and Image)", "Section Table (Section
 -- Headers)", "COFF Relocations", "COFF Symbol Table", "COFF String Table"). Sections are numbered from 1,
 -- symbol records and relocations from 0.
-use Rattle.std.specs.Prelude.{ℕ, zero, suc, ◌+◌, ◌-◌, ◌*◌, ◌/◌, ◌%◌, ◌^◌, ℤ, pos, ◌-ℤ◌, Bool, ◌||◌, ◌&&◌, not, ◌==◌, nat_le, nat_lt, if◌then◌else◌, List, [], drop, slice_index, Option, Some, None, unwrap_or, fold, bit_and}
-use Rattle.std.specs.List.{before_first}
+use Rattle.std.specs.Prelude.{ℕ, zero, suc, ◌+◌, ◌-◌, ◌*◌, ◌/◌, ◌%◌, ◌^◌, ℤ, pos, ◌-ℤ◌, Bool, ◌||◌, ◌&&◌, not, ◌==◌, nat_le, nat_lt, if◌then◌else◌, List, [], length, drop, slice_index, Option, Some, None, unwrap_or, option_and_then, fold, bit_and}
+use Rattle.std.specs.List.{before_first, list_all}
 use Rattle.link_base.specs.Bytes.{u16_at, u32_at, bytes_at, has_bytes, text_at, is_nul}
 use Rattle.coff_object.specs.Constants.{SCN_TYPE_NO_PAD, SCN_CNT_UNINITIALIZED_DATA, SCN_LNK_NRELOC_OVFL}
 
@@ -54,8 +54,19 @@ short_name_at bytes offset = before_first is_nul (bytes_at bytes offset 8)
 abbrev pub names_an_offset : List ℕ → Bool
 names_an_offset text = slice_index text 0 == 47
 
+abbrev pub is_digit : ℕ → Bool
+is_digit byte = nat_le 48 byte && nat_le byte 57
+
 abbrev pub decimal_value : List ℕ → ℕ
 decimal_value digits = fold (λ value digit. 10 * value + (digit - 48)) 0 digits
+
+-- the number that a text of digits writes, zeros before it allowed; an empty text, or one with another byte, writes none
+unfoldable pub decimal_number : List ℕ → Option ℕ
+decimal_number text = if nat_lt 0 (length text) && list_all is_digit text then Some (decimal_value text) else None
+
+-- the name that a section's name field refers to, where it does so well
+unfoldable pub long_section_name : List ℕ → List ℕ → Option (List ℕ)
+long_section_name bytes text = option_and_then (text_in_table bytes) (decimal_number (drop 1 text))
 
 -- ---- section headers, 40 bytes each
 
@@ -65,7 +76,7 @@ section_header bytes section = 20 + optional_header_size bytes + 40 * (section -
 unfoldable pub section_name_of : List ℕ → ℕ → List ℕ
 section_name_of bytes section =
     let text = short_name_at bytes (section_header bytes section) in
-    if names_an_offset text then unwrap_or (text_in_table bytes (decimal_value (drop 1 text))) [] else text
+    if names_an_offset text then unwrap_or (long_section_name bytes text) [] else text
 
 abbrev pub raw_size_of : List ℕ → ℕ → ℕ
 raw_size_of bytes section = u32_at bytes (section_header bytes section + 16)
@@ -138,12 +149,14 @@ relocation_kind_of bytes section index = u16_at bytes (relocation_record bytes s
 abbrev pub symbol_record : List ℕ → ℕ → ℕ
 symbol_record bytes index = symbols_offset bytes + 18 * index
 
--- four bytes of zero and an offset in the string table, or the name itself
-unfoldable pub symbol_name_of : List ℕ → ℕ → List ℕ
-symbol_name_of bytes index =
-    if u32_at bytes (symbol_record bytes index) == 0
-    then unwrap_or (text_in_table bytes (u32_at bytes (symbol_record bytes index + 4))) []
-    else short_name_at bytes (symbol_record bytes index)
+-- a name field of a symbol: four bytes of zero and an offset in the string table, or the name itself
+unfoldable pub name_at : List ℕ → ℕ → List ℕ
+name_at bytes offset =
+    if u32_at bytes offset == 0 then unwrap_or (text_in_table bytes (u32_at bytes (offset + 4))) []
+    else short_name_at bytes offset
+
+abbrev pub symbol_name_of : List ℕ → ℕ → List ℕ
+symbol_name_of bytes index = name_at bytes (symbol_record bytes index)
 
 abbrev pub symbol_value_of : List ℕ → ℕ → ℕ
 symbol_value_of bytes index = u32_at bytes (symbol_record bytes index + 8)

@@ -1,15 +1,11 @@
-//! Why an object is not read.
+//! Why an object is refused.
 
-/// What keeps an object from being read.
-#[derive(Clone, Copy, Debug, PartialEq, Eq)]
-pub enum FormFault {
-    /// The object is not of the one form that is read so far.
-    NotBuilt,
-}
+use link_base::ObjFault;
 
-/// A refusal of an object, with the place of the fault: a section (from 1), a symbol record (from 0), or 0.
+/// A refusal of an object, with the place of the fault: a section (from 1), a symbol record (from 0), or 0. A
+/// symbol whose name is missing is counted behind the sections: its record and the number of sections together.
 #[derive(Clone, Copy, Debug, PartialEq, Eq)]
 pub struct ObjError {
-    pub kind: FormFault,
+    pub kind: ObjFault,
     pub index: u32,
 }

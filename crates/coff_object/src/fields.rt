@@ -1,10 +1,11 @@
 //! Fields of an object at a byte offset that is known to lie in the file.
 
-ghost use Rattle.std.specs.Prelude.{◌≡◌, ◌≤◌, ◌+◌, length};
+ghost use Rattle.std.specs.Prelude.{◌≡◌, ◌<◌, ◌≤◌, ◌+◌, ◌^◌, length, false};
 ghost use Rattle.link_base.specs.Bytes.{u16_at, u32_at, bytes_at};
 ghost use Rattle.coff_object.specs.ObjectFile.{short_name_at};
+ghost use Rattle.coff_object.specs.ObjectFaults.{leaves_file};
 
-use link_base::{Name, field_u16, field_u32};
+use link_base::{field_u16, field_u32};
 use memchr::memchr;
 
 /// The number in the two bytes at `at`.
@@ -32,21 +33,42 @@ pub(crate) fn u32_in(bytes: &[u8], at: usize) -> u32
 /// The `count` bytes from `at` on.
 pub(crate) fn slice_in(bytes: &[u8], at: usize, count: usize) -> &[u8]
     requires { at + count ≤ length bytes.now }
-    ensures { result.now ≡ bytes_at bytes.now at count }
+    ensures part { result.now ≡ bytes_at bytes.now at count }
+    ensures len { length result.now ≡ count }
 {
     let (_, rest) = bytes.split_at(at);
     let (part, _) = rest.split_at(count);
     part
 }
 
-/// The name in the field of eight bytes at `at`.
-pub(crate) fn short_name_in(bytes: &[u8], at: usize) -> Name<'_>
+/// Whether a range of bytes goes beyond the end of the file. An empty one never does.
+pub(crate) fn leaves_file(bytes: &[u8], at: usize, count: usize) -> bool
+    requires { at + count < 2 ^ 64 }
+    ensures { result ≡ leaves_file bytes.now at count }
+{
+    count > 0 && at + count > bytes.len()
+}
+
+/// The bytes of a range that is in the file. An empty one may begin anywhere.
+pub(crate) fn range_in(bytes: &[u8], at: usize, count: usize) -> &[u8]
+    requires { leaves_file bytes.now at count ≡ false }
+    ensures { result.now ≡ bytes_at bytes.now at count }
+{
+    if count == 0 {
+        return &[];
+    }
+    slice_in(bytes, at, count)
+}
+
+/// The text in the field of eight bytes at `at`, up to its first NUL.
+pub(crate) fn short_text_in(bytes: &[u8], at: usize) -> &[u8]
     requires { at + 8 ≤ length bytes.now }
-    ensures { result ≡ short_name_at bytes.now at }
+    ensures text { result.now ≡ short_name_at bytes.now at }
+    ensures short { length result.now ≤ 8 }
 {
     let text = slice_in(bytes, at, 8);
     match memchr(0, text) {
-        Some(len) => Name::of(slice_in(text, 0, len)),
-        None => Name::of(text),
+        Some(len) => slice_in(text, 0, len),
+        None => text,
     }
 }

@@ -1,7 +1,9 @@
-//! The form of object that is read first: one section of code or data, external symbols in it with short
+//! The form of object that is linked first: one section of code or data, external symbols in it with short
 //! names, and no relocations.
 
-ghost use Rattle.std.specs.Prelude.{◌≡◌, ◌≤◌, ◌<◌, ◌+◌, ◌*◌, length, true};
+ghost use Rattle.std.specs.Prelude.{◌≡◌, ◌≤◌, ◌<◌, ◌+◌, ◌*◌, length, true, None};
+ghost use Rattle.std.specs.Bool.{OnTrue};
+ghost use Rattle.coff_object.specs.ObjectFaults.{object_fault};
 ghost use Rattle.coff_object.specs.ObjectFile.{section_header, symbols_offset, record_total, symbol_record};
 ghost use Rattle.coff_object.specs.FirstForm.{has_one_section, is_named_text, has_plain_data, has_plain_flags, is_plain_for_linker, has_records, is_plain_external, is_plain_symbol, has_plain_symbols, has_same_name, is_new_name, has_distinct_names, has_empty_strings, has_first_section, has_first_symbols, is_first_form};
 
@@ -9,16 +11,18 @@ use crate::constants::{
     FILE_MACHINE_AMD64, SCN_CNT_UNINITIALIZED_DATA, SCN_LNK_COMDAT, SCN_LNK_INFO,
     SCN_LNK_NRELOC_OVFL, SCN_LNK_REMOVE, SYM_CLASS_EXTERNAL,
 };
-use crate::fields::{short_name_in, slice_in, u16_in, u32_in};
+use crate::fields::{short_text_in, slice_in, u16_in, u32_in};
 use crate::header::{
     flags, raw_offset, raw_size, record_total, relocation_field, section_header, section_total,
-    string_table_offset, symbols_offset,
+    symbols_offset,
 };
 use crate::symbol::symbol_record;
 
-#[tactic(auto, unfolding(crate::specs::FirstForm::is_first_form))]
-pub(crate) fn is_first_form(bytes: &[u8]) -> bool
-    ensures { result ≡ is_first_form bytes.now }
+/// Whether an object's file has that form. It takes no memory, so it compares each name with each.
+#[tactic(auto, using(crate::proofs::FirstFormOpens::first_form_opens), unfolding(crate::specs::FirstForm::is_first_form))]
+pub fn is_first_form(bytes: &[u8]) -> bool
+    ensures exact { result ≡ is_first_form bytes.now }
+    ensures well_formed { OnTrue result (object_fault bytes.now ≡ None) }
 {
     has_first_section(bytes) && has_first_symbols(bytes)
 }
@@ -115,7 +119,7 @@ fn has_empty_strings(bytes: &[u8]) -> bool
     requires { 20 ≤ length bytes.now }
     ensures { result ≡ has_empty_strings bytes.now }
 {
-    let start = string_table_offset(bytes);
+    let start = symbols_offset(bytes) as usize + 18 * (record_total(bytes) as usize);
     start + 4 <= bytes.len() && u32_in(bytes, start) == 4
 }
 
@@ -202,6 +206,6 @@ fn has_same_name(bytes: &[u8], first: u32, second: u32) -> bool
     requires second { second < record_total bytes.now }
     ensures { result ≡ has_same_name bytes.now first second }
 {
-    short_name_in(bytes, symbol_record(bytes, first))
-        == short_name_in(bytes, symbol_record(bytes, second))
+    short_text_in(bytes, symbol_record(bytes, first))
+        == short_text_in(bytes, symbol_record(bytes, second))
 }

@@ -1,7 +1,7 @@
 //! The fields of the file header, and of a section's header.
 
-ghost use Rattle.std.specs.Prelude.{◌≡◌, ◌<◌, ◌≤◌, ◌+◌, ◌^◌, length};
-ghost use Rattle.coff_object.specs.ObjectFile.{section_total, symbols_offset, record_total, optional_header_size, string_table_offset, section_header, raw_size_of, raw_offset_of, relocations_offset_of, relocation_field_of, flags_of};
+ghost use Rattle.std.specs.Prelude.{◌≡◌, ◌≤◌, ◌+◌, length};
+ghost use Rattle.coff_object.specs.ObjectFile.{section_total, symbols_offset, record_total, optional_header_size, section_header, raw_size_of, raw_offset_of, relocations_offset_of, relocation_field_of, flags_of};
 
 use crate::fields::{u16_in, u32_in};
 
@@ -31,15 +31,6 @@ pub(crate) fn record_total(bytes: &[u8]) -> u32
     } else {
         u32_in(bytes, 12)
     }
-}
-
-/// Where the string table begins.
-pub(crate) fn string_table_offset(bytes: &[u8]) -> usize
-    requires { 20 ≤ length bytes.now }
-    ensures place { result ≡ string_table_offset bytes.now }
-    ensures bound { result < 2 ^ 40 }
-{
-    symbols_offset(bytes) as usize + 18 * (record_total(bytes) as usize)
 }
 
 /// Where a section's header begins.

@@ -1,12 +1,12 @@
 //! An object file, as a view of its bytes.
 
-ghost use Rattle.std.specs.Prelude.{◌≡◌, ◌<◌, ◌≤◌, ◌+◌, IfOk, OnOk, OnErr, IfErr, is_ok, true};
+ghost use Rattle.std.specs.Prelude.{◌≡◌, ◌<◌, ◌≤◌, ◌^◌, length, IfOk, OnOk, IfErr, is_ok, is_none, true, None, Some};
 ghost use Rattle.std.specs.Option.{option_copied};
 ghost use Rattle.coff_object.specs.ObjectFile.{section_total, section_name_of, raw_size_of, flags_of, alignment_of, body_of, relocation_total, relocation_offset_of, relocation_symbol_of, relocation_kind_of, record_total, starts_symbol, symbol_name_of, symbol_value_of, symbol_section_of, symbol_kind_of, symbol_class_of, aux_total_of, aux_record};
-ghost use Rattle.coff_object.specs.FirstForm.{is_first_form};
+ghost use Rattle.coff_object.specs.ObjectFaults.{object_fault};
 
-use crate::error::{FormFault, ObjError};
-use crate::first_form::is_first_form;
+use crate::error::ObjError;
+use crate::fault::object_fault;
 use crate::header::{record_total, section_total};
 use crate::relocation::{Relocation, relocation_in, relocation_total};
 use crate::section::{Section, section_in};
@@ -22,31 +22,29 @@ pub struct Object<'a> {
 }
 
 impl<'a> Model for Object<'a> {
-    ghost use Rattle.std.specs.Prelude.{◌≡◌, List, ℕ, true};
-    ghost use Rattle.coff_object.specs.FirstForm.{is_first_form};
+    ghost use Rattle.std.specs.Prelude.{◌≡◌, List, ℕ, None};
+    ghost use Rattle.coff_object.specs.ObjectFaults.{object_fault};
 
     ghost Value = { List ℕ };
 
     ghost view = { λ object. object.bytes.now };
 
-    ghost invariant = { λ object. is_first_form object.bytes.now ≡ true };
+    ghost invariant = { λ object. object_fault object.bytes.now ≡ None };
 }
 
 impl<'a> Object<'a> {
-    /// The object with these bytes, where it has the one form that is read so far: one section `.text` with
-    /// data and no relocations, external symbols in it with short and distinct names, and no long names.
+    /// The object with these bytes. A malformed one is refused for the least kind of fault that stands, at the
+    /// least place where it does, as `ObjFault` and `ObjError` say.
     pub fn open(bytes: &'a [u8]) -> Result<Object<'a>, ObjError>
+        requires { length bytes.now < 2 ^ 32 }
         ensures same_bytes { IfOk result (λ object. object ≡ bytes.now) }
-        ensures first_form { is_ok result ≡ is_first_form bytes.now }
-        ensures refused { IfErr result (λ error. error ≡ record { kind = FormFault.NotBuilt; index = 0 }) }
+        ensures well_formed { OnOk result (object_fault bytes.now ≡ None) }
+        ensures refused { IfErr result (λ error. object_fault bytes.now ≡ Some error) }
+        ensures opens { is_ok result ≡ is_none (object_fault bytes.now) }
     {
-        if is_first_form(bytes) {
-            Ok(Object { bytes })
-        } else {
-            Err(ObjError {
-                kind: FormFault::NotBuilt,
-                index: 0,
-            })
+        match object_fault(bytes) {
+            Some(error) => Err(error),
+            None => Ok(Object { bytes }),
         }
     }
 

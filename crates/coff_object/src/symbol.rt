@@ -1,10 +1,12 @@
 //! Symbol records (PE Format, "COFF Symbol Table").
 
-ghost use Rattle.std.specs.Prelude.{◌≡◌, ◌≤◌, ◌+◌, length, nat_le, pos, ◌-ℤ◌, if◌then◌else◌};
-ghost use Rattle.coff_object.specs.ObjectFile.{short_name_at, symbol_record, symbol_value_of, symbol_section_field, symbol_section_of, symbol_kind_of, symbol_class_of, aux_total_of, aux_record};
+ghost use Rattle.std.specs.Prelude.{◌≡◌, ◌<◌, ◌≤◌, ◌+◌, ◌^◌, length, false, nat_le, pos, ◌-ℤ◌, if◌then◌else◌};
+ghost use Rattle.coff_object.specs.ObjectFile.{name_at, symbol_name_of, symbol_record, symbol_value_of, symbol_section_field, symbol_section_of, symbol_kind_of, symbol_class_of, aux_total_of, aux_record};
+ghost use Rattle.coff_object.specs.ObjectFaults.{table_leaves};
 
-use crate::fields::{short_name_in, slice_in, u16_in, u32_in};
+use crate::fields::{short_text_in, slice_in, u16_in, u32_in};
 use crate::header::symbols_offset;
+use crate::strings::text_in_table;
 use link_base::Name;
 
 /// A symbol: its name, its value (mostly an offset in its section), its section (from 1; 0 is undefined, -1
@@ -20,12 +22,13 @@ pub struct Symbol<'a> {
 }
 
 /// The greatest section number that is one; above it are the negative ones.
-const LAST_SECTION_NUMBER: u16 = 65_279;
+pub(crate) const LAST_SECTION_NUMBER: u16 = 65_279;
 
 /// Where a symbol record begins.
 pub(crate) fn symbol_record(bytes: &[u8], index: u32) -> usize
     requires { 20 ≤ length bytes.now }
-    ensures { result ≡ symbol_record bytes.now index }
+    ensures place { result ≡ symbol_record bytes.now index }
+    ensures bound { result < 2 ^ 40 }
 {
     symbols_offset(bytes) as usize + 18 * (index as usize)
 }
@@ -41,11 +44,29 @@ fn signed_section(field: u16) -> i32
     }
 }
 
-/// A symbol whose name stands in its record.
+/// The name of the symbol at a place: that in its record, or the text of the string table that it refers to.
+#[tactic(auto, unfolding(crate::specs::ObjectFile::name_at))]
+fn symbol_name(bytes: &[u8], start: usize) -> Name<'_>
+    requires file { 20 ≤ length bytes.now }
+    requires whole { start + 18 ≤ length bytes.now }
+    requires table { table_leaves bytes.now ≡ false }
+    ensures { result ≡ name_at bytes.now start }
+{
+    if u32_in(bytes, start) != 0 {
+        return Name::of(short_text_in(bytes, start));
+    }
+    match text_in_table(bytes, u32_in(bytes, start + 4)) {
+        Some(name) => name,
+        None => Name::of(&[]),
+    }
+}
+
+/// A symbol, by its record.
 pub(crate) fn symbol_in(bytes: &[u8], index: u32) -> Symbol<'_>
     requires file { 20 ≤ length bytes.now }
     requires whole { symbol_record bytes.now index + 18 ≤ length bytes.now }
-    ensures name { result.name ≡ short_name_at bytes.now (symbol_record bytes.now index) }
+    requires table { table_leaves bytes.now ≡ false }
+    ensures name { result.name ≡ symbol_name_of bytes.now index }
     ensures value { result.value ≡ symbol_value_of bytes.now index }
     ensures section { result.section ≡ symbol_section_of bytes.now index }
     ensures kind { result.kind ≡ symbol_kind_of bytes.now index }
@@ -54,7 +75,7 @@ pub(crate) fn symbol_in(bytes: &[u8], index: u32) -> Symbol<'_>
 {
     let start = symbol_record(bytes, index);
     Symbol {
-        name: short_name_in(bytes, start),
+        name: symbol_name(bytes, start),
         value: u32_in(bytes, start + 8),
         section: signed_section(u16_in(bytes, start + 12)),
         kind: u16_in(bytes, start + 14),

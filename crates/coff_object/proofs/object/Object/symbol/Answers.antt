@@ -1,5 +1,3 @@
-use Rattle.std.proofs.Common.{sym, ◌∙◌, ap, List, ℕ}
-use Rattle.coff_object.specs.ObjectFile.{symbol_name_of}
 use Rattle.coff_object.proofs.Readable.{readable, symbol_of}
 use Rattle.coff_object.proofs.object.Object.symbol.Goals as goal
 
@@ -9,7 +7,5 @@ symbol_in-requires-clause-file c = (readable _ c.self.invariant).file
 pub symbol_in-requires-clause-whole : goal.symbol_in-requires-clause-whole
 symbol_in-requires-clause-whole c = (symbol_of _ _ c.args.j c.self.view_is c.self.invariant c.requires).whole
 
-pub returns-clause-name : goal.returns-clause-name
-returns-clause-name c =
-    c.symbol_in.ensures.name ∙ sym (symbol_of _ _ c.args.j c.self.view_is c.self.invariant c.requires).name
-    ∙ ap (λ (bytes : List ℕ). symbol_name_of bytes c.args.j) c.self.view_is
+pub symbol_in-requires-clause-table : goal.symbol_in-requires-clause-table
+symbol_in-requires-clause-table c = (readable _ c.self.invariant).table
