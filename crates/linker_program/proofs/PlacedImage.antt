@@ -5,7 +5,7 @@ use Rattle.std.specs.Int.{next_multiple_of}
 use Rattle.std.proofs.lemmas.Bool.{leb-true, ltb-true, ne_eqb}
 use Rattle.coff_object.specs.FirstForm.{is_first_form}
 use Rattle.coff_object.specs.ObjectFile.{raw_size_of, body_of}
-use Rattle.coff_object.proofs.CallerLemmas.{first_section_facts}
+use Rattle.coff_object.proofs.FirstFormFacts.{first_section_facts}
 use Rattle.coff_object.proofs.FirstFormLemmas.{and_left, and_right}
 use Rattle.linker_program.specs.declared.headers.SectionRow.{SectionRow}
 use Rattle.linker_program.specs.ImageFormat.{page_size, file_alignment}

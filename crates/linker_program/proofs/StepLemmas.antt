@@ -5,7 +5,7 @@ use Rattle.link_base.specs.declared.fault.Fault.{Fault}
 use Rattle.link_base.specs.declared.memory.Memory.{Memory}
 use Rattle.coff_object.specs.FirstForm.{is_first_form}
 use Rattle.coff_object.specs.ObjectFile.{raw_size_of, body_of, symbol_value_of}
-use Rattle.coff_object.proofs.CallerLemmas.{first_section_facts}
+use Rattle.coff_object.proofs.FirstFormFacts.{first_section_facts}
 use Rattle.linker_program.specs.declared.headers.SectionRow.{SectionRow}
 use Rattle.linker_program.specs.declared.plan.ImagePlan.{ImagePlan as Planned}
 use Rattle.linker_program.specs.declared.answer.Answer.{Answer}

@@ -2,7 +2,7 @@
 use Rattle.std.proofs.Common.{◌≡◌, ℕ, List, [], ◌∷◌, ◌++◌, refl}
 use Rattle.std.specs.Prelude.{Some, codes, true, option_map}
 use Rattle.link_base.specs.Bytes.{number_at, number_bytes, all_below, first_below, bytes_at}
-use Rattle.coff_object.specs.ObjectFile.{section_name_of, symbol_name_of, symbol_value_of}
+use Rattle.coff_object.specs.ObjectFile.{section_name_of, name_at, symbol_value_of}
 use Rattle.coff_object.specs.FirstForm.{has_one_section, is_named_text, has_plain_data, has_plain_flags, is_plain_for_linker, has_records, is_plain_external, is_plain_symbol, has_plain_symbols, has_same_name, is_new_name, has_distinct_names, has_empty_strings, has_first_section, has_first_symbols, is_first_form}
 use Rattle.linker_program.specs.LinkWords.{LinkRequest, requested, is_entry_word, is_output_word, is_link_form}
 use Rattle.linker_program.specs.HeaderTable.{header_table}
@@ -48,7 +48,7 @@ words-request = refl
 
 -- what the words and the file decide
 object-outcome : request_outcome request (Some object) ≡ Linked (record { output = codes "a.exe"; modules = object ∷ []; image = image_of object 0 })
-unfolding object file_header section_row section_body symbol_row string_row number_at all_below first_below symbol_name_of has_one_section is_named_text has_plain_data has_plain_flags is_plain_for_linker has_records is_plain_external is_plain_symbol has_plain_symbols has_same_name is_new_name has_distinct_names has_empty_strings has_first_section has_first_symbols is_first_form request_outcome
+unfolding object file_header section_row section_body symbol_row string_row number_at all_below first_below name_at has_one_section is_named_text has_plain_data has_plain_flags is_plain_for_linker has_records is_plain_external is_plain_symbol has_plain_symbols has_same_name is_new_name has_distinct_names has_empty_strings has_first_section has_first_symbols is_first_form request_outcome
 object-outcome = refl
 
 -- the bytes at the entry, in the image loaded at its own base and at another

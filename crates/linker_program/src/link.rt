@@ -1,6 +1,6 @@
 //! One link, from the bytes of its input to the image written.
 
-ghost use Rattle.std.specs.Prelude.{◌≡◌, ◌≤◌, ◌<◌, ◌-◌, ◌^◌, List, ℕ, length, true, IfOk, OnErr};
+ghost use Rattle.std.specs.Prelude.{◌≡◌, ◌≤◌, ◌<◌, ◌-◌, ◌^◌, List, ℕ, length, true, is_some, IfSome, IfOk, OnErr};
 ghost use Rattle.coff_object.specs.FirstForm.{is_first_form};
 ghost use Rattle.linker_program.specs.LinkRun.{Answers, LeftByMemory};
 ghost use Rattle.linker_program.specs.Outcome.{file_limit};
@@ -11,7 +11,7 @@ use crate::answer::{Answer, refused};
 use crate::plan::plan_of;
 use crate::words::Request;
 use crate::write::write_image;
-use coff_object::Object;
+use coff_object::{Object, is_first_form};
 use link_base::{Fault, Kind, Memory, Name};
 use link_files::Files;
 use std::alloc::Global;
@@ -35,9 +35,9 @@ pub(crate) fn link_object<F: Files>(
         → LeftByMemory words (files_of F.store F.read_faults F.write_faults files.old)
         (files_of F.store F.read_faults F.write_faults files.new)) }
 {
-    match Object::open(bytes) {
-        Ok(object) => link_opened(alloc, files, request, &object),
-        Err(_) => refused(
+    match read_object(bytes) {
+        Some(object) => link_opened(alloc, files, request, &object),
+        None => refused(
             alloc,
             &Fault::Unsupported {
                 file: Name::of(request.input.as_bytes()),
@@ -45,6 +45,21 @@ pub(crate) fn link_object<F: Files>(
                 kind: Kind::NotBuilt,
             },
         ),
+    }
+}
+
+/// The object with these bytes, where it has the form that is linked so far.
+fn read_object(bytes: &[u8]) -> Option<Object<'_>>
+    requires { length bytes.now ≤ file_limit }
+    ensures found { IfSome result (λ object. object ≡ bytes.now) }
+    ensures first_form { is_some result ≡ is_first_form bytes.now }
+{
+    if !is_first_form(bytes) {
+        return None;
+    }
+    match Object::open(bytes) {
+        Ok(object) => Some(object),
+        Err(_) => None,
     }
 }
 

@@ -2,7 +2,7 @@ use Rattle.std.proofs.Common.{refl, sym, arith, ◌∙◌}
 use Rattle.link_base.specs.Bytes.{first_below}
 use Rattle.link_base.proofs.CallerLemmas.{first_below-found, first_below-more}
 use Rattle.coff_object.specs.ObjectFile.{record_total}
-use Rattle.coff_object.proofs.CallerLemmas.{first_symbol_facts}
+use Rattle.coff_object.proofs.FirstFormFacts.{first_symbol_facts}
 use Rattle.linker_program.specs.Outcome.{defines}
 use Rattle.linker_program.proofs.plan.definition_in.Goals as goal
 

@@ -1,7 +1,7 @@
 use Rattle.std.proofs.Common.{sym, arith}
 use Rattle.link_base.proofs.CallerLemmas.{first_below-some}
 use Rattle.coff_object.specs.ObjectFile.{record_total}
-use Rattle.coff_object.proofs.CallerLemmas.{first_symbol_facts}
+use Rattle.coff_object.proofs.FirstFormFacts.{first_symbol_facts}
 use Rattle.linker_program.specs.Outcome.{defines}
 use Rattle.linker_program.proofs.plan.plan_of.Goals as goal
 

@@ -1,5 +1,5 @@
 use Rattle.std.proofs.Common.{arith, refl}
-use Rattle.coff_object.proofs.CallerLemmas.{first_section_facts}
+use Rattle.coff_object.proofs.FirstFormFacts.{first_section_facts}
 use Rattle.linker_program.specs.Placement.{image_of}
 use Rattle.linker_program.proofs.plan.plan_with.Goals as goal
 
