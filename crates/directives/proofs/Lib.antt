@@ -1,0 +1,7 @@
+pub mod NameLemmas
+pub mod NumberLemmas
+pub mod PlaceLemmas
+pub mod AttributeLemmas
+pub mod TextLemmas
+pub mod WordLemmas
+pub mod WalkLemmas

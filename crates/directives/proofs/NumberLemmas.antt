@@ -1,0 +1,31 @@
+-- A number grows with each digit more.
+use Rattle.std.proofs.Common.{◌≡◌, ℕ, ◌+◌, ◌-◌, ◌*◌, ◌<◌, ◌≤◌, Bool, true, false, List, [], ◌∷◌, ◌++◌, length, take, drop, get_or, fold, Option, Some, None, refl, sym, ap, ◌∙◌, subst, arith, le-leb, lt-ltb, le-ltb}
+use Rattle.std.proofs.lemmas.List.{take-append-drop}
+use Rattle.std.proofs.lemmas.List.Sums.{fold-append, fold_more}
+use Rattle.std.proofs.lemmas.Bool.{lt-leb}
+use Rattle.directives.specs.Number.{more_digits, digits_value, is_decimal, decimal_up_to}
+
+fold_grows : (number : ℕ) (text : List ℕ) → number ≤ fold more_digits number text
+fold_grows number [] = omega arith
+fold_grows number (b ∷ text) = omega (arith, fold_grows (more_digits number b) text)
+
+-- the number of a prefix is at most that of the text
+prefix_le : (k : ℕ) (text : List ℕ) → fold more_digits 0 (take k text) ≤ fold more_digits 0 text
+prefix_le k text =
+    let e : fold more_digits 0 text ≡ fold more_digits (fold more_digits 0 (take k text)) (drop k text) = ap (fold more_digits 0) (sym (take-append-drop k text)) ∙ fold-append more_digits 0 (take k text) (drop k text) in
+    omega (arith, e, fold_grows (fold more_digits 0 (take k text)) (drop k text))
+
+pub decimal_not : (limit : ℕ) (text : List ℕ) → is_decimal text ≡ false → None ≡ decimal_up_to limit text
+unfolding decimal_up_to
+decimal_not limit text e = rw e refl
+
+pub decimal_is : (limit number : ℕ) (text : List ℕ) → is_decimal text ≡ true → number ≡ fold more_digits 0 text → number ≤ limit → Some number ≡ decimal_up_to limit text
+unfolding decimal_up_to digits_value
+decimal_is limit number text e is le = rw (e, sym is, le-leb _ _ le) refl
+
+pub decimal_beyond : (limit number k : ℕ) (text : List ℕ) → is_decimal text ≡ true → k < length text → number ≡ fold more_digits 0 (take k text) → limit < more_digits number (get_or text k 0) → None ≡ decimal_up_to limit text
+unfolding decimal_up_to digits_value
+decimal_beyond limit number k text e lt is beyond =
+    let more : fold more_digits 0 (take (k + 1) text) ≡ more_digits number (get_or text k 0) = fold_more more_digits 0 text k 0 lt ∙ ap (λ (n : ℕ). more_digits n (get_or text k 0)) (sym is) in
+    let le : limit < fold more_digits 0 text = omega (arith, prefix_le (k + 1) text, more) in
+    rw (e, lt-leb _ _ le) refl

@@ -1,0 +1,9 @@
+pub mod Form
+pub mod FormView
+pub mod Number
+pub mod Names
+pub mod Said
+pub mod Attribute
+pub mod Value
+pub mod Words
+pub mod Left

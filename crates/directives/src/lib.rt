@@ -1,0 +1,20 @@
+//! Directives: options for the linker that a compiler writes into an object, in sections named `.drectve`.
+//! Takes the bytes of such a section, and gives what each option says, up to the first malformed one.
+//! `value_of` reads one value, which the command line shares. The contracts say exactly which directives,
+//! by the grammar in `specs/`. What a directive does to a link is left to the crates above.
+#![tactic(auto)]
+
+mod exports;
+mod form;
+mod item;
+mod names;
+mod number;
+mod reader;
+#[cfg(test)]
+mod tests;
+mod values;
+mod words;
+
+pub use item::{BadDirective, Directive, Export};
+pub use reader::Directives;
+pub use values::value_of;
