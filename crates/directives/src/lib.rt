@@ -16,5 +16,7 @@ mod values;
 mod words;
 
 pub use item::{BadDirective, Directive, Export};
+pub use names::is_word;
+pub use number::decimal_up_to;
 pub use reader::Directives;
 pub use values::value_of;

@@ -44,8 +44,8 @@ pub(crate) fn directive_named(name: &[u8]) -> Option<Listed>
     None
 }
 
-/// Whether the text is the word, in either case.
-pub(crate) fn is_word(text: &[u8], word: &[u8]) -> bool
+/// Whether the text is the word, in either case of ASCII letters.
+pub fn is_word(text: &[u8], word: &[u8]) -> bool
     ensures { result ≡ is_word text.now word.now }
 {
     text.eq_ignore_ascii_case(word)

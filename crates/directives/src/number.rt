@@ -6,7 +6,7 @@ ghost use Rattle.std.specs.List.{list_all};
 ghost use Rattle.directives.specs.Number.{is_decimal, is_digit, decimal_up_to, more_digits};
 
 /// The number that the text is in decimal digits, without a sign or a leading zero, where it is at most `limit`.
-pub(crate) fn decimal_up_to(text: &[u8], limit: u64) -> Option<u64>
+pub fn decimal_up_to(text: &[u8], limit: u64) -> Option<u64>
     ensures is { result ≡ decimal_up_to limit text.now }
     ensures within { IfSome result (λ number. number ≤ limit) }
 {
