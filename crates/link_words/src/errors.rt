@@ -1,0 +1,74 @@
+//! Why a command line is refused.
+
+use link_base::Memory;
+use std::alloc::{AllocError, AllocFailed};
+
+/// What is wrong with a command line, in the order of the tests.
+#[derive(Clone, Copy, Debug, PartialEq, Eq)]
+pub enum UsageKind {
+    /// There are no words, the command is unknown, or it has a wrong number of words.
+    Command,
+    /// The option is not in the table.
+    Unknown,
+    /// The option needs a value, or nothing stands behind its colon.
+    MissingValue,
+    /// The value has not the option's form, the option takes none, a word has more than 32,000 bytes or a
+    /// NUL, or a number is out of its bounds.
+    BadValue,
+    /// A link has no input file.
+    NoInput,
+    /// A link without an entry is no DLL, or two files that it writes have one name.
+    Conflict,
+}
+
+/// Why `read_words` gives no command.
+#[derive(Clone, Copy, Debug, PartialEq, Eq)]
+pub enum WordsError {
+    /// The least word that is refused, and why; the index is 0 where it is the whole line.
+    Usage {
+        index: usize,
+        kind: UsageKind,
+    },
+    /// Want of memory.
+    Memory,
+}
+
+/// Why one word is refused.
+#[derive(Clone, Copy)]
+pub(crate) enum Refusal {
+    Usage(UsageKind),
+    Memory,
+}
+
+impl From<Memory> for WordsError {
+    ghost use Rattle.std.specs.Prelude.{◌≡◌};
+    ghost use Rattle.link_words.specs.declared.errors.WordsError.TheVariants.{Memory};
+
+    ghost from_gives = { λ _ error. error ≡ Memory };
+
+    fn from(_error: Memory) -> WordsError {
+        WordsError::Memory
+    }
+}
+
+impl From<AllocError> for WordsError {
+    ghost use Rattle.std.specs.Prelude.{◌≡◌};
+    ghost use Rattle.link_words.specs.declared.errors.WordsError.TheVariants.{Memory};
+
+    ghost from_gives = { λ _ error. error ≡ Memory };
+
+    fn from(_error: AllocError) -> WordsError {
+        WordsError::Memory
+    }
+}
+
+impl<T: Drop> From<AllocFailed<T>> for Refusal {
+    ghost use Rattle.std.specs.Prelude.{◌≡◌};
+    ghost use Rattle.link_words.specs.declared.errors.Refusal.TheVariants.{Memory};
+
+    ghost from_gives = { λ _ error. error ≡ Memory };
+
+    fn from(_error: AllocFailed<T>) -> Refusal {
+        Refusal::Memory
+    }
+}
