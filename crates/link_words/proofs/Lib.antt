@@ -1,2 +1,3 @@
 pub mod NumberLemmas
 pub mod OptLemmas
+pub mod ExtensionLemmas

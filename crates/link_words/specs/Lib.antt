@@ -5,3 +5,8 @@ pub mod Number
 pub mod Values
 pub mod Effect
 pub mod Gives
+pub mod LinkWords
+pub mod Extension
+pub mod Outcome
+pub mod Finish
+pub mod Answers

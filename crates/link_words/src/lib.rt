@@ -3,7 +3,9 @@
 
 mod effect;
 mod errors;
+mod extension;
 mod field;
+mod finish;
 mod given;
 mod known;
 mod number;
