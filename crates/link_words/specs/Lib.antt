@@ -10,3 +10,4 @@ pub mod Extension
 pub mod Outcome
 pub mod Finish
 pub mod Answers
+pub mod Commands

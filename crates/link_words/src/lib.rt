@@ -1,6 +1,7 @@
 //! The command line.
 #![tactic(auto)]
 
+mod commands;
 mod effect;
 mod errors;
 mod extension;
@@ -11,6 +12,8 @@ mod known;
 mod number;
 mod options;
 mod values;
+mod words;
 
+pub use commands::read_words;
 pub use errors::{UsageKind, WordsError};
 pub use options::{Command, Options};
