@@ -1,5 +1,5 @@
 -- Names in either case.
-use Rattle.std.proofs.Common.{◌≡◌, ℕ, Bool, true, false, List, map, IsTrue, ◌↔◌, refl, sym, ◌∙◌, arith, rules}
+use Rattle.std.proofs.Common.{◌≡◌, ℕ, Bool, true, false, List, map, IsTrue, ◌↔◌, refl, sym}
 use Rattle.std.specs.Char.{to_ascii_lowercase}
 use Rattle.std.proofs.lemmas.Slice.Eq.{bytes_eq-Decides}
 use Rattle.directives.specs.Names.{is_word}

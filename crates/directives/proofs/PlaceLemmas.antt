@@ -1,5 +1,5 @@
 -- Where the first byte that passes stands, and what stands behind the last comma.
-use Rattle.std.proofs.Common.{◌≡◌, ℕ, ◌+◌, ◌<◌, ◌≤◌, Bool, true, false, cond, ltb, List, [], ◌∷◌, length, take, drop, Option, Some, None, refl, sym, ap, ◌∙◌, inl, inr, arith, le-ltb, lt-ltb}
+use Rattle.std.proofs.Common.{◌≡◌, ℕ, ◌+◌, ◌≤◌, Bool, true, false, cond, ltb, List, [], length, take, drop, Some, None, sym, ap, ◌∙◌, inl, inr, arith, lt-ltb}
 use Rattle.std.specs.List.{position, position_or_len, before_first, after_first}
 use Rattle.std.proofs.Math.Seq.{take-length}
 use Rattle.std.proofs.Math.ListN.{drop_of_length-le}

@@ -1,6 +1,6 @@
 -- What may stand behind the name of an export, between commas, in any order and each once (MSVC linker reference, "/EXPORT").
-use Rattle.std.specs.Prelude.{ℕ, Bool, true, false, ◌&&◌, ◌||◌, not, ◌==◌, nat_lt, if◌then◌else◌, List, [], ◌∷◌, length, slice_index, drop, fold, Option, Some, None, is_some, is_none, option_map, option_and_then, codes}
-use Rattle.std.specs.List.{before_first, after_first, slice_split, position_or_len}
+use Rattle.std.specs.Prelude.{ℕ, Bool, true, false, ◌&&◌, ◌||◌, not, ◌==◌, if◌then◌else◌, List, [], ◌∷◌, slice_index, drop, fold, Option, Some, None, is_none, option_map, option_and_then, codes}
+use Rattle.std.specs.List.{before_first, slice_split, position_or_len}
 use Rattle.std.specs.Str.{byte}
 use Rattle.directives.specs.Form.{is_comma, is_equals, is_name, form}
 use Rattle.directives.specs.Names.{is_word}

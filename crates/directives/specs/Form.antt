@@ -1,5 +1,5 @@
 -- The form of a value: where its quotes may stand, and how it falls into parts (MSVC linker reference, "Linker options"). Own in its corners.
-use Rattle.std.specs.Prelude.{ℕ, ◌+◌, Bool, true, false, ◌&&◌, ◌||◌, not, ◌==◌, nat_le, nat_lt, if◌then◌else◌, List, [], ◌∷◌, length, slice_index, drop, Option, Some, None, option_and_then, position, is_some}
+use Rattle.std.specs.Prelude.{ℕ, Bool, true, ◌&&◌, ◌||◌, not, ◌==◌, nat_le, nat_lt, if◌then◌else◌, List, [], ◌∷◌, length, slice_index, drop, Option, Some, None, option_and_then, position, is_some}
 use Rattle.std.specs.List.{before_first, after_first}
 use Rattle.std.specs.Str.{byte}
 

@@ -1,5 +1,5 @@
 -- A text of directives, as words and as what they say (PE Format, "The .drectve Section (Object Only)").
-use Rattle.std.specs.Prelude.{ℕ, zero, suc, ◌+◌, ◌-◌, ◌%◌, Bool, true, false, ◌&&◌, ◌||◌, not, ◌==◌, if◌then◌else◌, List, [], ◌∷◌, length, slice_index, take, drop, count_by, Option, Some, None, option_map, option_and_then, unwrap_or, Result, Ok, Err, codes}
+use Rattle.std.specs.Prelude.{ℕ, zero, suc, ◌+◌, ◌%◌, Bool, ◌&&◌, ◌||◌, not, ◌==◌, if◌then◌else◌, List, [], ◌∷◌, length, slice_index, take, drop, count_by, Option, Some, None, option_map, option_and_then, unwrap_or, Result, Ok, Err}
 use Rattle.std.specs.List.{before_first, after_first, starts_with}
 use Rattle.std.specs.Prelude.{nat_eq}
 use Rattle.std.specs.Str.{byte}
@@ -9,7 +9,6 @@ use Rattle.directives.specs.Form.{is_quote, split_at_first}
 use Rattle.directives.specs.Names.{listed}
 use Rattle.directives.specs.Value.{listed_said}
 use Rattle.directives.specs.declared.item.BadDirective.{BadDirective}
-use Rattle.directives.specs.declared.names.Listed.{Listed}
 
 -- blank, tabulator, line feed, carriage return and NUL
 abbrev pub is_blank : ℕ → Bool

@@ -17,9 +17,11 @@ dot-more name k b found here h = first (eqb b 46) refl
     later : (o : Option ℕ) → IfSome o (λ at. (at < k) × (slice_index name at ≡ 46)) → IfSome o (λ at. (at < k + 1) × (slice_index name at ≡ 46))
     later None g = g
     later (Some at) g = (omega (arith, g.0), g.1)
+
     second : (c : Bool) → IfSome (cond c None found) (λ at. (at < k + 1) × (slice_index name at ≡ 46))
     second true = tt
     second false = later found h
+
     first : (c : Bool) → is_dot b ≡ c → IfSome (cond c (Some k) (cond (is_slash b) None found)) (λ at. (at < k + 1) × (slice_index name at ≡ 46))
     first true e = (omega arith, sym here ∙ eqb-true _ _ e)
     first false e = second (is_slash b)

@@ -22,5 +22,5 @@ opts_refused text k first so_far parts part h e at refuses =
     let all : List (List ℕ) = slice_split is_comma text in
     let front : fold more_opts (Some first) (take k all) ≡ Some so_far = ap (fold more_opts (Some first)) (sym e) ∙ h in
     let here : fold more_opts (Some first) (take (k + 1) all) ≡ None =
-        fold_more more_opts (Some first) all k part at.0 ∙ ap (λ (o : Option (Option Bool)). more_opts o (get_or all k part)) front ∙ ap (one_opt so_far) (sym at.1) ∙ refuses in
+    fold_more more_opts (Some first) all k part at.0 ∙ ap (λ (o : Option (Option Bool)). more_opts o (get_or all k part)) front ∙ ap (one_opt so_far) (sym at.1) ∙ refuses in
     sym (ap (fold more_opts (Some first)) (sym (take-append-drop (k + 1) all)) ∙ fold-append more_opts (Some first) (take (k + 1) all) (drop (k + 1) all) ∙ ap (λ (o : Option (Option Bool)). fold more_opts o (drop (k + 1) all)) here ∙ refused (drop (k + 1) all))

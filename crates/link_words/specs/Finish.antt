@@ -53,35 +53,35 @@ outputs_clash debug out pdb map_file =
 
 unfoldable pub options_of : Settings → ℕ → List ℕ → List ℕ → Option (List ℕ) → LinkOptions
 options_of given subsystem out pdb map_file = record {
-    inputs = given.inputs;
-    alternates = given.alternates;
-    merges = given.merges;
-    default_libs = given.default_libs;
-    exports = given.exports;
-    includes = given.includes;
-    base = unwrap_or given.base (default_base given.large given.dll);
-    debug = given.debug;
-    dll = given.dll;
-    noentry = given.noentry;
-    dynamic = given.dynamic;
-    entropy = given.entropy;
-    nx = given.nx;
-    large = given.large;
-    entry_name = entry_of given subsystem;
-    fixed = given.fixed;
-    heap = given.heap;
-    stack = given.stack;
-    lib_paths = given.lib_paths;
-    map_file = map_file;
-    no_default = given.no_default;
-    no_default_all = given.no_default_all;
-    refs = given.refs;
-    out = out;
-    pdb = pdb;
-    subsystem = subsystem;
-    time = given.time;
-    version = given.version
-  }
+  inputs = given.inputs;
+  alternates = given.alternates;
+  merges = given.merges;
+  default_libs = given.default_libs;
+  exports = given.exports;
+  includes = given.includes;
+  base = unwrap_or given.base (default_base given.large given.dll);
+  debug = given.debug;
+  dll = given.dll;
+  noentry = given.noentry;
+  dynamic = given.dynamic;
+  entropy = given.entropy;
+  nx = given.nx;
+  large = given.large;
+  entry_name = entry_of given subsystem;
+  fixed = given.fixed;
+  heap = given.heap;
+  stack = given.stack;
+  lib_paths = given.lib_paths;
+  map_file = map_file;
+  no_default = given.no_default;
+  no_default_all = given.no_default_all;
+  refs = given.refs;
+  out = out;
+  pdb = pdb;
+  subsystem = subsystem;
+  time = given.time;
+  version = given.version;
+}
 
 abbrev pub subsystem_of : Settings → ℕ
 subsystem_of given = unwrap_or given.subsystem (default_subsystem given.dll)

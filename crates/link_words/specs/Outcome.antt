@@ -40,35 +40,35 @@ pub record LinkOptions : Type 0 where
 -- what borrowed options say
 abbrev pub options_said : Options → LinkOptions
 options_said options = record {
-    inputs = texts_of options.inputs.items;
-    alternates = options.alternates.items;
-    merges = options.merges.items;
-    default_libs = texts_of options.default_libs.items;
-    exports = options.exports.items;
-    includes = options.includes.items;
-    base = options.base;
-    debug = options.debug;
-    dll = options.dll;
-    noentry = options.noentry;
-    dynamic = options.dynamic;
-    entropy = options.entropy;
-    nx = options.nx;
-    large = options.large;
-    entry_name = options.entry;
-    fixed = options.fixed;
-    heap = options.heap;
-    stack = options.stack;
-    lib_paths = texts_of options.lib_paths.items;
-    map_file = option_map string_bytes options.map;
-    no_default = texts_of options.no_default.items;
-    no_default_all = options.no_default_all;
-    refs = options.refs;
-    out = string_bytes options.out;
-    pdb = string_bytes options.pdb;
-    subsystem = options.subsystem;
-    time = options.time;
-    version = options.version
-  }
+  inputs = texts_of options.inputs.items;
+  alternates = options.alternates.items;
+  merges = options.merges.items;
+  default_libs = texts_of options.default_libs.items;
+  exports = options.exports.items;
+  includes = options.includes.items;
+  base = options.base;
+  debug = options.debug;
+  dll = options.dll;
+  noentry = options.noentry;
+  dynamic = options.dynamic;
+  entropy = options.entropy;
+  nx = options.nx;
+  large = options.large;
+  entry_name = options.entry;
+  fixed = options.fixed;
+  heap = options.heap;
+  stack = options.stack;
+  lib_paths = texts_of options.lib_paths.items;
+  map_file = option_map string_bytes options.map;
+  no_default = texts_of options.no_default.items;
+  no_default_all = options.no_default_all;
+  refs = options.refs;
+  out = string_bytes options.out;
+  pdb = string_bytes options.pdb;
+  subsystem = options.subsystem;
+  time = options.time;
+  version = options.version;
+}
 
 pub data CommandSaid : Type 0 where
   Link : LinkOptions → CommandSaid

@@ -35,9 +35,32 @@ pub record Settings : Type 0 where
 -- before the first word: the defaults, and nothing where a default depends on other words
 abbrev pub no_settings : Settings
 no_settings = record {
-    inputs = []; alternates = []; merges = []; default_libs = []; exports = []; includes = []; lib_paths = [];
-    no_default = []; no_default_all = false; base = None; debug = false; dll = false; noentry = false; dynamic = true;
-    entropy = true; nx = true; large = true; fixed = false; entry_name = None; heap = (1048576, 4096);
-    stack = (1048576, 4096); map_file = None; refs = None; out = None; pdb = None; subsystem = None; time = 0;
-    version = (0, 0)
-  }
+  inputs = [];
+  alternates = [];
+  merges = [];
+  default_libs = [];
+  exports = [];
+  includes = [];
+  lib_paths = [];
+  no_default = [];
+  no_default_all = false;
+  base = None;
+  debug = false;
+  dll = false;
+  noentry = false;
+  dynamic = true;
+  entropy = true;
+  nx = true;
+  large = true;
+  fixed = false;
+  entry_name = None;
+  heap = (1048576, 4096);
+  stack = (1048576, 4096);
+  map_file = None;
+  refs = None;
+  out = None;
+  pdb = None;
+  subsystem = None;
+  time = 0;
+  version = (0, 0);
+}

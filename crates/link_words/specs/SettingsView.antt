@@ -13,35 +13,35 @@ texts_of texts = map text_of texts
 
 abbrev pub settings_of : Given → Settings
 settings_of given = record {
-    inputs = texts_of given.inputs.items;
-    alternates = given.alternates.items;
-    merges = given.merges.items;
-    default_libs = texts_of given.default_libs.items;
-    exports = given.exports.items;
-    includes = given.includes.items;
-    lib_paths = texts_of given.lib_paths.items;
-    no_default = texts_of given.no_default.items;
-    no_default_all = given.no_default_all;
-    base = given.base;
-    debug = given.debug;
-    dll = given.dll;
-    noentry = given.noentry;
-    dynamic = given.dynamic;
-    entropy = given.entropy;
-    nx = given.nx;
-    large = given.large;
-    fixed = given.fixed;
-    entry_name = given.entry_name;
-    heap = given.heap;
-    stack = given.stack;
-    map_file = option_map option_copied given.map_file;
-    refs = given.refs;
-    out = option_copied given.out;
-    pdb = option_copied given.pdb;
-    subsystem = given.subsystem;
-    time = given.time;
-    version = given.version
-  }
+  inputs = texts_of given.inputs.items;
+  alternates = given.alternates.items;
+  merges = given.merges.items;
+  default_libs = texts_of given.default_libs.items;
+  exports = given.exports.items;
+  includes = given.includes.items;
+  lib_paths = texts_of given.lib_paths.items;
+  no_default = texts_of given.no_default.items;
+  no_default_all = given.no_default_all;
+  base = given.base;
+  debug = given.debug;
+  dll = given.dll;
+  noentry = given.noentry;
+  dynamic = given.dynamic;
+  entropy = given.entropy;
+  nx = given.nx;
+  large = given.large;
+  fixed = given.fixed;
+  entry_name = given.entry_name;
+  heap = given.heap;
+  stack = given.stack;
+  map_file = option_map option_copied given.map_file;
+  refs = given.refs;
+  out = option_copied given.out;
+  pdb = option_copied given.pdb;
+  subsystem = given.subsystem;
+  time = given.time;
+  version = given.version;
+}
 
 abbrev pub two_texts : Bor (List ℕ) × Bor (List ℕ) → List ℕ × List ℕ
 two_texts both = (both.0.now, both.1.now)

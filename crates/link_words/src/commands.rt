@@ -17,7 +17,8 @@ use std::alloc::Global;
 
 /// The command of a line of words, of which the first is the command's name. A refusal names the least word
 /// that is refused, by its index, and the first kind that holds of it; it has index 0 where the whole line is
-/// at fault. `docs/WORDS.md` has the table of the options.
+/// at fault. An option of a link begins with `/` or `-`, has a name in either case and a value behind a colon;
+/// any other word is an input file. The last of an option's values counts, or all of them are gathered.
 #[tactic(auto, unfolding(crate::specs::Commands::words_say))]
 pub fn read_words<'w>(alloc: Global, words: &'w [String]) -> Result<Command<'w>, WordsError>
     ensures { Answers command_said (words_say (map string_bytes words.now)) result }

@@ -96,7 +96,10 @@ fn gather<'w>(given: &mut Given<'w>, read: Option<Directive<'w>>) -> Result<(), 
     ensures { Gives result (ok_or (option_and_then (gathered (settings_of given.old)) (option_map said read.entry)) UsageKind.BadValue) (settings_of given.new) }
 {
     match read {
-        Some(Directive::AlternateName { left, right }) => push(&mut given.alternates, (left, right)),
+        Some(Directive::AlternateName { left, right }) => push(
+            &mut given.alternates,
+            (left, right),
+        ),
         Some(Directive::DefaultLib(text)) => push_text(&mut given.default_libs, text),
         Some(Directive::Export(export)) => push(&mut given.exports, export),
         Some(Directive::Include(name)) => push(&mut given.includes, name),

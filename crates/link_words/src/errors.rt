@@ -25,10 +25,7 @@ pub enum UsageKind {
 #[derive(Clone, Copy, Debug, PartialEq, Eq)]
 pub enum WordsError {
     /// The least word that is refused, and why; the index is 0 where it is the whole line.
-    Usage {
-        index: usize,
-        kind: UsageKind,
-    },
+    Usage { index: usize, kind: UsageKind },
     /// Want of memory.
     Memory,
 }

@@ -33,7 +33,9 @@ pub(crate) fn finish<'w>(alloc: Global, given: Given<'w>) -> Result<Options<'w>,
     let out = named_or(alloc, given.out, first, image_extension(given.dll))?;
     let pdb = named_or(alloc, given.pdb, out.as_str(), ".pdb")?;
     let map = map_file(alloc, given.map_file, out.as_str())?;
-    if (given.noentry && !given.dll) || outputs_clash(given.debug, out.as_str(), pdb.as_str(), &map) {
+    if (given.noentry && !given.dll)
+        || outputs_clash(given.debug, out.as_str(), pdb.as_str(), &map)
+    {
         return Err(WordsError::Usage {
             index: 0,
             kind: UsageKind::Conflict,
@@ -44,17 +46,16 @@ pub(crate) fn finish<'w>(alloc: Global, given: Given<'w>) -> Result<Options<'w>,
 
 /// The options, with the names of the files that are written.
 #[tactic(auto, unfolding(crate::specs::Finish::options_of))]
-fn options<'w>(
-    given: Given<'w>,
-    out: String,
-    pdb: String,
-    map: Option<String>,
-) -> Options<'w>
+fn options<'w>(given: Given<'w>, out: String, pdb: String, map: Option<String>) -> Options<'w>
     ensures { options_said result ≡ options_of (settings_of given.entry) (subsystem_of (settings_of given.entry)) (string_bytes out) (string_bytes pdb) (option_map string_bytes map) }
 {
     let subsystem = given.subsystem.unwrap_or(default_subsystem(given.dll));
     let base = given.base.unwrap_or(default_base(given.large, given.dll));
-    let entry = entry_name(given.noentry, given.entry_name, default_entry(given.dll, subsystem));
+    let entry = entry_name(
+        given.noentry,
+        given.entry_name,
+        default_entry(given.dll, subsystem),
+    );
     Options {
         inputs: given.inputs,
         alternates: given.alternates,
@@ -88,11 +89,7 @@ fn options<'w>(
 }
 
 /// The name that the image begins at: none, or the one that a word gives, or else the default.
-fn entry_name<'w>(
-    noentry: bool,
-    named: Option<Name<'w>>,
-    default: Name<'w>,
-) -> Option<Name<'w>>
+fn entry_name<'w>(noentry: bool, named: Option<Name<'w>>, default: Name<'w>) -> Option<Name<'w>>
     ensures { result ≡ (if noentry then None else Some (unwrap_or named.entry default.entry)) }
 {
     if noentry {

@@ -1,6 +1,5 @@
-use Rattle.std.proofs.Common.{◌∙◌, ◌≡◌, true, false, sym, refl, arith}
+use Rattle.std.proofs.Common.{◌∙◌, sym, arith}
 use Rattle.std.proofs.lemmas.Grind.{common_steps}
-use Rattle.directives.specs.Number.{is_decimal}
 use Rattle.directives.proofs.NumberLemmas.{decimal_not, decimal_is, decimal_beyond}
 use Rattle.directives.proofs.number.decimal_up_to.Goals as goal
 

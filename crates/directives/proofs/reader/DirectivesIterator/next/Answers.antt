@@ -1,7 +1,7 @@
-use Rattle.std.proofs.Common.{◌∙◌, ◌≡◌, ◌<◌, ap, sym, refl, length, take, drop, option_map, Some, Ok, Err, Result, List, ◌∷◌, arith, rules}
+use Rattle.std.proofs.Common.{◌∙◌, ◌<◌, ap, sym, length, option_map, Some, Err, Result, List, ◌∷◌, arith}
 use Rattle.directives.specs.Said.{Said, said, item_said}
 use Rattle.directives.specs.declared.item.BadDirective.{BadDirective}
-use Rattle.directives.specs.Words.{word_len, text_says}
+use Rattle.directives.specs.Words.{word_len}
 use Rattle.directives.proofs.WalkLemmas.{blank_step, word_step, end_step, none_step, ok_step, err_step, fewer, word_len-more}
 use Rattle.directives.proofs.reader.DirectivesIterator.next.Goals as goal
 

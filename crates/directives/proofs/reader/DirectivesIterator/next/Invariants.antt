@@ -1,4 +1,4 @@
-use Rattle.std.proofs.Common.{◌≡◌, ◌≤◌, ◌-◌, length, drop}
+use Rattle.std.proofs.Common.{◌≡◌, ◌-◌, length, drop}
 use Rattle.directives.specs.Words.{text_says}
 use Rattle.directives.proofs.reader.DirectivesIterator.next.Given as goal
 
