@@ -30,21 +30,22 @@ abbrev pub left_behind : List ℕ → Option (List ℕ)
 left_behind [] = None
 left_behind (b ∷ text) = Some (b ∷ text)
 
--- a value without quotes, or one quoted text, with nothing behind it; or a quoted first part and what stands behind it
+-- the form of a value, from behind the quote that it begins with
 unfoldable pub quoted_form : List ℕ → Option (List ℕ × Option (List ℕ))
 quoted_form text =
     if has is_quote text && may_follow_quotes (after_first is_quote text)
     then Some (before_first is_quote text, left_behind (after_first is_quote text)) else None
 
+-- a value without quotes, or one quoted text, with nothing behind it; or a quoted first part and what stands behind it
 unfoldable pub form : List ℕ → Option (List ℕ × Option (List ℕ))
 form value =
     if is_quote (slice_index value 0) then quoted_form (drop 1 value)
     else (if has is_quote value then None else Some (value, None))
 
--- a name has a byte, at most 32,000, and no NUL
 abbrev pub is_nul : ℕ → Bool
 is_nul b = b == 0
 
+-- a part has at most 32,000 bytes and no NUL, and one that is a name has a byte
 unfoldable pub is_text : List ℕ → Bool
 is_text text = nat_le (length text) 32000 && not (has is_nul text)
 

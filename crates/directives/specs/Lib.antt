@@ -7,3 +7,4 @@ pub mod Attribute
 pub mod Value
 pub mod Words
 pub mod Left
+pub use Rattle.link_base.specs.Bytes

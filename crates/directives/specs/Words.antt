@@ -1,7 +1,6 @@
 -- A text of directives, as words and as what they say (PE Format, "The .drectve Section (Object Only)").
-use Rattle.std.specs.Prelude.{ℕ, zero, suc, ◌+◌, ◌%◌, Bool, ◌&&◌, ◌||◌, not, ◌==◌, if◌then◌else◌, List, [], ◌∷◌, length, slice_index, take, drop, count_by, Option, Some, None, option_map, option_and_then, unwrap_or, Result, Ok, Err}
+use Rattle.std.specs.Prelude.{ℕ, zero, suc, ◌+◌, ◌%◌, Bool, ◌&&◌, ◌||◌, not, ◌==◌, nat_eq, if◌then◌else◌, List, [], ◌∷◌, length, slice_index, take, drop, count_by, Option, Some, None, option_map, option_and_then, unwrap_or, Result, Ok, Err}
 use Rattle.std.specs.List.{before_first, after_first, starts_with}
-use Rattle.std.specs.Prelude.{nat_eq}
 use Rattle.std.specs.Str.{byte}
 use Rattle.link_base.specs.Bytes.{first_below}
 use Rattle.directives.specs.Said.{Said}
@@ -39,7 +38,7 @@ pub record Word : Type 0 where
 abbrev pub word_at : ℕ → List ℕ → Word
 word_at start text = record { start = start; text = take (word_len text) text }
 
--- the words of a text that stands at `start`, where it has at most n bytes
+-- the words of a text that stands at `start`; n is at least the number of its bytes
 unfoldable pub words : ℕ → ℕ → List ℕ → List Word
 words zero start text = []
 words (suc n) start [] = []
@@ -71,7 +70,7 @@ contents text = unwrap_or (quoted_contents text) text
 abbrev pub is_colon : ℕ → Bool
 is_colon b = b == byte ":"
 
--- an option begins so
+-- a word is an option where it begins so
 abbrev pub begins_option : List ℕ → Bool
 begins_option text = slice_index text 0 == byte "/" || slice_index text 0 == byte "-"
 
@@ -85,6 +84,7 @@ unfoldable pub option_says : ℕ → List ℕ → Option (Result Said BadDirecti
 option_says start text =
     option_map (λ name. directive_or_bad start (listed_said (after_first is_colon text) name)) (listed (before_first is_colon text))
 
+-- a word that is no option says nothing
 unfoldable pub contents_say : ℕ → List ℕ → Option (Result Said BadDirective)
 contents_say start text = if begins_option text then option_says start (drop 1 text) else None
 

@@ -3,7 +3,7 @@ use Rattle.std.proofs.Common.{◌≡◌, ℕ, ◌+◌, ◌-◌, ◌*◌, ◌<◌
 use Rattle.std.proofs.lemmas.List.{take-append-drop}
 use Rattle.std.proofs.lemmas.List.Sums.{fold-append, fold_more}
 use Rattle.std.proofs.lemmas.Bool.{lt-leb}
-use Rattle.link_words.specs.Number.{hex_digit_value, more_hex, hex_value, is_hex, hex_up_to}
+use Rattle.link_words.specs.Numbers.{hex_digit_value, more_hex, hex_value, is_hex, hex_up_to}
 
 fold_grows : (number : ℕ) (text : List ℕ) → number ≤ fold more_hex number text
 fold_grows number [] = omega arith

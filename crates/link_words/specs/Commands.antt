@@ -3,7 +3,7 @@ use Rattle.std.specs.Prelude.{ℕ, ◌+◌, Bool, ◌&&◌, ◌==◌, nat_le, if
 use Rattle.std.specs.Option.{ok_or}
 use Rattle.std.specs.Str.{bytes_eq}
 use Rattle.directives.specs.Form.{is_text}
-use Rattle.link_words.specs.Number.{number_up_to}
+use Rattle.link_words.specs.Numbers.{number_up_to}
 use Rattle.link_words.specs.Settings.{Settings, no_settings}
 use Rattle.link_words.specs.LinkWords.{Refused, refuse, all_words}
 use Rattle.link_words.specs.Finish.{finished}

@@ -1,7 +1,7 @@
 pub mod Settings
 pub mod SettingsView
 pub mod Known
-pub mod Number
+pub mod Numbers
 pub mod Values
 pub mod Effect
 pub mod Gives
@@ -11,3 +11,8 @@ pub mod Outcome
 pub mod Finish
 pub mod Answers
 pub mod Commands
+pub use Rattle.directives.specs.Said
+pub use Rattle.directives.specs.Form
+pub use Rattle.directives.specs.Names
+pub use Rattle.directives.specs.Number
+pub use Rattle.directives.specs.Value

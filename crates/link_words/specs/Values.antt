@@ -4,7 +4,7 @@ use Rattle.std.specs.List.{slice_split}
 use Rattle.directives.specs.Names.{is_word}
 use Rattle.directives.specs.Form.{is_comma, split_at_first}
 use Rattle.directives.specs.Number.{decimal_up_to}
-use Rattle.link_words.specs.Number.{number_up_to}
+use Rattle.link_words.specs.Numbers.{number_up_to}
 
 -- below 2^64, below 2^32
 abbrev pub number_64 : List ℕ → Option ℕ

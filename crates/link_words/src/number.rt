@@ -3,14 +3,14 @@
 ghost use Rattle.std.specs.Prelude.{◌≡◌, ◌≤◌, IfSome, ◌+◌, ◌*◌};
 ghost use Rattle.std.specs.Option.{SomeIff};
 ghost use Rattle.std.specs.List.{list_all};
-ghost use Rattle.link_words.specs.Number.{number_up_to, hex_up_to, is_hex, is_hex_digit, hex_digit_value, more_hex};
+ghost use Rattle.link_words.specs.Numbers.{number_up_to, hex_up_to, is_hex, is_hex_digit, hex_digit_value, more_hex};
 
 use directives::decimal_up_to;
 
 const HEX_PREFIX: &[u8] = b"0x";
 
 /// The number of a text, decimal or behind `0x` hexadecimal, where it is at most `limit`.
-#[tactic(auto, unfolding(crate::specs::Number::number_up_to))]
+#[tactic(auto, unfolding(crate::specs::Numbers::number_up_to))]
 pub(crate) fn number_up_to(text: &[u8], limit: u64) -> Option<u64>
     ensures is { result ≡ number_up_to limit text.now }
     ensures within { IfSome result (λ number. number ≤ limit) }
@@ -37,7 +37,7 @@ fn hex_up_to(text: &[u8], limit: u64) -> Option<u64>
     Some(number)
 }
 
-#[tactic(auto, unfolding(crate::specs::Number::is_hex))]
+#[tactic(auto, unfolding(crate::specs::Numbers::is_hex))]
 fn is_hex(text: &[u8]) -> bool
     ensures { result ≡ is_hex text.now }
 {

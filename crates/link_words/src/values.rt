@@ -4,7 +4,7 @@ ghost use Rattle.std.specs.Prelude.{◌≡◌, ◌==◌, option_map, position};
 ghost use Rattle.std.specs.List.{before_first, after_first, slice_split};
 ghost use Rattle.directives.specs.Form.{is_comma, split_at_first};
 ghost use Rattle.link_words.specs.SettingsView.{two_texts};
-ghost use Rattle.link_words.specs.Number.{number_up_to};
+ghost use Rattle.link_words.specs.Numbers.{number_up_to};
 ghost use Rattle.link_words.specs.Values.{number_64, number_32, off, sizes, half, version, subsystem, one_opt, opts};
 
 use crate::number::number_up_to;

@@ -1,5 +1,5 @@
 use Rattle.std.proofs.Common.{◌≡◌, ◌≤◌, fold, take}
-use Rattle.link_words.specs.Number.{more_hex}
+use Rattle.link_words.specs.Numbers.{more_hex}
 use Rattle.link_words.proofs.number.hex_up_to.Given as goal
 
 abbrev pub invariant-loop-digit : goal.invariant-loop-digit
