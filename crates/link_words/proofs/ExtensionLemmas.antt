@@ -1,5 +1,5 @@
 -- Where an extension begins, one byte after another.
-use Rattle.std.proofs.Common.{◌≡◌, ℕ, zero, suc, ◌+◌, ◌<◌, ◌≤◌, Bool, true, false, ◌||◌, cond, eqb, List, length, get_or, slice_index, Option, Some, None, IfSome, refl, sym, ap, ◌∙◌, arith, add-one}
+use Rattle.std.proofs.Common.{◌≡◌, ℕ, ◌+◌, ◌<◌, Bool, true, false, cond, eqb, List, slice_index, Option, Some, None, IfSome, refl, sym, ◌∙◌, arith, add-one}
 use Rattle.std.proofs.lemmas.Bool.{eqb-true}
 use Rattle.link_words.specs.Extension.{is_dot, is_slash, behind_byte, extension_in}
 

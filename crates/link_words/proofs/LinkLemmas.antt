@@ -1,5 +1,5 @@
 -- A link, whose words are all taken and whose settings go together.
-use Rattle.std.proofs.Common.{◌≡◌, ℕ, List, drop, map, Result, Ok, Err, refl, sym, ap, ◌∙◌}
+use Rattle.std.proofs.Common.{◌≡◌, ℕ, List, drop, map, Result, Ok, sym, ap, ◌∙◌}
 use Rattle.std.proofs.lemmas.List.{drop-map}
 use Rattle.link_words.specs.Settings.{Settings, no_settings}
 use Rattle.link_words.specs.LinkWords.{Refused, all_words}

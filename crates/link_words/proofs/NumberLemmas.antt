@@ -1,9 +1,9 @@
 -- A hexadecimal number grows with each digit more.
-use Rattle.std.proofs.Common.{◌≡◌, ℕ, ◌+◌, ◌-◌, ◌*◌, ◌<◌, ◌≤◌, Bool, true, false, List, [], ◌∷◌, length, take, drop, get_or, fold, Option, Some, None, refl, sym, ap, ◌∙◌, arith, le-leb}
+use Rattle.std.proofs.Common.{◌≡◌, ℕ, ◌+◌, ◌<◌, ◌≤◌, true, false, List, [], ◌∷◌, length, take, drop, get_or, fold, Some, None, refl, sym, ap, ◌∙◌, arith, le-leb}
 use Rattle.std.proofs.lemmas.List.{take-append-drop}
 use Rattle.std.proofs.lemmas.List.Sums.{fold-append, fold_more}
 use Rattle.std.proofs.lemmas.Bool.{lt-leb}
-use Rattle.link_words.specs.Numbers.{hex_digit_value, more_hex, hex_value, is_hex, hex_up_to}
+use Rattle.link_words.specs.Numbers.{more_hex, hex_value, is_hex, hex_up_to}
 
 fold_grows : (number : ℕ) (text : List ℕ) → number ≤ fold more_hex number text
 fold_grows number [] = omega arith

@@ -1,8 +1,8 @@
 -- The words of a link one after another, up to the first that is refused.
-use Rattle.std.proofs.Common.{◌≡◌, ℕ, suc, ◌+◌, ◌<◌, ◌≤◌, List, [], ◌∷◌, length, drop, get_or, map, Option, Some, None, Result, Ok, Err, refl, sym, ap, ◌∙◌, arith, add-one, drop-cons, subst}
+use Rattle.std.proofs.Common.{◌≡◌, ℕ, suc, ◌+◌, ◌<◌, ◌≤◌, List, length, drop, get_or, map, Ok, Err, sym, ap, ◌∙◌, add-one, drop-cons, subst}
 use Rattle.std.proofs.Math.ListN.{drop_of_length-le}
 use Rattle.link_words.specs.Settings.{Settings}
-use Rattle.link_words.specs.LinkWords.{Refused, refuse, then_more, one_word, all_words}
+use Rattle.link_words.specs.LinkWords.{refuse, then_more, one_word, all_words}
 use Rattle.link_words.specs.SettingsView.{settings_of}
 use Rattle.link_words.specs.Gives.{Gives}
 use Rattle.link_words.specs.Answers.{Answers, refused_at}

@@ -1,13 +1,13 @@
 -- The words of a command line: which command, and with what. Own.
-use Rattle.std.specs.Prelude.{ℕ, ◌+◌, Bool, ◌&&◌, ◌==◌, nat_le, if◌then◌else◌, List, [], ◌∷◌, length, slice_index_or, drop, Option, Some, None, option_and_then, Result, Ok, Err, codes}
+use Rattle.std.specs.Prelude.{ℕ, ◌&&◌, ◌==◌, nat_le, if◌then◌else◌, List, [], length, slice_index_or, drop, Option, Some, None, option_and_then, Result, Ok, Err, codes}
 use Rattle.std.specs.Option.{ok_or}
 use Rattle.std.specs.Str.{bytes_eq}
 use Rattle.directives.specs.Form.{is_text}
 use Rattle.link_words.specs.Numbers.{number_up_to}
-use Rattle.link_words.specs.Settings.{Settings, no_settings}
+use Rattle.link_words.specs.Settings.{no_settings}
 use Rattle.link_words.specs.LinkWords.{Refused, refuse, all_words}
 use Rattle.link_words.specs.Finish.{finished}
-use Rattle.link_words.specs.Outcome.{CommandSaid, LinkOptions, Link, At, Show, Gen}
+use Rattle.link_words.specs.Outcome.{CommandSaid, Link, At, Show, Gen}
 use Rattle.link_words.specs.declared.errors.UsageKind.TheVariants as kind
 
 infixl 10 ◌>>=◌

@@ -1,6 +1,6 @@
 -- What each option does: one line an option without a value, and one line an option with one
 -- (MSVC linker reference, "Linker options"). Where there is no line, the option needs a value, or takes none.
-use Rattle.std.specs.Prelude.{ℕ, Bool, true, false, if◌then◌else◌, List, [], ◌∷◌, ◌++◌, Option, Some, None, option_map, option_and_then, codes}
+use Rattle.std.specs.Prelude.{ℕ, true, if◌then◌else◌, List, [], ◌∷◌, ◌++◌, Option, Some, None, option_map, option_and_then, codes}
 use Rattle.directives.specs.Said as says
 use Rattle.directives.specs.Said.{Said}
 use Rattle.directives.specs.Names.{is_word}

@@ -1,5 +1,5 @@
 -- The options of a link by their names (MSVC linker reference, "Linker options"; ALTERNATENAME and TIMESTAMP as this linker reads them).
-use Rattle.std.specs.Prelude.{ℕ, Bool, if◌then◌else◌, List, Option, Some, None, codes}
+use Rattle.std.specs.Prelude.{ℕ, if◌then◌else◌, List, Option, Some, None, codes}
 use Rattle.directives.specs.Names.{is_word}
 use Rattle.link_words.specs.declared.known.Known.{Known}
 use Rattle.link_words.specs.declared.known.Known.TheVariants.{Shared, LibPath, NoDefaultLib, Debug, Dll, NoEntry, DynamicBase, HighEntropyVa, NxCompat, LargeAddressAware, Fixed, Base, Entry, Heap, Stack, Map, Opt, Out, Pdb, Subsystem, TimeStamp, Version, Machine, NoLogo, Ignored}

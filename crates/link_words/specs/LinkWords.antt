@@ -1,9 +1,8 @@
 -- The words of a link, one after another.
-use Rattle.std.specs.Prelude.{ℕ, ◌+◌, Bool, ◌&&◌, ◌||◌, not, ◌==◌, nat_le, if◌then◌else◌, List, [], ◌∷◌, ◌++◌, length, slice_index, drop, Option, Some, None, Result, Ok, Err}
-use Rattle.std.specs.List.{before_first, after_first}
+use Rattle.std.specs.Prelude.{ℕ, ◌+◌, Bool, ◌||◌, ◌==◌, if◌then◌else◌, List, [], ◌∷◌, ◌++◌, slice_index, drop, Option, Some, None, Result, Ok, Err}
 use Rattle.std.specs.Option.{ok_or}
 use Rattle.std.specs.Str.{byte}
-use Rattle.directives.specs.Form.{has, is_text, split_at_first}
+use Rattle.directives.specs.Form.{is_text, split_at_first}
 use Rattle.link_words.specs.Settings.{Settings}
 use Rattle.link_words.specs.Known.{known}
 use Rattle.link_words.specs.Effect.{bare, with_value}

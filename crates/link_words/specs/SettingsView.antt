@@ -1,5 +1,5 @@
 -- The plain data that the code's record of settings borrows.
-use Rattle.std.specs.Prelude.{ℕ, List, map, Option, option_map}
+use Rattle.std.specs.Prelude.{ℕ, List, map, option_map}
 use Rattle.std.specs.Option.{option_copied}
 use Rattle.std.specs.Borrow.{Bor}
 use Rattle.link_words.specs.declared.given.Given.{Given}

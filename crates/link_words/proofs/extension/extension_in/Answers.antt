@@ -1,4 +1,4 @@
-use Rattle.std.proofs.Common.{◌∙◌, ap, sym, subst, IfSome, slice_index, ◌≡◌, ◌+◌, ◌<◌, ℕ, Option, refl}
+use Rattle.std.proofs.Common.{◌∙◌, sym, subst, IfSome, slice_index, ◌≡◌, ◌+◌, ◌<◌, ℕ, Option, refl}
 use Rattle.link_words.proofs.ExtensionLemmas.{extension-none, extension-more, dot-more}
 use Rattle.link_words.proofs.extension.extension_in.Goals as goal
 

@@ -1,4 +1,4 @@
-use Rattle.std.proofs.Common.{◌∙◌, ◌≡◌, true, false, sym, refl, arith}
+use Rattle.std.proofs.Common.{◌∙◌, sym, arith}
 use Rattle.std.proofs.lemmas.Grind.{common_steps}
 use Rattle.link_words.proofs.NumberLemmas.{hex_not, hex_is, hex_beyond}
 use Rattle.link_words.proofs.number.hex_up_to.Goals as goal

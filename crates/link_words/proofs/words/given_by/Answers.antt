@@ -1,7 +1,7 @@
 use Rattle.std.proofs.Common.{◌∙◌, ℕ, List, ap, sym, subst, Result, Err}
 use Rattle.std.specs.String.{string_bytes}
-use Rattle.link_words.specs.LinkWords.{Refused, one_word, all_words}
-use Rattle.link_words.specs.Settings.{Settings, no_settings}
+use Rattle.link_words.specs.LinkWords.{Refused, one_word}
+use Rattle.link_words.specs.Settings.{Settings}
 use Rattle.link_words.specs.SettingsView.{settings_of}
 use Rattle.link_words.specs.Gives.{Gives}
 use Rattle.link_words.specs.Answers.{Answers}
