@@ -1,0 +1,7 @@
+//! What the linker makes of its words and files.
+
+mod case;
+mod failures;
+mod objects;
+mod one_object;
+mod refusals;
