@@ -9,6 +9,10 @@ use std::alloc::Global;
 
 const FILE_MACHINE_AMD64: u16 = 0x8664;
 
+const SYM_TYPE_FUNCTION: u16 = 0x20;
+
+const SYM_CLASS_EXTERNAL: u8 = 2;
+
 const FILE_HEADER_LEN: u32 = 20;
 
 const SECTION_HEADER_LEN: u32 = 40;
@@ -39,6 +43,18 @@ pub struct Section<'a> {
     pub relocations: &'a [Relocation<'a>],
 }
 
+impl<'a> Section<'a> {
+    /// Code in `.text`, at a multiple of 16.
+    pub fn text(code: &'a [u8], relocations: &'a [Relocation<'a>]) -> Section<'a> {
+        Section {
+            name: ".text",
+            flags: 0x6050_0020,
+            contents: Contents::Initialised(code),
+            relocations,
+        }
+    }
+}
+
 /// An auxiliary record.
 #[derive(Clone, Copy)]
 pub enum Aux<'a> {
@@ -66,6 +82,20 @@ pub struct Symbol<'a> {
     pub kind: u16,
     pub class: u8,
     pub aux: &'a [Aux<'a>],
+}
+
+impl<'a> Symbol<'a> {
+    /// A function that other objects can name. In section 0 it is one that others define.
+    pub fn function(name: &'a str, section: u16, value: u32) -> Symbol<'a> {
+        Symbol {
+            name,
+            value,
+            section,
+            kind: SYM_TYPE_FUNCTION,
+            class: SYM_CLASS_EXTERNAL,
+            aux: &[],
+        }
+    }
 }
 
 /// The bytes of the object file with these sections, which are numbered from 1, and symbols.

@@ -1,5 +1,6 @@
 //! What the linker makes of its words and files.
 
+mod builder;
 mod case;
 mod failures;
 mod objects;

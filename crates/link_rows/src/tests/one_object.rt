@@ -1,7 +1,7 @@
 //! One small object and the image that is made of it.
 
 use super::objects::{FILES, PLAIN, WORDS};
-use crate::{run_with_failures, run_without_failures};
+use crate::{Section, Symbol, object_file, run_with_failures, run_without_failures};
 use link_base::field_u32;
 use link_files::{FileError, Files, MemFiles};
 use std::alloc::Global;
@@ -14,7 +14,11 @@ pub(super) const SUMMARY: &[u8] = b"linked a.exe: 1 modules, 1 sections, 1024 by
 
 /// The image that the linker makes of the object.
 pub(super) fn image(alloc: Global) -> Result<Vec<u8>, Fail> {
-    let ended = run_without_failures(alloc, &FILES, &WORDS)?;
+    image_of(alloc, PLAIN)
+}
+
+fn image_of(alloc: Global, object: &[u8]) -> Result<Vec<u8>, Fail> {
+    let ended = run_without_failures(alloc, &[("a.obj", object)], &WORDS)?;
     match ended.files.held("a.exe") {
         Some(image) => Ok(image.to_vec(alloc)?),
         None => Err(Fail::from("no image was written")),
@@ -71,5 +75,33 @@ fn length_read(alloc: Global, limit: u64) -> Result<Result<usize, FileError>, Fa
 fn is_read_up_to_the_limit(rt: HostRuntime) -> Result<(), Fail> {
     assert_eq!(rt; length_read(rt.alloc(), 84)?, Err(FileError::TooLarge));
     assert_eq!(rt; length_read(rt.alloc(), 85)?, Ok(85));
+    Ok(())
+}
+
+/// The image of an object with so many bytes of code, whose `main` is the last of them.
+fn image_of_code(alloc: Global, len: usize, last: u32) -> Result<Vec<u8>, Fail> {
+    let code = vec![in alloc; 0xc3; len]?;
+    let text = Section::text(&code, &[]);
+    let main = Symbol::function("main", 1, last);
+    image_of(alloc, &object_file(alloc, &[text], &[main])?)
+}
+
+/// The length of the code and its last place; the length of the image's file, its entry, and its size in the
+/// address space. The file's length is a multiple of 512, the size of 4,096.
+const LENGTHS: [(usize, u32, usize, u32, u32); 4] = [
+    (512, 511, 1024, 0x11ff, 0x2000),
+    (513, 512, 1536, 0x1200, 0x2000),
+    (4096, 4095, 4608, 0x1fff, 0x2000),
+    (4097, 4096, 5120, 0x2000, 0x3000),
+];
+
+#[test]
+fn takes_whole_blocks_of_the_file_and_whole_pages(rt: HostRuntime) -> Result<(), Fail> {
+    for (len, last, image_len, entry, size) in LENGTHS {
+        let image = image_of_code(rt.alloc(), len, last)?;
+        assert_eq!(rt; image.len(), image_len, "{len} bytes");
+        assert_eq!(rt; field_u32(&image, OPTIONAL_HEADER + 16), Some(entry));
+        assert_eq!(rt; field_u32(&image, OPTIONAL_HEADER + 56), Some(size));
+    }
     Ok(())
 }
