@@ -9,8 +9,7 @@ ghost use Rattle.linker_program.specs.Outcome.{Outcome, HasOutcome};
 pub fn one_outcome()
     ensures { (words : List (List ℕ)) (store : Store) (first second : Outcome)
         → HasOutcome words store first → HasOutcome words store second → first ≡ second }
-{
-}
+{}
 
 /// The expected image has one byte at each address, and none beyond its size.
 pub fn one_byte_at_each_address()
@@ -18,5 +17,4 @@ pub fn one_byte_at_each_address()
         → slice_index (expected_image plan base identifier) rva ≡ expected_byte plan base identifier rva }
     ensures size { (plan : ImagePlan) (base : ℕ) (identifier : List ℕ)
         → length (expected_image plan base identifier) ≡ plan.size }
-{
-}
+{}

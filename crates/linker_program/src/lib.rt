@@ -1,4 +1,7 @@
-//! The linker as a library.
+//! Runs a link: it takes the words of the command line, reads and writes by `link_files`, reads objects by
+//! `coff_object`, and prints one line. Its contract promises that the status, the line and the files are those of
+//! the expected outcome, and that the image loads as planned at every permitted base. The real files and the
+//! program around it are left to `link_files` and `vicealoe`.
 #![tactic(auto)]
 
 mod answer;
@@ -16,10 +19,5 @@ mod status;
 mod words;
 mod write;
 
-pub use headers::{Headers, SectionRow, push_headers};
-pub use image_bytes::image;
 pub use laws::{one_byte_at_each_address, one_outcome};
 pub use linker::run;
-pub use plan::{ImagePlan, plan_of};
-pub use status::Status;
-pub use words::{Request, request_of};
