@@ -10,6 +10,7 @@ use Rattle.link_words.specs.Finish.{finished}
 use Rattle.link_words.specs.Outcome.{CommandSaid, Link, At, Show, Gen}
 use Rattle.link_words.specs.declared.errors.UsageKind.TheVariants as kind
 
+-- the first refusal ends it
 infixl 10 ◌>>=◌
 abbrev pub ◌>>=◌ : {A B : Type 0} → Result A Refused → (A → Result B Refused) → Result B Refused
 Ok value >>= go_on = go_on value
@@ -23,17 +24,19 @@ word_at words index = slice_index_or words index []
 abbrev pub same : ℕ → ℕ
 same number = number
 
--- a word that is a name, and one that is a number within bounds
+-- a word that is a name
 unfoldable pub text_word : List (List ℕ) → ℕ → Result (List ℕ) Refused
 text_word words index =
     if is_text (word_at words index) then Ok (word_at words index) else Err (refuse index kind.BadValue)
 
+-- a number within bounds
 abbrev pub at_least : ℕ → ℕ → Option ℕ
 at_least low n = if nat_le low n then Some n else None
 
 abbrev pub number_within : ℕ → ℕ → List ℕ → Option ℕ
 number_within low high text = option_and_then (at_least low) (number_up_to high text)
 
+-- a word that is a number within bounds
 unfoldable pub number_word : List (List ℕ) → ℕ → ℕ → ℕ → Result ℕ Refused
 number_word words index low high =
     ok_or (number_within low high (word_at words index)) (refuse index kind.BadValue)

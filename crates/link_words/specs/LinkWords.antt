@@ -17,6 +17,7 @@ is_colon b = b == byte ":"
 abbrev pub begins_option : List ℕ → Bool
 begins_option word = slice_index word 0 == byte "/" || slice_index word 0 == byte "-"
 
+-- an input file, by its name
 abbrev pub input : Settings → List ℕ → Result Settings UsageKind
 input given word =
     if is_text word then Ok (record given { inputs = given.inputs ++ word ∷ [] }) else Err BadValue
@@ -27,6 +28,7 @@ option_with given word name [] one = Err MissingValue
 option_with given word name (b ∷ value) one =
     if is_text word then ok_or (with_value given name (b ∷ value) one) BadValue else Err BadValue
 
+-- an option by its name, with a value or without one
 abbrev pub one_option : Settings → List ℕ → List ℕ → Option (List ℕ) → Option Known → Result Settings UsageKind
 one_option given word name value None = Err Unknown
 one_option given word name None (Some one) = ok_or (bare given one) MissingValue
@@ -37,6 +39,7 @@ abbrev pub named_option : Settings → List ℕ → Option (List ℕ × List ℕ
 named_option given word None = one_option given word (drop 1 word) None (known (drop 1 word))
 named_option given word (Some (front, value)) = one_option given word (drop 1 front) (Some value) (known (drop 1 front))
 
+-- one word: an option or an input file
 unfoldable pub one_word : Settings → List ℕ → Result Settings UsageKind
 one_word given word =
     if begins_option word then named_option given word (split_at_first is_colon word) else input given word

@@ -39,7 +39,6 @@ pub(crate) fn bare(given: &mut Given<'_>, option: Known) -> Result<(), Refusal>
 }
 
 /// The option of this name with a value.
-
 pub(crate) fn with_value<'w>(
     given: &mut Given<'w>,
     name: &[u8],
