@@ -14,11 +14,11 @@ use Rattle.coff_object.specs.ObjectFaults.{of_symbol, object_fault}
 
 -- ---- the first bytes
 
--- LLVM, "llvm-ar", thin archives
+-- an archive that names its members and does not hold them (LLVM, "llvm-ar", thin archives)
 abbrev pub thin_library_start : List ℕ
 thin_library_start = codes "!<thin>"
 
--- LLVM, "LLVM Bitcode File Format", the magic number
+-- LLVM, "LLVM Bitcode File Format", "Magic Numbers"
 abbrev pub bitcode_start : List ℕ
 bitcode_start = 0x42 ∷ 0x43 ∷ 0xC0 ∷ 0xDE ∷ []
 
@@ -32,7 +32,7 @@ unfoldable pub resource_start : List ℕ
 resource_start =
     0 ∷ 0 ∷ 0 ∷ 0 ∷ 0x20 ∷ 0 ∷ 0 ∷ 0 ∷ 0xFF ∷ 0xFF ∷ 0 ∷ 0 ∷ 0xFF ∷ 0xFF ∷ 0 ∷ 0 ∷ []
 
--- two numbers that no object begins with: no machine, and the greatest count of sections
+-- no machine, and 0xFFFF in the place of the count of sections (PE Format, "Import Header")
 abbrev pub anonymous_start : List ℕ
 anonymous_start = 0 ∷ 0 ∷ 0xFF ∷ 0xFF ∷ []
 
@@ -40,7 +40,7 @@ anonymous_start = 0 ∷ 0 ∷ 0xFF ∷ 0xFF ∷ []
 abbrev pub big_object_start : List ℕ
 big_object_start = 0 ∷ 0 ∷ 0xFF ∷ 0xFF ∷ 2 ∷ 0 ∷ []
 
--- the class identifier of big objects
+-- the class identifier of big objects (LLVM, `COFF::BigObjMagic`)
 unfoldable pub big_object_class : List ℕ
 big_object_class =
     0xC7 ∷ 0xA1 ∷ 0xBA ∷ 0xD1 ∷ 0xEE ∷ 0xBA ∷ 0xA9 ∷ 0x4B ∷ 0xAF ∷ 0x20 ∷ 0xFA ∷ 0xF6 ∷ 0x6A ∷ 0xA4 ∷ 0xDC ∷ 0xB8 ∷ []
@@ -51,7 +51,7 @@ begins bytes start = starts_with nat_eq bytes start
 abbrev pub is_big_object : List ℕ → Bool
 is_big_object bytes = begins bytes big_object_start && begins (drop 12 bytes) big_object_class
 
--- version 0 is that of a short import
+-- a version stands behind, and is not 0, which is that of a short import
 abbrev pub is_anonymous : List ℕ → Bool
 is_anonymous bytes = begins bytes anonymous_start && (has_bytes bytes 4 2 && not (u16_at bytes 4 == 0))
 
@@ -88,10 +88,12 @@ is_dollar byte = byte == 36
 abbrev pub base_name : List ℕ → List ℕ
 base_name name = before_first is_dollar name
 
--- a section that the linker makes itself: a part of the import tables, or the base relocations
+-- a section that the linker makes itself: a part of the import tables, or the base relocations (PE Format, "The
+-- .idata Section" and "The .reloc Section (Image Only)"); that it is refused is own
 unfoldable pub is_linker_section : List ℕ → Bool
 is_linker_section name = begins name (codes ".idata$") || pointwise nat_eq (base_name name) (codes ".reloc")
 
+-- a name of more bytes is refused (own)
 abbrev pub name_limit : ℕ
 name_limit = 32000
 

@@ -2,7 +2,8 @@
 
 ghost use Rattle.std.specs.Prelude.{◌≡◌, ◌<◌, ◌^◌, nat_eq, length, drop, None, Some, IfOk, OnOk, IfErr, codes};
 ghost use lib.Pointwise.{pointwise};
-ghost use Rattle.link_base.specs.declared.fault.Fault.TheVariants.{BadObject, Unsupported};
+ghost use Rattle.link_base.specs.declared.fault.Fault.TheVariants.{Unsupported};
+ghost use Rattle.coff_object.specs.ObjectFaults.{object_fault};
 ghost use Rattle.linker_program.specs.Opening.{begins, resource_start, big_object_class, is_big_object, is_anonymous, kind_by_bytes, base_name, is_linker_section, is_long, some_section, some_symbol, kind_by_names, opening_fault};
 
 use coff_object::Object;
@@ -19,6 +20,7 @@ pub fn open_object<'a>(file: Name<'a>, bytes: &'a [u8]) -> Result<Object<'a>, Fa
     requires { length bytes.now < 2 ^ 32 }
     ensures same_bytes { IfOk result (λ object. object ≡ bytes.now) }
     ensures opened { OnOk result (opening_fault file.entry bytes.now ≡ None) }
+    ensures well_formed { OnOk result (object_fault bytes.now ≡ None) }
     ensures refused { IfErr result (λ fault. opening_fault file.entry bytes.now ≡ Some fault) }
 {
     if let Some(kind) = kind_by_bytes(bytes) {
