@@ -222,3 +222,6 @@ fn name_len(name: &Name<'_>) -> usize
         name.rest().len()
     }
 }
+
+#[cfg(test)]
+mod tests;
