@@ -15,4 +15,5 @@ pub mod OutcomeLemmas
 pub mod PlacedImage
 pub mod StepLemmas
 pub mod ReadLemmas
+pub mod OpeningLemmas
 mod WorkedLink

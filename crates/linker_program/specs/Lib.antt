@@ -11,3 +11,4 @@ pub mod PlanView
 pub mod Outcome
 pub mod LinkRun
 pub mod Steps
+pub mod Opening

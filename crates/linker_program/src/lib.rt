@@ -13,6 +13,7 @@ mod laws;
 mod lines;
 mod link;
 mod linker;
+mod opening;
 mod pe_format;
 mod plan;
 mod status;
@@ -21,3 +22,4 @@ mod write;
 
 pub use laws::{one_byte_at_each_address, one_outcome};
 pub use linker::run;
+pub use opening::open_object;
