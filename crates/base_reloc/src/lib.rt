@@ -10,6 +10,8 @@ mod format;
 mod judging;
 mod loading;
 mod raising;
+mod writing;
 
 pub use field::BaseField;
 pub use loading::{BadBlocks, apply};
+pub use writing::blocks;
