@@ -1,3 +1,4 @@
 pub mod WalkLemmas
 pub mod RaiseLemmas
 pub mod PageLemmas
+pub mod TableLemmas

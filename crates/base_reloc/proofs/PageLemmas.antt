@@ -184,7 +184,7 @@ length-block_words fields =
     ∙ ap (λ (k : ℕ). k + length (filler_words (length fields))) (length-map fields entry_word)
     ∙ ap (λ (k : ℕ). length fields + k) (length-filler (length fields))
 
-block_is_written : (fields : List BaseField) (d : BaseField) (page : ℕ) → 0 < length fields → page ≡ page_of (get_or fields 0 d) → block_bytes page (block_words fields) ≡ block_of fields
+pub block_is_written : (fields : List BaseField) (d : BaseField) (page : ℕ) → 0 < length fields → page ≡ page_of (get_or fields 0 d) → block_bytes page (block_words fields) ≡ block_of fields
 block_is_written [] d page some e = absurd (omega arith)
 block_is_written (field ∷ others) d page some e = ap (λ (k : ℕ). block_bytes k (block_words (field ∷ others))) e
 

@@ -63,7 +63,7 @@ rest_walk_block memory_size blocks offset lt here =
     let is = block_is blocks offset here in
     let some : eqb (length blocks - offset) 0 ≡ false = ne_eqb _ _ (λ e. omega arith) in
     let next = enough (length blocks - offset) (length blocks - (offset + block_size blocks offset) + 1) memory_size blocks (offset + block_size blocks offset) (omega (arith, is)) (omega arith) in
-    rw (add-one, some, here) (ap (then_walk (block_entries memory_size blocks offset)) next)
+    rw (add-one (length blocks - offset), some, here) (ap (then_walk (block_entries memory_size blocks offset)) next)
 
 -- ---- where a walk is malformed
 

@@ -8,10 +8,15 @@ mod entry;
 mod field;
 mod format;
 mod judging;
+mod laws;
 mod loading;
 mod raising;
 mod writing;
 
 pub use field::BaseField;
+pub use laws::table_lists_its_fields;
 pub use loading::{BadBlocks, apply};
 pub use writing::blocks;
+
+#[cfg(test)]
+mod tests;
