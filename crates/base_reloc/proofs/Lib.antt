@@ -2,3 +2,4 @@ pub mod WalkLemmas
 pub mod RaiseLemmas
 pub mod PageLemmas
 pub mod TableLemmas
+pub mod CallerLemmas

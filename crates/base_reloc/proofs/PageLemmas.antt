@@ -1,13 +1,14 @@
 -- Fields page by page: the fields at the front that share a page, and the rest.
 use Rattle.std.proofs.Common.{◌≡◌, ℕ, zero, suc, ◌+◌, ◌-◌, ◌*◌, ◌%◌, ◌<◌, ◌≤◌, ◌==◌, Bool, true, false, cond, eqb, eq-eqb, List, [], ◌∷◌, ◌++◌, length, map, take, drop, get_or, slice_index, Result, Ok, Err, OnOk, refl, sym, ap, ◌∙◌, subst, inl, inr, append_assoc, length-append, arith}
 use Rattle.std.specs.List.{flat_map, prefix_len}
+use Rattle.std.specs.List.Sorted.{IsStrictlyIncreasing}
 use Rattle.std.proofs.lemmas.Bool.{cases_Bool, eqb-true, eqb-false, ne_eqb, false≢true}
 use Rattle.std.proofs.lemmas.List.{get_or-drop, get_or-map, length-drop, length-map, drop-map, append-nil}
 use Rattle.std.proofs.lemmas.List.Sums.{prefix_len-le-length, prefix_len_passes}
 use Rattle.std.proofs.lemmas.Grind.{flat_map-append}
 use Rattle.link_base.specs.Bytes.{number_bytes}
 use Rattle.base_reloc.specs.declared.field.BaseField.{BaseField}
-use Rattle.base_reloc.specs.PageBlocks.{IsAscending, page_of, before_pages, pages_of, entry_word, filler_words, block_words, block_bytes, block_of, blocks_of}
+use Rattle.base_reloc.specs.PageBlocks.{IsAscending, page_of, page_rva, before_pages, pages_of, entry_word, filler_words, block_words, block_bytes, block_of, blocks_of}
 
 -- ---- the first page
 
@@ -133,6 +134,44 @@ climbs_rest fields n up k lt =
 pub ascending_rest : (fields : List BaseField) (n : ℕ) → IsAscending fields → IsAscending (drop n fields)
 unfolding rvas
 ascending_rest fields n up = climbs_rest fields n up
+
+-- ---- pages ascend
+
+increasing_cons : (n : ℕ) (ns : List ℕ) → (0 < length ns → n < slice_index ns 0) → IsStrictlyIncreasing ns → IsStrictlyIncreasing (n ∷ ns)
+increasing_cons n ns first up zero lt = first (omega arith)
+increasing_cons n ns first up (suc k) lt =
+    let step = up k (omega arith) in
+    let next : slice_index ns (k + 1) ≡ slice_index (n ∷ ns) (suc k + 1) = ap (slice_index (n ∷ ns)) (plus k) in
+    omega (arith, step, next)
+  where
+    plus : (k : ℕ) → suc (k + 1) ≡ suc k + 1
+    plus k = omega arith
+
+page_below : (low high : ℕ) → low < high → eqb (low - low % 4096) (high - high % 4096) ≡ false → low - low % 4096 < high - high % 4096
+page_below low high lt other = let apart = eqb-false _ _ other in omega (arith, apart)
+
+pub pages_ascend : (fields : List BaseField) → IsAscending fields → IsStrictlyIncreasing (map page_rva (pages_of fields))
+unfolding pages_of
+pages_ascend [] up = λ k lt. absurd (omega arith)
+pages_ascend (field ∷ []) up = λ k lt. absurd (omega arith)
+pages_ascend (field ∷ next ∷ others) up =
+    let step = first_page next others in
+    let behind_it : List (List BaseField) = pages_of (drop (behind next others) others) in
+    let page : List BaseField = take (behind next others) others in
+    let more = pages_ascend (next ∷ others) (ascending_rest (field ∷ next ∷ others) 1 up) in
+    let climbs_on : IsStrictlyIncreasing (page_of next ∷ map page_rva behind_it) = subst (λ (pages : List (List BaseField)). IsStrictlyIncreasing (map page_rva pages)) step more in
+    let first : field.rva < next.rva = up 0 (omega arith) in
+    elim (cases_Bool (eqb (page_of field) (page_of next))) [
+      | inl same ↦
+          subst (λ (pages : List (List BaseField)). IsStrictlyIncreasing (map page_rva pages)) (sym (ap (before_pages field) step ∙ joined_page field next page behind_it same))
+          (subst (λ (n : ℕ). IsStrictlyIncreasing (n ∷ map page_rva behind_it)) (sym (eqb-true _ _ same)) climbs_on)
+      | inr other ↦
+          subst (λ (pages : List (List BaseField)). IsStrictlyIncreasing (map page_rva pages)) (sym (ap (before_pages field) step ∙ parted field next others page behind_it other))
+          (increasing_cons (page_of field) (page_of next ∷ map page_rva behind_it) (λ some. page_below field.rva next.rva first other) climbs_on)
+    ]
+  where
+    joined_page : (field next : BaseField) (page : List BaseField) (pages : List (List BaseField)) → eqb (page_of field) (page_of next) ≡ true → before_pages field ((next ∷ page) ∷ pages) ≡ (field ∷ next ∷ page) ∷ pages
+    joined_page field next page pages same = rw same refl
 
 -- ---- a loop over the pages
 

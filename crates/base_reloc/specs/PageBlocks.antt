@@ -34,6 +34,11 @@ unfoldable pub pages_of : List BaseField → List (List BaseField)
 pages_of [] = []
 pages_of (field ∷ fields) = before_pages field (pages_of fields)
 
+-- the RVA of the page of fields that share one
+abbrev pub page_rva : List BaseField → ℕ
+page_rva [] = 0
+page_rva (field ∷ fields) = page_of field
+
 -- ---- the block of a page
 
 -- an entry is a type in the upper four bits and an offset in the page
