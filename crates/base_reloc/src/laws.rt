@@ -18,15 +18,15 @@ pub fn table_lists_its_fields()
         → raised_all delta memory (walked_fields (walk_of (length memory) (blocks_of fields))) ≡ raised_all delta memory fields }
 {}
 
-/// The pages of a table ascend, so that each page has one block.
+/// The pages of the blocks ascend, so that no page has two.
 #[tactic(auto, using(crate::proofs::PageLemmas::pages_ascend))]
 pub fn pages_ascend()
     ensures { (fields : List BaseField) → IsAscending fields
         → IsStrictlyIncreasing (map page_rva (pages_of fields)) }
 {}
 
-/// To raise fields that lie in a mapped image changes no byte of none of them, and raises each of them once where no two
-/// share a byte, also where one crosses the end of a page.
+/// To raise fields that lie in a mapped image changes no byte outside them, and where no two share a byte it raises each
+/// by the delta, also where one crosses the end of a page.
 #[tactic(auto, using(crate::proofs::CallerLemmas::length_raised_all, crate::proofs::CallerLemmas::raised_elsewhere, crate::proofs::CallerLemmas::raised_each))]
 pub fn raising_changes_its_fields_alone()
     ensures size { (fields : List BaseField) (memory : List ℕ) (delta : ℕ) → LieWithin (length memory) fields

@@ -1,13 +1,19 @@
+ghost use Rattle.std.specs.Prelude.{◌≡◌};
+
 use super::*;
 use std::test::Fail;
 
 /// A field of eight bytes.
-const fn wide(rva: u32) -> BaseField {
+fn wide(rva: u32) -> BaseField
+    ensures { result.rva ≡ rva }
+{
     BaseField { rva, wide: true }
 }
 
 /// A field of four bytes.
-const fn narrow(rva: u32) -> BaseField {
+fn narrow(rva: u32) -> BaseField
+    ensures { result.rva ≡ rva }
+{
     BaseField { rva, wide: false }
 }
 
