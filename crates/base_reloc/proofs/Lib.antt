@@ -1,0 +1,5 @@
+pub mod WalkLemmas
+pub mod RaiseLemmas
+pub mod PageLemmas
+pub mod TableLemmas
+pub mod CallerLemmas

@@ -1,0 +1,38 @@
+//! Laws of the definitions, each the contract of a function that does nothing.
+
+ghost use Rattle.std.specs.Prelude.{◌≡◌, ◌<◌, ◌^◌, ℕ, List, length, map, slice_index};
+ghost use Rattle.std.specs.List.Sorted.{IsStrictlyIncreasing};
+ghost use Rattle.base_reloc.specs.Blocks.{Fields, walk_of, walked_fields, raised_all};
+ghost use Rattle.base_reloc.specs.PageBlocks.{IsAscending, LieWithin, page_rva, pages_of, blocks_of};
+ghost use Rattle.base_reloc.specs.Raising.{IsOutsideAll, ShareNoByte, AreRaised};
+
+use crate::field::BaseField;
+
+/// The table of some fields that lie in a mapped image lists these fields, in order, once each and no other. So to apply
+/// the table raises exactly these.
+#[tactic(auto, using(crate::proofs::TableLemmas::table_lists))]
+pub fn table_lists_its_fields()
+    ensures lists { (fields : List BaseField) (memory_size : ℕ) → memory_size < 2 ^ 32 → IsAscending fields → LieWithin memory_size fields
+        → walk_of memory_size (blocks_of fields) ≡ Fields fields }
+    ensures raises { (fields : List BaseField) (memory : List ℕ) (delta : ℕ) → length memory < 2 ^ 32 → IsAscending fields → LieWithin (length memory) fields
+        → raised_all delta memory (walked_fields (walk_of (length memory) (blocks_of fields))) ≡ raised_all delta memory fields }
+{}
+
+/// The pages of the blocks ascend, so that no page has two.
+#[tactic(auto, using(crate::proofs::PageLemmas::pages_ascend))]
+pub fn pages_ascend()
+    ensures { (fields : List BaseField) → IsAscending fields
+        → IsStrictlyIncreasing (map page_rva (pages_of fields)) }
+{}
+
+/// To raise fields that lie in a mapped image changes no byte outside them, and where no two share a byte it raises each
+/// by the delta, also where one crosses the end of a page.
+#[tactic(auto, using(crate::proofs::CallerLemmas::length_raised_all, crate::proofs::CallerLemmas::raised_elsewhere, crate::proofs::CallerLemmas::raised_each))]
+pub fn raising_changes_its_fields_alone()
+    ensures size { (fields : List BaseField) (memory : List ℕ) (delta : ℕ) → LieWithin (length memory) fields
+        → length (raised_all delta memory fields) ≡ length memory }
+    ensures elsewhere { (fields : List BaseField) (memory : List ℕ) (delta rva : ℕ) → LieWithin (length memory) fields → IsOutsideAll rva fields
+        → slice_index (raised_all delta memory fields) rva ≡ slice_index memory rva }
+    ensures fields { (fields : List BaseField) (memory : List ℕ) (delta : ℕ) → LieWithin (length memory) fields → ShareNoByte fields
+        → AreRaised delta memory (raised_all delta memory fields) fields }
+{}
