@@ -7,7 +7,7 @@ use Rattle.link_base.specs.Bytes.{first_below}
 use Rattle.link_base.proofs.CallerLemmas.{first_below-some, first_below-none}
 use Rattle.linker_program.specs.declared.headers.SectionRow.{SectionRow}
 use Rattle.linker_program.specs.HeaderTable.{size_of_headers}
-use Rattle.linker_program.specs.BaseBlocks.{Fields, blocks_at}
+use Rattle.base_reloc.specs.Blocks.{Fields, blocks_at}
 use Rattle.linker_program.specs.LoadedImage.{is_copied_into, section_byte, copied_byte, copied, base_walk}
 use Rattle.linker_program.specs.ExpectedImage.{ImagePlan, IsPlaced, PlacedPiece, holds, piece_byte, raw_byte, plan_headers, expected_byte, expected_image, image_file}
 use Rattle.linker_program.proofs.HeaderFields.{count_reads, size_reads, headers_size_reads, relocations_size_reads}

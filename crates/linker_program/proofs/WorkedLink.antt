@@ -7,7 +7,7 @@ use Rattle.coff_object.specs.FirstForm.{has_one_section, is_named_text, has_plai
 use Rattle.linker_program.specs.LinkWords.{LinkRequest, requested, is_entry_word, is_output_word, is_link_form}
 use Rattle.linker_program.specs.HeaderTable.{header_table}
 use Rattle.linker_program.specs.LoadedImage.{loaded, signature_at, section_count, file_characteristics, image_base, size_of_image, headers_size, directory_rva, directory_size, virtual_size, virtual_address, raw_size, raw_offset, has_dos_header, has_signature, has_machine, has_optional_header, has_magic, has_alignments, has_directories, has_size, has_headers, has_sections, has_raw_bytes, copied_byte, copied, base_walk, has_blocks, image_fault}
-use Rattle.linker_program.specs.BaseBlocks.{entries_at, blocks_at}
+use Rattle.base_reloc.specs.Blocks.{entries_at, block_entries, blocks_at}
 use Rattle.linker_program.specs.ExpectedImage.{image_file}
 use Rattle.linker_program.specs.Placement.{image_of}
 use Rattle.linker_program.specs.Outcome.{Linked, request_outcome}
@@ -56,5 +56,5 @@ abbrev image : List ℕ
 image = image_file (image_of object 0)
 
 entry_bytes : option_map (λ memory. bytes_at memory 0x1000 4) (loaded image 0x140000000) ≡ Some (0x31 ∷ 0xC0 ∷ 0xC3 ∷ 0x00 ∷ [])
-unfolding object file_header section_row section_body symbol_row string_row number_at number_bytes all_below first_below section_name_of header_table image_file image_of loaded signature_at section_count file_characteristics image_base size_of_image headers_size directory_rva directory_size virtual_size virtual_address raw_size raw_offset has_dos_header has_signature has_machine has_optional_header has_magic has_alignments has_directories has_size has_headers has_sections has_raw_bytes copied_byte copied base_walk has_blocks image_fault entries_at blocks_at
+unfolding object file_header section_row section_body symbol_row string_row number_at number_bytes all_below first_below section_name_of header_table image_file image_of loaded signature_at section_count file_characteristics image_base size_of_image headers_size directory_rva directory_size virtual_size virtual_address raw_size raw_offset has_dos_header has_signature has_machine has_optional_header has_magic has_alignments has_directories has_size has_headers has_sections has_raw_bytes copied_byte copied base_walk has_blocks image_fault entries_at block_entries blocks_at
 entry_bytes = refl

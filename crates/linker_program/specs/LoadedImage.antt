@@ -7,7 +7,7 @@ use Rattle.link_base.specs.declared.kind.ImageKind.{ImageKind}
 use Rattle.link_base.specs.declared.kind.ImageKind.TheVariants as bad
 use Rattle.linker_program.specs.ImageFormat.{page_size, file_alignment, optional_header_len, section_header_len, directory_count, machine_amd64, pe32_plus_magic, dos_magic, pe_signature, file_relocs_stripped, file_large_address_aware, image_limit, has_flag}
 use Rattle.linker_program.specs.PermittedBase.{is_permitted}
-use Rattle.linker_program.specs.BaseBlocks.{Walk, Fields, MalformedAt, BaseField, walk_of, raised_all}
+use Rattle.base_reloc.specs.Blocks.{Walk, Fields, MalformedAt, walk_of, walked_fields, raised_all}
 
 -- ---- the headers' places
 
@@ -155,10 +155,6 @@ base_walk image =
 abbrev pub is_walked : Walk → Bool
 is_walked (Fields fields) = true
 is_walked (MalformedAt offset) = false
-
-abbrev pub walked_fields : Walk → List BaseField
-walked_fields (Fields fields) = fields
-walked_fields (MalformedAt offset) = []
 
 unfoldable pub has_blocks : List ℕ → Bool
 has_blocks image =
