@@ -1,0 +1,4 @@
+pub mod NameLemmas
+pub mod ChainLemmas
+pub mod PigeonLemmas
+pub mod BadMergeLemmas

@@ -1,0 +1,4 @@
+pub mod Merging
+pub mod SectionOrder
+pub mod Placement
+pub mod Chains

@@ -1,0 +1,15 @@
+//! Which output section each piece goes to, and the order of the pieces and of the sections.
+#![tactic(auto)]
+
+mod bad_merge;
+mod flags;
+mod homes;
+mod names;
+mod piece;
+mod renames;
+mod targets;
+
+pub use flags::{
+    SCN_CNT_CODE, SCN_CNT_INITIALIZED_DATA, SCN_CNT_UNINITIALIZED_DATA, SCN_MEM_ATTRIBUTES,
+};
+pub use piece::{GroupError, OutSection, Piece};
