@@ -2,3 +2,5 @@ pub mod Merging
 pub mod SectionOrder
 pub mod Placement
 pub mod Chains
+pub mod Steps
+pub mod Gathering

@@ -2,9 +2,12 @@
 #![tactic(auto)]
 
 mod bad_merge;
+mod cut;
 mod flags;
 mod homes;
 mod names;
+mod owners;
+mod parts;
 mod piece;
 mod renames;
 mod targets;
