@@ -5,3 +5,4 @@ pub mod BadMergeLemmas
 pub mod PartLemmas
 pub mod OwnerLemmas
 pub mod OrderLemmas
+pub mod GatherLemmas

@@ -1,4 +1,4 @@
-//! The section of a piece.
+//! The sections that pieces go to, numbered in the order in which they are met.
 
 use link_base::Name;
 
@@ -7,16 +7,4 @@ use link_base::Name;
 pub(crate) struct Home<'a> {
     pub name: Name<'a>,
     pub attributes: u32,
-}
-
-/// The keys of the order inside a section.
-#[derive(PartialEq, Eq, PartialOrd, Ord, Drop)]
-pub(crate) struct PieceKey<'a> {
-    pub uninitialised: bool,
-    pub merged: bool,
-    pub merged_name: Name<'a>,
-    pub suffix: Name<'a>,
-    pub module: u32,
-    pub number: u32,
-    pub index: u32,
 }

@@ -4,6 +4,7 @@
 mod bad_merge;
 mod cut;
 mod flags;
+mod gather;
 mod homes;
 mod names;
 mod owners;
