@@ -6,3 +6,4 @@ pub mod PartLemmas
 pub mod OwnerLemmas
 pub mod OrderLemmas
 pub mod GatherLemmas
+pub mod KeyLemmas

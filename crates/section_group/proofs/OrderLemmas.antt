@@ -1,5 +1,8 @@
 -- What follows from a total order, in the form of the test that one comes before another.
-use Rattle.std.proofs.Common.{◌≡◌, ◌≢◌, ℕ, ◌<◌, Bool, true, false, refl, sym, ap, ◌∙◌, subst}
+use Rattle.std.proofs.Common.{◌≡◌, ◌≢◌, ℕ, ◌<◌, Bool, true, false, refl, sym, ap, ◌∙◌, subst, List, length, get_or, IsTrue, arith}
+use Rattle.std.specs.List.{AllPairs}
+use Rattle.std.specs.List.Sorted.{IsSorted}
+use Rattle.std.proofs.lemmas.List.Sorted.{sorted_far, ranks_by}
 use Rattle.std.specs.Ordering.{is_lt, is_gt, nat_cmp, ordering_then, ordering_reverse, MatchOrdering}
 use Rattle.std.specs.Cmp.{IsTotalOrder, tied_itself, ranks}
 use Rattle.std.specs.declared.cmp.Ordering.{Ordering}
@@ -52,3 +55,15 @@ then_level Greater s e = absurd (true≢false (ap is_gt e))
 
 pub level_numbers : (x y : ℕ) → nat_cmp x y ≡ Equal → x ≡ y
 level_numbers x y e = subst (λ (r : Ordering). MatchOrdering r (x < y) (x ≡ y) (y < x)) e (ranks x y)
+
+-- ---- a sort of elements that differ
+
+-- elements in order, of which no two are level, ascend
+pub ascends : {X : Type 0} {R : X → X → Ordering} (o : IsTotalOrder R) (xs : List X) → IsSorted R xs → ((i j : ℕ) (d : X) → i < j → j < length xs → R (get_or xs i d) (get_or xs j d) ≢ Equal) → AllPairs (λ x y. IsTrue (is_lt (R x y))) xs
+ascends {X} {R} o xs sorted apart = λ i j d lt within. go i j d lt within (is_lt (R (get_or xs i d) (get_or xs j d))) refl
+  where
+    go : (i j : ℕ) (d : X) → i < j → j < length xs → (b : Bool) → is_lt (R (get_or xs i d) (get_or xs j d)) ≡ b → is_lt (R (get_or xs i d) (get_or xs j d)) ≡ true
+    go i j d lt within true e = e
+    go i j d lt within false e =
+        let later = sorted_far (λ x y. is_lt (R x y)) (ranks_by o (λ (x : X). x)) xs sorted i j d (omega arith) within in
+        absurd (apart i j d lt within (level o (get_or xs j d) (get_or xs i d) later e))

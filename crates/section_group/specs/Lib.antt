@@ -4,3 +4,4 @@ pub mod Placement
 pub mod Chains
 pub mod Steps
 pub mod Gathering
+pub mod Keys
