@@ -7,3 +7,4 @@ pub mod OwnerLemmas
 pub mod OrderLemmas
 pub mod GatherLemmas
 pub mod KeyLemmas
+pub mod ContentLemmas

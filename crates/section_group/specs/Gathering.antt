@@ -1,6 +1,6 @@
 -- What the passes over the pieces say of one another.
-use Rattle.std.specs.Prelude.{◌≡◌, ℕ, ◌<◌, Bool, true, false, ◌==◌, IsTrue, List, length, slice_index_or, slice_get, filter, Option, Some, None}
-use Rattle.std.specs.List.{range_with_len}
+use Rattle.std.specs.Prelude.{◌≡◌, ℕ, ◌<◌, Bool, true, false, ◌==◌, IsTrue, List, length, slice_index, slice_index_or, slice_get, filter, Option, Some, None}
+use Rattle.std.specs.List.{range_with_len, Contains}
 use Rattle.std.specs.declared.vec.Vec.{Vec}
 use Rattle.std.specs.declared.alloc.Global.{Global}
 use Rattle.std.specs.Ordering.{is_lt}
@@ -55,3 +55,9 @@ members_of numbers count number = filter (λ k. has_number number (slice_index_o
 pub record AreMembers (numbers : List (Option ℕ)) (count sections : ℕ) (members : List (Vec ℕ Global)) : Type 0 where
   pub same_length : length members ≡ sections
   pub each : (number : ℕ) (d : Vec ℕ Global) → number < sections → (slice_index_or members number d).items ≡ members_of numbers count number
+
+-- the first by module and number of the first members
+pub record IsFirstSoFar (input : Input) (members : List ℕ) (count first : ℕ) : Type 0 where
+  pub within : first < length input.pieces
+  pub among : Contains members first
+  pub before : (k : ℕ) → k < count → is_lt (place_cmp input (slice_index members k) first) ≡ false

@@ -2,6 +2,7 @@
 #![tactic(auto)]
 
 mod bad_merge;
+mod content;
 mod cut;
 mod flags;
 mod gather;
