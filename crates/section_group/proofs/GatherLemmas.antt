@@ -22,7 +22,7 @@ members_more numbers count number =
     ap (λ (n : ℕ). filter p (range_with_len 0 n)) next ∙ ap (filter p) (range_more 0 count ∙ ap (λ (k : ℕ). range_with_len 0 count ++ k ∷ []) last)
     ∙ filter-append p (range_with_len 0 count) (count ∷ [])
 
-append-nil : (xs : List ℕ) → xs ++ [] ≡ xs
+pub append-nil : (xs : List ℕ) → xs ++ [] ≡ xs
 append-nil [] = refl
 append-nil (x ∷ xs) = ap (λ (ys : List ℕ). x ∷ ys) (append-nil xs)
 
@@ -66,3 +66,10 @@ more_used numbers count sections at members old more are some lt is_old is_more 
         go : (b : Bool) → eqb number at ≡ b → (number ≡ at) ⊎ (number ≢ at)
         go true e = inl (eqb-true number at e)
         go false e = inr (eqb-false number at e)
+
+pub filter_more : (p : ℕ → Bool) (n : ℕ) → filter p (range_with_len 0 (n + 1)) ≡ filter p (range_with_len 0 n) ++ cond (p n) (n ∷ []) []
+filter_more p n =
+    let next : n + 1 ≡ suc n = omega arith in
+    let last : 0 + n ≡ n = omega arith in
+    ap (λ (k : ℕ). filter p (range_with_len 0 k)) next ∙ ap (filter p) (range_more 0 n ∙ ap (λ (k : ℕ). range_with_len 0 n ++ k ∷ []) last)
+    ∙ filter-append p (range_with_len 0 n) (n ∷ [])

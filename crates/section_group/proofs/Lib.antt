@@ -8,3 +8,6 @@ pub mod OrderLemmas
 pub mod GatherLemmas
 pub mod KeyLemmas
 pub mod ContentLemmas
+pub mod SectionLemmas
+pub mod RangeLemmas
+pub mod OrderedLemmas

@@ -5,3 +5,4 @@ pub mod Chains
 pub mod Steps
 pub mod Gathering
 pub mod Keys
+pub mod Sections

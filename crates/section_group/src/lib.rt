@@ -14,6 +14,7 @@ mod owners;
 mod parts;
 mod piece;
 mod renames;
+mod sections;
 mod targets;
 
 pub use flags::{
