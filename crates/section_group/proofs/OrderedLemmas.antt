@@ -1,5 +1,5 @@
 -- The keys of sections, gathered and sorted.
-use Rattle.std.proofs.Common.{◌≡◌, ◌≢◌, ℕ, ◌+◌, ◌<◌, ◌≤◌, Bool, true, false, cond, eqb, eq-eqb, IsTrue, List, [], ◌∷◌, ◌++◌, length, get_or, map, filter, Vec, refl, sym, ap, ◌∙◌, subst, arith, rules}
+use Rattle.std.proofs.Common.{◌≡◌, ◌≢◌, ℕ, ◌+◌, ◌<◌, ◌≤◌, Bool, true, false, cond, eqb, eq-eqb, IsTrue, List, [], ◌∷◌, ◌++◌, length, get_or, map, filter, Vec, refl, sym, ap, ◌∙◌, subst, inl, inr, length-append, arith, rules}
 use Rattle.std.specs.List.{All, AllPairs, Any, Contains, IsDistinct, range_with_len}
 use Rattle.std.specs.List.Sorted.{IsSorted, IsPermutation}
 use Rattle.std.specs.Ordering.{is_lt, nat_cmp}
@@ -7,17 +7,19 @@ use Rattle.std.specs.Cmp.{IsTotalOrder}
 use Rattle.std.specs.Cmp.Rules.{comparing}
 use Rattle.std.specs.declared.alloc.Global.{Global}
 use Rattle.std.specs.declared.cmp.Ordering.TheVariants.{Equal}
-use Rattle.std.proofs.lemmas.Bool.{false≢true}
+use Rattle.std.proofs.lemmas.Bool.{false≢true, cases_lt}
 use Rattle.std.proofs.lemmas.List.{length-map, get_or_default}
 use Rattle.std.proofs.lemmas.List.Elements.{All-push, All-nil}
 use Rattle.std.proofs.lemmas.List.Sorted.{All-permutation, Contains-permutation, IsPermutation-map}
 use Rattle.std.proofs.lemmas.Map.Keys.{apart_from_distinct, IsDistinct-IsPermutation}
-use Rattle.std.proofs.Math.ListN.{get_or-map}
+use Rattle.std.proofs.Math.ListN.{get_or-map, get_or-append}
+use Rattle.std.proofs.Math.Seq.{get_or-append_seam}
 use Rattle.section_group.specs.declared.homes.Home.{Home}
 use Rattle.section_group.specs.declared.key.SectionKey.{SectionKey}
+use Rattle.section_group.specs.declared.piece.OutSection.{OutSection}
 use Rattle.section_group.specs.SectionOrder.{Input}
 use Rattle.section_group.specs.Keys.{section_cmp}
-use Rattle.section_group.specs.Sections.{IsKey, AreKeys, OrdersSections, is_needed}
+use Rattle.section_group.specs.Sections.{IsKey, AreKeys, OrdersSections, IsBuilt, AreBuilt, home_at, pieces_at, is_needed}
 use Rattle.section_group.proofs.OrderLemmas.{ascends, then_level, level_numbers}
 use Rattle.section_group.proofs.KeyLemmas.{eqb_flip}
 use Rattle.section_group.proofs.GatherLemmas.{filter_more, append-nil}
@@ -94,3 +96,20 @@ keys_ordered input homes members count keys sorted are all moved rises = record 
           get_or_default sorted there.0 (get_or sorted there.0 d) d in',
           sym (read there.0 d) ∙ get_or_default (map (λ key. key.section) sorted) there.0 0 section there.1 ∙ there.2
         )
+
+-- one more section is built
+pub built_more : (input : Input) (homes : List Home) (members : List (Vec ℕ Global)) (keys : List SectionKey) (i : ℕ) (sections : List OutSection) (key : SectionKey) (section : OutSection) → AreBuilt input homes members keys i sections → i < length keys → IsBuilt input (home_at homes (get_or keys i key).section) (pieces_at members (get_or keys i key).section) section → AreBuilt input homes members keys (i + 1) (sections ++ section ∷ [])
+built_more input homes members keys i sections key section are lt built = record {
+  same_length = length-append sections (section ∷ []) ∙ ap (λ (n : ℕ). n + 1) are.same_length;
+  each = λ j d e within. elim (cases_lt j i) [
+    | inl below ↦
+        let in' : j < length sections = omega (arith, are.same_length) in
+        subst (λ (s : OutSection). IsBuilt input (home_at homes (get_or keys j d).section) (pieces_at members (get_or keys j d).section) s) (sym (get_or-append sections (section ∷ []) e j in')) (are.each j d e below)
+    | inr above ↦
+        let same : j ≡ length sections = omega (arith, are.same_length) in
+        let here : i ≡ j = omega arith in
+        subst (λ (s : OutSection). IsBuilt input (home_at homes (get_or keys j d).section) (pieces_at members (get_or keys j d).section) s) (sym (ap (λ (k : ℕ). get_or (sections ++ section ∷ []) k e) same ∙ get_or-append_seam sections section [] e))
+        (subst (λ (n : ℕ). IsBuilt input (home_at homes (get_or keys n d).section) (pieces_at members (get_or keys n d).section) section) here
+        (subst (λ (k : SectionKey). IsBuilt input (home_at homes k.section) (pieces_at members k.section) section) (get_or_default keys i key d lt) built))
+  ];
+}

@@ -57,3 +57,8 @@ pub record IsBuilt (input : Input) (home : Home) (pieces : List ℕ) (section : 
 pub record AreKeys (input : Input) (homes : List Home) (members : List (Vec ℕ Global)) (count : ℕ) (keys : List SectionKey) : Type 0 where
   pub each : All (IsKey input homes members) keys
   pub sections : map (λ key. key.section) keys ≡ filter (is_needed input members) (range_with_len 0 count)
+
+-- the sections of the first keys
+pub record AreBuilt (input : Input) (homes : List Home) (members : List (Vec ℕ Global)) (keys : List SectionKey) (count : ℕ) (sections : List OutSection) : Type 0 where
+  pub same_length : length sections ≡ count
+  pub each : (i : ℕ) (key : SectionKey) (section : OutSection) → i < count → IsBuilt input (home_at homes (slice_index_or keys i key).section) (pieces_at members (slice_index_or keys i key).section) (slice_index_or sections i section)

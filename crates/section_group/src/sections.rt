@@ -1,11 +1,11 @@
 //! The sections in order, each with its pieces in order.
 
 ghost use Rattle.std.specs.Prelude.{◌≡◌, ◌<◌, ◌&&◌, ◌==◌, ℕ, List, true, length, IfOk, OnOk, IsPermutation, IsSorted, slice_index_or, slice_get, Some};
-ghost use Rattle.std.specs.List.{All, AllZip};
+ghost use Rattle.std.specs.List.{All};
 ghost use Rattle.section_group.specs.SectionOrder.{rank_of};
 ghost use Rattle.section_group.specs.Gathering.{input_of};
 ghost use Rattle.section_group.specs.Keys.{section_cmp};
-ghost use Rattle.section_group.specs.Sections.{Gathers, OrdersSections, IsKey, IsBuilt, is_needed, home_at, pieces_at};
+ghost use Rattle.section_group.specs.Sections.{Gathers, OrdersSections, IsKey, IsBuilt, AreBuilt, is_needed, home_at, pieces_at};
 
 use crate::content::{content_flags, first_piece, is_needed};
 use crate::homes::Home;
@@ -26,7 +26,7 @@ pub(crate) fn build_sections<'a>(
 ) -> Result<Vec<OutSection<'a>>, Memory>
     requires { Gathers (input_of parts.now) homes.now.keys members.now }
     ensures { IfOk result (λ sections. (keys : List SectionKey) × OrdersSections (input_of parts.now) homes.now.keys members.now keys
-        × AllZip (λ key section. IsBuilt (input_of parts.now) (home_at homes.now.keys key.section) (pieces_at members.now key.section) section) keys sections.items) }
+        × AreBuilt (input_of parts.now) homes.now.keys members.now keys (length keys) sections.items) }
 {
     let keys = order_sections(alloc, parts, homes, members)?;
     let mut sections = Vec::with_capacity(alloc, keys.len())?;
