@@ -1,6 +1,8 @@
 //! The pieces of each section.
 
 ghost use Rattle.std.specs.Prelude.{◌≡◌, ℕ, ◌<◌, ◌^◌, length, slice_get, slice_index_or, Some, None, OnOk, IfOk, []};
+ghost use Rattle.std.specs.List.{IsDistinct};
+ghost use Rattle.section_group.specs.Sections.{same_home};
 ghost use Rattle.section_group.specs.Gathering.{input_of, home_of, AreOwners, AreNumbers, IsNumberOf, KeepsHomes, AreMembers};
 
 use crate::homes::Home;
@@ -17,7 +19,8 @@ pub(crate) fn number_pieces<'a>(
     owners: &IndexMap<Name<'a>, usize>,
 ) -> Result<(IndexSet<Home<'a>>, Vec<Option<usize>>), Memory>
     requires { AreOwners (input_of parts.now) owners.now.entries }
-    ensures { IfOk result (λ r. AreNumbers (input_of parts.now) r.0.keys (length parts.now.pieces.now) r.1.items) }
+    ensures numbers { IfOk result (λ r. AreNumbers (input_of parts.now) r.0.keys (length parts.now.pieces.now) r.1.items) }
+    ensures distinct { IfOk result (λ r. IsDistinct same_home r.0.keys) }
 {
     let mut homes = IndexSet::new(alloc);
     let mut numbers = Vec::with_capacity(alloc, parts.pieces.len())?;
@@ -39,6 +42,7 @@ fn piece_number<'a>(
     requires owners { AreOwners (input_of parts.now) owners.now.entries }
     ensures there { IfOk result (IsNumberOf (input_of parts.now) homes.new.keys index) }
     ensures kept { OnOk result (KeepsHomes homes.old.keys homes.new.keys) }
+    ensures distinct { OnOk result (IsDistinct same_home homes.old.keys → IsDistinct same_home homes.new.keys) }
 {
     if parts.used[index] {
         let number = home_number(homes, parts, owners, index)?;
@@ -58,6 +62,7 @@ fn home_number<'a>(
     requires owners { AreOwners (input_of parts.now) owners.now.entries }
     ensures there { IfOk result (λ number. slice_get homes.new.keys number ≡ Some (home_of (input_of parts.now) index)) }
     ensures kept { OnOk result (KeepsHomes homes.old.keys homes.new.keys) }
+    ensures distinct { OnOk result (IsDistinct same_home homes.old.keys → IsDistinct same_home homes.new.keys) }
 {
     let home = Home {
         name: parts.cuts[index].section.again(),

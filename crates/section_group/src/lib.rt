@@ -6,6 +6,7 @@ mod content;
 mod cut;
 mod flags;
 mod gather;
+mod grouping;
 mod homes;
 mod key;
 mod names;
@@ -20,4 +21,5 @@ mod targets;
 pub use flags::{
     SCN_CNT_CODE, SCN_CNT_INITIALIZED_DATA, SCN_CNT_UNINITIALIZED_DATA, SCN_MEM_ATTRIBUTES,
 };
+pub use grouping::group;
 pub use piece::{GroupError, OutSection, Piece};
