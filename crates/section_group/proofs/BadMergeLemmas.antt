@@ -1,16 +1,16 @@
 -- A merge is bad exactly where a test says so.
-use Rattle.std.proofs.Common.{◌≡◌, ◌≢◌, ℕ, zero, suc, ◌+◌, ◌*◌, ◌<◌, ◌≤◌, ◌-◌, Bool, true, false, cond, not, ◌||◌, List, [], ◌∷◌, ◌++◌, length, get_or, Option, Some, None, is_some, IsSome, IsTrue, unwrap_or, codes, refl, sym, ap, ◌∙◌, subst, inl, inr, ◌⊎◌, arith}
+use Rattle.std.proofs.Common.{◌≡◌, ◌≢◌, ℕ, zero, suc, ◌+◌, ◌*◌, ◌<◌, ◌≤◌, ◌-◌, Bool, true, false, cond, not, ◌||◌, List, [], ◌∷◌, length, get_or, Option, Some, None, is_some, IsSome, unwrap_or, refl, sym, ap, ◌∙◌, subst, inl, inr, ◌⊎◌, arith}
 use Rattle.std.specs.Option.{option_map_or}
 use Rattle.std.specs.List.{position_or_len}
-use Rattle.std.specs.Map.{lookup, keys_of, values_of}
-use Rattle.std.proofs.lemmas.Bool.{cases_lt, false≢true, true≢false}
+use Rattle.std.specs.Map.{lookup, keys_of}
+use Rattle.std.proofs.lemmas.Bool.{false≢true, true≢false}
 use Rattle.std.proofs.Math.Nat.{mul-le-mul_left}
 use Rattle.std.proofs.lemmas.List.Sums.{passes_at_first}
 use Rattle.std.proofs.lemmas.Map.Entries.{length-keys_of}
-use Rattle.section_group.specs.Merging.{target, led, next_name, all_merges, preset_merges, same_name, merge_at, final_name, names_reserved, ComesBack, HasOtherTarget, IsBadMerge, IsFirstBadMerge, HasNoBadMerge}
+use Rattle.section_group.specs.Merging.{target, led, next_name, all_merges, preset_merges, same_name, merge_at, final_name, names_reserved, ComesBack, HasOtherTarget, IsBadMerge, HasNoBadMerge}
 use Rattle.section_group.specs.Chains.{target_among, or_else, leads_elsewhere, goes_on, fails}
 use Rattle.section_group.proofs.ChainLemmas.{target_among-append, same_is, same_refl, led-add}
-use Rattle.section_group.proofs.PigeonLemmas.{pigeon, Meet}
+use Rattle.section_group.proofs.PigeonLemmas.{pigeon}
 
 some_there : (o : Option (List ℕ)) → is_some o ≡ true → IsSome o
 some_there None e = absurd (false≢true e)
@@ -130,6 +130,7 @@ first_of_name (m ∷ ms) (suc k) lt = go (same_name (get_or ms k ([], [])).0 m.0
   where
     name : List ℕ
     name = (get_or ms k ([], [])).0
+
     go : (b : Bool) → same_name (get_or ms k ([], [])).0 m.0 ≡ b → FirstOf ms k → FirstOf (m ∷ ms) (suc k)
     go true e rest =
         record { at = 0; not_after = omega arith; same = sym (same_is (get_or ms k ([], [])).0 m.0 e); leads = ap (λ (b : Bool). cond b (Some m.1) (target_among ms (get_or ms k ([], [])).0)) e }
@@ -263,6 +264,7 @@ end_of (m ∷ ms) name y ends e = go (same_name name m.0) e (end_of ms name y en
   where
     same_some : {a b : List ℕ} → Some a ≡ Some b → a ≡ b
     same_some h = cc
+
     go : (b : Bool) → cond b (Some m.1) (target_among ms name) ≡ Some y → (target_among ms name ≡ Some y → is_some (target_among preset_merges y) ≡ false) → is_some (target_among preset_merges y) ≡ false
     go true h rest = ap (λ (x : List ℕ). is_some (target_among preset_merges x)) (sym (same_some h)) ∙ ends.0
     go false h rest = rest h

@@ -1,6 +1,6 @@
 -- Following merges: look-ups, chains, and where chains come back.
-use Rattle.std.proofs.Common.{◌≡◌, ℕ, zero, suc, ltb, not, map, position, unwrap_or, lt-ltb, le-ltb, ◌+◌, ◌<◌, ◌≤◌, Bool, true, false, cond, List, [], ◌∷◌, ◌++◌, length, take, drop, get_or, Option, Some, None, is_some, refl, sym, ap, ◌∙◌, subst, inl, inr, arith}
-use Rattle.std.proofs.lemmas.List.{take_more, take_all, get_or_default, get_or_past, length-map}
+use Rattle.std.proofs.Common.{◌≡◌, ℕ, zero, suc, ltb, not, map, position, unwrap_or, lt-ltb, le-ltb, ◌+◌, ◌<◌, ◌≤◌, Bool, true, false, cond, List, [], ◌∷◌, ◌++◌, length, take, get_or, Option, Some, None, is_some, refl, sym, ap, ◌∙◌, inl, inr, arith}
+use Rattle.std.proofs.lemmas.List.{take_more, get_or_default, get_or_past, length-map}
 use Rattle.std.proofs.Math.ListN.{get_or-map}
 use Rattle.std.proofs.Math.Numerals.{one-add}
 use Rattle.std.specs.List.{position_or_len}
@@ -8,7 +8,7 @@ use Rattle.std.proofs.lemmas.Bool.{cases_lt, false≢true, true≢false}
 use Rattle.std.proofs.lemmas.Bool.Decides.{same_from_decides}
 use Rattle.std.proofs.lemmas.Slice.Eq.{bytes_eq-Decides}
 use Rattle.std.specs.Map.{lookup, keys_of, values_of}
-use Rattle.section_group.specs.Merging.{target, led, next_name, all_merges, preset_merges, same_name}
+use Rattle.section_group.specs.Merging.{led, next_name, same_name}
 use Rattle.section_group.specs.Chains.{same_text, target_among, or_else, led_by, AreTargets, Leads}
 
 pub or_else_none : (o : Option (List ℕ)) → or_else o None ≡ o
@@ -87,6 +87,7 @@ found_place n m k e =
   where
     some_same : (a b : ℕ) → Some a ≡ Some b → a ≡ b
     some_same a b h = cc
+
     not_some : (a : ℕ) → Some a ≡ None → ⊥
     not_some a h = cc
 

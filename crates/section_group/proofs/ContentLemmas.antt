@@ -1,6 +1,6 @@
 -- The first piece of a section, found piece by piece.
-use Rattle.std.proofs.Common.{◌≡◌, ℕ, ◌+◌, ◌<◌, ◌≤◌, Bool, true, false, List, length, get_or, sym, ap, ◌∙◌, inl, inr, arith}
-use Rattle.std.specs.List.{All, Contains}
+use Rattle.std.proofs.Common.{◌≡◌, ℕ, ◌+◌, ◌<◌, ◌≤◌, true, false, List, length, get_or, sym, ap, ◌∙◌, inl, inr, arith}
+use Rattle.std.specs.List.{All}
 use Rattle.std.specs.Ordering.{is_lt}
 use Rattle.std.proofs.lemmas.Bool.{cases_lt}
 use Rattle.std.proofs.lemmas.List.{get_or_default}
@@ -42,6 +42,6 @@ pub first_at_end : (input : Input) (members : List ℕ) (count first : ℕ) → 
 first_at_end input members count first all so_far = record {
   among = so_far.among;
   before = λ k there.
-    ap (λ (j : ℕ). is_lt (place_cmp input j first)) (sym there.2 ∙ get_or_default members there.0 k 0 there.1)
-    ∙ so_far.before there.0 (omega (arith, there.1));
+      ap (λ (j : ℕ). is_lt (place_cmp input j first)) (sym there.2 ∙ get_or_default members there.0 k 0 there.1)
+      ∙ so_far.before there.0 (omega (arith, there.1));
 }

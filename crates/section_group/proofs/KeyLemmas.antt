@@ -1,16 +1,16 @@
 -- The keys of pieces order the pieces.
-use Rattle.std.proofs.Common.{◌≡◌, ◌≢◌, ℕ, ◌<◌, ◌≤◌, Bool, true, false, eqb, eq-eqb, IsTrue, List, [], ◌∷◌, length, get_or, map, refl, sym, ap, ◌∙◌, subst, arith, rules}
+use Rattle.std.proofs.Common.{◌≡◌, ◌≢◌, ℕ, ◌<◌, Bool, true, false, eqb, eq-eqb, IsTrue, List, [], ◌∷◌, length, get_or, map, refl, sym, ap, ◌∙◌, subst, arith, rules}
 use Rattle.std.specs.List.{All, AllPairs, IsDistinct}
 use Rattle.std.specs.List.Sorted.{IsSorted, IsPermutation}
-use Rattle.std.specs.Ordering.{is_lt, nat_cmp, ordering_then, bool_cmp}
+use Rattle.std.specs.Ordering.{is_lt, nat_cmp, bool_cmp}
 use Rattle.std.specs.Cmp.{IsTotalOrder}
 use Rattle.std.specs.Cmp.Lexicographic.{slice_cmp}
 use Rattle.std.specs.Cmp.Rules.{comparing}
 use Rattle.std.specs.declared.cmp.Ordering.TheVariants.{Equal}
 use Rattle.std.proofs.lemmas.Bool.{false≢true, eqb-true}
-use Rattle.std.proofs.lemmas.List.{get_or_default, length-map}
+use Rattle.std.proofs.lemmas.List.{length-map}
 use Rattle.std.proofs.lemmas.List.Elements.{All-map}
-use Rattle.std.proofs.lemmas.List.Sorted.{All-permutation, IsPermutation-map, length_permutation}
+use Rattle.std.proofs.lemmas.List.Sorted.{All-permutation, IsPermutation-map}
 use Rattle.std.proofs.lemmas.Map.Keys.{apart_from_distinct, IsDistinct-IsPermutation}
 use Rattle.std.proofs.Math.ListN.{get_or-map}
 use Rattle.section_group.specs.declared.key.PieceKey.{PieceKey}
@@ -76,12 +76,16 @@ ordered_ascends input members ordered keys sorted is_keys moved rises is_ordered
   where
     index : PieceKey → ℕ
     index key = key.index
+
     kept : All (λ key. key ≡ piece_key input key.index) sorted
     kept = keys_kept input members keys sorted is_keys moved
+
     at : (i d : ℕ) → get_or ordered i d ≡ (get_or sorted i (piece_key input d)).index
     at i d = ap (λ (xs : List ℕ). get_or xs i d) is_ordered ∙ get_or-map index sorted i (piece_key input d)
+
     distinct_after : IsDistinct eqb ordered
     distinct_after = IsDistinct-IsPermutation eqb eqb_flip members ordered (ordered_permutation input members ordered keys sorted is_keys moved is_ordered) distinct
+
     apart : (i j : ℕ) (d : PieceKey) → i < j → j < length sorted → key_cmp (get_or sorted i d) (get_or sorted j d) ≢ Equal
     apart i j d lt within level =
         let in' : j < length ordered = omega (arith, ap length is_ordered, length-map sorted index) in

@@ -11,3 +11,5 @@ pub mod ContentLemmas
 pub mod SectionLemmas
 pub mod RangeLemmas
 pub mod OrderedLemmas
+pub mod MemberLemmas
+pub mod GroupingLemmas

@@ -1,8 +1,8 @@
 -- The keys of sections, gathered and sorted.
-use Rattle.std.proofs.Common.{◌≡◌, ◌≢◌, ℕ, ◌+◌, ◌<◌, ◌≤◌, Bool, true, false, cond, eqb, eq-eqb, IsTrue, List, [], ◌∷◌, ◌++◌, length, get_or, map, filter, Vec, refl, sym, ap, ◌∙◌, subst, inl, inr, length-append, arith, rules}
-use Rattle.std.specs.List.{All, AllPairs, Any, Contains, IsDistinct, range_with_len}
+use Rattle.std.proofs.Common.{◌≡◌, ◌≢◌, ℕ, ◌+◌, ◌<◌, ◌≤◌, Bool, true, false, cond, eqb, eq-eqb, List, [], ◌∷◌, ◌++◌, length, get_or, map, filter, Vec, refl, sym, ap, ◌∙◌, subst, inl, inr, length-append, arith, rules}
+use Rattle.std.specs.List.{Any, Contains, IsDistinct, range_with_len}
 use Rattle.std.specs.List.Sorted.{IsSorted, IsPermutation}
-use Rattle.std.specs.Ordering.{is_lt, nat_cmp}
+use Rattle.std.specs.Ordering.{nat_cmp}
 use Rattle.std.specs.Cmp.{IsTotalOrder}
 use Rattle.std.specs.Cmp.Rules.{comparing}
 use Rattle.std.specs.declared.alloc.Global.{Global}
@@ -42,19 +42,19 @@ pub keys_more : (input : Input) (homes : List Home) (members : List (Vec ℕ Glo
 keys_more input homes members count keys key are needed is_key here = record {
   each = All-push (IsKey input homes members) keys key are.each is_key;
   sections =
-    map-push (λ k. k.section) keys key ∙ ap (λ (xs : List ℕ). xs ++ key.section ∷ []) are.sections
-    ∙ ap (λ (k : ℕ). filter (is_needed input members) (range_with_len 0 count) ++ k ∷ []) here
-    ∙ ap (λ (b : Bool). filter (is_needed input members) (range_with_len 0 count) ++ cond b (count ∷ []) []) (sym needed)
-    ∙ sym (filter_more (is_needed input members) count);
+      map-push (λ k. k.section) keys key ∙ ap (λ (xs : List ℕ). xs ++ key.section ∷ []) are.sections
+      ∙ ap (λ (k : ℕ). filter (is_needed input members) (range_with_len 0 count) ++ k ∷ []) here
+      ∙ ap (λ (b : Bool). filter (is_needed input members) (range_with_len 0 count) ++ cond b (count ∷ []) []) (sym needed)
+      ∙ sym (filter_more (is_needed input members) count);
 }
 
 pub keys_skip : (input : Input) (homes : List Home) (members : List (Vec ℕ Global)) (count : ℕ) (keys : List SectionKey) → AreKeys input homes members count keys → is_needed input members count ≡ false → AreKeys input homes members (count + 1) keys
 keys_skip input homes members count keys are empty = record {
   each = are.each;
   sections =
-    are.sections ∙ sym (append-nil (filter (is_needed input members) (range_with_len 0 count)))
-    ∙ ap (λ (b : Bool). filter (is_needed input members) (range_with_len 0 count) ++ cond b (count ∷ []) []) (sym empty)
-    ∙ sym (filter_more (is_needed input members) count);
+      are.sections ∙ sym (append-nil (filter (is_needed input members) (range_with_len 0 count)))
+      ∙ ap (λ (b : Bool). filter (is_needed input members) (range_with_len 0 count) ++ cond b (count ∷ []) []) (sym empty)
+      ∙ sym (filter_more (is_needed input members) count);
 }
 
 level_sections : (a b : SectionKey) → section_cmp a b ≡ Equal → a.section ≡ b.section
@@ -69,32 +69,35 @@ pub keys_ordered : (input : Input) (homes : List Home) (members : List (Vec ℕ 
 keys_ordered input homes members count keys sorted are all moved rises = record {
   each = All-permutation (IsKey input homes members) keys sorted moved are.each;
   complete = λ section lt needed.
-    let there = subst (λ (xs : List ℕ). Contains xs section) (sym are.sections) (range_has (is_needed input members) 0 count section (omega arith) (omega arith) needed) in
-    any_of section (Contains-permutation (map (λ key. key.section) keys) (map (λ key. key.section) sorted) section moved_sections there);
+      let there = subst (λ (xs : List ℕ). Contains xs section) (sym are.sections) (range_has (is_needed input members) 0 count section (omega arith) (omega arith) needed) in
+      any_of section (Contains-permutation (map (λ key. key.section) keys) (map (λ key. key.section) sorted) section moved_sections there);
   ascending = ascends section_total sorted rises apart;
 }
   where
     moved_sections : IsPermutation (map (λ key. key.section) keys) (map (λ key. key.section) sorted)
     moved_sections = IsPermutation-map (λ key. key.section) keys sorted moved
+
     distinct : IsDistinct eqb (map (λ key. key.section) sorted)
     distinct = IsDistinct-IsPermutation eqb eqb_flip (map (λ key. key.section) keys) (map (λ key. key.section) sorted) moved_sections (subst (IsDistinct eqb) (sym are.sections) (range_distinct (is_needed input members) 0 count))
+
     read : (i : ℕ) (d : SectionKey) → get_or (map (λ key. key.section) sorted) i d.section ≡ (get_or sorted i d).section
     read i d = get_or-map (λ key. key.section) sorted i d
+
     apart : (i j : ℕ) (d : SectionKey) → i < j → j < length sorted → section_cmp (get_or sorted i d) (get_or sorted j d) ≢ Equal
     apart i j d lt within level =
         let in' : j < length (map (λ (key : SectionKey). key.section) sorted) = omega (arith, length-map sorted (λ (key : SectionKey). key.section)) in
         let differ = apart_from_distinct eqb (map (λ key. key.section) sorted) i j d.section distinct lt in' in
         false≢true (sym differ ∙ eq-eqb _ _ (read i d ∙ level_sections (get_or sorted i d) (get_or sorted j d) level ∙ sym (read j d)))
+
     any_of : (section : ℕ) → Contains (map (λ key. key.section) sorted) section → Any (λ key. key.section ≡ section) sorted
     any_of section there =
         let d : SectionKey = record { rank = 0; «module» = 0; number = 0; index = 0; section = 0 } in
-        let in' : there.0 < length sorted = omega (arith, there.1, length-map sorted (λ (key : SectionKey). key.section)) in
-        (
+        let in' : there.0 < length sorted = omega (arith, there.1, length-map sorted (λ (key : SectionKey). key.section)) in (
           there.0,
           get_or sorted there.0 d,
           in',
           get_or_default sorted there.0 (get_or sorted there.0 d) d in',
-          sym (read there.0 d) ∙ get_or_default (map (λ key. key.section) sorted) there.0 0 section there.1 ∙ there.2
+          sym (read there.0 d) ∙ get_or_default (map (λ key. key.section) sorted) there.0 0 section there.1 ∙ there.2,
         )
 
 -- one more section is built

@@ -1,18 +1,18 @@
 -- The first owner of a name, found piece by piece.
-use Rattle.std.proofs.Common.{◌≡◌, ◌≢◌, ℕ, zero, suc, ◌+◌, ◌<◌, ◌≤◌, Bool, true, false, ◌&&◌, not, cond, IsTrue, ltb, List, length, get_or, Option, Some, None, is_some, refl, sym, ap, ◌∙◌, subst, inl, inr, arith, rules, add-one}
+use Rattle.std.proofs.Common.{◌≡◌, ℕ, zero, suc, ◌+◌, ◌<◌, Bool, true, false, ◌&&◌, not, cond, IsTrue, List, length, Option, Some, None, refl, sym, ap, ◌∙◌, subst, inl, inr, arith, rules, add-one}
 use Rattle.std.specs.Option.{option_map_or}
 use Rattle.std.specs.Ordering.{is_lt, nat_cmp, ordering_then}
 use Rattle.std.specs.Cmp.{IsTotalOrder}
 use Rattle.std.specs.Cmp.Rules.{comparing}
 use Rattle.std.specs.declared.cmp.Ordering.TheVariants.{Equal}
 use Rattle.std.proofs.lemmas.Bool.{cases_lt, false≢true, true≢false}
-use Rattle.link_base.specs.Bytes.{first_below, all_below}
+use Rattle.link_base.specs.Bytes.{all_below}
 use Rattle.link_base.proofs.CallerLemmas.{first_below-found, first_below-all_fail, first_below-some, all_below-more, all_below-fails}
 use Rattle.section_group.specs.SectionOrder.{Input, piece_at, is_used, base_name, place_cmp}
 use Rattle.section_group.specs.Placement.{is_owner, is_first_owner, first_owner}
 use Rattle.section_group.specs.Merging.{same_name}
 use Rattle.section_group.specs.Gathering.{IsFirstUpTo}
-use Rattle.section_group.proofs.ChainLemmas.{same_is, same_refl}
+use Rattle.section_group.proofs.ChainLemmas.{same_is}
 use Rattle.section_group.proofs.OrderLemmas.{not_before_itself, not_before_better, level, then_level, level_numbers}
 
 pub place_total : (input : Input) → IsTotalOrder (place_cmp input)
@@ -33,40 +33,37 @@ first_extends input i name None none other = λ k lt. elim (cases_lt k i) [
   | inl below ↦ none k below
   | inr above ↦ let same : k ≡ i = omega arith in ap (is_owner input name) same ∙ other
 ]
-first_extends input i name (Some f) first other =
-    (
-      omega (arith, first.0),
-      first.1,
-      λ k lt owns. elim (cases_lt k i) [
-        | inl below ↦ first.2 k below owns
-        | inr above ↦ let same : k ≡ i = omega arith in absurd (false≢true (sym other ∙ ap (is_owner input name) (sym same) ∙ owns))
-      ]
-    )
+first_extends input i name (Some f) first other = (
+  omega (arith, first.0),
+  first.1,
+  λ k lt owns. elim (cases_lt k i) [
+    | inl below ↦ first.2 k below owns
+    | inr above ↦ let same : k ≡ i = omega arith in absurd (false≢true (sym other ∙ ap (is_owner input name) (sym same) ∙ owns))
+  ],
+)
 
 -- it owns the name and does not come before the first so far
 pub first_stays : (input : Input) (i : ℕ) (name : List ℕ) (o : Option ℕ) → IsFirstUpTo input i name o → option_map_or (λ first. is_lt (place_cmp input i first)) o true ≡ false → IsFirstUpTo input (i + 1) name o
 first_stays input i name None none later = absurd (true≢false later)
-first_stays input i name (Some f) first later =
-    (
-      omega (arith, first.0),
-      first.1,
-      λ k lt owns. elim (cases_lt k i) [
-        | inl below ↦ first.2 k below owns
-        | inr above ↦ let same : k ≡ i = omega arith in ap (λ (j : ℕ). is_lt (place_cmp input j f)) same ∙ later
-      ]
-    )
+first_stays input i name (Some f) first later = (
+  omega (arith, first.0),
+  first.1,
+  λ k lt owns. elim (cases_lt k i) [
+    | inl below ↦ first.2 k below owns
+    | inr above ↦ let same : k ≡ i = omega arith in ap (λ (j : ℕ). is_lt (place_cmp input j f)) same ∙ later
+  ],
+)
 
 -- it owns the name and comes before the first so far
 pub first_taken : (input : Input) (i : ℕ) (name : List ℕ) (o : Option ℕ) → IsFirstUpTo input i name o → IsTrue (is_owner input name i) → option_map_or (λ first. is_lt (place_cmp input i first)) o true ≡ true → IsFirstUpTo input (i + 1) name (Some i)
-first_taken input i name o first owns earlier =
-    (
-      omega arith,
-      owns,
-      λ k lt owned. elim (cases_lt k i) [
-        | inl below ↦ before o first earlier k below owned
-        | inr above ↦ let same : k ≡ i = omega arith in ap (λ (j : ℕ). is_lt (place_cmp input j i)) same ∙ not_before_itself (place_total input) i
-      ]
-    )
+first_taken input i name o first owns earlier = (
+  omega arith,
+  owns,
+  λ k lt owned. elim (cases_lt k i) [
+    | inl below ↦ before o first earlier k below owned
+    | inr above ↦ let same : k ≡ i = omega arith in ap (λ (j : ℕ). is_lt (place_cmp input j i)) same ∙ not_before_itself (place_total input) i
+  ],
+)
   where
     before : (o : Option ℕ) → IsFirstUpTo input i name o → option_map_or (λ first. is_lt (place_cmp input i first)) o true ≡ true → (k : ℕ) → k < i → is_owner input name k ≡ true → is_lt (place_cmp input k i) ≡ false
     before None none h k lt owned = absurd (false≢true (sym (none k lt) ∙ owned))
@@ -103,9 +100,9 @@ first_is input name (Some f) first =
     let test = is_first_owner input name in
     let passes = both (is_owner input name f) (all_below n (λ j. not (is_owner input name j && is_lt (place_cmp input j f)))) first.1 (all_below_from n (λ j. not (is_owner input name j && is_lt (place_cmp input j f))) (λ j lt. not_and (is_owner input name j) (is_lt (place_cmp input j f)) (λ owns. first.2 j lt owns))) in
     let fails = λ (k : ℕ) (lt : k < f).
-      and_false (is_owner input name k) (all_below n (λ j. not (is_owner input name j && is_lt (place_cmp input j k)))) (λ owns.
-        all_below-fails n f (λ j. not (is_owner input name j && is_lt (place_cmp input j k))) first.0
-        (ap not (both (is_owner input name f) (is_lt (place_cmp input f k)) first.1 (precedes k lt (first.2 k (omega (arith, first.0)) owns)))))
+    and_false (is_owner input name k) (all_below n (λ j. not (is_owner input name j && is_lt (place_cmp input j k)))) (λ owns.
+    all_below-fails n f (λ j. not (is_owner input name j && is_lt (place_cmp input j k))) first.0
+    (ap not (both (is_owner input name f) (is_lt (place_cmp input f k)) first.1 (precedes k lt (first.2 k (omega (arith, first.0)) owns)))))
     in
     sym (first_below-found f n test first.0 (first_below-all_fail f test fails) passes)
   where
@@ -123,6 +120,7 @@ owner_taken input i name base old new is_base used first after earlier =
   where
     owns : same_name base name ≡ same_name (base_name (piece_at input i).name) name
     owns = ap (λ (b : List ℕ). same_name b name) is_base
+
     go : (b : Bool) → same_name base name ≡ b → IsFirstUpTo input (i + 1) name (cond b (Some i) (old name))
     go true e =
         let here : base_name (piece_at input i).name ≡ name = sym is_base ∙ same_is base name e in

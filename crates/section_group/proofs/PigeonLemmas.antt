@@ -1,6 +1,6 @@
 -- More numbers than places: two are at one place.
-use Rattle.std.proofs.Common.{◌≡◌, ℕ, zero, suc, ◌+◌, ◌<◌, ◌≤◌, Bool, true, false, eqb, List, length, get_or, map, refl, sym, ap, ◌∙◌, subst, inl, inr, ◌⊎◌, arith}
-use Rattle.std.specs.List.{range_with_len, IsDistinct, list_any, Contains}
+use Rattle.std.proofs.Common.{◌≡◌, ℕ, zero, suc, ◌<◌, ◌≤◌, Bool, true, false, eqb, length, get_or, map, refl, sym, ap, ◌∙◌, subst, inl, inr, ◌⊎◌, arith}
+use Rattle.std.specs.List.{range_with_len, list_any}
 use Rattle.std.proofs.lemmas.Map.Keys.{IsDistinct-from_apart}
 use Rattle.std.proofs.lemmas.Map.Steps.{length-le_from_distinct_below}
 use Rattle.std.proofs.lemmas.Map.Views.{Contains-from_any}
@@ -30,7 +30,6 @@ earlier f n (suc i) =
       | inl below ↦ none k below
       | inr above ↦ let same : k ≡ i = omega arith in ap (λ (j : ℕ). eqb (f j) (f n)) same ∙ e
     ])
-
 
 meet_or_apart : (f : ℕ → ℕ) (n : ℕ) → Meet f n ⊎ ((i j : ℕ) → i < j → j < n → eqb (f i) (f j) ≡ false)
 meet_or_apart f zero = inr (λ i j lt below. absurd (omega arith))

@@ -1,5 +1,5 @@
 -- The numbers of a range that pass a test.
-use Rattle.std.proofs.Common.{◌≡◌, ℕ, zero, suc, ◌+◌, ◌<◌, ◌≤◌, Bool, true, false, cond, eqb, List, [], ◌∷◌, ◌++◌, length, get_or, filter, refl, sym, ap, ◌∙◌, subst, inl, inr, arith}
+use Rattle.std.proofs.Common.{◌≡◌, ℕ, zero, suc, ◌+◌, ◌<◌, ◌≤◌, Bool, true, false, cond, eqb, List, ◌∷◌, filter, refl, ap, ◌∙◌, inl, inr, arith}
 use Rattle.std.specs.List.{All, Contains, IsDistinct, range_with_len}
 use Rattle.std.proofs.lemmas.Bool.{false≢true, cases_lt, eqb-true}
 use Rattle.std.proofs.lemmas.List.Elements.{All-nil, All-cons, All-weaker, recursion_from_All}
@@ -33,9 +33,11 @@ range_has p a (suc n) k low high pass =
   where
     rest : List ℕ
     rest = filter p (range_with_len (a + 1) n)
+
     later : (b : Bool) → Contains (filter p (range_with_len (a + 1) n)) k → Contains (cond b (a ∷ filter p (range_with_len (a + 1) n)) (filter p (range_with_len (a + 1) n))) k
     later true h = (suc h.0, omega (arith, h.1), h.2)
     later false h = h
+
     here : (b : Bool) → b ≡ true → a ≡ k → Contains (cond b (a ∷ filter p (range_with_len (a + 1) n)) (filter p (range_with_len (a + 1) n))) k
     here true e same = (0, omega arith, same)
     here false e same = absurd (false≢true e)

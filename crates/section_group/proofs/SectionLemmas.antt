@@ -1,19 +1,18 @@
 -- Sections from what was gathered.
-use Rattle.std.proofs.Common.{◌≡◌, ◌≢◌, ◌⊎◌, ℕ, zero, suc, ◌+◌, ◌<◌, ◌≤◌, Bool, true, false, ◌&&◌, cond, eqb, eq-eqb, IsTrue, List, [], ◌∷◌, ◌++◌, length, get_or, map, filter, Vec, Option, Some, None, refl, sym, ap, ◌∙◌, subst, inl, inr, arith, rules}
-use Rattle.std.specs.List.{All, AllPairs, Any, Contains, IsDistinct, list_any, range_with_len}
+use Rattle.std.proofs.Common.{◌≡◌, ℕ, ◌<◌, Bool, true, false, ◌&&◌, List, [], length, get_or, map, Vec, refl, sym, ap, ◌∙◌, arith}
+use Rattle.std.specs.List.{All}
 use Rattle.std.specs.declared.alloc.Global.{Global}
-use Rattle.std.proofs.lemmas.Bool.{false≢true, true≢false, eqb-true}
+use Rattle.std.proofs.lemmas.Bool.{false≢true}
 use Rattle.std.proofs.lemmas.List.{get_or_default, length-map}
 use Rattle.std.proofs.lemmas.List.Elements.{Contains-get_or}
 use Rattle.std.proofs.Math.ListN.{get_or-map}
 use Rattle.section_group.specs.declared.homes.Home.{Home}
-use Rattle.section_group.specs.SectionOrder.{Input, piece_at, is_used}
-use Rattle.section_group.specs.Placement.{goes_to, needs_place}
+use Rattle.section_group.specs.SectionOrder.{Input, is_used}
 use Rattle.section_group.specs.Keys.{IsWithin}
-use Rattle.section_group.specs.Sections.{Gathers, home_at, pieces_at}
+use Rattle.section_group.specs.Sections.{Gathers, pieces_at}
 use Rattle.section_group.proofs.PartLemmas.{used_within}
 
-both_parts : (a b : Bool) → (a && b) ≡ true → (a ≡ true) × (b ≡ true)
+pub both_parts : (a b : Bool) → (a && b) ≡ true → (a ≡ true) × (b ≡ true)
 both_parts true b e = (refl, e)
 both_parts false b e = absurd (false≢true e)
 

@@ -1,6 +1,6 @@
 -- Merges: which output section the pieces of a base name go to (MSVC linker reference, "/MERGE"). The presets and the
 -- refusals are own.
-use Rattle.std.specs.Prelude.{◌≡◌, ◌≢◌, ℕ, zero, suc, ◌+◌, ◌<◌, Bool, ◌||◌, ◌⊎◌, IsTrue, List, [], ◌∷◌, ◌++◌, length, slice_index_or, Option, IsSome, unwrap_or, codes, nat_eq}
+use Rattle.std.specs.Prelude.{◌≡◌, ◌≢◌, ℕ, zero, suc, ◌<◌, Bool, ◌||◌, ◌⊎◌, IsTrue, List, [], ◌∷◌, ◌++◌, length, slice_index_or, Option, IsSome, unwrap_or, codes, nat_eq}
 use Rattle.std.specs.Map.{lookup}
 use lib.Pointwise.{pointwise}
 

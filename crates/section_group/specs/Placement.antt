@@ -1,5 +1,5 @@
 -- Which section each piece stands in (PE Format, "Grouped Sections (Object Only)" and "Section Flags"; own in the details).
-use Rattle.std.specs.Prelude.{◌≡◌, ◌↔◌, ℕ, ◌<◌, Bool, ◌&&◌, ◌||◌, not, ◌==◌, nat_lt, IsTrue, List, length, Option, unwrap_or, codes, if◌then◌else◌, bit_and, bit_or}
+use Rattle.std.specs.Prelude.{◌≡◌, ◌↔◌, ℕ, Bool, ◌&&◌, ◌||◌, not, ◌==◌, nat_lt, IsTrue, List, length, Option, unwrap_or, codes, if◌then◌else◌, bit_and, bit_or}
 use Rattle.std.specs.List.{All, Any, AllPairs, Contains, list_any}
 use Rattle.std.specs.Ordering.{is_lt}
 use Rattle.link_base.specs.Bytes.{all_below, first_below}
@@ -56,7 +56,7 @@ abbrev pub content_flags : Input → List ℕ → ℕ
 content_flags input pieces =
     if list_any (λ k. (piece_at input k).init) pieces
     then bit_or (if has_initialised input SCN_CNT_CODE pieces then SCN_CNT_CODE else 0)
-        (if has_initialised input SCN_CNT_INITIALIZED_DATA pieces then SCN_CNT_INITIALIZED_DATA else 0)
+    (if has_initialised input SCN_CNT_INITIALIZED_DATA pieces then SCN_CNT_INITIALIZED_DATA else 0)
     else SCN_CNT_UNINITIALIZED_DATA
 
 pub record IsSection (input : Input) (section : OutSection) : Type 0 where

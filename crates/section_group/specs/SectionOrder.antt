@@ -1,6 +1,6 @@
 -- The order of pieces inside a section, and of sections in an image: lists of keys, each of which decides only where those
 -- before it are equal. The names are cut as in PE Format, "Grouped Sections (Object Only)"; the keys are own.
-use Rattle.std.specs.Prelude.{◌≡◌, ℕ, ◌<◌, Bool, true, false, ◌&&◌, ◌||◌, not, ◌==◌, nat_lt, IsTrue, List, [], length, slice_index_or, Option, None, codes, if◌then◌else◌}
+use Rattle.std.specs.Prelude.{◌≡◌, ℕ, Bool, false, ◌&&◌, not, ◌==◌, nat_lt, IsTrue, List, [], length, slice_index_or, None, codes, if◌then◌else◌}
 use Rattle.std.specs.List.{before_first, after_first, Contains}
 use Rattle.std.specs.Ordering.{nat_cmp, bool_cmp, then_cmp, ordering_then, on, is_lt}
 use Rattle.std.specs.declared.cmp.Ordering.{Ordering}
@@ -91,4 +91,4 @@ pub record ComesBefore (input : Input) (section other : OutSection) : Type 0 whe
   pub is_first : IsFirstPiece input section.pieces.items first
   pub is_other_first : IsFirstPiece input other.pieces.items other_first
   pub before :
-    IsTrue (is_lt (ordering_then (nat_cmp (rank_of section.name) (rank_of other.name)) (place_cmp input first other_first)))
+      IsTrue (is_lt (ordering_then (nat_cmp (rank_of section.name) (rank_of other.name)) (place_cmp input first other_first)))

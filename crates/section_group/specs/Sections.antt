@@ -9,7 +9,6 @@ use Rattle.section_group.specs.declared.piece.OutSection.{OutSection}
 use Rattle.section_group.specs.Merging.{same_name}
 use Rattle.section_group.specs.SectionOrder.{Input, piece_at, is_used, inside_cmp, rank_of, IsFirstPiece}
 use Rattle.section_group.specs.Placement.{goes_to, needs_place, content_flags}
-use Rattle.section_group.specs.Gathering.{home_of}
 use Rattle.section_group.specs.Keys.{section_cmp}
 
 abbrev pub same_home : Home → Home → Bool
@@ -25,6 +24,7 @@ pieces_at members section = slice_index_or (map (λ v. v.items) members) section
 pub record Gathers (input : Input) (homes : List Home) (members : List (Vec ℕ Global)) : Type 0 where
   pub same_length : length members ≡ length homes
   pub exact : (section k : ℕ) → section < length homes → Contains (pieces_at members section) k ↔ IsTrue (goes_to input (home_at homes section).name (home_at homes section).attributes k)
+  pub apart : (section other k : ℕ) → section < length homes → other < length homes → Contains (pieces_at members section) k → Contains (pieces_at members other) k → section ≡ other
   pub distinct : (section : ℕ) → section < length homes → IsDistinct (λ j k. j == k) (pieces_at members section)
   pub complete : (k : ℕ) → IsTrue (is_used input k) → (section : ℕ) × (section < length homes) × Contains (pieces_at members section) k
 

@@ -27,10 +27,7 @@ pub(crate) fn resolve<'a>(
 }
 
 /// The left name of the first merge that is refused.
-fn first_bad_merge<'a>(
-    merges: &[(Name<'a>, Name<'a>)],
-    renames: &Renames<'a>,
-) -> Option<Name<'a>>
+fn first_bad_merge<'a>(merges: &[(Name<'a>, Name<'a>)], renames: &Renames<'a>) -> Option<Name<'a>>
     requires { Follows merges.now renames.now.targets.entries renames.now.ends.items }
     ensures none { IfNone result (HasNoBadMerge merges.now) }
     ensures first { IfSome result (NamesFirstBad merges.now) }

@@ -43,10 +43,7 @@ pub fn group<'a>(
     Ok(sections_of(alloc, &parts)?)
 }
 
-fn sections_of<'a>(
-    alloc: Global,
-    parts: &Parts<'_, 'a>,
-) -> Result<Vec<OutSection<'a>>, Memory>
+fn sections_of<'a>(alloc: Global, parts: &Parts<'_, 'a>) -> Result<Vec<OutSection<'a>>, Memory>
     ensures { IfOk result (λ sections. IsGrouping (input_of parts.now) sections.items) }
 {
     let owners = first_owners(alloc, parts)?;

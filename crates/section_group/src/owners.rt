@@ -60,11 +60,7 @@ fn take_owner<'a>(
 }
 
 /// Whether a piece comes before the owner that is noted for its base name.
-fn is_first<'a>(
-    owners: &IndexMap<Name<'a>, usize>,
-    parts: &Parts<'_, 'a>,
-    index: usize,
-) -> bool
+fn is_first<'a>(owners: &IndexMap<Name<'a>, usize>, parts: &Parts<'_, 'a>, index: usize) -> bool
     requires within { index < length parts.now.pieces.now }
     requires so_far { (name : List ℕ) → IsFirstUpTo (input_of parts.now) index name (get same_text owners.now name) }
     ensures { result ≡ option_map_or (λ first. is_lt (place_cmp (input_of parts.now) index first))

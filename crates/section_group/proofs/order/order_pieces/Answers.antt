@@ -1,4 +1,4 @@
-use Rattle.std.proofs.Common.{◌≡◌, ◌∙◌, map, ap, Vec, ℕ, List, sym}
+use Rattle.std.proofs.Common.{◌≡◌, ◌∙◌, map, ap, Vec, ℕ, List}
 use Rattle.std.specs.declared.alloc.Global.{Global}
 use Rattle.std.specs.List.{AllPairs}
 use Rattle.std.specs.List.Sorted.{IsPermutation}

@@ -1,4 +1,4 @@
-use Rattle.std.proofs.Common.{◌≡◌, ℕ, ◌+◌, List, length, ap, subst, sym, arith, ◌∙◌}
+use Rattle.std.proofs.Common.{◌≡◌, ◌+◌, length, subst, sym, arith, ◌∙◌}
 use Rattle.indexmap.specs.IndexMap.{get}
 use Rattle.section_group.specs.Chains.{same_text}
 use Rattle.section_group.specs.Gathering.{input_of, IsFirstUpTo}

@@ -1,4 +1,4 @@
-use Rattle.std.proofs.Common.{◌≡◌, ◌+◌, ◌-◌, ◌≤◌, length}
+use Rattle.std.proofs.Common.{◌+◌, ◌-◌, ◌≤◌, length}
 use Rattle.indexmap.specs.IndexMap.{keys}
 use Rattle.section_group.specs.Chains.{AreTargets, Leads}
 use Rattle.section_group.proofs.renames.follow.Given as goal

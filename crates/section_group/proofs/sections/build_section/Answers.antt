@@ -1,6 +1,5 @@
-use Rattle.std.proofs.Common.{List, [], ℕ, Vec, sym, ap, subst, bit_or, ◌∙◌}
+use Rattle.std.proofs.Common.{List, [], ℕ, sym, ap, subst, bit_or, ◌∙◌}
 use Rattle.std.specs.List.{All}
-use Rattle.std.specs.declared.alloc.Global.{Global}
 use Rattle.std.specs.List.Sorted.{IsPermutation}
 use Rattle.std.proofs.lemmas.Option.{get_or_from_slice_get}
 use Rattle.std.proofs.lemmas.List.Sorted.{All-permutation}

@@ -1,4 +1,4 @@
-use Rattle.std.proofs.Common.{List, ℕ, Option, cond, ap, sym, ◌∙◌}
+use Rattle.std.proofs.Common.{List, ℕ, Option, ap, sym, ◌∙◌}
 use Rattle.std.specs.Map.{lookup}
 use Rattle.section_group.specs.Merging.{target, preset_merges}
 use Rattle.section_group.specs.Chains.{same_text, target_among, or_else}

@@ -1,4 +1,3 @@
-use Rattle.std.proofs.Common.{arith}
 use Rattle.section_group.specs.Chains.{led_by}
 use Rattle.indexmap.specs.IndexMap.{keys}
 use Rattle.section_group.proofs.PartLemmas.{cuts_are}
