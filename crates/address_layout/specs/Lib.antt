@@ -1,0 +1,4 @@
+pub mod Places
+pub mod Layout
+pub mod Rounded
+pub mod PermittedBase

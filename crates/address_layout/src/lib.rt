@@ -1,0 +1,10 @@
+//! The places of output sections and their pieces in the image and in its file.
+#![tactic(auto)]
+
+mod base;
+mod extent;
+mod layout;
+mod round;
+
+pub use base::{BaseRule, check_base, permitted};
+pub use layout::{Layout, LayoutError, Placed};
