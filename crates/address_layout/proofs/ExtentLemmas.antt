@@ -13,7 +13,7 @@ use Rattle.address_layout.specs.declared.extent.Extent.{Extent}
 use Rattle.address_layout.specs.Places.{piece_in, alignment_in}
 use Rattle.address_layout.specs.Layout.{IsAlignment}
 use Rattle.address_layout.specs.Rounded.{rounded, narrowed, end_after, place_of, raw_end_after, bytes_before, ArePlaced}
-use Rattle.address_layout.proofs.RoundLemmas.{rounded_bound}
+use Rattle.address_layout.proofs.RoundLemmas.{rounded_bound, rounded_above}
 
 -- ---- alignments
 
@@ -48,10 +48,16 @@ placed_begin pieces row start rvas = record {
   initialised_end = refl;
   has_bytes = refl;
   bound = omega arith;
+  low = omega arith;
+  high = omega arith;
   room = refl;
   written = λ j lt. absurd (omega arith);
   others = λ k apart. refl;
 }
+
+between : (b : Bool) (low x y z high : ℕ) → z ≡ cond b x y → low ≤ x → x ≤ high → low ≤ y → y ≤ high → (low ≤ z) × (z ≤ high)
+between true low x y z high e a c d f = (omega arith, omega arith)
+between false low x y z high e a c d f = (omega arith, omega arith)
 
 pub placed_more : (pieces : List Piece) (row : List ℕ × List ℕ) (start j : ℕ) (extent more : Extent) (first rvas : List ℕ) (rva at value : ℕ) → All (λ piece. IsAlignment piece.align) pieces → All (λ k. k < length pieces) row.1 → IsDistinct eqb row.1 → length first ≡ length pieces → j < length row.1 → ArePlaced pieces row start j extent first rvas → rva ≡ rounded (alignment_in pieces row j) extent.end → at ≡ get_or row.1 j 0 → value ≡ narrowed rva → more.end ≡ rva + (piece_in pieces row j).size → more.initialised_end ≡ cond (piece_in pieces row j).init (rva + (piece_in pieces row j).size) extent.initialised_end → more.has_bytes ≡ (extent.has_bytes || ltb 0 (piece_in pieces row j).size) → (piece_in pieces row j).size < 4294967296 → ArePlaced pieces row start (j + 1) more first (set rvas at value)
 unfolding end_after raw_end_after bytes_before
@@ -59,12 +65,15 @@ placed_more pieces row start j extent more first rvas rva at value aligned withi
     let a = alignment_in pieces row j in
     let alignment = is_alignment pieces row j aligned within lt in
     let here : rva ≡ place_of pieces row start j = is_rva ∙ ap (rounded a) are.end in
+    let up : extent.end ≤ rva = subst (λ (n : ℕ). extent.end ≤ n) (sym is_rva) (rounded_above a extent.end alignment.positive) in
     let in' : at < length rvas = subst (λ (k : ℕ). k < length rvas) (sym is_at) (let w = within j 0 lt in omega (arith, are.room)) in
     record {
       end = rw add-one (is_end ∙ ap (λ (n : ℕ). n + (piece_in pieces row j).size) here);
       initialised_end = rw add-one (is_raw ∙ ap (λ (n : ℕ). cond (piece_in pieces row j).init (n + (piece_in pieces row j).size) extent.initialised_end) here ∙ ap (λ (n : ℕ). cond (piece_in pieces row j).init (place_of pieces row start j + (piece_in pieces row j).size) n) are.initialised_end);
       has_bytes = rw add-one (is_bytes ∙ ap (λ (b : Bool). b || ltb 0 (piece_in pieces row j).size) are.has_bytes);
       bound = omega (arith, is_end, is_rva, rounded_bound a extent.end alignment.positive, align_small a alignment, are.bound, fits);
+      low = (between (piece_in pieces row j).init start (rva + (piece_in pieces row j).size) extent.initialised_end more.initialised_end more.end is_raw (omega (arith, up, are.low, are.high)) (omega (arith, is_end)) are.low (omega (arith, up, is_end, are.high))).0;
+      high = (between (piece_in pieces row j).init start (rva + (piece_in pieces row j).size) extent.initialised_end more.initialised_end more.end is_raw (omega (arith, up, are.low, are.high)) (omega (arith, is_end)) are.low (omega (arith, up, is_end, are.high))).1;
       room = length-set rvas at value ∙ are.room;
       written = λ i below. elim (cases_lt i j) [
         | inl inner ↦
@@ -92,3 +101,7 @@ pub align_is : (pieces : List Piece) (row : List ℕ × List ℕ) (j : ℕ) (pie
 align_is pieces row j piece pdata name alignment is_pdata is_name is is_alignment =
     is_alignment ∙ ap (λ (b : Bool). cond b 4 piece.align) (is_pdata ∙ ap (same_name row.0) is_name)
     ∙ ap (λ (p : Piece). cond (same_name row.0 (codes ".pdata")) 4 p.align) is
+
+pub size_bound : (b : Bool) (start end most : ℕ) → end ≤ start + most → start + cond b (end - start) 1 ≤ start + most + 1
+size_bound true start end most le = omega arith
+size_bound false start end most le = omega arith

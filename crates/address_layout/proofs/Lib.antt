@@ -1,2 +1,4 @@
 pub mod RoundLemmas
 pub mod ExtentLemmas
+pub mod StandingLemmas
+pub mod SectionsLemmas

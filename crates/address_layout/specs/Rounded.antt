@@ -1,10 +1,12 @@
 -- The places as they are computed: each number rounded up.
-use Rattle.std.specs.Prelude.{◌≡◌, ◌≢◌, ◌≤◌, slice_index, ℕ, zero, suc, ◌+◌, ◌-◌, ◌*◌, ◌/◌, ◌<◌, Bool, false, ◌||◌, ◌==◌, nat_lt, min, List, length, slice_index_or, if◌then◌else◌}
+use Rattle.std.specs.Prelude.{◌≡◌, ◌≢◌, ◌≤◌, slice_index, ℕ, zero, suc, ◌+◌, ◌-◌, ◌*◌, ◌/◌, ◌<◌, Bool, false, ◌||◌, ◌==◌, nat_lt, min, List, map, take, length, slice_index_or, if◌then◌else◌}
+use Rattle.std.specs.List.{Contains, range_with_len}
 use Rattle.section_group.specs.declared.piece.Piece.{Piece}
 use Rattle.section_group.specs.declared.piece.OutSection.{OutSection}
 use Rattle.address_layout.specs.declared.layout.Placed.{Placed}
 use Rattle.address_layout.specs.declared.extent.Extent.{Extent}
 use Rattle.address_layout.specs.Places.{piece_in, alignment_in, row_at}
+use Rattle.address_layout.specs.Layout.{all_pieces}
 
 unfoldable pub rounded : ℕ → ℕ → ℕ
 rounded step low = (low + (step - 1)) / step * step
@@ -78,6 +80,24 @@ pub record ArePlaced (pieces : List Piece) (row : List ℕ × List ℕ) (start c
   pub initialised_end : extent.initialised_end ≡ raw_end_after pieces row start count
   pub has_bytes : extent.has_bytes ≡ bytes_before pieces row count
   pub bound : extent.end ≤ start + count * 4294975488
+  pub low : start ≤ extent.initialised_end
+  pub high : extent.initialised_end ≤ extent.end
   pub room : length rvas ≡ length first
   pub written : (j : ℕ) → j < count → slice_index rvas (slice_index row.1 j) ≡ narrowed (place_of pieces row start j)
   pub others : (k : ℕ) → ((j : ℕ) → j < count → slice_index row.1 j ≢ k) → slice_index rvas k ≡ slice_index first k
+
+-- the first sections are placed, with no more than so many pieces
+pub record AreSections (pieces : List Piece) (sections : List OutSection) (headers count end file : ℕ) (placed : List Placed) (rvas : List ℕ) : Type 0 where
+  pub is_end : end ≡ floor_of pieces sections headers count
+  pub is_file : file ≡ file_of pieces sections headers count
+  pub end_bound : end ≤ 8192 + count * 4096 + length (all_pieces (take count sections)) * 4294975488
+  pub file_bound : file ≤ 8192 + count * 4096 + length (all_pieces (take count sections)) * 4294975488
+  pub is_placed : placed ≡ map (λ i. narrowed_placed (placed_of pieces sections headers i)) (range_with_len 0 count)
+  pub room : length rvas ≡ length pieces
+  pub written : (i j : ℕ) → i < count → j < length (row_at sections i).1 → slice_index rvas (slice_index (row_at sections i).1 j) ≡ narrowed (place_of pieces (row_at sections i) (start_of pieces sections headers i) j)
+  pub unplaced : (k : ℕ) → ¬ Contains (all_pieces (take count sections)) k → slice_index rvas k ≡ 0
+
+-- all sections are placed
+abbrev pub ArePlacedAll : List Piece → List OutSection → ℕ → ℕ → List Placed → List ℕ → Type 0
+ArePlacedAll pieces sections headers end placed rvas =
+    (file : ℕ) × AreSections pieces sections headers (length sections) end file placed rvas

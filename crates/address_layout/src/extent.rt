@@ -1,6 +1,6 @@
 //! The places of the pieces of one section.
 
-ghost use Rattle.std.specs.Prelude.{◌≡◌, ◌+◌, ◌*◌, ◌^◌, ◌<◌, ◌||◌, ◌==◌, ℕ, nat_lt, length, slice_index, if◌then◌else◌};
+ghost use Rattle.std.specs.Prelude.{◌≡◌, ◌+◌, ◌*◌, ◌^◌, ◌<◌, ◌≤◌, ◌||◌, ◌==◌, ℕ, nat_lt, length, slice_index, if◌then◌else◌};
 ghost use Rattle.std.specs.List.{All, Contains, IsDistinct};
 ghost use Rattle.address_layout.specs.Places.{section_row, alignment_in};
 ghost use Rattle.address_layout.specs.Layout.{IsAlignment};
@@ -37,6 +37,11 @@ pub(crate) fn place_pieces(
     ensures end { result.end ≡ end_after pieces.now (section_row section.now) start (length section.now.pieces.items) }
     ensures initialised_end { result.initialised_end ≡ raw_end_after pieces.now (section_row section.now) start (length section.now.pieces.items) }
     ensures has_bytes { result.has_bytes ≡ bytes_before pieces.now (section_row section.now) (length section.now.pieces.items) }
+
+    ensures bound { result.end ≤ start + length section.now.pieces.items * 4294975488 }
+    ensures low { start ≤ result.initialised_end }
+    ensures high { result.initialised_end ≤ result.end }
+    ensures room { length rvas.new ≡ length pieces.now }
 
     ensures written { (j : ℕ) → j < length section.now.pieces.items
         → slice_index rvas.new (slice_index section.now.pieces.items j) ≡ narrowed (place_of pieces.now (section_row section.now) start j) }

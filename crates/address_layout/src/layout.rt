@@ -1,7 +1,7 @@
 //! Where the sections and the pieces of an image stand, and why they have no place.
 
 use link_base::Memory;
-use std::alloc::AllocError;
+use std::alloc::{AllocError, AllocFailed};
 
 /// How many sections an image has at most (PE Format, "COFF File Header (Object and Image)").
 pub(crate) const MAX_SECTIONS: usize = 96;
@@ -78,6 +78,17 @@ impl From<Memory> for LayoutError {
     ghost from_gives = { λ _ e. e ≡ Memory };
 
     fn from(_error: Memory) -> LayoutError {
+        LayoutError::Memory
+    }
+}
+
+impl<T: Drop> From<AllocFailed<T>> for LayoutError {
+    ghost use Rattle.std.specs.Prelude.{◌≡◌};
+    ghost use Rattle.address_layout.specs.declared.layout.LayoutError.TheVariants.{Memory};
+
+    ghost from_gives = { λ _ e. e ≡ Memory };
+
+    fn from(_error: AllocFailed<T>) -> LayoutError {
         LayoutError::Memory
     }
 }

@@ -4,7 +4,9 @@
 mod base;
 mod extent;
 mod layout;
+mod places;
 mod round;
 
 pub use base::{BaseRule, check_base, permitted};
+pub use places::place;
 pub use layout::{Layout, LayoutError, Placed};

@@ -85,6 +85,10 @@ returns c =
       end = are.end ∙ ap (end_after pieces row c.args.start) all;
       initialised_end = are.initialised_end ∙ ap (raw_end_after pieces row c.args.start) all;
       has_bytes = are.has_bytes ∙ ap (bytes_before pieces row) all;
+      bound = omega (arith, are.bound, all);
+      low = are.low;
+      high = are.high;
+      room = are.room ∙ c.requires.room;
       written = λ j lt. are.written j (omega arith);
       others = λ k apart. are.others k (λ j lt e. apart (subst (Contains members) e (Contains-get_or members j 0 (omega arith))));
     }
