@@ -2,3 +2,5 @@ pub mod RoundLemmas
 pub mod ExtentLemmas
 pub mod StandingLemmas
 pub mod SectionsLemmas
+pub mod ArrangementLemmas
+pub mod LayoutLemmas
