@@ -4,3 +4,4 @@ pub mod StandingLemmas
 pub mod SectionsLemmas
 pub mod ArrangementLemmas
 pub mod LayoutLemmas
+pub mod RelocLemmas

@@ -5,8 +5,10 @@ mod base;
 mod extent;
 mod layout;
 mod places;
+mod reloc;
 mod round;
 
 pub use base::{BaseRule, check_base, permitted};
+pub use reloc::append_reloc;
 pub use places::place;
 pub use layout::{Layout, LayoutError, Placed};
