@@ -1,13 +1,13 @@
 -- The places that are computed are the least ones.
-use Rattle.std.proofs.Common.{◌≡◌, ◌≢◌, ◌⊎◌, ℕ, zero, suc, ◌+◌, ◌-◌, ◌*◌, ◌/◌, ◌%◌, ◌<◌, ◌≤◌, Bool, true, false, ◌||◌, cond, eqb, ltb, List, [], ◌∷◌, length, get_or, map, min, IsTrue, refl, sym, ap, ◌∙◌, subst, inl, inr, arith, add-one, codes}
+use Rattle.std.proofs.Common.{◌≡◌, ◌⊎◌, ℕ, zero, suc, ◌+◌, ◌-◌, ◌*◌, ◌/◌, ◌%◌, ◌<◌, ◌≤◌, Bool, true, false, ◌||◌, cond, eqb, ltb, List, length, IsTrue, refl, sym, ap, ◌∙◌, subst, inl, inr, arith}
 use Rattle.std.specs.List.{All}
-use Rattle.std.proofs.lemmas.Bool.{cases_lt, false≢true, true≢false, ltb-false, lt-ltb}
+use Rattle.std.proofs.lemmas.Bool.{cases_lt, true≢false, ltb-false, lt-ltb}
 use Rattle.std.proofs.lemmas.Option.{slice_get_cases}
 use Rattle.std.proofs.Math.Nat.{mul-mod_right, mul_assoc}
 use Rattle.section_group.specs.declared.piece.Piece.{Piece}
 use Rattle.section_group.specs.declared.piece.OutSection.{OutSection}
 use Rattle.address_layout.specs.declared.layout.Placed.{Placed}
-use Rattle.address_layout.specs.Places.{IsLeastMultiple, section_row, row_at, piece_in, alignment_in, piece_end, piece_floor, IsInitialisedEnd, HasBytes, HasNoBytes, IsPlacedSection, end_before, file_before, section_count, IsArrangement}
+use Rattle.address_layout.specs.Places.{IsLeastMultiple, row_at, piece_in, alignment_in, piece_end, piece_floor, IsInitialisedEnd, IsPlacedSection, end_before, file_before, section_count, IsArrangement}
 use Rattle.address_layout.specs.Layout.{IsAlignment, StandOnce}
 use Rattle.address_layout.specs.Rounded.{rounded, narrowed, end_after, place_of, raw_end_after, bytes_before, size_from, raw_from, floor_of, start_of, file_of, placed_from, narrowed_placed, placed_of}
 use Rattle.address_layout.proofs.RoundLemmas.{rounded_above, rounded_bound, rounded_least, rounded_is}
@@ -86,8 +86,8 @@ InitialisedUpTo : List Piece → List ℕ × List ℕ → ℕ → ℕ → ℕ �
 InitialisedUpTo pieces row start count end =
     (((j : ℕ) → j < count → (piece_in pieces row j).init ≡ false) × (end ≡ start))
     ⊎ ((last : ℕ) × (last < count) × IsTrue (piece_in pieces row last).init
-        × ((j : ℕ) → last < j → j < count → (piece_in pieces row j).init ≡ false)
-        × (end ≡ piece_end pieces row (place_of pieces row start) last))
+    × ((j : ℕ) → last < j → j < count → (piece_in pieces row j).init ≡ false)
+    × (end ≡ piece_end pieces row (place_of pieces row start) last))
 
 initialised_up_to : (pieces : List Piece) (row : List ℕ × List ℕ) (start count : ℕ) → InitialisedUpTo pieces row start count (raw_end_after pieces row start count)
 unfolding InitialisedUpTo raw_end_after end_after
@@ -97,15 +97,24 @@ initialised_up_to pieces row start (suc count) = go (piece_in pieces row count).
     go : (b : Bool) → (piece_in pieces row count).init ≡ b → InitialisedUpTo pieces row start count (raw_end_after pieces row start count) → InitialisedUpTo pieces row start (suc count) (cond b (end_after pieces row start (suc count)) (raw_end_after pieces row start count))
     go true e before = inr (count, omega arith, e, λ j above below. absurd (omega arith), refl)
     go false e (inl none) =
-        inl (λ j lt. elim (cases_lt j count) [
-          | inl below ↦ none.0 j below
-          | inr last ↦ let same : j ≡ count = omega arith in ap (λ (n : ℕ). (piece_in pieces row n).init) same ∙ e
-        ], none.1)
+        inl (
+          λ j lt. elim (cases_lt j count) [
+            | inl below ↦ none.0 j below
+            | inr last ↦ let same : j ≡ count = omega arith in ap (λ (n : ℕ). (piece_in pieces row n).init) same ∙ e
+          ],
+          none.1,
+        )
     go false e (inr last) =
-        inr (last.0, omega (arith, last.1), last.2, λ j above lt. elim (cases_lt j count) [
-          | inl below ↦ last.3 j above below
-          | inr here ↦ let same : j ≡ count = omega arith in ap (λ (n : ℕ). (piece_in pieces row n).init) same ∙ e
-        ], last.4)
+        inr (
+          last.0,
+          omega (arith, last.1),
+          last.2,
+          λ j above lt. elim (cases_lt j count) [
+            | inl below ↦ last.3 j above below
+            | inr here ↦ let same : j ≡ count = omega arith in ap (λ (n : ℕ). (piece_in pieces row n).init) same ∙ e
+          ],
+          last.4,
+        )
 
 initialised_end_is : (pieces : List Piece) (row : List ℕ × List ℕ) (start : ℕ) → IsInitialisedEnd pieces row start (place_of pieces row start) (raw_end_after pieces row start (length row.1))
 unfolding InitialisedUpTo
@@ -121,9 +130,9 @@ placed_section pieces row before file aligned =
       start = rounded_is 4096 before (omega arith);
       each = λ j lt. subst (λ (low : ℕ). IsLeastMultiple (alignment_in pieces row j) low (place_of pieces row start j)) (sym (floor_is pieces row start j)) (rounded_is (alignment_in pieces row j) (end_after pieces row start j) (aligned.each j lt).positive);
       size_of_bytes = λ some.
-        let there = bytes_there pieces row n some.0 some.1 some.2 in
-        let above = end_above pieces row start n aligned (omega arith) in
-        ap (λ (b : Bool). start + cond b (end_after pieces row start n - start) 1) there ∙ full start (end_after pieces row start n) above ∙ sym (floor_is pieces row start n);
+          let there = bytes_there pieces row n some.0 some.1 some.2 in
+          let above = end_above pieces row start n aligned (omega arith) in
+          ap (λ (b : Bool). start + cond b (end_after pieces row start n - start) 1) there ∙ full start (end_after pieces row start n) above ∙ sym (floor_is pieces row start n);
       size_of_none = λ none. ap (λ (b : Bool). cond b (end_after pieces row start n - start) 1) (bytes_none pieces row n none);
       initialised_end = raw_end_after pieces row start n;
       is_initialised_end = initialised_end_is pieces row start;
@@ -167,16 +176,17 @@ pub whole_arrangement : (pieces : List Piece) (sections : List OutSection) (relo
 whole_arrangement pieces sections reloc headers placed aligned standing is_headers agree = record {
   of_headers = subst (IsLeastMultiple 512 (328 + 40 * section_count sections reloc)) (sym is_headers) (rounded_is 512 (328 + 40 * section_count sections reloc) (omega arith));
   each = λ i lt.
-    let base = placed_section pieces (row_at sections i) (floor_of pieces sections headers i) (file_of pieces sections headers i) (aligned_rows pieces sections i aligned standing lt) in
-    subst (λ (n : ℕ). IsPlacedSection pieces (row_at sections i) n (file_before headers placed i) (placed i) (λ j. place_of pieces (row_at sections i) (start_of pieces sections headers i) j)) (sym (end_is i (omega arith)))
-    (subst (λ (n : ℕ). IsPlacedSection pieces (row_at sections i) (floor_of pieces sections headers i) n (placed i) (λ j. place_of pieces (row_at sections i) (start_of pieces sections headers i) j)) (sym (file_is i (omega arith)))
-    (subst (λ (p : Placed). IsPlacedSection pieces (row_at sections i) (floor_of pieces sections headers i) (file_of pieces sections headers i) p (λ j. place_of pieces (row_at sections i) (start_of pieces sections headers i) j)) (sym (agree i lt)) base));
+      let base = placed_section pieces (row_at sections i) (floor_of pieces sections headers i) (file_of pieces sections headers i) (aligned_rows pieces sections i aligned standing lt) in
+      subst (λ (n : ℕ). IsPlacedSection pieces (row_at sections i) n (file_before headers placed i) (placed i) (λ j. place_of pieces (row_at sections i) (start_of pieces sections headers i) j)) (sym (end_is i (omega arith)))
+      (subst (λ (n : ℕ). IsPlacedSection pieces (row_at sections i) (floor_of pieces sections headers i) n (placed i) (λ j. place_of pieces (row_at sections i) (start_of pieces sections headers i) j)) (sym (file_is i (omega arith)))
+      (subst (λ (p : Placed). IsPlacedSection pieces (row_at sections i) (floor_of pieces sections headers i) (file_of pieces sections headers i) p (λ j. place_of pieces (row_at sections i) (start_of pieces sections headers i) j)) (sym (agree i lt)) base));
   of_image = subst (λ (n : ℕ). IsLeastMultiple 4096 n (rounded 4096 (floor_of pieces sections headers (length sections)))) (sym (end_is (length sections) (omega arith))) (rounded_is 4096 (floor_of pieces sections headers (length sections)) (omega arith));
 }
   where
     end_is : (i : ℕ) → i ≤ length sections → end_before headers placed i ≡ floor_of pieces sections headers i
     end_is zero le = sym (floor_zero pieces sections headers)
     end_is (suc i) le = ap (λ (p : Placed). p.rva + p.size) (agree i (omega arith)) ∙ sym (floor_step pieces sections headers i)
+
     file_is : (i : ℕ) → i ≤ length sections → file_before headers placed i ≡ file_of pieces sections headers i
     file_is zero le = sym (file_zero pieces sections headers)
     file_is (suc i) le = ap (λ (n : ℕ). n + (placed i).raw) (file_is i (omega arith)) ∙ ap (λ (p : Placed). file_of pieces sections headers i + p.raw) (agree i (omega arith)) ∙ sym (file_step pieces sections headers i)
@@ -267,26 +277,37 @@ pub record Fits (pieces : List Piece) (sections : List OutSection) (headers : �
 pub fits : (pieces : List Piece) (sections : List OutSection) (headers : ℕ) → All (λ piece. IsAlignment piece.align) pieces → StandOnce pieces sections → length sections ≤ 96 → rounded 4096 (floor_of pieces sections headers (length sections)) ≤ 536870912 → Fits pieces sections headers
 fits pieces sections headers aligned standing few small = record {
   placed = λ i lt.
-    let start = start_of pieces sections headers i in
-    let row = row_at sections i in
-    let top = top_of i lt in
-    let raw = raw_small pieces row start (rows i lt) in
-    let file = file_small pieces sections headers i rows (omega arith) in
-    same_placed (narrowed_placed (placed_of pieces sections headers i)) (placed_of pieces sections headers i)
-    (narrow_same start (omega (arith, top)))
-    (narrow_same (size_from pieces row start) (omega (arith, top)))
-    (narrow_same (raw_from pieces row start) (omega (arith, top, raw)))
-    (file_narrow (eqb (raw_from pieces row start) 0) (file_of pieces sections headers i) (omega (arith, top, file, start_above pieces sections headers i, few, lt)));
+      let start = start_of pieces sections headers i in
+      let row = row_at sections i in
+      let top = top_of i lt in
+      let raw = raw_small pieces row start (rows i lt) in
+      let file = file_small pieces sections headers i rows (omega arith) in
+      same_placed (narrowed_placed (placed_of pieces sections headers i)) (placed_of pieces sections headers i)
+      (narrow_same start (omega (arith, top)))
+      (narrow_same (size_from pieces row start) (omega (arith, top)))
+      (narrow_same (raw_from pieces row start) (omega (arith, top, raw)))
+      (file_narrow (eqb (raw_from pieces row start) 0) (file_of pieces sections headers i) (omega (arith, top, file, start_above pieces sections headers i, few, lt)));
   place = λ i j lt below.
-    let start = start_of pieces sections headers i in
-    let row = row_at sections i in
-    let top = top_of i lt in
-    let end = end_grows pieces row start (suc j) (length row.1) (rows i lt) (omega arith) (omega arith) in
-    narrow_same (place_of pieces row start j) (omega (arith, top, end, end_step pieces row start j, reach pieces row start (rows i lt)));
+      let start = start_of pieces sections headers i in
+      let row = row_at sections i in
+      let top = top_of i lt in
+      let end = end_grows pieces row start (suc j) (length row.1) (rows i lt) (omega arith) (omega arith) in
+      narrow_same (place_of pieces row start j) (omega (arith, top, end, end_step pieces row start j, reach pieces row start (rows i lt)));
 }
   where
     rows : (i : ℕ) → i < length sections → Aligned pieces (row_at sections i)
     rows i lt = aligned_rows pieces sections i aligned standing lt
+
     top_of : (i : ℕ) → i < length sections → start_of pieces sections headers i + size_from pieces (row_at sections i) (start_of pieces sections headers i) ≤ 536870912
     top_of i lt =
         omega (arith, floor_step pieces sections headers i, floor_grows pieces sections headers (suc i) (length sections) (omega arith), rounded_above 4096 (floor_of pieces sections headers (length sections)) (omega arith), small)
+
+-- the raw data of a layout lie in a file of less than 4 GiB
+pub file_fits : (pieces : List Piece) (sections : List OutSection) (headers : ℕ) (placed : ℕ → Placed) → All (λ piece. IsAlignment piece.align) pieces → StandOnce pieces sections → length sections ≤ 96 → rounded 4096 (floor_of pieces sections headers (length sections)) ≤ 536870912 → ((i : ℕ) → i < length sections → placed i ≡ placed_of pieces sections headers i) → file_before headers placed (length sections) < 4294967296
+file_fits pieces sections headers placed aligned standing few small agree =
+    let rows = λ (i : ℕ) (lt : i < length sections). aligned_rows pieces sections i aligned standing lt in
+    omega (arith, few, small, file_is (length sections) (omega arith), file_small pieces sections headers (length sections) rows (omega arith), rounded_above 4096 (floor_of pieces sections headers (length sections)) (omega arith))
+  where
+    file_is : (i : ℕ) → i ≤ length sections → file_before headers placed i ≡ file_of pieces sections headers i
+    file_is zero le = sym (file_zero pieces sections headers)
+    file_is (suc i) le = ap (λ (n : ℕ). n + (placed i).raw) (file_is i (omega arith)) ∙ ap (λ (p : Placed). file_of pieces sections headers i + p.raw) (agree i (omega arith)) ∙ sym (file_step pieces sections headers i)

@@ -1,7 +1,7 @@
 -- The pieces of a section, placed one after the other.
-use Rattle.std.proofs.Common.{◌≡◌, ◌≢◌, ◌⊎◌, ℕ, zero, suc, ◌+◌, ◌-◌, ◌*◌, ◌%◌, ◌<◌, ◌≤◌, ◌||◌, ltb, Bool, true, false, cond, eqb, List, length, get_or, set, refl, sym, ap, ◌∙◌, subst, inl, inr, arith, add-one, eq-eqb, codes}
+use Rattle.std.proofs.Common.{◌≡◌, ◌≢◌, ℕ, ◌+◌, ◌-◌, ◌%◌, ◌<◌, ◌≤◌, ◌||◌, ltb, Bool, true, false, cond, eqb, List, length, get_or, set, refl, sym, ap, ◌∙◌, subst, inl, inr, arith, add-one, eq-eqb, codes}
 use Rattle.std.specs.List.{All, IsDistinct}
-use Rattle.std.proofs.lemmas.Bool.{cases_lt, false≢true, eqb-true, eqb-false}
+use Rattle.std.proofs.lemmas.Bool.{cases_lt, false≢true}
 use Rattle.std.proofs.lemmas.List.{get_or-set_other, get_or-set_same, get_or_default}
 use Rattle.std.proofs.lemmas.Map.Keys.{apart_from_distinct}
 use Rattle.std.proofs.Math.ListN.{length-set}
@@ -35,6 +35,7 @@ is_alignment pieces row j aligned within lt = go (same_name row.0 (codes ".pdata
   where
     own : IsAlignment (piece_in pieces row j).align
     own = aligned (get_or row.1 j 0) no_piece (within j 0 lt)
+
     go : (b : Bool) → IsAlignment (cond b 4 (piece_in pieces row j).align)
     go true = four
     go false = own
@@ -86,8 +87,8 @@ placed_more pieces row start j extent more first rvas rva at value aligned withi
             ∙ get_or-set_same rvas at value 0 in' ∙ is_value ∙ ap narrowed here ∙ ap (λ (n : ℕ). narrowed (place_of pieces row start n)) (sym same)
       ];
       others = λ k apart.
-        let other : k ≢ at = λ e. apart j (omega arith) (sym is_at ∙ sym e) in
-        get_or-set_other rvas at k value 0 other ∙ are.others k (λ i below. apart i (omega arith));
+          let other : k ≢ at = λ e. apart j (omega arith) (sym is_at ∙ sym e) in
+          get_or-set_other rvas at k value 0 other ∙ are.others k (λ i below. apart i (omega arith));
     }
 
 -- ---- what is read in the loop

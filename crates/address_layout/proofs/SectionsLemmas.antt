@@ -1,8 +1,7 @@
 -- The sections, placed one after the other.
-use Rattle.std.proofs.Common.{◌≡◌, ◌≢◌, ℕ, zero, suc, ◌+◌, ◌-◌, ◌*◌, ◌<◌, ◌≤◌, Bool, true, false, cond, List, [], ◌∷◌, ◌++◌, length, get_or, take, map, refl, sym, ap, ◌∙◌, subst, inl, inr, arith, add-one, length-append}
-use Rattle.std.specs.List.{All, Contains, range_with_len}
+use Rattle.std.proofs.Common.{◌≡◌, ℕ, zero, suc, ◌+◌, ◌*◌, ◌<◌, ◌≤◌, List, [], ◌∷◌, ◌++◌, length, get_or, take, map, refl, sym, ap, ◌∙◌, subst, inl, inr, arith, add-one, length-append}
+use Rattle.std.specs.List.{Contains, range_with_len}
 use Rattle.std.proofs.lemmas.Bool.{cases_lt}
-use Rattle.std.proofs.lemmas.List.{take_all}
 use Rattle.std.proofs.lemmas.List.Elements.{Contains-get_or, Contains-append_left, Contains-append_right}
 use Rattle.std.proofs.lemmas.List.FromFn.{map-range_with_len_more}
 use Rattle.section_group.specs.declared.piece.Piece.{Piece}
@@ -11,7 +10,7 @@ use Rattle.address_layout.specs.declared.layout.Placed.{Placed}
 use Rattle.address_layout.specs.Places.{section_row, row_at}
 use Rattle.address_layout.specs.Layout.{all_pieces, StandOnce}
 use Rattle.address_layout.specs.Rounded.{rounded, narrowed, place_of, size_from, raw_from, floor_of, start_of, file_of, placed_from, narrowed_placed, placed_of, AreSections}
-use Rattle.address_layout.proofs.StandingLemmas.{pieces_more, row_here, stands, Stands}
+use Rattle.address_layout.proofs.StandingLemmas.{pieces_more, row_here, stands}
 
 pub sections_begin : (pieces : List Piece) (sections : List OutSection) (headers : ℕ) (rvas : List ℕ) → headers ≤ 4680 → length rvas ≡ length pieces → ((k : ℕ) → get_or rvas k 0 ≡ 0) → AreSections pieces sections headers 0 headers headers [] rvas
 unfolding floor_of file_of
@@ -50,10 +49,10 @@ sections_more pieces sections headers i end file placed rvas section spot more r
       end_bound = omega (arith, are.end_bound, more_bound, longer);
       file_bound = omega (arith, are.file_bound, raw_bound, longer);
       is_placed =
-        ap (λ (ps : List Placed). ps ++ spot ∷ []) are.is_placed
-        ∙ ap (λ (p : Placed). map (λ n. narrowed_placed (placed_of pieces sections headers n)) (range_with_len 0 i) ++ p ∷ [])
+          ap (λ (ps : List Placed). ps ++ spot ∷ []) are.is_placed
+          ∙ ap (λ (p : Placed). map (λ n. narrowed_placed (placed_of pieces sections headers n)) (range_with_len 0 i) ++ p ∷ [])
           (is_spot ∙ ap (λ (r : List ℕ × List ℕ). narrowed_placed (placed_from pieces r (rounded 4096 end) file)) (sym row) ∙ ap (λ (n : ℕ). narrowed_placed (placed_from pieces (row_at sections i) n file)) start ∙ ap (λ (n : ℕ). narrowed_placed (placed_from pieces (row_at sections i) (start_of pieces sections headers i) n)) are.is_file)
-        ∙ sym (map-range_with_len_more (λ n. narrowed_placed (placed_of pieces sections headers n)) 0 i i (omega arith));
+          ∙ sym (map-range_with_len_more (λ n. narrowed_placed (placed_of pieces sections headers n)) 0 i i (omega arith));
       room = room;
       written = λ n j below within. elim (cases_lt n i) [
         | inl inner ↦
@@ -69,7 +68,7 @@ sections_more pieces sections headers i end file placed rvas section spot more r
             ∙ ap (λ (s : ℕ). narrowed (place_of pieces (row_at sections n) s j)) (start ∙ ap (start_of pieces sections headers) (sym same))
       ];
       unplaced = λ k apart.
-        let not_here : ¬ Contains section.pieces.items k = λ there. apart (subst (λ (xs : List ℕ). Contains xs k) (sym grown) (Contains-append_right (all_pieces (take i sections)) section.pieces.items k there)) in
-        let not_before : ¬ Contains (all_pieces (take i sections)) k = λ there. apart (subst (λ (xs : List ℕ). Contains xs k) (sym grown) (Contains-append_left (all_pieces (take i sections)) section.pieces.items k there)) in
-        others k not_here ∙ are.unplaced k not_before;
+          let not_here : ¬ Contains section.pieces.items k = λ there. apart (subst (λ (xs : List ℕ). Contains xs k) (sym grown) (Contains-append_right (all_pieces (take i sections)) section.pieces.items k there)) in
+          let not_before : ¬ Contains (all_pieces (take i sections)) k = λ there. apart (subst (λ (xs : List ℕ). Contains xs k) (sym grown) (Contains-append_left (all_pieces (take i sections)) section.pieces.items k there)) in
+          others k not_here ∙ are.unplaced k not_before;
     }

@@ -1,6 +1,6 @@
 -- Each piece stands in one section.
-use Rattle.std.proofs.Common.{◌≡◌, ◌≢◌, ℕ, zero, suc, ◌+◌, ◌<◌, ◌≤◌, Bool, true, false, eqb, eq-eqb, List, [], ◌∷◌, ◌++◌, length, get_or, take, drop, map, refl, sym, ap, ◌∙◌, subst, arith, length-append, add-one}
-use Rattle.std.specs.List.{All, Contains, IsDistinct, list_any}
+use Rattle.std.proofs.Common.{◌≡◌, ℕ, zero, suc, ◌+◌, ◌<◌, ◌≤◌, eqb, eq-eqb, List, [], ◌∷◌, ◌++◌, length, get_or, take, drop, map, refl, sym, ap, ◌∙◌, subst, arith, length-append, add-one}
+use Rattle.std.specs.List.{All, Contains, IsDistinct}
 use Rattle.std.proofs.lemmas.Bool.{false≢true}
 use Rattle.std.proofs.lemmas.List.{take-append-drop, take_more, get_or_default, length-map}
 use Rattle.std.proofs.lemmas.List.Elements.{All-contains, Contains-get_or, Contains-append_left, Contains-append_right}
@@ -102,8 +102,8 @@ stands pieces sections i section standing lt is =
     let within = subst (All (λ k. k < length pieces)) whole standing.within in
     record {
       within = λ k d below.
-        let there = Contains-append_right before (here ++ behind) (get_or here k d) (Contains-append_left here behind (get_or here k d) (Contains-get_or here k d below)) in
-        All-contains (λ n. n < length pieces) (before ++ (here ++ behind)) (get_or here k d) within there;
+          let there = Contains-append_right before (here ++ behind) (get_or here k d) (Contains-append_left here behind (get_or here k d) (Contains-get_or here k d below)) in
+          All-contains (λ n. n < length pieces) (before ++ (here ++ behind)) (get_or here k d) within there;
       once = distinct_front here behind (distinct_back before (here ++ behind) distinct);
       apart = λ k early now. apart_parts before (here ++ behind) k distinct early (Contains-append_left here behind k now);
     }

@@ -1,5 +1,5 @@
 -- What a layout says of the sections and the pieces that it was made for.
-use Rattle.std.specs.Prelude.{◌≡◌, ◌↔◌, ℕ, ◌+◌, ◌%◌, ◌<◌, ◌≤◌, Bool, ◌==◌, List, [], length, slice_index, slice_index_or}
+use Rattle.std.specs.Prelude.{◌≡◌, ℕ, ◌%◌, ◌<◌, ◌≤◌, Bool, ◌==◌, List, length, slice_index, slice_index_or}
 use Rattle.std.specs.List.{All, Contains, IsDistinct, flat_map}
 use Rattle.section_group.specs.declared.piece.Piece.{Piece}
 use Rattle.section_group.specs.declared.piece.OutSection.{OutSection}

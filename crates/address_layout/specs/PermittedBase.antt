@@ -1,6 +1,6 @@
 -- The bases at which an image may stand. A multiple of 64 KiB is the PE Format's ("Optional Header Windows-Specific
 -- Fields", ImageBase); the limits are those of user addresses and of addresses that fit a signed number of 32 bits.
-use Rattle.std.specs.Prelude.{◌≡◌, ℕ, ◌+◌, ◌%◌, ◌^◌, Bool, true, false, ◌&&◌, ◌||◌, not, ◌==◌, nat_le, if◌then◌else◌}
+use Rattle.std.specs.Prelude.{◌≡◌, ℕ, ◌+◌, ◌%◌, ◌^◌, Bool, false, ◌&&◌, ◌||◌, not, ◌==◌, nat_le, if◌then◌else◌}
 use Rattle.address_layout.specs.declared.base.BaseRule.{BaseRule}
 use Rattle.address_layout.specs.declared.layout.LayoutError.{LayoutError}
 use Rattle.address_layout.specs.declared.layout.LayoutError.TheVariants.{TooManySections, ImageTooLarge, BaseRange, Memory}

@@ -1,6 +1,6 @@
 -- The least places (PE Format, "Optional Header Windows-Specific Fields", SectionAlignment and FileAlignment; the rules for
 -- pieces are own).
-use Rattle.std.specs.Prelude.{◌≡◌, ℕ, zero, suc, ◌+◌, ◌-◌, ◌*◌, ◌%◌, ◌<◌, ◌≤◌, ◌⊎◌, Bool, true, false, ◌||◌, ◌==◌, nat_lt, IsTrue, List, [], map, length, slice_index, slice_index_or, Option, None, codes, if◌then◌else◌}
+use Rattle.std.specs.Prelude.{◌≡◌, ℕ, zero, suc, ◌+◌, ◌-◌, ◌*◌, ◌%◌, ◌<◌, ◌≤◌, ◌⊎◌, Bool, false, ◌==◌, IsTrue, List, [], map, length, slice_index, slice_index_or, codes, if◌then◌else◌}
 use Rattle.section_group.specs.declared.piece.Piece.{Piece}
 use Rattle.section_group.specs.declared.piece.OutSection.{OutSection}
 use Rattle.section_group.specs.Merging.{same_name}
@@ -43,8 +43,8 @@ abbrev pub IsInitialisedEnd : List Piece → List ℕ × List ℕ → ℕ → (�
 IsInitialisedEnd pieces row start place end =
     (((j : ℕ) → j < length row.1 → (piece_in pieces row j).init ≡ false) × (end ≡ start))
     ⊎ ((last : ℕ) × (last < length row.1) × IsTrue (piece_in pieces row last).init
-        × ((j : ℕ) → last < j → j < length row.1 → (piece_in pieces row j).init ≡ false)
-        × (end ≡ piece_end pieces row place last))
+    × ((j : ℕ) → last < j → j < length row.1 → (piece_in pieces row j).init ≡ false)
+    × (end ≡ piece_end pieces row place last))
 
 -- some piece has bytes
 abbrev pub HasBytes : List Piece → List ℕ × List ℕ → Type 0

@@ -9,6 +9,6 @@ mod reloc;
 mod round;
 
 pub use base::{BaseRule, check_base, permitted};
-pub use reloc::append_reloc;
-pub use places::place;
 pub use layout::{Layout, LayoutError, Placed};
+pub use places::place;
+pub use reloc::append_reloc;

@@ -5,6 +5,7 @@ ghost use Rattle.std.specs.List.{All, Contains, IsDistinct};
 ghost use Rattle.section_group.specs.SectionOrder.{no_piece};
 ghost use Rattle.address_layout.specs.Places.{section_row};
 ghost use Rattle.address_layout.specs.Layout.{IsAlignment, StandOnce, IsLayout, IsPlaceRefusal};
+ghost use Rattle.address_layout.specs.Growth.{CanGrow};
 ghost use Rattle.address_layout.specs.Rounded.{rounded, narrowed, place_of, size_from, raw_from, placed_from, narrowed_placed, ArePlacedAll};
 
 use crate::extent::{Extent, place_pieces};
@@ -47,6 +48,7 @@ pub fn place(
 
     ensures layout { IfOk result (IsLayout pieces.now sections.now reloc) }
     ensures within { IfOk result (λ layout. layout.image ≤ 536870912) }
+    ensures growth { IfOk result CanGrow }
 
     ensures refused { IfErr result (IsPlaceRefusal pieces.now sections.now reloc) }
 {

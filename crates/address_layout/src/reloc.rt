@@ -3,9 +3,7 @@
 ghost use Rattle.std.specs.Prelude.{◌≡◌, ◌==◌, ◌^◌, ◌+◌, ◌<◌, if◌then◌else◌, ◌≤◌, ◌++◌, ◌∷◌, [], OnOk, OnErr, IfErr};
 ghost use Rattle.address_layout.specs.Growth.{last_end, raw_end, grown_size, CanGrow, Appends, SameLayout, IsGrowRefusal};
 
-use crate::layout::{
-    FILE_ALIGNMENT, Layout, LayoutError, MAX_IMAGE, Placed, SECTION_ALIGNMENT,
-};
+use crate::layout::{FILE_ALIGNMENT, Layout, LayoutError, MAX_IMAGE, Placed, SECTION_ALIGNMENT};
 use crate::round::round_up;
 use std::alloc::Global;
 

@@ -1,9 +1,9 @@
-use Rattle.std.proofs.Common.{◌≡◌, ◌≢◌, ◌<◌, ◌≤◌, ◌||◌, ℕ, ltb, Bool, List, length, get_or, cond, sym, ap, subst, arith, ◌+◌, ◌∙◌}
+use Rattle.std.proofs.Common.{◌≡◌, ◌<◌, ◌≤◌, ◌||◌, ℕ, ltb, List, length, get_or, cond, sym, ap, subst, arith, ◌+◌, ◌∙◌}
 use Rattle.std.proofs.lemmas.List.Elements.{Contains-get_or}
 use Rattle.std.specs.List.{Contains}
 use Rattle.section_group.specs.declared.piece.Piece.{Piece}
 use Rattle.address_layout.specs.Places.{section_row, piece_in, alignment_in}
-use Rattle.address_layout.specs.Rounded.{rounded, narrowed, end_after, raw_end_after, bytes_before, place_of}
+use Rattle.address_layout.specs.Rounded.{rounded, end_after, raw_end_after, bytes_before}
 use Rattle.address_layout.proofs.RoundLemmas.{rounded_bound}
 use Rattle.address_layout.proofs.ExtentLemmas.{placed_begin, placed_more, piece_is, align_is, is_alignment, align_small}
 use Rattle.address_layout.proofs.extent.place_pieces.Goals as goal

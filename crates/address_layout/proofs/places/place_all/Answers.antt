@@ -1,4 +1,4 @@
-use Rattle.std.proofs.Common.{◌≡◌, ◌+◌, ◌*◌, ◌<◌, ◌≤◌, ℕ, List, length, take, sym, ap, subst, arith, ◌∙◌, length-append}
+use Rattle.std.proofs.Common.{◌+◌, List, length, take, sym, ap, subst, arith, ◌∙◌, length-append}
 use Rattle.address_layout.specs.declared.layout.Placed.{Placed}
 use Rattle.address_layout.specs.Layout.{all_pieces}
 use Rattle.address_layout.specs.Rounded.{AreSections}

@@ -1,4 +1,4 @@
-use Rattle.std.proofs.Common.{◌≡◌, ◌+◌, ◌*◌, ◌-◌, length, arith}
+use Rattle.std.proofs.Common.{◌*◌, ◌-◌, length, arith}
 use Rattle.address_layout.proofs.RoundLemmas.{rounded_bound}
 use Rattle.address_layout.proofs.ExtentLemmas.{size_bound}
 use Rattle.address_layout.proofs.places.place_section.Goals as goal

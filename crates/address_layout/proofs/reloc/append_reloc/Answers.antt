@@ -1,4 +1,4 @@
-use Rattle.std.proofs.Common.{◌≡◌, ◌+◌, ◌<◌, ◌≤◌, ℕ, cond, eqb, sym, ap, subst, arith, ◌∙◌}
+use Rattle.std.proofs.Common.{◌+◌, ℕ, sym, ap, subst, arith, ◌∙◌}
 use Rattle.address_layout.specs.Places.{IsLeastMultiple}
 use Rattle.address_layout.specs.Growth.{last_end, grown_size}
 use Rattle.address_layout.specs.Rounded.{rounded}
@@ -20,14 +20,13 @@ returns-then-image-gt-MAX_IMAGE-clause-refused c =
     let from = c.from.ensures ∙ c.end_of.ensures.value in
     let start = c.round_up-start.ensures ∙ ap (rounded 4096) from in
     let size = c.from-2.ensures ∙ c.grown_size-size.ensures.value in
-    let image = c.round_up-image.ensures ∙ ap (λ (n : ℕ). rounded 4096 (c.round_up-start.result + n)) size in
-    (
+    let image = c.round_up-image.ensures ∙ ap (λ (n : ℕ). rounded 4096 (c.round_up-start.result + n)) size in (
       record {
         rva = c.round_up-start.result;
         start = subst (IsLeastMultiple 4096 (last_end c.args.layout.now)) (sym start) (rounded_is 4096 (last_end c.args.layout.now) (omega arith));
         image = subst (IsLeastMultiple 4096 (c.round_up-start.result + grown_size c.args.length)) (sym image) (rounded_is 4096 (c.round_up-start.result + grown_size c.args.length) (omega arith));
       },
-      c.if-image-gt-MAX_IMAGE.true
+      c.if-image-gt-MAX_IMAGE.true,
     )
 
 pub overflow_cast-raw : goal.overflow_cast-raw

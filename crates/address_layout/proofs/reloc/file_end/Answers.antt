@@ -1,4 +1,4 @@
-use Rattle.std.proofs.Common.{◌≡◌, ◌<◌, List, ℕ, suc, length, ap, sym, arith}
+use Rattle.std.proofs.Common.{◌<◌, List, suc, length, ap, arith}
 use Rattle.address_layout.specs.declared.layout.Placed.{Placed}
 use Rattle.address_layout.specs.Layout.{placed_at}
 use Rattle.address_layout.proofs.RelocLemmas.{file_grows}
