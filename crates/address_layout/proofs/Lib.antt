@@ -5,3 +5,4 @@ pub mod SectionsLemmas
 pub mod ArrangementLemmas
 pub mod LayoutLemmas
 pub mod RelocLemmas
+pub mod CallerLemmas

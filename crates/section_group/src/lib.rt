@@ -23,3 +23,6 @@ pub use flags::{
 };
 pub use grouping::group;
 pub use piece::{GroupError, OutSection, Piece};
+
+#[cfg(test)]
+mod tests;
