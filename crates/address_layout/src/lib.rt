@@ -12,3 +12,6 @@ pub use base::{BaseRule, check_base, permitted};
 pub use layout::{Layout, LayoutError, Placed};
 pub use places::place;
 pub use reloc::append_reloc;
+
+#[cfg(test)]
+mod tests;

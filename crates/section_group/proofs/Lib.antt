@@ -13,3 +13,4 @@ pub mod RangeLemmas
 pub mod OrderedLemmas
 pub mod MemberLemmas
 pub mod GroupingLemmas
+pub mod Theorems

@@ -6,3 +6,4 @@ pub mod Steps
 pub mod Gathering
 pub mod Keys
 pub mod Sections
+pub mod Uniqueness

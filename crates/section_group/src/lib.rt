@@ -9,6 +9,7 @@ mod gather;
 mod grouping;
 mod homes;
 mod key;
+mod laws;
 mod names;
 mod order;
 mod owners;
@@ -22,6 +23,7 @@ pub use flags::{
     SCN_CNT_CODE, SCN_CNT_INITIALIZED_DATA, SCN_CNT_UNINITIALIZED_DATA, SCN_MEM_ATTRIBUTES,
 };
 pub use grouping::group;
+pub use laws::one_grouping;
 pub use piece::{GroupError, OutSection, Piece};
 
 #[cfg(test)]
