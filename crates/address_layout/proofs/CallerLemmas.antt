@@ -1,13 +1,13 @@
 -- What callers may cite: pieces that were grouped stand once, so that they can be placed.
-use Rattle.std.proofs.Common.{◌≡◌, ◌≢◌, ℕ, zero, suc, ◌+◌, ◌<◌, ◌≤◌, Bool, true, false, ◌&&◌, eqb, eq-eqb, IsTrue, List, [], ◌∷◌, ◌++◌, length, get_or, refl, sym, ap, ◌∙◌, subst, inl, inr, ◌⊎◌, arith, length-append}
-use Rattle.std.specs.List.{All, AllPairs, Any, Contains, IsDistinct}
+use Rattle.std.proofs.Common.{◌≡◌, ◌≢◌, ℕ, suc, ◌<◌, Bool, true, false, ◌&&◌, eqb, IsTrue, List, [], ◌∷◌, ◌++◌, length, get_or, refl, sym, ap, ◌∙◌, subst, inl, inr, arith}
+use Rattle.std.specs.List.{All, AllPairs, Contains, IsDistinct}
 use Rattle.std.specs.Ordering.{is_lt, nat_cmp, ordering_then}
 use Rattle.std.specs.Cmp.{IsTotalOrder, tied_itself}
 use Rattle.std.specs.Cmp.Rules.{comparing}
 use Rattle.std.specs.declared.cmp.Ordering.{Ordering}
 use Rattle.std.specs.declared.cmp.Ordering.TheVariants.{Equal}
 use Rattle.std.proofs.Common.{rules}
-use Rattle.std.proofs.lemmas.Bool.{false≢true, cases_lt, eqb-true}
+use Rattle.std.proofs.lemmas.Bool.{false≢true, eqb-true}
 use Rattle.std.proofs.lemmas.Cmp.{nat_cmp_total}
 use Rattle.std.proofs.lemmas.List.Elements.{All-head, All-tail, All-append, All-nil, All-from_recursion, recursion_from_All, Contains-get_or, Contains-append_cases}
 use Rattle.std.proofs.lemmas.Map.Keys.{IsDistinct-from_apart, IsDistinct-cons}
@@ -15,11 +15,10 @@ use Rattle.section_group.specs.declared.piece.OutSection.{OutSection}
 use Rattle.section_group.specs.Merging.{same_name}
 use Rattle.section_group.specs.SectionOrder.{Input, is_used, section_name, place_cmp, inside_cmp, rank_of, ComesBefore}
 use Rattle.section_group.specs.Placement.{goes_to, section_attributes, IsSection, IsGrouping}
-use Rattle.section_group.proofs.ChainLemmas.{same_is, same_refl}
+use Rattle.section_group.proofs.ChainLemmas.{same_is}
 use Rattle.section_group.proofs.PartLemmas.{used_within}
 use Rattle.section_group.proofs.SectionLemmas.{both_parts}
-use Rattle.section_group.proofs.OrderLemmas.{not_before_itself, level}
-use Rattle.section_group.proofs.OwnerLemmas.{place_total, level_places}
+use Rattle.section_group.proofs.OrderLemmas.{not_before_itself}
 use Rattle.address_layout.specs.Layout.{all_pieces, StandOnce}
 
 inside_total : (input : Input) → IsTotalOrder (inside_cmp input)

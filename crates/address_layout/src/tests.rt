@@ -1,7 +1,8 @@
 //! Places of pieces and sections, and permitted bases.
 
-ghost use Rattle.std.specs.Prelude.{IsTrue};
+ghost use Rattle.std.specs.Prelude.{IsTrue, IfOk};
 ghost use Rattle.std.specs.List.{All};
+ghost use Rattle.address_layout.specs.Growth.{CanGrow};
 ghost use Rattle.address_layout.specs.Layout.{IsAlignment};
 
 use crate::{BaseRule, Layout, LayoutError, append_reloc, check_base, permitted, place};
@@ -13,8 +14,11 @@ use std::process::Abort;
 use std::test::Fail;
 
 const CODE: u32 = 0x6050_0020;
+
 const RODATA: u32 = 0x4000_0040;
+
 const DATA: u32 = 0xC000_0040;
+
 const BSS: u32 = 0xC000_0080;
 
 fn piece<'a>(place: (u32, u32), name: &'a str, flags: u32, size: u32, align: u32) -> Piece<'a> {
@@ -31,11 +35,17 @@ fn piece<'a>(place: (u32, u32), name: &'a str, flags: u32, size: u32, align: u32
     }
 }
 
+fn is_alignment(align: u32) -> bool
+    ensures { IsTrue result → IsAlignment align }
+{
+    align != 0 && 8192 % align == 0
+}
+
 fn all_aligned(pieces: &[Piece<'_>]) -> bool
     ensures { IsTrue result → All (λ piece. IsAlignment piece.align) pieces.now }
 {
     for piece in pieces {
-        if piece.align == 0 || 8192 % piece.align != 0 {
+        if !is_alignment(piece.align) {
             return false;
         }
     }
@@ -48,7 +58,9 @@ fn layout_of(
     alloc: Global,
     pieces: &[Piece<'_>],
     reloc: bool,
-) -> Result<Result<Layout, LayoutError>, Fail> {
+) -> Result<Result<Layout, LayoutError>, Fail>
+    ensures { IfOk result (λ answer. IfOk answer CanGrow) }
+{
     assert!(rt; pieces.len() < 100_000);
     assert!(rt; all_aligned(pieces));
     let mut used = Vec::new(alloc);
@@ -95,7 +107,10 @@ fn least_places(rt: HostRuntime) -> Result<(), Fail> {
         piece((1, 1), ".bss", BSS, 16, 1),
     ];
     let layout = layout_of(&rt, alloc, &uninitialised, false)?;
-    assert_eq!(rt; shown(alloc, &layout)?.as_str(), "200 3000; 1000 3 200 200; 2000 10 0 0; 1000 2000");
+    assert_eq!(rt;
+        shown(alloc, &layout)?.as_str(),
+        "200 3000; 1000 3 200 200; 2000 10 0 0; 1000 2000"
+    );
     let exceptions = [
         piece((0, 1), ".text$c", CODE, 1, 16),
         piece((0, 2), ".xdata", RODATA, 4, 4),
@@ -108,9 +123,11 @@ fn least_places(rt: HostRuntime) -> Result<(), Fail> {
         piece((2, 3), ".pdata", RODATA, 12, 1),
     ];
     let layout = layout_of(&rt, alloc, &exceptions, false)?;
-    assert_eq!(rt; shown(alloc, &layout)?.as_str(),
+    assert_eq!(rt;
+        shown(alloc, &layout)?.as_str(),
         "200 4000; 1000 21 200 200; 2000 c 200 400; 3000 24 200 600; \
-        1020 2000 3000 1010 2004 300c 1000 2008 3018");
+        1020 2000 3000 1010 2004 300c 1000 2008 3018"
+    );
     let large = [
         piece((0, 1), ".text", CODE, 3, 1),
         piece((0, 2), ".bss", BSS, 0x2000_0000, 1),
@@ -141,7 +158,10 @@ fn many_sections_and_pieces(rt: HostRuntime) -> Result<(), Fail> {
     let Ok(layout) = layout_of(&rt, alloc, &pieces, false)? else {
         return Err(Fail::from("96 sections"));
     };
-    assert_eq!(rt; layout.sections.first().map(|placed| placed.rva), Some(0x2000));
+    assert_eq!(rt;
+        layout.sections.first().map(|placed| placed.rva),
+        Some(0x2000)
+    );
     let mut functions = Vec::new(alloc);
     for number in 1..40_001u32 {
         functions.push(piece((0, number), ".text", CODE, 1, 1))?;
@@ -151,7 +171,10 @@ fn many_sections_and_pieces(rt: HostRuntime) -> Result<(), Fail> {
     };
     assert_eq!(rt; layout.image, 0xB000);
     assert_eq!(rt; layout.pieces.last().copied(), Some(0xAC3F));
-    assert_eq!(rt; layout.sections.first().map(|placed| placed.raw), Some(0x9E00));
+    assert_eq!(rt;
+        layout.sections.first().map(|placed| placed.raw),
+        Some(0x9E00)
+    );
     Ok(())
 }
 
@@ -162,12 +185,15 @@ fn relocations_and_bases(rt: HostRuntime) -> Result<(), Fail> {
         piece((0, 1), ".text", CODE, 6, 1),
         piece((0, 2), ".data", DATA, 8, 1),
     ];
+    let Ok(mut full) = layout_of(&rt, alloc, &pieces, true)? else {
+        return Err(Fail::from("two sections"));
+    };
+    let refused = append_reloc(alloc, &mut full, 0x2000_0000);
+    assert_eq!(rt; refused.is_err(), true);
+    assert_eq!(rt; full.pieces.len(), 2);
     let Ok(mut layout) = layout_of(&rt, alloc, &pieces, true)? else {
         return Err(Fail::from("two sections"));
     };
-    let refused = append_reloc(alloc, &mut layout, 0x2000_0000);
-    assert_eq!(rt; refused.is_err(), true);
-    assert_eq!(rt; layout.sections.len(), 2);
     let added = append_reloc(alloc, &mut layout, 12);
     assert_eq!(rt; added.is_ok(), true);
     let rule = BaseRule {
@@ -193,7 +219,9 @@ fn relocations_and_bases(rt: HostRuntime) -> Result<(), Fail> {
         };
         assert_eq!(rt; permitted(&rule, 0x4000, base), wanted, "at {base}");
     }
-    assert_eq!(rt; shown(alloc, &Ok(layout))?.as_str(),
-        "200 4000; 1000 6 200 200; 2000 8 200 400; 3000 c 200 600; 1000 2000 3000");
+    assert_eq!(rt;
+        shown(alloc, &Ok(layout))?.as_str(),
+        "200 4000; 1000 6 200 200; 2000 8 200 400; 3000 c 200 600; 1000 2000 3000"
+    );
     Ok(())
 }
