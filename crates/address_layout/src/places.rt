@@ -3,7 +3,7 @@
 ghost use Rattle.std.specs.Prelude.{◌≡◌, ◌+◌, ◌*◌, ◌^◌, ◌<◌, ◌≤◌, ◌-◌, ◌==◌, if◌then◌else◌, length, slice_index, IfOk, IfErr, ℕ};
 ghost use Rattle.std.specs.List.{All, Contains, IsDistinct};
 ghost use Rattle.section_group.specs.SectionOrder.{no_piece};
-ghost use Rattle.address_layout.specs.Places.{section_row};
+ghost use Rattle.address_layout.specs.Places.{section_count, section_row};
 ghost use Rattle.address_layout.specs.Layout.{IsAlignment, StandOnce, IsLayout, IsPlaceRefusal};
 ghost use Rattle.address_layout.specs.Growth.{CanGrow};
 ghost use Rattle.address_layout.specs.Rounded.{rounded, narrowed, place_of, size_from, raw_from, placed_from, narrowed_placed, ArePlacedAll};
@@ -47,6 +47,7 @@ pub fn place(
     requires standing { StandOnce pieces.now sections.now }
 
     ensures layout { IfOk result (IsLayout pieces.now sections.now reloc) }
+    ensures few_sections { IfOk result (λ _. section_count sections.now reloc ≤ 96) }
     ensures within { IfOk result (λ layout. layout.image ≤ 536870912) }
     ensures growth { IfOk result CanGrow }
 

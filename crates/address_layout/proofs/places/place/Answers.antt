@@ -50,3 +50,9 @@ returns-clause-growth c =
     let few : length sections ≤ 96 = omega (arith, c.if-count-gt-MAX_SECTIONS.false) in
     can_grow c.args.pieces.now sections c.args.reloc c.headers_len-headers.result c.in_ok-placed.end c.in_ok-placed.ensures.0 c.in_ok-placed.placed.items c.place_all.new.rvas _ c.requires.aligned c.requires.standing few headers c.in_ok-placed.ensures.1
     refl refl (whole c.place_all.new.rvas _ _ (c.in_ok-rvas.ensures.len ∙ sym c.in_ok-placed.ensures.1.room)) c.round_up-image.ensures c.if-image-gt-MAX_IMAGE.false
+
+pub returns-clause-few_sections : goal.returns-clause-few_sections
+returns-clause-few_sections c =
+    let sections = c.args.sections.now in
+    let count : length sections + c.from.result ≡ section_count sections c.args.reloc = ap (λ (n : ℕ). length sections + n) (c.from.ensures ∙ byte_is c.args.reloc) in
+    subst (λ (n : ℕ). n ≤ 96) count c.if-count-gt-MAX_SECTIONS.false
