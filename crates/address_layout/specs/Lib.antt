@@ -1,0 +1,5 @@
+pub mod Places
+pub mod Layout
+pub mod Rounded
+pub mod PermittedBase
+pub mod Growth

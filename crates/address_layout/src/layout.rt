@@ -1,0 +1,94 @@
+//! Where the sections and the pieces of an image stand, and why they have no place.
+
+use link_base::Memory;
+use std::alloc::{AllocError, AllocFailed};
+
+/// How many sections an image has at most (PE Format, "COFF File Header (Object and Image)").
+pub(crate) const MAX_SECTIONS: usize = 96;
+
+/// The greatest size in memory of an image that the linker makes.
+pub(crate) const MAX_IMAGE: u64 = 0x2000_0000;
+
+/// The alignment of sections in memory.
+pub(crate) const SECTION_ALIGNMENT: u64 = 0x1000;
+
+/// The alignment of raw data in the file.
+pub(crate) const FILE_ALIGNMENT: u64 = 0x200;
+
+/// Where the section headers begin in the file.
+pub(crate) const SECTION_HEADERS_OFFSET: usize = 328;
+
+/// The length of a section header.
+pub(crate) const SECTION_HEADER_LEN: usize = 40;
+
+/// Where a section stands.
+#[derive(Drop)]
+pub struct Placed {
+    /// Its start in the image.
+    pub rva: u32,
+    /// Its size in memory.
+    pub size: u32,
+    /// The length of its raw data in the file, a multiple of 512.
+    pub raw: u32,
+    /// The file offset of its raw data, or 0 where there is none.
+    pub file: u32,
+}
+
+/// Where everything stands.
+#[derive(Drop)]
+pub struct Layout {
+    /// The length of the headers, which is the file offset of the first raw data.
+    pub headers: u32,
+    /// The sections, in their order.
+    pub sections: Vec<Placed>,
+    /// The RVA of each piece, or 0 for a piece that stands in no section.
+    pub pieces: Vec<u32>,
+    /// The size of the image in memory.
+    pub image: u32,
+}
+
+/// Why there is no layout, or why a base is refused.
+#[derive(Drop)]
+pub enum LayoutError {
+    /// There would be more than 96 sections: this many.
+    TooManySections(u32),
+    /// The image would be larger than 512 MiB: this large.
+    ImageTooLarge(u64),
+    /// The base is not permitted.
+    BaseRange(u64),
+    /// Want of memory.
+    Memory,
+}
+
+impl From<AllocError> for LayoutError {
+    ghost use Rattle.std.specs.Prelude.{◌≡◌};
+    ghost use Rattle.address_layout.specs.declared.layout.LayoutError.TheVariants.{Memory};
+
+    ghost from_gives = { λ _ e. e ≡ Memory };
+
+    fn from(_error: AllocError) -> LayoutError {
+        LayoutError::Memory
+    }
+}
+
+impl From<Memory> for LayoutError {
+    ghost use Rattle.std.specs.Prelude.{◌≡◌};
+    ghost use Rattle.address_layout.specs.declared.layout.LayoutError.TheVariants.{Memory};
+
+    ghost from_gives = { λ _ e. e ≡ Memory };
+
+    fn from(_error: Memory) -> LayoutError {
+        LayoutError::Memory
+    }
+}
+
+impl<T: Drop> From<AllocFailed<T>> for LayoutError {
+    ghost use Rattle.std.specs.Prelude.{◌≡◌};
+    ghost use Rattle.address_layout.specs.declared.layout.LayoutError.TheVariants.{Memory};
+
+    ghost from_gives = { λ _ e. e ≡ Memory };
+
+    fn from(_error: AllocFailed<T>) -> LayoutError {
+        LayoutError::Memory
+    }
+}

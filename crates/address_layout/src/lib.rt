@@ -1,0 +1,22 @@
+//! Address assignment: where output sections and their pieces stand in the image, and sections in the file.
+//! It takes pieces and the sections that `section_group` gave for them; it gives a layout to the writers, to relocation
+//! and to the loader, and judges bases of images.
+//! Its contracts promise least places: each piece at the least RVA of its alignment at or above the end of the piece
+//! before it, each section at the least page, and that each refusal comes exactly at its limit.
+//! Headers and contents are left to `image_writer`.
+#![tactic(auto)]
+
+mod base;
+mod extent;
+mod layout;
+mod places;
+mod reloc;
+mod round;
+
+pub use base::{BaseRule, check_base, permitted};
+pub use layout::{Layout, LayoutError, Placed};
+pub use places::place;
+pub use reloc::append_reloc;
+
+#[cfg(test)]
+mod tests;

@@ -1,0 +1,75 @@
+-- The pieces of each section, gathered piece by piece.
+use Rattle.std.proofs.Common.{◌≡◌, ◌≢◌, ◌⊎◌, eq-eqb, ℕ, zero, suc, ◌+◌, ◌<◌, Bool, true, false, cond, eqb, List, [], ◌∷◌, ◌++◌, length, get_or, set, filter, Option, Some, None, Vec, refl, sym, ap, ◌∙◌, inl, inr, arith}
+use Rattle.std.specs.declared.alloc.Global.{Global}
+use Rattle.std.specs.List.{range_with_len}
+use Rattle.std.proofs.Math.ListN.{length-set}
+use Rattle.std.proofs.lemmas.Bool.{eqb-true, eqb-false}
+use Rattle.std.proofs.lemmas.List.{get_or-set_other, get_or-set_same}
+use Rattle.std.proofs.lemmas.List.Elements.{filter-append}
+use Rattle.section_group.specs.Gathering.{has_number, members_of, AreMembers}
+
+range_more : (a n : ℕ) → range_with_len a (suc n) ≡ range_with_len a n ++ (a + n) ∷ []
+range_more a zero = ap (λ (k : ℕ). k ∷ []) (omega arith)
+range_more a (suc n) =
+    let next : (a + 1) + n ≡ a + suc n = omega arith in
+    ap (λ (ks : List ℕ). a ∷ ks) (range_more (a + 1) n ∙ ap (λ (k : ℕ). range_with_len (a + 1) n ++ k ∷ []) next)
+
+members_more : (numbers : List (Option ℕ)) (count number : ℕ) → members_of numbers (count + 1) number ≡ members_of numbers count number ++ cond (has_number number (get_or numbers count None)) (count ∷ []) []
+members_more numbers count number =
+    let p = λ (k : ℕ). has_number number (get_or numbers k None) in
+    let next : count + 1 ≡ suc count = omega arith in
+    let last : 0 + count ≡ count = omega arith in
+    ap (λ (n : ℕ). filter p (range_with_len 0 n)) next ∙ ap (filter p) (range_more 0 count ∙ ap (λ (k : ℕ). range_with_len 0 count ++ k ∷ []) last)
+    ∙ filter-append p (range_with_len 0 count) (count ∷ [])
+
+pub append-nil : (xs : List ℕ) → xs ++ [] ≡ xs
+append-nil [] = refl
+append-nil (x ∷ xs) = ap (λ (ys : List ℕ). x ∷ ys) (append-nil xs)
+
+-- an unused piece
+pub more_unused : (numbers : List (Option ℕ)) (count sections : ℕ) (members : List (Vec ℕ Global)) → AreMembers numbers count sections members → get_or numbers count None ≡ None → AreMembers numbers (count + 1) sections members
+more_unused numbers count sections members are none = record {
+  same_length = are.same_length;
+  each = λ number d lt. are.each number d lt ∙ sym (members_more numbers count number ∙ ap (λ (o : Option ℕ). members_of numbers count number ++ cond (has_number number o) (count ∷ []) []) none ∙ append-nil (members_of numbers count number));
+}
+
+eqb_refl : (n : ℕ) → eqb n n ≡ true
+eqb_refl n = eq-eqb n n refl
+
+eqb_apart : (n m : ℕ) → n ≢ m → eqb n m ≡ false
+eqb_apart n m apart = go (eqb n m) refl
+  where
+    go : (b : Bool) → eqb n m ≡ b → b ≡ false
+    go false e = refl
+    go true e = absurd (apart (eqb-true n m e))
+
+-- a used piece
+pub more_used : (numbers : List (Option ℕ)) (count sections at : ℕ) (members : List (Vec ℕ Global)) (old more : Vec ℕ Global) → AreMembers numbers count sections members → get_or numbers count None ≡ Some at → at < sections → old ≡ get_or members at old → more.items ≡ old.items ++ count ∷ [] → AreMembers numbers (count + 1) sections (set members at more)
+more_used numbers count sections at members old more are some lt is_old is_more = record {
+  same_length = length-set members at more ∙ are.same_length;
+  each = λ number d within. elim (cases number) [
+    | inl same ↦
+        let in' : at < length members = omega (arith, are.same_length) in
+        ap (λ (k : ℕ). (get_or (set members at more) k d).items) same ∙ ap (λ (v : Vec ℕ Global). v.items) (get_or-set_same members at more d in')
+        ∙ is_more ∙ ap (λ (xs : List ℕ). xs ++ count ∷ []) (ap (λ (v : Vec ℕ Global). v.items) is_old ∙ are.each at old lt)
+        ∙ sym (members_more numbers count number ∙ ap (λ (o : Option ℕ). members_of numbers count number ++ cond (has_number number o) (count ∷ []) []) some ∙ ap (λ (k : ℕ). members_of numbers count k ++ cond (eqb at k) (count ∷ []) []) same ∙ ap (λ (b : Bool). members_of numbers count at ++ cond b (count ∷ []) []) (eqb_refl at))
+    | inr apart ↦
+        ap (λ (v : Vec ℕ Global). v.items) (get_or-set_other members at number more d apart)
+        ∙ are.each number d within
+        ∙ sym (members_more numbers count number ∙ ap (λ (o : Option ℕ). members_of numbers count number ++ cond (has_number number o) (count ∷ []) []) some ∙ ap (λ (b : Bool). members_of numbers count number ++ cond b (count ∷ []) []) (eqb_apart at number (λ e. apart (sym e))) ∙ append-nil (members_of numbers count number))
+  ];
+}
+  where
+    cases : (number : ℕ) → (number ≡ at) ⊎ (number ≢ at)
+    cases number = go (eqb number at) refl
+      where
+        go : (b : Bool) → eqb number at ≡ b → (number ≡ at) ⊎ (number ≢ at)
+        go true e = inl (eqb-true number at e)
+        go false e = inr (eqb-false number at e)
+
+pub filter_more : (p : ℕ → Bool) (n : ℕ) → filter p (range_with_len 0 (n + 1)) ≡ filter p (range_with_len 0 n) ++ cond (p n) (n ∷ []) []
+filter_more p n =
+    let next : n + 1 ≡ suc n = omega arith in
+    let last : 0 + n ≡ n = omega arith in
+    ap (λ (k : ℕ). filter p (range_with_len 0 k)) next ∙ ap (filter p) (range_more 0 n ∙ ap (λ (k : ℕ). range_with_len 0 n ++ k ∷ []) last)
+    ∙ filter-append p (range_with_len 0 n) (n ∷ [])

@@ -1,0 +1,94 @@
+-- The keys of pieces order the pieces.
+use Rattle.std.proofs.Common.{◌≡◌, ◌≢◌, ℕ, ◌<◌, Bool, true, false, eqb, eq-eqb, IsTrue, List, [], ◌∷◌, length, get_or, map, refl, sym, ap, ◌∙◌, subst, arith, rules}
+use Rattle.std.specs.List.{All, AllPairs, IsDistinct}
+use Rattle.std.specs.List.Sorted.{IsSorted, IsPermutation}
+use Rattle.std.specs.Ordering.{is_lt, nat_cmp, bool_cmp}
+use Rattle.std.specs.Cmp.{IsTotalOrder}
+use Rattle.std.specs.Cmp.Lexicographic.{slice_cmp}
+use Rattle.std.specs.Cmp.Rules.{comparing}
+use Rattle.std.specs.declared.cmp.Ordering.TheVariants.{Equal}
+use Rattle.std.proofs.lemmas.Bool.{false≢true, eqb-true}
+use Rattle.std.proofs.lemmas.List.{length-map}
+use Rattle.std.proofs.lemmas.List.Elements.{All-map}
+use Rattle.std.proofs.lemmas.List.Sorted.{All-permutation, IsPermutation-map}
+use Rattle.std.proofs.lemmas.Map.Keys.{apart_from_distinct, IsDistinct-IsPermutation}
+use Rattle.std.proofs.Math.ListN.{get_or-map}
+use Rattle.section_group.specs.declared.key.PieceKey.{PieceKey}
+use Rattle.section_group.specs.SectionOrder.{Input, inside_cmp}
+use Rattle.section_group.specs.Keys.{piece_key, key_cmp}
+use Rattle.section_group.proofs.OrderLemmas.{ascends, then_level, level_numbers}
+
+pub key_total : IsTotalOrder key_cmp
+key_total = search (comparing, rules) depth 12
+
+index_of : PieceKey → ℕ
+index_of key = key.index
+
+level_keys : (a b : PieceKey) → key_cmp a b ≡ Equal → a.index ≡ b.index
+level_keys a b e =
+    level_numbers a.index b.index
+    (then_level (nat_cmp a.number b.number) (nat_cmp a.index b.index)
+    (then_level (nat_cmp a.module b.module) _
+    (then_level (slice_cmp nat_cmp a.suffix b.suffix) _
+    (then_level (slice_cmp nat_cmp a.merged_name b.merged_name) _
+    (then_level (bool_cmp a.merged b.merged) _
+    (then_level (bool_cmp a.uninitialised b.uninitialised) _ e))))))
+
+indexes_back : (input : Input) (members : List ℕ) → map (λ key. key.index) (map (piece_key input) members) ≡ members
+indexes_back input [] = refl
+indexes_back input (k ∷ ks) = ap (λ (xs : List ℕ). k ∷ xs) (indexes_back input ks)
+
+pub ordered_permutation : (input : Input) (members ordered : List ℕ) (keys sorted : List PieceKey) → keys ≡ map (piece_key input) members → IsPermutation keys sorted → ordered ≡ map (λ key. key.index) sorted → IsPermutation members ordered
+ordered_permutation input members ordered keys sorted is_keys moved is_ordered =
+    let p = IsPermutation-map (λ (key : PieceKey). key.index) keys sorted moved in
+    let from : map (λ (key : PieceKey). key.index) keys ≡ members = ap (map (λ (key : PieceKey). key.index)) is_keys ∙ indexes_back input members in
+    subst (λ (xs : List ℕ). IsPermutation xs ordered) from (subst (IsPermutation (map (λ (key : PieceKey). key.index) keys)) (sym is_ordered) p)
+
+-- a key that is sorted is that of its index
+keys_kept : (input : Input) (members : List ℕ) (keys sorted : List PieceKey) → keys ≡ map (piece_key input) members → IsPermutation keys sorted → All (λ key. key ≡ piece_key input key.index) sorted
+keys_kept input members keys sorted is_keys moved =
+    All-permutation (λ key. key ≡ piece_key input key.index) keys sorted moved
+    (subst (All (λ key. key ≡ piece_key input key.index)) (sym is_keys) (All-map (λ key. key ≡ piece_key input key.index) (piece_key input) members (λ k d lt. refl)))
+
+pub eqb_flip : (x y : ℕ) → eqb x y ≡ eqb y x
+eqb_flip x y = go (eqb x y) (eqb y x) refl refl
+  where
+    go : (a b : Bool) → eqb x y ≡ a → eqb y x ≡ b → a ≡ b
+    go true true e f = refl
+    go false false e f = refl
+    go true false e f = absurd (false≢true (sym f ∙ eq-eqb y x (sym (eqb-true x y e))))
+    go false true e f = absurd (false≢true (sym e ∙ eq-eqb x y (sym (eqb-true y x f))))
+
+pub ordered_ascends : (input : Input) (members ordered : List ℕ) (keys sorted : List PieceKey) → keys ≡ map (piece_key input) members → IsPermutation keys sorted → IsSorted key_cmp sorted → ordered ≡ map (λ key. key.index) sorted → IsDistinct eqb members → AllPairs (λ j k. IsTrue (is_lt (inside_cmp input j k))) ordered
+ordered_ascends input members ordered keys sorted is_keys moved rises is_ordered distinct = λ i j d lt within.
+    let e : PieceKey = piece_key input d in
+    let in_j : j < length sorted = omega (arith, ap length is_ordered, length-map sorted index) in
+    let in_i : i < length sorted = omega arith in
+    let read_i = at i d in
+    let read_j = at j d in
+    let pair = ascends key_total sorted rises apart i j e lt in_j in
+    let key_i = kept i e in_i in
+    let key_j = kept j e in_j in
+    subst (λ (k : ℕ). IsTrue (is_lt (inside_cmp input k (get_or ordered j d)))) (sym read_i)
+    (subst (λ (k : ℕ). IsTrue (is_lt (inside_cmp input (get_or sorted i e).index k))) (sym read_j)
+    (subst (λ (key : PieceKey). IsTrue (is_lt (key_cmp (piece_key input (get_or sorted i e).index) key))) key_j
+    (subst (λ (key : PieceKey). IsTrue (is_lt (key_cmp key (get_or sorted j e)))) key_i pair)))
+  where
+    index : PieceKey → ℕ
+    index key = key.index
+
+    kept : All (λ key. key ≡ piece_key input key.index) sorted
+    kept = keys_kept input members keys sorted is_keys moved
+
+    at : (i d : ℕ) → get_or ordered i d ≡ (get_or sorted i (piece_key input d)).index
+    at i d = ap (λ (xs : List ℕ). get_or xs i d) is_ordered ∙ get_or-map index sorted i (piece_key input d)
+
+    distinct_after : IsDistinct eqb ordered
+    distinct_after = IsDistinct-IsPermutation eqb eqb_flip members ordered (ordered_permutation input members ordered keys sorted is_keys moved is_ordered) distinct
+
+    apart : (i j : ℕ) (d : PieceKey) → i < j → j < length sorted → key_cmp (get_or sorted i d) (get_or sorted j d) ≢ Equal
+    apart i j d lt within level =
+        let in' : j < length ordered = omega (arith, ap length is_ordered, length-map sorted index) in
+        let differ = apart_from_distinct eqb ordered i j d.index distinct_after lt in' in
+        let read = λ (n : ℕ). ap (λ (xs : List ℕ). get_or xs n d.index) is_ordered ∙ get_or-map index sorted n d in
+        false≢true (sym differ ∙ eq-eqb _ _ (read i ∙ level_keys (get_or sorted i d) (get_or sorted j d) level ∙ sym (read j)))

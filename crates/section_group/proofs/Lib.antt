@@ -1,0 +1,16 @@
+pub mod NameLemmas
+pub mod ChainLemmas
+pub mod PigeonLemmas
+pub mod BadMergeLemmas
+pub mod PartLemmas
+pub mod OwnerLemmas
+pub mod OrderLemmas
+pub mod GatherLemmas
+pub mod KeyLemmas
+pub mod ContentLemmas
+pub mod SectionLemmas
+pub mod RangeLemmas
+pub mod OrderedLemmas
+pub mod MemberLemmas
+pub mod GroupingLemmas
+pub mod Theorems

@@ -1,0 +1,43 @@
+-- What the parts of a piece's name say of the input.
+use Rattle.std.proofs.Common.{◌≡◌, ℕ, ◌<◌, Bool, true, false, ◌&&◌, ltb, lt-ltb, IsTrue, List, length, map, get_or, refl, ap, ◌∙◌, arith}
+use Rattle.std.proofs.lemmas.Bool.{ltb-true, false≢true}
+use Rattle.std.proofs.lemmas.List.{get_or_default, length-map}
+use Rattle.std.proofs.Math.ListN.{get_or-map}
+use Rattle.section_group.specs.declared.piece.Piece.{Piece}
+use Rattle.section_group.specs.declared.cut.Cut.{Cut}
+use Rattle.section_group.specs.Merging.{final_name}
+use Rattle.section_group.specs.SectionOrder.{Input, no_piece, piece_at, is_used, base_name}
+use Rattle.section_group.specs.Steps.{cut_of, no_cut, cut_at, AreCuts, input_from}
+
+cut_is : (lead : List ℕ → List ℕ) (pieces : List Piece) (k : ℕ) → k < length pieces → get_or (map (cut_of lead) pieces) k no_cut ≡ cut_of lead (get_or pieces k no_piece)
+cut_is lead pieces k lt =
+    let in' : k < length (map (cut_of lead) pieces) = omega (arith, length-map pieces (cut_of lead)) in
+    get_or_default (map (cut_of lead) pieces) k no_cut (cut_of lead no_piece) in' ∙ get_or-map (cut_of lead) pieces k no_piece
+
+pub cuts_are : (pieces : List Piece) (used : List Bool) (merges : List (List ℕ × List ℕ)) (lead : List ℕ → List ℕ) (cuts : List Cut) → cuts ≡ map (cut_of lead) pieces → ((name : List ℕ) → lead name ≡ final_name merges name) → AreCuts (input_from pieces used merges) cuts
+cuts_are pieces used merges lead cuts is leads =
+    let at = λ (k : ℕ) (lt : k < length pieces). ap (λ (cs : List Cut). get_or cs k no_cut) is ∙ cut_is lead pieces k lt in
+    record {
+      same_length = ap length is ∙ length-map pieces (cut_of lead);
+      base = λ k lt. ap (λ (c : Cut). c.base) (at k lt);
+      suffix = λ k lt. ap (λ (c : Cut). c.suffix) (at k lt);
+      section = λ k lt. ap (λ (c : Cut). c.section) (at k lt) ∙ leads (base_name (get_or pieces k no_piece).name);
+    }
+
+-- ---- what is read at an index
+
+pub cut_read : (input : Input) (cuts : List Cut) (k : ℕ) (cut : Cut) → AreCuts input cuts → k < length input.pieces → cut ≡ get_or cuts k cut → cut ≡ cut_at cuts k
+cut_read input cuts k cut are lt is = is ∙ get_or_default cuts k cut no_cut (omega (arith, are.same_length))
+
+pub piece_read : (input : Input) (k : ℕ) (piece : Piece) → k < length input.pieces → piece ≡ get_or input.pieces k piece → piece ≡ piece_at input k
+piece_read input k piece lt is = is ∙ get_or_default input.pieces k piece no_piece lt
+
+pub used_within : (input : Input) (k : ℕ) → IsTrue (is_used input k) → k < length input.pieces
+used_within input k used = go (ltb k (length input.pieces)) refl used
+  where
+    go : (b : Bool) → ltb k (length input.pieces) ≡ b → (b && get_or input.used k false) ≡ true → k < length input.pieces
+    go true e h = ltb-true k (length input.pieces) e
+    go false e h = absurd (false≢true h)
+
+pub used_at : (input : Input) (k : ℕ) → k < length input.pieces → is_used input k ≡ get_or input.used k false
+used_at input k lt = ap (λ (b : Bool). b && get_or input.used k false) (lt-ltb k (length input.pieces) lt)

@@ -1,0 +1,103 @@
+//! The pieces of each section.
+
+ghost use Rattle.std.specs.Prelude.{◌≡◌, ℕ, ◌<◌, ◌^◌, length, slice_get, slice_index_or, Some, None, OnOk, IfOk, []};
+ghost use Rattle.std.specs.List.{IsDistinct};
+ghost use Rattle.section_group.specs.Sections.{same_home};
+ghost use Rattle.section_group.specs.Gathering.{input_of, home_of, AreOwners, AreNumbers, IsNumberOf, KeepsHomes, AreMembers};
+
+use crate::homes::Home;
+use crate::owners::attributes;
+use crate::parts::Parts;
+use indexmap::{IndexMap, IndexSet};
+use link_base::{Memory, Name};
+use std::alloc::Global;
+
+/// The sections that used pieces go to, and the number of each used piece's section.
+pub(crate) fn number_pieces<'a>(
+    alloc: Global,
+    parts: &Parts<'_, 'a>,
+    owners: &IndexMap<Name<'a>, usize>,
+) -> Result<(IndexSet<Home<'a>>, Vec<Option<usize>>), Memory>
+    requires { AreOwners (input_of parts.now) owners.now.entries }
+    ensures numbers { IfOk result (λ r. AreNumbers (input_of parts.now) r.0.keys (length parts.now.pieces.now) r.1.items) }
+    ensures distinct { IfOk result (λ r. IsDistinct same_home r.0.keys) }
+{
+    let mut homes = IndexSet::new(alloc);
+    let mut numbers = Vec::with_capacity(alloc, parts.pieces.len())?;
+    for index in 0..parts.pieces.len() {
+        let number = piece_number(&mut homes, parts, owners, index)?;
+        numbers.push(number)?;
+    }
+    Ok((homes, numbers))
+}
+
+/// The number of a piece's section, where the piece is used.
+fn piece_number<'a>(
+    homes: &mut IndexSet<Home<'a>>,
+    parts: &Parts<'_, 'a>,
+    owners: &IndexMap<Name<'a>, usize>,
+    index: usize,
+) -> Result<Option<usize>, Memory>
+    requires within { index < length parts.now.pieces.now }
+    requires owners { AreOwners (input_of parts.now) owners.now.entries }
+    ensures there { IfOk result (IsNumberOf (input_of parts.now) homes.new.keys index) }
+    ensures kept { OnOk result (KeepsHomes homes.old.keys homes.new.keys) }
+    ensures distinct { OnOk result (IsDistinct same_home homes.old.keys → IsDistinct same_home homes.new.keys) }
+{
+    if parts.used[index] {
+        let number = home_number(homes, parts, owners, index)?;
+        return Ok(Some(number));
+    }
+    Ok(None)
+}
+
+/// The number of a used piece's section, which is a new one where the section has none.
+fn home_number<'a>(
+    homes: &mut IndexSet<Home<'a>>,
+    parts: &Parts<'_, 'a>,
+    owners: &IndexMap<Name<'a>, usize>,
+    index: usize,
+) -> Result<usize, Memory>
+    requires within { index < length parts.now.pieces.now }
+    requires owners { AreOwners (input_of parts.now) owners.now.entries }
+    ensures there { IfOk result (λ number. slice_get homes.new.keys number ≡ Some (home_of (input_of parts.now) index)) }
+    ensures kept { OnOk result (KeepsHomes homes.old.keys homes.new.keys) }
+    ensures distinct { OnOk result (IsDistinct same_home homes.old.keys → IsDistinct same_home homes.new.keys) }
+{
+    let home = Home {
+        name: parts.cuts[index].section.again(),
+        attributes: attributes(parts, owners, index),
+    };
+    let (number, _) = homes.insert_full(home)?;
+    Ok(number)
+}
+
+/// The pieces of each number, in their order.
+pub(crate) fn distribute(
+    alloc: Global,
+    numbers: &[Option<usize>],
+    sections: usize,
+) -> Result<Vec<Vec<u32>>, Memory>
+    requires few { length numbers.now < 2 ^ 32 }
+    requires within { (k : ℕ) (number : ℕ) → slice_index_or numbers.now k None ≡ Some number → number < sections }
+    ensures { IfOk result (λ members. AreMembers numbers.now (length numbers.now) sections members.items) }
+{
+    let mut members = empty_lists(alloc, sections)?;
+    for (index, number) in numbers.iter().enumerate() {
+        if let Some(number) = number {
+            members[*number].push(index as u32)?;
+        }
+    }
+    Ok(members)
+}
+
+/// That many empty lists.
+fn empty_lists(alloc: Global, sections: usize) -> Result<Vec<Vec<u32>>, Memory>
+    ensures { IfOk result (λ members. AreMembers [] 0 sections members.items) }
+{
+    let mut members = Vec::with_capacity(alloc, sections)?;
+    while members.len() < sections {
+        members.push(Vec::new(alloc))?;
+    }
+    Ok(members)
+}

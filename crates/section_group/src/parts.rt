@@ -1,0 +1,51 @@
+//! What is put into sections, with each piece's name cut.
+
+ghost use Rattle.std.specs.Prelude.{◌≡◌, ◌≤◌, ◌^◌, ◌<◌, length, IfOk, OnOk, IfErr};
+ghost use Rattle.section_group.specs.Merging.{HasNoBadMerge};
+ghost use Rattle.section_group.specs.Chains.{IsRefusal};
+ghost use Rattle.section_group.specs.Steps.{AreCuts, input_from};
+
+use crate::bad_merge::resolve;
+use crate::cut::{Cut, cut_all};
+use crate::piece::{GroupError, Piece};
+use link_base::Name;
+use std::alloc::Global;
+
+/// The pieces, which of them are used, and the given merges; beside them the names of the pieces, cut.
+#[derive(Drop)]
+pub(crate) struct Parts<'w, 'a> {
+    pub pieces: &'w [Piece<'a>],
+    pub used: &'w [bool],
+    pub merges: &'w [(Name<'a>, Name<'a>)],
+    pub cuts: Vec<Cut<'a>>,
+    ghost few: { length pieces.now < 2 ^ 32 },
+    ghost all_told: { length pieces.now ≤ length used.now },
+    ghost cut: { AreCuts (input_from pieces.now used.now merges.now) cuts.items },
+}
+
+impl<'w, 'a> Parts<'w, 'a> {
+    /// Cuts the names, unless a merge is refused.
+    pub(crate) fn new(
+        alloc: Global,
+        pieces: &'w [Piece<'a>],
+        used: &'w [bool],
+        merges: &'w [(Name<'a>, Name<'a>)],
+    ) -> Result<Parts<'w, 'a>, GroupError<'a>>
+        requires few { length pieces.now < 2 ^ 32 }
+        requires all_told { length pieces.now ≤ length used.now }
+        ensures accepted { OnOk result (HasNoBadMerge merges.now) }
+        ensures refused { IfErr result (IsRefusal merges.now) }
+        ensures pieces { IfOk result (λ parts. parts.pieces.now ≡ pieces.now) }
+        ensures used { IfOk result (λ parts. parts.used.now ≡ used.now) }
+        ensures merges { IfOk result (λ parts. parts.merges.now ≡ merges.now) }
+    {
+        let renames = resolve(alloc, merges)?;
+        let cuts = cut_all(alloc, pieces, &renames)?;
+        Ok(Parts {
+            pieces,
+            used,
+            merges,
+            cuts,
+        })
+    }
+}
