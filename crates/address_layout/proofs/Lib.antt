@@ -6,3 +6,4 @@ pub mod ArrangementLemmas
 pub mod LayoutLemmas
 pub mod RelocLemmas
 pub mod CallerLemmas
+pub mod Theorems

@@ -8,12 +8,14 @@
 
 mod base;
 mod extent;
+mod laws;
 mod layout;
 mod places;
 mod reloc;
 mod round;
 
 pub use base::{BaseRule, check_base, permitted};
+pub use laws::{one_image_size, one_layout};
 pub use layout::{Layout, LayoutError, Placed};
 pub use places::place;
 pub use reloc::append_reloc;
