@@ -1,8 +1,8 @@
 -- The definitions on the smallest object: one section `.text` of three bytes, and the symbol `main` at its start.
 use Rattle.std.proofs.Common.{◌≡◌, ℕ, List, [], ◌∷◌, ◌++◌, refl}
-use Rattle.std.specs.Prelude.{Some, codes, true, option_map}
+use Rattle.std.specs.Prelude.{Some, codes, option_map}
 use Rattle.link_base.specs.Bytes.{number_at, number_bytes, all_below, first_below, bytes_at}
-use Rattle.coff_object.specs.ObjectFile.{section_name_of, name_at, symbol_value_of}
+use Rattle.coff_object.specs.ObjectFile.{section_name_of, name_at}
 use Rattle.coff_object.specs.FirstForm.{has_one_section, is_named_text, has_plain_data, has_plain_flags, is_plain_for_linker, has_records, is_plain_external, is_plain_symbol, has_plain_symbols, has_same_name, is_new_name, has_distinct_names, has_empty_strings, has_first_section, has_first_symbols, is_first_form}
 use Rattle.linker_program.specs.LinkWords.{LinkRequest, requested, is_entry_word, is_output_word, is_link_form}
 use Rattle.linker_program.specs.HeaderTable.{header_table}

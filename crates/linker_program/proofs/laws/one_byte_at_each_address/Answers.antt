@@ -1,4 +1,4 @@
-use Rattle.std.proofs.Common.{refl, arith}
+use Rattle.std.proofs.Common.{arith}
 use Rattle.std.proofs.lemmas.List.FromFn.{get_or-map-range_with_len, length-map-range_with_len}
 use Rattle.linker_program.specs.ExpectedImage.{expected_byte, expected_image}
 use Rattle.linker_program.proofs.laws.one_byte_at_each_address.Goals as goal
