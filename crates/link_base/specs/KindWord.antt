@@ -2,6 +2,10 @@
 use Rattle.std.specs.Prelude.{ℕ, List, codes}
 use Rattle.link_base.specs.declared.kind.ObjFault.{ObjFault}
 use Rattle.link_base.specs.declared.kind.ObjFault.TheVariants as object
+use Rattle.link_base.specs.declared.kind.LibFault.{LibFault}
+use Rattle.link_base.specs.declared.kind.LibFault.TheVariants as library
+use Rattle.link_base.specs.declared.kind.ImpFault.{ImpFault}
+use Rattle.link_base.specs.declared.kind.ImpFault.TheVariants as short
 use Rattle.link_base.specs.declared.kind.Kind.{Kind}
 use Rattle.link_base.specs.declared.kind.Kind.TheVariants as form
 use Rattle.link_base.specs.declared.kind.TargetFault.{TargetFault}
@@ -20,6 +24,20 @@ object_fault_word object.SymbolValue = codes "SymbolValue"
 object_fault_word object.Aux = codes "Aux"
 object_fault_word object.Selection = codes "Selection"
 object_fault_word object.Associative = codes "Associative"
+
+abbrev pub library_fault_word : LibFault → List ℕ
+library_fault_word library.Magic = codes "Magic"
+library_fault_word library.Header = codes "Header"
+library_fault_word library.Size = codes "Size"
+library_fault_word library.Directory = codes "Directory"
+library_fault_word library.LongName = codes "LongName"
+
+abbrev pub import_fault_word : ImpFault → List ℕ
+import_fault_word short.Length = codes "Length"
+import_fault_word short.Machine = codes "Machine"
+import_fault_word short.Kind = codes "Kind"
+import_fault_word short.NameType = codes "NameType"
+import_fault_word short.Text = codes "Text"
 
 abbrev pub kind_word : Kind → List ℕ
 kind_word form.ThinLibrary = codes "ThinLibrary"

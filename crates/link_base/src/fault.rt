@@ -5,7 +5,10 @@ ghost use Rattle.std.specs.Fmt.{decimal};
 ghost use Rattle.link_base.specs.LineText.{operand, escaped, file_text, module_text};
 ghost use Rattle.link_base.specs.FaultLine.{fault_head, fault_operands, fault_line_text};
 
-use crate::kind::{Kind, ObjFault, TargetFault, kind_word, object_fault_word, target_fault_word};
+use crate::kind::{
+    ImpFault, Kind, LibFault, ObjFault, TargetFault, import_fault_word, kind_word,
+    library_fault_word, object_fault_word, target_fault_word,
+};
 use crate::line::{push_escaped, push_number};
 use crate::memory::Memory;
 use crate::name::Name;
@@ -36,6 +39,19 @@ pub enum Fault<'a> {
         member: Option<Name<'a>>,
         kind: ObjFault,
         index: u32,
+    },
+    /// The library is malformed.
+    BadLibrary {
+        file: Name<'a>,
+        member: Option<Name<'a>>,
+        kind: LibFault,
+        at: u32,
+    },
+    /// The short import is malformed.
+    BadImport {
+        file: Name<'a>,
+        member: Option<Name<'a>>,
+        kind: ImpFault,
     },
     /// The file has a form that the linker does not take.
     Unsupported {
@@ -95,6 +111,8 @@ fn head_of(fault: &Fault<'_>) -> &'static [u8]
         Fault::FileTooLarge { .. } => b"fault 3 FileTooLarge",
         Fault::InputLimit { .. } => b"fault 4 InputLimit",
         Fault::BadObject { .. } => b"fault 5 BadObject",
+        Fault::BadLibrary { .. } => b"fault 6 BadLibrary",
+        Fault::BadImport { .. } => b"fault 7 BadImport",
         Fault::Unsupported { .. } => b"fault 9 Unsupported",
         Fault::Duplicate { .. } => b"fault 11 Duplicate",
         Fault::Undefined { .. } => b"fault 13 Undefined",
@@ -121,6 +139,20 @@ fn push_operands(alloc: Global, line: &mut Vec<u8>, fault: &Fault<'_>) -> Result
             push_file(line, file, member)?;
             push_word(line, object_fault_word(*kind))?;
             push_count(alloc, line, u64::from(*index))
+        }
+        Fault::BadLibrary {
+            file,
+            member,
+            kind,
+            at,
+        } => {
+            push_file(line, file, member)?;
+            push_word(line, library_fault_word(*kind))?;
+            push_count(alloc, line, u64::from(*at))
+        }
+        Fault::BadImport { file, member, kind } => {
+            push_file(line, file, member)?;
+            push_word(line, import_fault_word(*kind))
         }
         Fault::Unsupported { file, member, kind } => {
             push_file(line, file, member)?;

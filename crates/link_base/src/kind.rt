@@ -1,7 +1,7 @@
 //! Why an input is refused, as one word of a diagnostic's line.
 
 ghost use Rattle.std.specs.Prelude.{◌≡◌};
-ghost use Rattle.link_base.specs.KindWord.{object_fault_word, kind_word, target_fault_word};
+ghost use Rattle.link_base.specs.KindWord.{object_fault_word, library_fault_word, import_fault_word, kind_word, target_fault_word};
 
 /// What is wrong with an object file, in the order of the tests. The index beside it says where: a section
 /// (from 1), a symbol record (from 0), or 0.
@@ -31,6 +31,36 @@ pub enum ObjFault {
     Selection,
     /// An associative COMDAT section's parent is not a section, or a chain of parents comes back.
     Associative,
+}
+
+/// What is wrong with a library, in the order of the tests. The offset beside it is that of the member's header.
+#[derive(Clone, Copy, Debug, PartialEq, Eq)]
+pub enum LibFault {
+    /// The file does not begin as a library does.
+    Magic,
+    /// A member's header leaves the file, or does not end as the format says.
+    Header,
+    /// A member's size is no decimal number, or its data leave the file.
+    Size,
+    /// The first member is no directory, or a directory's counts, indices or names leave it.
+    Directory,
+    /// A long name's offset is not in the member of long names.
+    LongName,
+}
+
+/// What is wrong with a short import, in the order of the tests.
+#[derive(Clone, Copy, Debug, PartialEq, Eq)]
+pub enum ImpFault {
+    /// The header or the data leave the file.
+    Length,
+    /// The machine is not x86-64.
+    Machine,
+    /// The type is none of the format.
+    Kind,
+    /// The type of the name is none of those that are read.
+    NameType,
+    /// A text is empty, or does not end in the data.
+    Text,
 }
 
 /// A form of input that is refused, or not read yet.
@@ -121,6 +151,32 @@ pub(crate) fn object_fault_word(kind: ObjFault) -> &'static [u8]
         ObjFault::Aux => b"Aux",
         ObjFault::Selection => b"Selection",
         ObjFault::Associative => b"Associative",
+    }
+}
+
+/// The word that names what is wrong with a library.
+pub(crate) fn library_fault_word(kind: LibFault) -> &'static [u8]
+    ensures { result.now ≡ library_fault_word kind }
+{
+    match kind {
+        LibFault::Magic => b"Magic",
+        LibFault::Header => b"Header",
+        LibFault::Size => b"Size",
+        LibFault::Directory => b"Directory",
+        LibFault::LongName => b"LongName",
+    }
+}
+
+/// The word that names what is wrong with a short import.
+pub(crate) fn import_fault_word(kind: ImpFault) -> &'static [u8]
+    ensures { result.now ≡ import_fault_word kind }
+{
+    match kind {
+        ImpFault::Length => b"Length",
+        ImpFault::Machine => b"Machine",
+        ImpFault::Kind => b"Kind",
+        ImpFault::NameType => b"NameType",
+        ImpFault::Text => b"Text",
     }
 }
 

@@ -11,7 +11,7 @@ mod numbers;
 
 pub use fault::{Fault, fault_line};
 pub use field::{cstr, field_u16, field_u32, field_u64};
-pub use kind::{ImageKind, Kind, ObjFault, TargetFault};
+pub use kind::{ImageKind, ImpFault, Kind, LibFault, ObjFault, TargetFault};
 pub use line::{push_escaped, push_number};
 pub use memory::Memory;
 pub use name::Name;

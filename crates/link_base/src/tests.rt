@@ -50,6 +50,23 @@ fn diagnostics_print_their_lines(rt: HostRuntime) -> Result<(), Fail> {
             "fault 5 BadObject a.obj RelocationRange 1\n",
         ),
         (
+            Fault::BadLibrary {
+                file: name("a.lib"),
+                member: None,
+                kind: LibFault::Header,
+                at: 8,
+            },
+            "fault 6 BadLibrary a.lib Header 8\n",
+        ),
+        (
+            Fault::BadImport {
+                file: name("g.imp"),
+                member: None,
+                kind: ImpFault::Length,
+            },
+            "fault 7 BadImport g.imp Length\n",
+        ),
+        (
             Fault::Unsupported {
                 file: name("a b.lib"),
                 member: Some(name("m\\.obj")),
