@@ -11,9 +11,9 @@ abbrev pub fault_head : Fault → List ℕ
 fault_head (NotFound file member) = codes "fault 2 NotFound"
 fault_head (FileTooLarge file member) = codes "fault 3 FileTooLarge"
 fault_head (InputLimit total) = codes "fault 4 InputLimit"
-fault_head (BadObject file member kind index) = codes "fault 5 BadObject"
-fault_head (BadLibrary file member kind offset) = codes "fault 6 BadLibrary"
-fault_head (BadImport file member kind) = codes "fault 7 BadImport"
+fault_head (BadObject file member reason index) = codes "fault 5 BadObject"
+fault_head (BadLibrary file member reason offset) = codes "fault 6 BadLibrary"
+fault_head (BadImport file member reason) = codes "fault 7 BadImport"
 fault_head (Unsupported file member kind) = codes "fault 9 Unsupported"
 fault_head (Duplicate name first second) = codes "fault 11 Duplicate"
 fault_head (Undefined name position) = codes "fault 13 Undefined"
@@ -27,11 +27,11 @@ abbrev pub fault_operands : Fault → List ℕ
 fault_operands (NotFound file member) = operand (file_text file member)
 fault_operands (FileTooLarge file member) = operand (file_text file member)
 fault_operands (InputLimit total) = operand (decimal total)
-fault_operands (BadObject file member kind index) =
-    operand (file_text file member) ++ (operand (object_fault_word kind) ++ operand (decimal index))
-fault_operands (BadLibrary file member kind offset) =
-    operand (file_text file member) ++ (operand (library_fault_word kind) ++ operand (decimal offset))
-fault_operands (BadImport file member kind) = operand (file_text file member) ++ operand (import_fault_word kind)
+fault_operands (BadObject file member reason index) =
+    operand (file_text file member) ++ (operand (object_fault_word reason) ++ operand (decimal index))
+fault_operands (BadLibrary file member reason offset) =
+    operand (file_text file member) ++ (operand (library_fault_word reason) ++ operand (decimal offset))
+fault_operands (BadImport file member reason) = operand (file_text file member) ++ operand (import_fault_word reason)
 fault_operands (Unsupported file member kind) = operand (file_text file member) ++ operand (kind_word kind)
 fault_operands (Duplicate name first second) =
     operand (escaped name) ++ (operand (module_text first) ++ operand (module_text second))
