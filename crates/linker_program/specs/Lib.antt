@@ -11,3 +11,8 @@ pub mod Outcome
 pub mod LinkRun
 pub mod Steps
 pub mod Opening
+pub mod Placed
+pub mod Loading
+pub mod Modules
+pub mod Definitions
+pub mod Pieces

@@ -6,6 +6,7 @@
 
 mod answer;
 mod bytes_out;
+mod definitions;
 mod header_sums;
 mod headers;
 mod image_bytes;
@@ -15,7 +16,9 @@ mod link;
 mod linker;
 mod opening;
 mod pe_format;
+mod placed;
 mod plan;
+mod refusal;
 mod status;
 mod words;
 mod write;

@@ -1,0 +1,57 @@
+//! Why a stage of a link does not come to its end.
+
+use link_base::{Fault, Memory};
+use std::alloc::AllocError;
+
+/// Why a stage that only computes ends a link.
+#[derive(Drop)]
+pub enum Refusal<'a> {
+    /// The input is refused.
+    Fault(Fault<'a>),
+    /// Want of memory.
+    Memory,
+}
+
+/// Why a stage that reads files ends a link.
+#[derive(Drop)]
+pub enum Stop<'a> {
+    /// The input is refused.
+    Fault(Fault<'a>),
+    /// The read of a file of this name failed.
+    Read(&'a str),
+    /// Want of memory.
+    Memory,
+}
+
+impl<'a> From<AllocError> for Refusal<'a> {
+    ghost use Rattle.std.specs.Prelude.{◌≡◌};
+    ghost use Rattle.linker_program.specs.declared.refusal.Refusal.TheVariants.{Memory};
+
+    ghost from_gives = { λ _ e. e ≡ Memory };
+
+    fn from(_error: AllocError) -> Refusal<'a> {
+        Refusal::Memory
+    }
+}
+
+impl<'a> From<Memory> for Refusal<'a> {
+    ghost use Rattle.std.specs.Prelude.{◌≡◌};
+    ghost use Rattle.linker_program.specs.declared.refusal.Refusal.TheVariants.{Memory};
+
+    ghost from_gives = { λ _ e. e ≡ Memory };
+
+    fn from(_error: Memory) -> Refusal<'a> {
+        Refusal::Memory
+    }
+}
+
+impl<'a> From<AllocError> for Stop<'a> {
+    ghost use Rattle.std.specs.Prelude.{◌≡◌};
+    ghost use Rattle.linker_program.specs.declared.refusal.Stop.TheVariants.{Memory};
+
+    ghost from_gives = { λ _ e. e ≡ Memory };
+
+    fn from(_error: AllocError) -> Stop<'a> {
+        Stop::Memory
+    }
+}
