@@ -1,19 +1,29 @@
--- The expected outcome of a link: what its words and files decide, stage by stage. The first stage that has a
--- fault ends it, and where none has, the plan is linked.
-use Rattle.std.specs.Prelude.{◌≡◌, ℕ, Bool, nat_eq, nat_lt, if◌then◌else◌, List, [], ◌∷◌, ◌++◌, length, Option, Some, None, codes}
-use lib.Pointwise.{pointwise}
+-- The expected outcome of a link: what its words and files decide, stage by stage. The first stage that has a fault ends
+-- it, and where none has, the plan is linked. The order of the stages is own.
+use Rattle.std.specs.Prelude.{◌≡◌, ◌≤◌, ◌+◌, ℕ, true, false, List, [], ◌∷◌, ◌++◌, length, map, replicate, slice_index, Option, Some, None, codes}
 use Rattle.std.specs.Fmt.{decimal}
-use Rattle.link_base.specs.Bytes.{first_below}
 use Rattle.link_base.specs.LineText.{escaped}
 use Rattle.link_base.specs.declared.fault.Fault.{Fault}
-use Rattle.link_base.specs.declared.fault.Fault.TheVariants.{NotFound, FileTooLarge, Unsupported, Undefined}
-use Rattle.link_base.specs.declared.kind.Kind.TheVariants.{NotBuilt}
-use Rattle.link_files.specs.Store.{Store, file_of}
-use Rattle.coff_object.specs.FirstForm.{is_first_form}
-use Rattle.coff_object.specs.ObjectFile.{record_total, symbol_name_of, symbol_value_of}
+use Rattle.link_base.specs.declared.fault.Fault.TheVariants as fault
+use Rattle.link_files.specs.Store.{Store}
+use Rattle.section_group.specs.declared.piece.OutSection.{OutSection}
+use Rattle.section_group.specs.declared.piece.Piece.{Piece}
+use Rattle.section_group.specs.SectionOrder.{Input}
+use Rattle.section_group.specs.Placement.{IsGrouping}
+use Rattle.section_group.specs.Uniqueness.{rows_of}
+use Rattle.address_layout.specs.declared.layout.Layout.{Layout}
+use Rattle.address_layout.specs.declared.layout.LayoutError.TheVariants as bad
+use Rattle.address_layout.specs.Places.{section_count}
+use Rattle.address_layout.specs.Layout.{IsLayout, IsPlaceRefusal}
+use Rattle.image_writer.specs.ExpectedImage.{ImagePlan}
+use Rattle.image_writer.specs.WrittenImage.{written_plan}
 use Rattle.linker_program.specs.LinkWords.{LinkRequest, requested}
-use Rattle.linker_program.specs.ExpectedImage.{ImagePlan}
-use Rattle.linker_program.specs.Placement.{image_of}
+use Rattle.linker_program.specs.Opening.{first_fault}
+use Rattle.linker_program.specs.Loading.{reading_fault, read_files}
+use Rattle.linker_program.specs.Modules.{modules_fault}
+use Rattle.linker_program.specs.Definitions.{all_definitions, definition_at, definition_named, duplicate_fault, undefined_fault}
+use Rattle.linker_program.specs.Pieces.{link_pieces, link_contents, piece_index, unplaced_fault}
+use Rattle.linker_program.specs.DefaultHeaders.{default_headers}
 
 -- what is written, and of what it is made: the objects, in the order of joining
 pub record Plan : Type 0 where
@@ -29,58 +39,92 @@ pub data Outcome : Type 0 where
   -- the link is done
   Linked : Plan → Outcome
 
--- ---- loading
+-- ---- the stages between reading and layout: opening, definitions, the entry
 
--- the greatest number of bytes of a file that a link reads
-abbrev pub file_limit : ℕ
-file_limit = 268435456
+abbrev pub entry_fault : List (List ℕ) → Option ℕ → Option Fault
+entry_fault modules None = None
+entry_fault modules (Some k) = unplaced_fault (link_pieces modules) (definition_at (all_definitions modules) k)
 
--- a file is read, and then opened
-abbrev pub loading_fault : List ℕ → Option (List ℕ) → Option Fault
-loading_fault name None = Some (NotFound name None)
-loading_fault name (Some bytes) =
-    if nat_lt file_limit (length bytes) then Some (FileTooLarge name None)
-    else (if is_first_form bytes then None else Some (Unsupported name None NotBuilt))
+-- why modules with this entry are not laid out
+unfoldable pub link_fault : List ℕ → List (List ℕ) → Option Fault
+link_fault entry modules =
+    first_fault (duplicate_fault (all_definitions modules))
+    (first_fault (undefined_fault (all_definitions modules) entry)
+    (entry_fault modules (definition_named (all_definitions modules) entry)))
 
--- ---- meaning
+-- why files are not laid out
+unfoldable pub files_fault : LinkRequest → List (List ℕ) → Option Fault
+files_fault request files = first_fault (modules_fault request.inputs files) (link_fault request.entry files)
 
-abbrev pub defines : List ℕ → List ℕ → ℕ → Bool
-defines object name symbol = pointwise nat_eq (symbol_name_of object symbol) name
+-- ---- the layout
 
--- the first symbol of an object that defines the name
-abbrev pub definition_of : List ℕ → List ℕ → Option ℕ
-definition_of object name = first_below (record_total object) (defines object name)
+-- every piece is used, and nothing is merged beyond the presets
+abbrev pub link_input : List (List ℕ) → Input
+link_input modules =
+    record { pieces = link_pieces modules; used = replicate (length (link_pieces modules)) true; merges = [] }
+
+-- why sections have no layout: there are too many of them, or the image is too large
+abbrev pub IsLayoutFault : List Piece → List OutSection → Fault → Type 0
+IsLayoutFault pieces sections (fault.TooManySections count) = IsPlaceRefusal pieces sections false (bad.TooManySections count)
+IsLayoutFault pieces sections (fault.ImageTooLarge size) = IsPlaceRefusal pieces sections false (bad.ImageTooLarge size)
+IsLayoutFault pieces sections other = ⊥
+
+pub record IsRefusedLayout (modules : List (List ℕ)) (fault : Fault) : Type 0 where
+  pub sections : List OutSection
+  pub grouped : IsGrouping (link_input modules) sections
+  pub refused : IsLayoutFault (link_pieces modules) sections fault
+
+-- the RVA of the entry, by the RVAs of the pieces
+pub record IsEntryRva (modules : List (List ℕ)) (entry rvas : List ℕ) (rva : ℕ) : Type 0 where
+  pub definition : ℕ
+  pub defined : definition_named (all_definitions modules) entry ≡ Some definition
+  pub piece : ℕ
+  pub stands : piece_index (link_pieces modules) (definition_at (all_definitions modules) definition) ≡ Some piece
+  pub is : rva ≡ slice_index rvas piece + (definition_at (all_definitions modules) definition).value
+
+-- the plan of modules: their grouping, its layout, and the image that these make
+pub record IsPlan (request : LinkRequest) (modules : List (List ℕ)) (plan : Plan) : Type 0 where
+  pub sections : List OutSection
+  pub grouped : IsGrouping (link_input modules) sections
+  pub few : section_count sections false ≤ 96
+  pub layout : Layout
+  pub laid_out : IsLayout (link_pieces modules) sections false layout
+  pub within : layout.image ≤ 536870912
+  pub entry : ℕ
+  pub is_entry : IsEntryRva modules request.entry layout.pieces.items entry
+  pub output : plan.output ≡ request.output
+  pub joined : plan.modules ≡ modules
+  pub image : plan.image ≡ written_plan (default_headers entry) (rows_of sections) layout.sections.items layout.pieces.items layout.image (link_contents modules)
 
 -- ---- the outcome
 
-abbrev pub link_outcome : LinkRequest → List ℕ → Option ℕ → Outcome
-link_outcome request object None = Refused (Undefined request.entry None)
-link_outcome request object (Some symbol) =
-    Linked (record { output = request.output; modules = object ∷ []; image = image_of object (symbol_value_of object symbol) })
+-- of modules that come to the layout
+abbrev pub LayoutOutcome : LinkRequest → List (List ℕ) → Outcome → Type 0
+LayoutOutcome request modules (Usage index kind) = ⊥
+LayoutOutcome request modules (Refused fault) = IsRefusedLayout modules fault
+LayoutOutcome request modules (Linked plan) = IsPlan request modules plan
 
--- the object of a request that loads without a fault
-abbrev pub loaded_outcome : LinkRequest → Option (List ℕ) → Outcome
-loaded_outcome request None = Refused (NotFound request.input None)
-loaded_outcome request (Some object) = link_outcome request object (definition_of object request.entry)
+abbrev pub OutcomeBehind : LinkRequest → List (List ℕ) → Option Fault → Outcome → Type 0
+OutcomeBehind request modules (Some fault) outcome = outcome ≡ Refused fault
+OutcomeBehind request modules None outcome = LayoutOutcome request modules outcome
 
-abbrev pub file_outcome : LinkRequest → Option (List ℕ) → Option Fault → Outcome
-file_outcome request file (Some fault) = Refused fault
-file_outcome request file None = loaded_outcome request file
+-- of files that were read
+abbrev pub FilesOutcome : LinkRequest → List (List ℕ) → Outcome → Type 0
+FilesOutcome request files outcome = OutcomeBehind request files (files_fault request files) outcome
 
-unfoldable pub request_outcome : LinkRequest → Option (List ℕ) → Outcome
-request_outcome request file = file_outcome request file (loading_fault request.input file)
+abbrev pub ReadOutcome : LinkRequest → List (List ℕ) → Option Fault → Outcome → Type 0
+ReadOutcome request files (Some fault) outcome = outcome ≡ Refused fault
+ReadOutcome request files None outcome = FilesOutcome request files outcome
 
 -- words of no form that is read are refused at the first one
-abbrev pub words_outcome : Option LinkRequest → Store → Outcome
-words_outcome None store = Usage 0 (codes "NotBuilt")
-words_outcome (Some request) store = request_outcome request (file_of store request.input)
-
-unfoldable pub expected : List (List ℕ) → Store → Outcome
-expected words store = words_outcome (requested words) store
+abbrev pub WordsOutcome : Option LinkRequest → Store → Outcome → Type 0
+WordsOutcome None store outcome = outcome ≡ Usage 0 (codes "NotBuilt")
+WordsOutcome (Some request) store outcome =
+    ReadOutcome request (read_files store request.inputs) (reading_fault store request.inputs) outcome
 
 -- the outcome that words and files have
 pub record HasOutcome (words : List (List ℕ)) (store : Store) (outcome : Outcome) : Type 0 where
-  pub is : expected words store ≡ outcome
+  pub is : WordsOutcome (requested words) store outcome
 
 -- ---- the lines that are printed
 

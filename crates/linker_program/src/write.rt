@@ -1,16 +1,16 @@
 //! The last step of a link: the image is made and written.
 
 ghost use Rattle.std.specs.Prelude.{◌≡◌, ◌≤◌, ◌<◌, ◌-◌, ◌^◌, length, IfOk, OnErr};
-ghost use Rattle.linker_program.specs.ExpectedImage.{image_file};
-ghost use Rattle.linker_program.specs.Outcome.{file_limit};
-ghost use Rattle.linker_program.specs.PlanView.{plan_view};
+ghost use Rattle.image_writer.specs.ExpectedImage.{image_file};
+ghost use Rattle.image_writer.specs.WrittenImage.{IsLaidOut, HasContents};
+ghost use Rattle.linker_program.specs.PlanSteps.{plan_image};
 ghost use Rattle.linker_program.specs.Steps.{files_of, AnswersWrite, LeftByWrite};
 
 use crate::answer::Answer;
-use crate::image_bytes::image;
 use crate::lines::{summary_line, write_failure_line};
-use crate::plan::ImagePlan;
+use crate::plan::LinkPlan;
 use crate::status::Status;
+use image_writer::image;
 use link_base::Memory;
 use link_files::{Files, WriteError};
 use std::alloc::Global;
@@ -20,24 +20,29 @@ pub(crate) fn write_image<F: Files>(
     alloc: Global,
     files: &mut F,
     output: &str,
-    plan: &ImagePlan<'_>,
+    plan: &LinkPlan<'_>,
 ) -> Result<Answer, Memory>
     requires reads_below { F.read_faults files.old < 2 ^ 64 - 1 }
     requires writes_below { F.write_faults files.old < 2 ^ 64 - 1 }
-    requires whole { length plan.now.bytes.now ≡ plan.now.row.size }
-    requires raw { plan.now.row.size ≤ plan.now.row.raw_size }
-    requires small { plan.now.row.size ≤ file_limit }
+    requires laid_out { IsLaidOut plan.now.pieces.items plan.now.sections.items plan.now.layout }
+    requires contents { HasContents plan.now.pieces.items plan.now.sections.items }
     ensures written { IfOk result (λ answer. AnswersWrite
         (files_of F.store F.read_faults F.write_faults files.old)
         (files_of F.store F.read_faults F.write_faults files.new)
-        output.now (image_file (plan_view plan.now)) answer.status answer.line.items) }
+        output.now plan.now.modules (length plan.now.sections.items) (image_file (plan_image plan.now)) answer.status answer.line.items) }
     ensures memory { OnErr result (LeftByWrite
         (files_of F.store F.read_faults F.write_faults files.old)
         (files_of F.store F.read_faults F.write_faults files.new)
-        output.now (image_file (plan_view plan.now))) }
+        output.now (image_file (plan_image plan.now))) }
 {
-    let image = image(alloc, plan)?;
-    let line = summary_line(alloc, output, 1, 1, image.len() as u64)?;
+    let image = image(alloc, &plan.headers, &plan.layout, &plan.sections, &plan.pieces)?;
+    let line = summary_line(
+        alloc,
+        output,
+        plan.modules as u64,
+        plan.sections.len() as u64,
+        image.len() as u64,
+    )?;
     match files.write(output, &image) {
         Ok(()) => Ok(Answer {
             status: Status::Done,

@@ -1,6 +1,0 @@
-use Rattle.std.proofs.Common.{◌≡◌, drop}
-use Rattle.linker_program.specs.HeaderTable.{base_of_code}
-use Rattle.linker_program.proofs.header_sums.code_base.Given as goal
-
-abbrev pub invariant-loop-row : goal.invariant-loop-row
-invariant-loop-row l = base_of_code (drop l.row-index l.rows) ≡ base_of_code l.rows

@@ -1,7 +1,0 @@
-use Rattle.std.proofs.Common.{◌≡◌, ◌++◌, take}
-use Rattle.std.specs.List.{flat_map}
-use Rattle.linker_program.specs.HeaderTable.{directory_fields}
-use Rattle.linker_program.proofs.headers.push_directories.Given as goal
-
-abbrev pub invariant-loop-directory : goal.invariant-loop-directory
-invariant-loop-directory l = l.out.items ≡ l.initial.out.items ++ flat_map directory_fields (take l.directory-index l.directories)
