@@ -1,0 +1,11 @@
+pub mod BufferLemmas
+pub mod StandsAt
+pub mod HeaderParts
+pub mod HeaderFields
+pub mod RowPlaces
+pub mod SectionFields
+pub mod FileBytes
+pub mod ImageTests
+pub mod ImageMemory
+pub mod ImageSlack
+pub mod ImageTheorems
