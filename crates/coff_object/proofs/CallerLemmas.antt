@@ -1,5 +1,5 @@
 -- What callers may cite of a well formed object: what is in the file, what the fields can be, and where symbols
--- start.
+-- start; and of the first bytes of a text.
 use Rattle.std.proofs.Common.{◌≡◌, ℕ, zero, suc, ◌+◌, ◌-◌, ◌*◌, ◌^◌, ◌<◌, ◌≤◌, Bool, true, false, cond, ◌&&◌, not, eqb, leb, ltb, List, length, drop, None, refl, sym, ap, ◌∙◌, inl, inr, lt-ltb, le-leb, lit≤, arith}
 use Rattle.std.specs.Cmp.Derive.{both_true}
 use Rattle.std.proofs.lemmas.Bool.{cases_lt, false≢true, eq-eqb, eqb-true}
@@ -13,6 +13,7 @@ use Rattle.coff_object.proofs.WholeLemmas.{record_whole, and_second, ltb_false, 
 use Rattle.coff_object.proofs.LoopLemmas.{section_passes, symbol_passes}
 use Rattle.coff_object.proofs.RowLemmas.{ranges_hold, values_hold, fault_none}
 use Rattle.coff_object.proofs.Readable.{readable, starts_below, starts_with_none}
+pub use Rattle.coff_object.proofs.TextStartLemmas.{before_first-take}
 
 -- ---- where symbols start
 

@@ -1,5 +1,6 @@
 pub mod NameLemmas
 pub mod TextLemmas
+pub mod TextStartLemmas
 pub mod WholeLemmas
 pub mod LoopLemmas
 pub mod RowLemmas

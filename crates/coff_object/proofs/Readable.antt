@@ -3,15 +3,16 @@ use Rattle.std.proofs.Common.{◌≡◌, ℕ, ◌+◌, ◌-◌, ◌*◌, ◌<◌
 use Rattle.std.proofs.lemmas.Bool.{false≢true, ltb-true}
 use Rattle.link_base.specs.Bytes.{u32_at}
 use Rattle.coff_object.specs.ObjectFile.{section_header, section_total, relocation_field_of, relocations_offset_of, relocation_record, has_overflow_count, relocation_total, record_total, symbol_record, aux_total_of, aux_left, starts_symbol}
-use Rattle.coff_object.specs.ObjectFaults.{leaves_file, is_truncated, body_leaves, counted_leave, relocations_leave, record_leaves, aux_leave, symbol_leaves, symbol_range_fault, table_leaves, object_fault}
+use Rattle.coff_object.specs.ObjectFaults.{leaves_file, is_truncated, body_leaves, counted_leave, relocations_leave, lacks_section_name, record_leaves, aux_leave, symbol_leaves, symbol_range_fault, table_leaves, object_fault}
 use Rattle.coff_object.proofs.WholeLemmas.{or_left, or_right, and_second, ltb_false, range_whole, file_whole, header_whole, leaves_not, record_whole}
 use Rattle.coff_object.proofs.LoopLemmas.{section_passes}
-use Rattle.coff_object.proofs.RowLemmas.{ranges_hold, values_hold, fault_none, table_stays}
+use Rattle.coff_object.proofs.RowLemmas.{ranges_hold, values_hold, fault_none, table_stays, names_stay}
 
--- a section's header and data, and its relocations, are in the file
+-- a section's header and data, its relocations, and the text that its name refers to are in the file
 pub record ReadableSection (bytes : List ℕ) (section : ℕ) : Type 0 where
   pub header : section_header bytes section + 40 ≤ length bytes
   pub body : body_leaves bytes section ≡ false
+  pub named : lacks_section_name bytes section ≡ false
   pub counted : has_overflow_count bytes section ≡ true → relocations_offset_of bytes section + 4 ≤ length bytes
   pub relocations : (k : ℕ) → k < relocation_total bytes section → relocation_record bytes section k + 10 ≤ length bytes
 
@@ -49,14 +50,15 @@ count_whole : (bytes : List ℕ) (offset field : ℕ) (overflow : Bool) → cond
 count_whole bytes offset field true e is = omega (arith, counted_whole bytes offset e)
 count_whole bytes offset field false e is = absurd (false≢true is)
 
-readable_section : (bytes : List ℕ) (section : ℕ) → is_truncated bytes ≡ false → body_leaves bytes section ≡ false → relocations_leave bytes section ≡ false → 1 ≤ section → section ≤ section_total bytes → ReadableSection bytes section
+readable_section : (bytes : List ℕ) (section : ℕ) → is_truncated bytes ≡ false → body_leaves bytes section ≡ false → relocations_leave bytes section ≡ false → lacks_section_name bytes section ≡ false → 1 ≤ section → section ≤ section_total bytes → ReadableSection bytes section
 unfolding relocations_leave
-readable_section bytes section headers body relocations first last =
+readable_section bytes section headers body relocations named first last =
     let offset = relocations_offset_of bytes section in
     let field = relocation_field_of bytes section in
     record {
       header = header_whole bytes section headers first last;
       body = body;
+      named = named;
       counted = λ counts. count_whole bytes offset field (has_overflow_count bytes section) relocations counts;
       relocations = λ k lt. relocation_whole bytes offset field k (has_overflow_count bytes section) relocations lt;
     }
@@ -103,7 +105,7 @@ readable bytes e =
     record {
       file = file_whole bytes ranges.headers;
       table = table_stays bytes values.strings;
-      sections = λ i first last. readable_section bytes i ranges.headers (section_passes bytes (body_leaves bytes) i first last ranges.bodies) (section_passes bytes (relocations_leave bytes) i first last ranges.relocations) first last;
+      sections = λ i first last. readable_section bytes i ranges.headers (section_passes bytes (body_leaves bytes) i first last ranges.bodies) (section_passes bytes (relocations_leave bytes) i first last ranges.relocations) (section_passes bytes (lacks_section_name bytes) i first last (names_stay bytes values.strings)) first last;
       symbols = λ j starts. readable_symbol bytes j ranges.symbols starts;
     }
 

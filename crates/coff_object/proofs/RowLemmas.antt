@@ -3,7 +3,7 @@ use Rattle.std.proofs.Common.{◌≡◌, ℕ, Bool, true, false, List, Option, S
 use Rattle.link_base.specs.declared.kind.ObjFault.{ObjFault}
 use Rattle.coff_object.specs.declared.error.ObjError.{ObjError}
 use Rattle.link_base.specs.Bytes.{first_of}
-use Rattle.coff_object.specs.ObjectFaults.{at_start, first_section, first_symbol, is_truncated, is_other_machine, body_leaves, relocations_leave, symbol_range_fault, table_leaves, string_table_fault, has_no_alignment, has_no_section, value_exceeds, row, first_row, range_rows, value_rows, object_fault}
+use Rattle.coff_object.specs.ObjectFaults.{at_start, first_section, first_symbol, is_truncated, is_other_machine, body_leaves, relocations_leave, symbol_range_fault, table_leaves, string_table_fault, lacks_section_name, has_no_alignment, has_no_section, value_exceeds, row, first_row, range_rows, value_rows, object_fault}
 
 neither_row : (first later : Option ObjError) → first_row first later ≡ None → (first ≡ None) × (later ≡ None)
 neither_row None later e = (refl, e)
@@ -71,3 +71,7 @@ fault_none bytes e = neither_row (range_rows bytes) (value_rows bytes) e
 pub table_stays : (bytes : List ℕ) → string_table_fault bytes ≡ None → table_leaves bytes ≡ false
 unfolding string_table_fault
 table_stays bytes e = start_none (table_leaves bytes) (neither_of _ _ e).0
+
+pub names_stay : (bytes : List ℕ) → string_table_fault bytes ≡ None → first_section bytes (lacks_section_name bytes) ≡ None
+unfolding string_table_fault
+names_stay bytes e = (neither_of _ _ (neither_of _ _ e).1).0

@@ -1,7 +1,8 @@
 //! Fields of an object at a byte offset that is known to lie in the file.
 
-ghost use Rattle.std.specs.Prelude.{◌≡◌, ◌<◌, ◌≤◌, ◌+◌, ◌^◌, length, false};
-ghost use Rattle.link_base.specs.Bytes.{u16_at, u32_at, bytes_at};
+ghost use Rattle.std.specs.Prelude.{◌≡◌, ◌<◌, ◌≤◌, ◌+◌, ◌^◌, length, take, false};
+ghost use Rattle.std.specs.List.{before_first};
+ghost use Rattle.link_base.specs.Bytes.{u16_at, u32_at, bytes_at, is_nul};
 ghost use Rattle.coff_object.specs.ObjectFile.{short_name_at};
 ghost use Rattle.coff_object.specs.ObjectFaults.{leaves_file};
 
@@ -60,15 +61,32 @@ pub(crate) fn range_in(bytes: &[u8], at: usize, count: usize) -> &[u8]
     slice_in(bytes, at, count)
 }
 
+/// The first bytes, at most `limit`.
+pub(crate) fn first_bytes(bytes: &[u8], limit: usize) -> &[u8]
+    ensures { result.now ≡ take limit bytes.now }
+{
+    if limit >= bytes.len() {
+        return bytes;
+    }
+    &bytes[..limit]
+}
+
+/// The bytes before the first NUL, or all where there is none.
+pub(crate) fn before_nul(bytes: &[u8]) -> &[u8]
+    ensures text { result.now ≡ before_first is_nul bytes.now }
+    ensures short { length result.now ≤ length bytes.now }
+{
+    match memchr(0, bytes) {
+        Some(len) => &bytes[..len],
+        None => bytes,
+    }
+}
+
 /// The text in the field of eight bytes at `at`, up to its first NUL.
 pub(crate) fn short_text_in(bytes: &[u8], at: usize) -> &[u8]
     requires { at + 8 ≤ length bytes.now }
     ensures text { result.now ≡ short_name_at bytes.now at }
     ensures short { length result.now ≤ 8 }
 {
-    let text = slice_in(bytes, at, 8);
-    match memchr(0, text) {
-        Some(len) => slice_in(text, 0, len),
-        None => text,
-    }
+    before_nul(slice_in(bytes, at, 8))
 }

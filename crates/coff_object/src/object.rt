@@ -1,6 +1,6 @@
 //! An object file, as a view of its bytes.
 
-ghost use Rattle.std.specs.Prelude.{◌≡◌, ◌<◌, ◌≤◌, ◌^◌, length, IfOk, OnOk, IfErr, is_ok, is_none, true, None, Some};
+ghost use Rattle.std.specs.Prelude.{◌≡◌, ◌<◌, ◌≤◌, ◌^◌, length, take, IfOk, OnOk, IfErr, is_ok, is_none, true, None, Some};
 ghost use Rattle.std.specs.Option.{option_copied};
 ghost use Rattle.coff_object.specs.ObjectFile.{section_total, section_name_of, raw_size_of, flags_of, alignment_of, body_of, relocation_total, relocation_offset_of, relocation_symbol_of, relocation_kind_of, record_total, starts_symbol, symbol_name_of, symbol_value_of, symbol_section_of, symbol_kind_of, symbol_class_of, aux_total_of, aux_record};
 ghost use Rattle.coff_object.specs.ObjectFaults.{object_fault};
@@ -9,8 +9,9 @@ use crate::error::ObjError;
 use crate::fault::object_fault;
 use crate::header::{record_total, section_total};
 use crate::relocation::{Relocation, relocation_in, relocation_total};
-use crate::section::{Section, section_in};
+use crate::section::{Section, section_in, section_name_start};
 use crate::symbol::{Symbol, aux_in, symbol_in};
+use link_base::Name;
 use std::marker::Model;
 
 /// An object file that was opened. What it gives out is borrowed from the file's bytes. Sections are numbered
@@ -66,6 +67,15 @@ impl<'a> Object<'a> {
         ensures body { option_copied result.body ≡ body_of self.now i }
     {
         section_in(self.bytes, i)
+    }
+
+    /// The first bytes of a section's name, at most `limit`: a name that is longer costs no more.
+    pub fn section_name_start(&self, i: u32, limit: usize) -> Name<'a>
+        requires first { 1 ≤ i }
+        requires last { i ≤ section_total self.now }
+        ensures { result ≡ take limit (section_name_of self.now i) }
+    {
+        section_name_start(self.bytes, i, limit)
     }
 
     /// How many relocations a section has.

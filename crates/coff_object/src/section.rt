@@ -1,15 +1,15 @@
 //! Sections (PE Format, "Section Table (Section Headers)").
 
-ghost use Rattle.std.specs.Prelude.{◌≡◌, ◌≤◌, ◌+◌, length, false};
+ghost use Rattle.std.specs.Prelude.{◌≡◌, ◌≤◌, ◌+◌, length, take, false};
 ghost use Rattle.std.specs.Option.{option_copied};
 ghost use Rattle.coff_object.specs.ObjectFile.{string_table, section_header, section_name_of, raw_size_of, flags_of, alignment_of, is_uninitialised, body_of};
 ghost use Rattle.coff_object.specs.ObjectFaults.{body_leaves, table_leaves, lacks_section_name, has_no_alignment};
 ghost use Rattle.coff_object.specs.TextEnd.{EndsTexts};
 
 use crate::constants::{SCN_CNT_UNINITIALIZED_DATA, SCN_TYPE_NO_PAD};
-use crate::fields::{leaves_file, range_in, short_text_in};
+use crate::fields::{first_bytes, leaves_file, range_in, short_text_in};
 use crate::header::{flags, raw_offset, raw_size, section_header};
-use crate::strings::{has_long_name, long_section_name, names_an_offset};
+use crate::strings::{has_long_name, long_name_start, long_section_name, names_an_offset};
 use link_base::Name;
 
 /// A section: its name, its flags, its size and alignment in bytes, and its data, which an uninitialised
@@ -99,6 +99,23 @@ fn section_name(bytes: &[u8], section: u32) -> Name<'_>
     match long_section_name(bytes, text) {
         Some(name) => name,
         None => Name::of(&[]),
+    }
+}
+
+/// The first bytes of a section's name, at most `limit`.
+#[tactic(auto, unfolding(crate::specs::ObjectFile::section_name_of, crate::specs::ObjectFaults::lacks_section_name))]
+pub(crate) fn section_name_start(bytes: &[u8], section: u32, limit: usize) -> Name<'_>
+    requires first { 1 ≤ section }
+    requires header { section_header bytes.now section + 40 ≤ length bytes.now }
+    requires table { table_leaves bytes.now ≡ false }
+    requires named { lacks_section_name bytes.now section ≡ false }
+    ensures { result ≡ take limit (section_name_of bytes.now section) }
+{
+    let text = short_text_in(bytes, section_header(bytes, section));
+    if names_an_offset(text) {
+        Name::of(long_name_start(bytes, text, limit))
+    } else {
+        Name::of(first_bytes(text, limit))
     }
 }
 

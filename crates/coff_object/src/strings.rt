@@ -1,13 +1,13 @@
 //! The string table, and the names that stand in it (PE Format, "COFF String Table").
 
-ghost use Rattle.std.specs.Prelude.{◌≡◌, ◌<◌, ◌≤◌, ◌+◌, ◌^◌, length, false, is_some};
+ghost use Rattle.std.specs.Prelude.{◌≡◌, ◌<◌, ◌≤◌, ◌+◌, ◌^◌, [], length, take, false, is_some, is_none, unwrap_or};
 ghost use Rattle.std.specs.Option.{option_copied, option_map};
 ghost use Rattle.link_base.specs.Bytes.{text_at};
 ghost use Rattle.coff_object.specs.ObjectFile.{string_table_offset, string_table_size, string_table, text_in_table, names_an_offset, decimal_number, long_section_name};
 ghost use Rattle.coff_object.specs.ObjectFaults.{table_leaves};
 ghost use Rattle.coff_object.specs.TextEnd.{EndsTexts};
 
-use crate::fields::{range_in, u32_in};
+use crate::fields::{before_nul, first_bytes, range_in, u32_in};
 use crate::header::{record_total, symbols_offset};
 use link_base::{Name, cstr};
 use memchr::memrchr;
@@ -67,6 +67,19 @@ pub(crate) fn text_in_table(bytes: &[u8], offset: u32) -> Option<Name<'_>>
     cstr(string_table(bytes), offset as usize)
 }
 
+/// The first bytes, at most `limit`, of the text that begins at an offset of the string table and is known to
+/// end in it. No byte behind the first `limit` is looked at.
+#[tactic(auto, using(crate::proofs::TextStartLemmas::text_start), unfolding(crate::specs::ObjectFile::text_in_table))]
+fn text_start(bytes: &[u8], offset: u32, limit: usize) -> &[u8]
+    requires file { 20 ≤ length bytes.now }
+    requires table { table_leaves bytes.now ≡ false }
+    requires ends { is_none (text_in_table bytes.now offset) ≡ false }
+    ensures { result.now ≡ take limit (unwrap_or (text_in_table bytes.now offset) []) }
+{
+    let (_, rest) = string_table(bytes).split_at(offset as usize);
+    before_nul(first_bytes(rest, limit))
+}
+
 /// Whether a text ends in the string table that begins at an offset of it.
 #[tactic(auto, unfolding(crate::specs::ObjectFile::text_in_table))]
 pub(crate) fn has_text(bytes: &[u8], offset: u32, texts_end: usize) -> bool
@@ -94,6 +107,22 @@ pub(crate) fn long_section_name<'a>(bytes: &'a [u8], text: &[u8]) -> Option<Name
 {
     let offset = decimal_number(&text[1..])?;
     text_in_table(bytes, offset)
+}
+
+/// The first bytes, at most `limit`, of the name that the text of a section's name field refers to.
+#[tactic(auto, unfolding(crate::specs::ObjectFile::long_section_name))]
+pub(crate) fn long_name_start<'a>(bytes: &'a [u8], text: &[u8], limit: usize) -> &'a [u8]
+    requires file { 20 ≤ length bytes.now }
+    requires table { table_leaves bytes.now ≡ false }
+    requires slash { 1 ≤ length text.now }
+    requires short { length text.now ≤ 8 }
+    requires named { is_none (long_section_name bytes.now text.now) ≡ false }
+    ensures { result.now ≡ take limit (unwrap_or (long_section_name bytes.now text.now) []) }
+{
+    match decimal_number(&text[1..]) {
+        Some(offset) => text_start(bytes, offset, limit),
+        None => &[],
+    }
 }
 
 /// Whether the text of a section's name field refers to a text of the string table.

@@ -297,6 +297,50 @@ fn gives_what_was_put_in(rt: HostRuntime) -> Result<(), Fail> {
     Ok(())
 }
 
+/// A section, how many bytes of its name are wanted at most, and these. Behind the long name other texts follow.
+const NAME_STARTS: [(u32, usize, &[u8]); 9] = [
+    (1, 0, b""),
+    (1, 3, b".te"),
+    (1, 8, b".text"),
+    (4, 8, b".data$x1"),
+    (3, 0, b""),
+    (3, 7, b".rdata$"),
+    (3, 18, b".rdata$a_long_name"),
+    (3, 19, b".rdata$a_long_name"),
+    (3, 4_096, b".rdata$a_long_name"),
+];
+
+fn name_start_at<'a>(object: &Object<'a>, i: u32, limit: usize) -> Option<Name<'a>> {
+    if i == 0 || i > object.section_count() {
+        return None;
+    }
+    Some(object.section_name_start(i, limit))
+}
+
+/// The first row whose bytes are not those that the object gives.
+fn wrong_start(bytes: &[u8]) -> Option<(u32, usize)> {
+    if bytes.len() >= 0x1_0000_0000 {
+        return Some((0, 0));
+    }
+    let object = match Object::open(bytes) {
+        Ok(object) => object,
+        Err(_) => return Some((0, 0)),
+    };
+    for (i, limit, start) in NAME_STARTS {
+        if name_start_at(&object, i, limit) != Some(Name::of(start)) {
+            return Some((i, limit));
+        }
+    }
+    None
+}
+
+#[test]
+fn gives_the_first_bytes_of_a_name(rt: HostRuntime) -> Result<(), Fail> {
+    let bytes = object_bytes(rt.alloc(), &SECTIONS, &SYMBOLS)?;
+    assert!(rt; wrong_start(&bytes).is_none());
+    Ok(())
+}
+
 /// Where the count of relocations stands, behind the headers and data of one section.
 const COUNT_PLACE: usize = 20 + 40 + 262_140;
 
