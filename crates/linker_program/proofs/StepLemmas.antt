@@ -1,133 +1,171 @@
 -- From what the steps of a run promise to what the run promises.
-use Rattle.std.proofs.Common.{◌≡◌, ℕ, ◌≤◌, true, List, [], ◌∷◌, length, Result, Ok, Err, refl, sym, ap, ◌∙◌, subst, arith, inl, inr}
-use Rattle.std.specs.Prelude.{IfOk, OnErr, Some, unwrap_or}
+use Rattle.std.proofs.Common.{◌≡◌, ℕ, ◌<◌, ◌≤◌, true, List, [], ◌∷◌, length, map, Option, Result, Ok, Err, refl, sym, ap, ◌∙◌, subst, arith, inl, inr, ◌⊎◌}
+use Rattle.std.specs.Prelude.{IfOk, IfErr, OnErr, Some, None, codes}
+use Rattle.std.specs.Option.{ForSome}
+use Rattle.std.proofs.lemmas.List.{length-map}
 use Rattle.link_base.specs.declared.fault.Fault.{Fault}
 use Rattle.link_base.specs.declared.memory.Memory.{Memory}
-use Rattle.coff_object.specs.FirstForm.{is_first_form}
-use Rattle.coff_object.specs.ObjectFile.{raw_size_of, body_of, symbol_value_of}
-use Rattle.coff_object.proofs.FirstFormFacts.{first_section_facts}
-use Rattle.linker_program.specs.declared.headers.SectionRow.{SectionRow}
-use Rattle.linker_program.specs.declared.plan.ImagePlan.{ImagePlan as Planned}
+use Rattle.link_files.specs.Store.{Store}
+use Rattle.section_group.specs.declared.piece.OutSection.{OutSection}
+use Rattle.section_group.specs.Uniqueness.{rows_of, row_of}
+use Rattle.image_writer.specs.ExpectedImage.{MeansPlan, image_file}
 use Rattle.linker_program.specs.declared.answer.Answer.{Answer}
+use Rattle.linker_program.specs.declared.plan.LinkPlan.{LinkPlan}
+use Rattle.linker_program.specs.declared.refusal.Refusal.{Refusal}
+use Rattle.linker_program.specs.declared.refusal.Refusal.TheVariants as refusal
 use Rattle.linker_program.specs.declared.status.Status.{Status}
 use Rattle.linker_program.specs.declared.status.Status.TheVariants as status
-use Rattle.linker_program.specs.ImageFormat.{file_alignment}
-use Rattle.linker_program.specs.ExpectedImage.{ImagePlan, PlacedPiece, MeansPlan, image_file}
-use Rattle.linker_program.specs.LinkWords.{LinkRequest}
-use Rattle.linker_program.specs.Placement.{image_of}
-use Rattle.linker_program.specs.PlanView.{plan_view, IsPlanned}
-use Rattle.linker_program.specs.Outcome.{Refused, Linked, file_limit, definition_of}
+use Rattle.linker_program.specs.LinkWords.{LinkRequest, requested}
+use Rattle.linker_program.specs.Opening.{first_fault}
+use Rattle.linker_program.specs.Loading.{reading_fault, read_files}
+use Rattle.linker_program.specs.Modules.{modules_fault}
+use Rattle.linker_program.specs.Definitions.{all_definitions, definition_named, duplicate_fault, undefined_fault, undefined_of}
+use Rattle.linker_program.specs.Pieces.{link_pieces}
+use Rattle.linker_program.specs.Outcome.{Outcome, Usage, Refused, Linked, Plan, link_fault, entry_fault, files_fault, IsRefusedLayout, IsPlan, LayoutOutcome, OutcomeBehind, FilesOutcome, ReadOutcome, WordsOutcome, HasOutcome}
 use Rattle.linker_program.specs.LinkRun.{Files, AreUntouched, Expects, Answers, LeftByMemory}
-use Rattle.linker_program.specs.Steps.{IsLoaded, Refuses, AnswersWrite, LeftByWrite}
-use Rattle.linker_program.proofs.OutcomeLemmas.{plan_at, outcome_linked}
-use Rattle.linker_program.proofs.PlacedImage.{image_of-means, multiple_above}
+use Rattle.linker_program.specs.Steps.{AreRead, IsLoaded, Refuses, RefusesWords, AnswersWrite, LeftByWrite}
+use Rattle.linker_program.specs.PlanSteps.{plan_image, outcome_plan, IsWritable, IsPlanned, IsPlanRefusal, IsModulesPlan, IsModulesRefusal, IsEntryPlan, IsEntryRefusal}
 
 pub untouched : (files : Files) → AreUntouched files files
 untouched files = record { store = refl; reads = refl; writes = refl }
 
--- ---- the sizes of a plan
+-- ---- the outcome of inputs that were read
 
-row_size : List SectionRow → ℕ
-row_size [] = 0
-row_size (row ∷ rows) = row.size
+-- the words ask for this, and the inputs were read: the outcome is that of the inputs
+pub outcome_of_files : (words : List (List ℕ)) (store : Store) (request : LinkRequest) (inputs : List (List ℕ)) (outcome : Outcome) → requested words ≡ Some request → AreRead store request inputs → FilesOutcome request inputs outcome → HasOutcome words store outcome
+outcome_of_files words store request inputs outcome asked read is = record {
+  is = rw (asked, read.none, read.are) is;
+}
 
-row_raw_size : List SectionRow → ℕ
-row_raw_size [] = 0
-row_raw_size (row ∷ rows) = row.raw_size
+pub outcome_expected : (words : List (List ℕ)) (files : Files) (request : LinkRequest) (inputs : List (List ℕ)) (outcome : Outcome) → IsLoaded words files request inputs → FilesOutcome request inputs outcome → Expects words files outcome
+outcome_expected words files request inputs outcome loaded is = record {
+  told = λ store told. outcome_of_files words store request inputs outcome loaded.asked (loaded.told store told) is;
+}
 
-piece_len : List PlacedPiece → ℕ
-piece_len [] = 0
-piece_len (piece ∷ pieces) = length piece.bytes
+pub outcome_usage : (words : List (List ℕ)) (store : Store) → requested words ≡ None → HasOutcome words store (Usage 0 (codes "NotBuilt"))
+outcome_usage words store asked = record { is = rw asked refl }
 
-pub record Sizes (plan : Planned) : Type 0 where
-  pub whole : length plan.bytes.now ≡ plan.row.size
-  pub raw : plan.row.size ≤ plan.row.raw_size
-  pub small : plan.row.size ≤ file_limit
+pub outcome_unread : (words : List (List ℕ)) (store : Store) (request : LinkRequest) (fault : Fault) → requested words ≡ Some request → reading_fault store request.inputs ≡ Some fault → HasOutcome words store (Refused fault)
+outcome_unread words store request fault asked unread = record { is = rw (asked, unread) refl }
 
-pub planned_sizes : (plan : Planned) (object : List ℕ) (entry : ℕ) → is_first_form object ≡ true → length object ≤ file_limit → plan_view plan ≡ image_of object entry → Sizes plan
-unfolding image_of row_size row_raw_size piece_len
-planned_sizes plan object entry form small e =
-    let facts = first_section_facts object form in
-    let size : plan.row.size ≡ raw_size_of object 1 = ap (λ (p : ImagePlan). row_size p.rows) e in
-    let raw_size = ap (λ (p : ImagePlan). row_raw_size p.rows) e in
-    let len : length plan.bytes.now ≡ length (unwrap_or (body_of object 1) []) = ap (λ (p : ImagePlan). piece_len p.pieces) e in
-    let body : length (unwrap_or (body_of object 1) []) ≡ raw_size_of object 1 = ap (λ o. length (unwrap_or o [])) facts.body ∙ facts.body_len in
+-- ---- the stages
+
+pub entry_stages : (entry : List ℕ) (modules : List (List ℕ)) (definition : ℕ) (fault : Option Fault) → duplicate_fault (all_definitions modules) ≡ None → definition_named (all_definitions modules) entry ≡ Some definition → entry_fault modules (Some definition) ≡ fault → link_fault entry modules ≡ fault
+unfolding link_fault
+entry_stages entry modules definition fault single defined is = rw (single, defined) is
+
+pub undefined_stage : (entry : List ℕ) (modules : List (List ℕ)) (fault : Fault) → duplicate_fault (all_definitions modules) ≡ None → undefined_fault (all_definitions modules) entry ≡ Some fault → link_fault entry modules ≡ Some fault
+unfolding link_fault
+undefined_stage entry modules fault single is = rw (single, is) refl
+
+pub duplicate_stage : (entry : List ℕ) (modules : List (List ℕ)) (fault : Fault) → duplicate_fault (all_definitions modules) ≡ Some fault → link_fault entry modules ≡ Some fault
+unfolding link_fault
+duplicate_stage entry modules fault is = rw is refl
+
+pub modules_stage : (request : LinkRequest) (files : List (List ℕ)) (fault : Fault) → modules_fault request.inputs files ≡ Some fault → FilesOutcome request files (Refused fault)
+unfolding files_fault
+modules_stage request files fault is = rw is refl
+
+-- modules that opened have the outcome that their links have
+pub refused_link : (request : LinkRequest) (files : List (List ℕ)) (r : Refusal) → modules_fault request.inputs files ≡ None → IsModulesRefusal request.entry files r → IsPlanRefusal request files r
+unfolding files_fault
+refused_link request files (refusal.Fault fault) opened h = elim h [
+  | inl early ↦ rw (opened, early) refl
+  | inr late ↦ rw (opened, late.0) late.1
+]
+refused_link request files refusal.Memory opened h = tt
+
+pub planned_link : (request : LinkRequest) (files : List (List ℕ)) (plan : LinkPlan) → modules_fault request.inputs files ≡ None → IsModulesPlan request.entry files plan → IsPlanned request files plan
+unfolding files_fault
+planned_link request files plan opened h =
+    let is : IsPlan request files (outcome_plan request files plan) = record { output = refl; joined = refl; definition = h.definition; defined = h.defined; image = h.image } in
     record {
-      whole = len ∙ body ∙ sym size;
-      raw = omega (arith, size, raw_size, multiple_above (raw_size_of object 1) file_alignment);
-      small = omega (arith, size, facts.inside);
+      writable = h.writable;
+      count = h.count;
+      outcome = rw (opened, h.no_fault) is;
     }
+
+pub refused_modules : (entry : List ℕ) (modules : List (List ℕ)) (definition : ℕ) (r : Refusal) → duplicate_fault (all_definitions modules) ≡ None → definition_named (all_definitions modules) entry ≡ Some definition → IsEntryRefusal modules definition r → IsModulesRefusal entry modules r
+refused_modules entry modules definition (refusal.Fault fault) single defined h = elim h [
+  | inl early ↦ inl (entry_stages entry modules definition (Some fault) single defined early)
+  | inr late ↦ inr (entry_stages entry modules definition None single defined late.0, late.1)
+]
+refused_modules entry modules definition refusal.Memory single defined h = tt
+
+pub planned_modules : (entry : List ℕ) (modules : List (List ℕ)) (definition : ℕ) (plan : LinkPlan) → duplicate_fault (all_definitions modules) ≡ None → definition_named (all_definitions modules) entry ≡ Some definition → IsEntryPlan modules definition plan → IsModulesPlan entry modules plan
+planned_modules entry modules definition plan single defined h = record {
+  writable = h.writable;
+  count = h.count;
+  no_fault = entry_stages entry modules definition None single defined h.stands;
+  definition = definition;
+  defined = defined;
+  image = h.image;
+}
 
 -- ---- an input that is refused
 
-pub refused_answer : (words : List (List ℕ)) (files : Files) (fault : Fault) (answer : Answer) → Refuses answer fault → Expects words files (Refused fault) → Answers words files files answer.status answer.line.items
-refused_answer words files fault answer refuses expects =
-    subst (λ (s : Status). Answers words files files s answer.line.items) (sym refuses.status) (fault, record { outcome = expects; files = untouched files; says = refuses.line })
+pub refused_answer : (words : List (List ℕ)) (before after : Files) (fault : Fault) (answer : Answer) → AreUntouched before after → Refuses answer fault → Expects words before (Refused fault) → Answers words before after answer.status answer.line.items
+refused_answer words before after fault answer kept refuses expects =
+    subst (λ (s : Status). Answers words before after s answer.line.items) (sym refuses.status) (fault, record { outcome = expects; files = kept; says = refuses.line })
 
-pub if_refused : (r : Result Answer Memory) (files : Files) (fault : Fault) (request : LinkRequest) (bytes : List ℕ)
-    → ((words : List (List ℕ)) → IsLoaded words files request bytes → Expects words files (Refused fault))
+pub if_refused : (r : Result Answer Memory) (files : Files) (fault : Fault) (request : LinkRequest) (inputs : List (List ℕ))
+    → FilesOutcome request inputs (Refused fault)
     → IfOk r (λ answer. Refuses answer fault)
-    → IfOk r (λ answer. (words : List (List ℕ)) → IsLoaded words files request bytes → Answers words files files answer.status answer.line.items)
-if_refused (Ok answer) files fault request bytes expects refuses = λ words loaded. refused_answer words files fault answer refuses (expects words loaded)
-if_refused (Err error) files fault request bytes expects refuses = tt
+    → IfOk r (λ answer. (words : List (List ℕ)) → IsLoaded words files request inputs → Answers words files files answer.status answer.line.items)
+if_refused (Ok answer) files fault request inputs is refuses = λ words loaded.
+    refused_answer words files files fault answer (untouched files) refuses (outcome_expected words files request inputs (Refused fault) loaded is)
+if_refused (Err error) files fault request inputs is refuses = tt
+
+-- the words have no form that is read
+pub if_words_refused : (r : Result Answer Memory) (files : Files) (words : List (List ℕ)) → requested words ≡ None → IfOk r (λ answer. RefusesWords answer) → IfOk r (λ answer. Answers words files files answer.status answer.line.items)
+if_words_refused (Ok answer) files words asked refuses =
+    subst (λ (s : Status). Answers words files files s answer.line.items) (sym refuses.status)
+    (0, (_, record { outcome = λ store. outcome_usage words store asked; files = untouched files; says = refuses.line }))
+if_words_refused (Err error) files words asked refuses = tt
 
 -- ---- an image that is written
 
-pub write_answers : (words : List (List ℕ)) (before after : Files) (request : LinkRequest) (object : List ℕ) (symbol : ℕ) (image : List ℕ) (answer : Status) (line : List ℕ)
-    → Expects words before (Linked (plan_at request object symbol))
-    → MeansPlan (image_of object (symbol_value_of object symbol)) image
-    → AnswersWrite before after request.output image answer line → Answers words before after answer line
-unfolding image_of
-write_answers words before after request object symbol image status.Done line expects means wrote =
-    (plan_at request object symbol, (image, record { outcome = expects; means = means; files = wrote.files; says = wrote.says }))
-write_answers words before after request object symbol image status.WriteFailed line expects means failed =
-    (plan_at request object symbol, (image, record { outcome = expects; means = means; files = failed.files; says = failed.says }))
-write_answers words before after request object symbol image status.Refused line expects means none = absurd none
-write_answers words before after request object symbol image status.Usage line expects means none = absurd none
-write_answers words before after request object symbol image status.OutOfMemory line expects means none = none
-write_answers words before after request object symbol image status.ReadFailed line expects means none = absurd none
-write_answers words before after request object symbol image status.PutFailed line expects means none = none
+-- the plan that was made of inputs, and how many sections it has
+pub record Made (request : LinkRequest) (inputs : List (List ℕ)) (plan : LinkPlan) : Type 0 where
+  pub planned : IsPlanned request inputs plan
+  pub rows : length (plan_image plan).rows ≡ length plan.sections.items
 
-write_leaves : (words : List (List ℕ)) (before after : Files) (request : LinkRequest) (object : List ℕ) (symbol : ℕ) (image : List ℕ)
-    → Expects words before (Linked (plan_at request object symbol))
-    → MeansPlan (image_of object (symbol_value_of object symbol)) image
-    → LeftByWrite before after request.output image → LeftByMemory words before after
-write_leaves words before after request object symbol image expects means left =
+write_answers : (words : List (List ℕ)) (before after : Files) (request : LinkRequest) (inputs : List (List ℕ)) (plan : LinkPlan) (answer : Status) (line : List ℕ)
+    → Made request inputs plan → Expects words before (Linked (outcome_plan request inputs plan))
+    → AnswersWrite before after request.output plan.modules (length plan.sections.items) (image_file (plan_image plan)) answer line → Answers words before after answer line
+write_answers words before after request inputs plan status.Done line made expects wrote =
+    (outcome_plan request inputs plan, (image_file (plan_image plan), record {
+      outcome = expects;
+      means = made.planned.writable.means;
+      files = wrote.files;
+      says = rw (← made.planned.count, made.rows) wrote.says;
+    }))
+write_answers words before after request inputs plan status.WriteFailed line made expects failed =
+    (outcome_plan request inputs plan, (image_file (plan_image plan), record { outcome = expects; means = made.planned.writable.means; files = failed.files; says = failed.says }))
+write_answers words before after request inputs plan status.Refused line made expects none = absurd none
+write_answers words before after request inputs plan status.Usage line made expects none = absurd none
+write_answers words before after request inputs plan status.OutOfMemory line made expects none = none
+write_answers words before after request inputs plan status.ReadFailed line made expects none = absurd none
+write_answers words before after request inputs plan status.PutFailed line made expects none = none
+
+pub if_written : (r : Result Answer Memory) (before after : Files) (request : LinkRequest) (inputs : List (List ℕ)) (plan : LinkPlan) → Made request inputs plan
+    → IfOk r (λ answer. AnswersWrite before after request.output plan.modules (length plan.sections.items) (image_file (plan_image plan)) answer.status answer.line.items)
+    → IfOk r (λ answer. (words : List (List ℕ)) → IsLoaded words before request inputs → Answers words before after answer.status answer.line.items)
+if_written (Ok answer) before after request inputs plan made wrote = λ words loaded.
+    write_answers words before after request inputs plan answer.status answer.line.items made
+    (outcome_expected words before request inputs (Linked (outcome_plan request inputs plan)) loaded made.planned.outcome) wrote
+if_written (Err error) before after request inputs plan made wrote = tt
+
+pub on_left : (r : Result Answer Memory) (before after : Files) (request : LinkRequest) (inputs : List (List ℕ)) (plan : LinkPlan) → Made request inputs plan
+    → OnErr r (LeftByWrite before after request.output (image_file (plan_image plan)))
+    → OnErr r ((words : List (List ℕ)) → IsLoaded words before request inputs → LeftByMemory words before after)
+on_left (Ok answer) before after request inputs plan made left = tt
+on_left (Err error) before after request inputs plan made left = λ words loaded.
     elim left [
       | inl nothing ↦ inl nothing
-      | inr torn ↦ inr (inr (plan_at request object symbol, (image, record { outcome = expects; means = means; files = torn })))
+      | inr torn ↦ inr (inr (outcome_plan request inputs plan, (image_file (plan_image plan), record {
+        outcome = outcome_expected words before request inputs (Linked (outcome_plan request inputs plan)) loaded made.planned.outcome;
+        means = made.planned.writable.means;
+        files = torn;
+      })))
     ]
-
--- the outcome of a request whose input defines its entry
-linked_outcome : (words : List (List ℕ)) (files : Files) (request : LinkRequest) (object : List ℕ) (symbol : ℕ) → is_first_form object ≡ true → length object ≤ file_limit → definition_of object request.entry ≡ Some symbol → IsLoaded words files request object → Expects words files (Linked (plan_at request object symbol))
-linked_outcome words files request object symbol form small defined loaded = record {
-  told = λ store is. outcome_linked words store request object symbol loaded.asked (loaded.told store is) small form defined;
-}
-
--- the plan that was made, as the definitions speak of it
-pub record Made (request : LinkRequest) (object : List ℕ) (plan : ImagePlan) : Type 0 where
-  pub form : is_first_form object ≡ true
-  pub small : length object ≤ file_limit
-  pub planned : IsPlanned object request.entry plan
-
-made_means : (request : LinkRequest) (object : List ℕ) (plan : ImagePlan) (made : Made request object plan) → MeansPlan (image_of object (symbol_value_of object made.planned.symbol)) (image_file plan)
-made_means request object plan made =
-    subst (λ (p : ImagePlan). MeansPlan (image_of object (symbol_value_of object made.planned.symbol)) (image_file p)) (sym made.planned.image) (image_of-means object (symbol_value_of object made.planned.symbol) made.form made.small)
-
-pub if_written : (r : Result Answer Memory) (before after : Files) (request : LinkRequest) (object : List ℕ) (plan : ImagePlan) → Made request object plan
-    → IfOk r (λ answer. AnswersWrite before after request.output (image_file plan) answer.status answer.line.items)
-    → IfOk r (λ answer. (words : List (List ℕ)) → IsLoaded words before request object → Answers words before after answer.status answer.line.items)
-if_written (Ok answer) before after request object plan made wrote = λ words loaded.
-    write_answers words before after request object made.planned.symbol (image_file plan) answer.status answer.line.items
-    (linked_outcome words before request object made.planned.symbol made.form made.small made.planned.defined loaded)
-    (made_means request object plan made) wrote
-if_written (Err error) before after request object plan made wrote = tt
-
-pub on_left : (r : Result Answer Memory) (before after : Files) (request : LinkRequest) (object : List ℕ) (plan : ImagePlan) → Made request object plan
-    → OnErr r (LeftByWrite before after request.output (image_file plan))
-    → OnErr r ((words : List (List ℕ)) → IsLoaded words before request object → LeftByMemory words before after)
-on_left (Ok answer) before after request object plan made left = tt
-on_left (Err error) before after request object plan made left = λ words loaded.
-    write_leaves words before after request object made.planned.symbol (image_file plan)
-    (linked_outcome words before request object made.planned.symbol made.form made.small made.planned.defined loaded)
-    (made_means request object plan made) left

@@ -1,6 +1,6 @@
 -- What a run of the linker promises, by the status that it ends with: what is printed, what the files hold
 -- afterwards, and where each status comes from.
-use Rattle.std.specs.Prelude.{◌≡◌, ◌<◌, ℕ, List, length, take, Option, Some, ◌⊎◌}
+use Rattle.std.specs.Prelude.{◌≡◌, ◌<◌, ℕ, List, length, take, Option, Some, None, ◌⊎◌}
 use Rattle.std.specs.Option.{ForSome}
 use Rattle.link_base.specs.declared.fault.Fault.{Fault}
 use Rattle.link_base.specs.FaultLine.{fault_line_text}
@@ -9,8 +9,9 @@ use Rattle.link_files.specs.Putting.{told_with_bytes}
 use Rattle.linker_program.specs.declared.status.Status.{Status}
 use Rattle.linker_program.specs.declared.status.Status.TheVariants as status
 use Rattle.linker_program.specs.LinkWords.{LinkRequest, requested}
-use Rattle.linker_program.specs.ExpectedImage.{MeansPlan}
-use Rattle.linker_program.specs.Outcome.{Outcome, Usage, Refused, Linked, Plan, HasOutcome, expected, usage_line, summary_line, read_failure_line, write_failure_line}
+use Rattle.image_writer.specs.ExpectedImage.{MeansPlan}
+use Rattle.linker_program.specs.Loading.{first_fault_below, read_fault_at, bytes_in}
+use Rattle.linker_program.specs.Outcome.{Outcome, Usage, Refused, Linked, Plan, HasOutcome, usage_line, summary_line, read_failure_line, write_failure_line}
 
 -- the files: their store, where it is told, and the counts of reads and writes that failed
 pub record Files : Type 0 where
@@ -80,10 +81,13 @@ pub record WordsRefused (words : List (List ℕ)) (before after : Files) (index 
   pub files : AreUntouched before after
   pub says : line ≡ usage_line index kind
 
-pub record InputUnread (words : List (List ℕ)) (before after : Files) (request : LinkRequest) (line : List ℕ) : Type 0 where
+-- the read of an input failed, and where the files are told, no earlier input has a fault
+pub record InputUnread (words : List (List ℕ)) (before after : Files) (request : LinkRequest) (index : ℕ) (line : List ℕ) : Type 0 where
   pub asked : requested words ≡ Some request
+  pub within : index < length request.inputs
+  pub reached : ForSome before.store (λ store. first_fault_below index (read_fault_at store request.inputs) ≡ None)
   pub files : ReadFailed before after
-  pub says : line ≡ read_failure_line request.input
+  pub says : line ≡ read_failure_line (bytes_in request.inputs index)
 
 pub record OutputUnwritten (words : List (List ℕ)) (before after : Files) (plan : Plan) (image line : List ℕ) : Type 0 where
   pub outcome : Expects words before (Linked plan)
@@ -96,7 +100,8 @@ abbrev pub Answers : List (List ℕ) → Files → Files → Status → List ℕ
 Answers words before after status.Done line = (plan : Plan) × ((image : List ℕ) × LinkDone words before after plan image line)
 Answers words before after status.Refused line = (fault : Fault) × InputRefused words before after fault line
 Answers words before after status.Usage line = (index : ℕ) × ((kind : List ℕ) × WordsRefused words before after index kind line)
-Answers words before after status.ReadFailed line = (request : LinkRequest) × InputUnread words before after request line
+Answers words before after status.ReadFailed line =
+    (request : LinkRequest) × ((index : ℕ) × InputUnread words before after request index line)
 Answers words before after status.WriteFailed line = (plan : Plan) × ((image : List ℕ) × OutputUnwritten words before after plan image line)
 Answers words before after status.OutOfMemory line = ⊥
 Answers words before after status.PutFailed line = ⊥
@@ -182,4 +187,4 @@ pub record IsQuiet (before after : Files) (shown shown_after : Printed) : Type 0
 
 -- where the files are told and nothing failed, the status is that of the expected outcome, or want of memory
 pub record IsOwed (words : List (List ℕ)) (before after : Files) (shown shown_after : Printed) (code : ℕ) : Type 0 where
-  pub owed : (store : Store) → before.store ≡ Some store → IsQuiet before after shown shown_after → (code ≡ outcome_code (expected words store)) ⊎ (code ≡ 3)
+  pub owed : (store : Store) (outcome : Outcome) → before.store ≡ Some store → IsQuiet before after shown shown_after → HasOutcome words store outcome → (code ≡ outcome_code outcome) ⊎ (code ≡ 3)

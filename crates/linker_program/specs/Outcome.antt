@@ -74,16 +74,14 @@ pub record IsRefusedLayout (modules : List (List ℕ)) (fault : Fault) : Type 0 
   pub grouped : IsGrouping (link_input modules) sections
   pub refused : IsLayoutFault (link_pieces modules) sections fault
 
--- the RVA of the entry, by the RVAs of the pieces
-pub record IsEntryRva (modules : List (List ℕ)) (entry rvas : List ℕ) (rva : ℕ) : Type 0 where
-  pub definition : ℕ
-  pub defined : definition_named (all_definitions modules) entry ≡ Some definition
+-- the RVA of the entry, which is a definition, by the RVAs of the pieces
+pub record IsEntryRva (modules : List (List ℕ)) (definition : ℕ) (rvas : List ℕ) (rva : ℕ) : Type 0 where
   pub piece : ℕ
   pub stands : piece_index (link_pieces modules) (definition_at (all_definitions modules) definition) ≡ Some piece
   pub is : rva ≡ slice_index rvas piece + (definition_at (all_definitions modules) definition).value
 
--- the plan of modules: their grouping, its layout, and the image that these make
-pub record IsPlan (request : LinkRequest) (modules : List (List ℕ)) (plan : Plan) : Type 0 where
+-- the image of modules whose entry is a definition: their grouping, its layout, and what these make
+pub record IsImageOf (modules : List (List ℕ)) (definition : ℕ) (image : ImagePlan) : Type 0 where
   pub sections : List OutSection
   pub grouped : IsGrouping (link_input modules) sections
   pub few : section_count sections false ≤ 96
@@ -91,10 +89,16 @@ pub record IsPlan (request : LinkRequest) (modules : List (List ℕ)) (plan : Pl
   pub laid_out : IsLayout (link_pieces modules) sections false layout
   pub within : layout.image ≤ 536870912
   pub entry : ℕ
-  pub is_entry : IsEntryRva modules request.entry layout.pieces.items entry
+  pub is_entry : IsEntryRva modules definition layout.pieces.items entry
+  pub is : image ≡ written_plan (default_headers entry) (rows_of sections) layout.sections.items layout.pieces.items layout.image (link_contents modules)
+
+-- the plan of modules
+pub record IsPlan (request : LinkRequest) (modules : List (List ℕ)) (plan : Plan) : Type 0 where
   pub output : plan.output ≡ request.output
   pub joined : plan.modules ≡ modules
-  pub image : plan.image ≡ written_plan (default_headers entry) (rows_of sections) layout.sections.items layout.pieces.items layout.image (link_contents modules)
+  pub definition : ℕ
+  pub defined : definition_named (all_definitions modules) request.entry ≡ Some definition
+  pub image : IsImageOf modules definition plan.image
 
 -- ---- the outcome
 

@@ -1,13 +1,14 @@
 -- What the steps of a run promise to one another.
-use Rattle.std.specs.Prelude.{◌≡◌, ℕ, List, length, Option, Some, ◌⊎◌, codes}
+use Rattle.std.specs.Prelude.{◌≡◌, ℕ, List, length, Option, Some, None, ◌⊎◌, codes}
 use Rattle.std.specs.Option.{ForSome}
 use Rattle.link_base.specs.declared.fault.Fault.{Fault}
 use Rattle.link_base.specs.FaultLine.{fault_line_text}
-use Rattle.link_files.specs.Store.{Store, file_of}
+use Rattle.link_files.specs.Store.{Store}
 use Rattle.linker_program.specs.declared.status.Status.{Status}
 use Rattle.linker_program.specs.declared.status.Status.TheVariants as status
 use Rattle.linker_program.specs.declared.answer.Answer.{Answer}
 use Rattle.linker_program.specs.LinkWords.{LinkRequest, requested}
+use Rattle.linker_program.specs.Loading.{reading_fault, read_files}
 use Rattle.linker_program.specs.Outcome.{usage_line, summary_line, read_failure_line, write_failure_line}
 use Rattle.linker_program.specs.LinkRun.{Files, Printed, OutputWritten, OutputTorn, NothingWritten}
 
@@ -20,10 +21,15 @@ files_of store read_faults write_faults files =
 abbrev pub printed_by : {S : Type 0} → (S → Option (List ℕ)) → (S → ℕ) → S → Printed
 printed_by taken faults sink = record { taken = taken sink; faults = faults sink }
 
--- the words ask for this, and where the files are told, its input has these bytes
-pub record IsLoaded (words : List (List ℕ)) (files : Files) (request : LinkRequest) (bytes : List ℕ) : Type 0 where
+-- inputs that were read without a fault
+pub record AreRead (store : Store) (request : LinkRequest) (inputs : List (List ℕ)) : Type 0 where
+  pub none : reading_fault store request.inputs ≡ None
+  pub are : read_files store request.inputs ≡ inputs
+
+-- the words ask for this, and where the files are told, its inputs have these bytes
+pub record IsLoaded (words : List (List ℕ)) (files : Files) (request : LinkRequest) (inputs : List (List ℕ)) : Type 0 where
   pub asked : requested words ≡ Some request
-  pub told : ForSome files.store (λ store. file_of store request.input ≡ Some bytes)
+  pub told : ForSome files.store (λ store. AreRead store request inputs)
 
 -- an answer that refuses the input
 pub record Refuses (answer : Answer) (fault : Fault) : Type 0 where
@@ -41,22 +47,22 @@ pub record TellsReadFailure (answer : Answer) (name : List ℕ) : Type 0 where
   pub line : answer.line.items ≡ read_failure_line name
 
 -- the image was written, and the answer says so; or the write failed, and the answer says that
-pub record WroteImage (before after : Files) (output image line : List ℕ) : Type 0 where
+pub record WroteImage (before after : Files) (output : List ℕ) (modules sections : ℕ) (image line : List ℕ) : Type 0 where
   pub files : OutputWritten before after output image
-  pub says : line ≡ summary_line output 1 1 (length image)
+  pub says : line ≡ summary_line output modules sections (length image)
 
 pub record FailedToWrite (before after : Files) (output image line : List ℕ) : Type 0 where
   pub files : OutputTorn before after output image
   pub says : line ≡ write_failure_line output
 
-abbrev pub AnswersWrite : Files → Files → List ℕ → List ℕ → Status → List ℕ → Type 0
-AnswersWrite before after output image status.Done line = WroteImage before after output image line
-AnswersWrite before after output image status.WriteFailed line = FailedToWrite before after output image line
-AnswersWrite before after output image status.Refused line = ⊥
-AnswersWrite before after output image status.Usage line = ⊥
-AnswersWrite before after output image status.OutOfMemory line = ⊥
-AnswersWrite before after output image status.ReadFailed line = ⊥
-AnswersWrite before after output image status.PutFailed line = ⊥
+abbrev pub AnswersWrite : Files → Files → List ℕ → ℕ → ℕ → List ℕ → Status → List ℕ → Type 0
+AnswersWrite before after output modules sections image status.Done line = WroteImage before after output modules sections image line
+AnswersWrite before after output modules sections image status.WriteFailed line = FailedToWrite before after output image line
+AnswersWrite before after output modules sections image status.Refused line = ⊥
+AnswersWrite before after output modules sections image status.Usage line = ⊥
+AnswersWrite before after output modules sections image status.OutOfMemory line = ⊥
+AnswersWrite before after output modules sections image status.ReadFailed line = ⊥
+AnswersWrite before after output modules sections image status.PutFailed line = ⊥
 
 -- memory ran out before the write, or behind one that failed
 abbrev pub LeftByWrite : Files → Files → List ℕ → List ℕ → Type 0

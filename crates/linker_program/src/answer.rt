@@ -1,11 +1,11 @@
 //! The answers of a run, each with the line that is printed.
 
-ghost use Rattle.std.specs.Prelude.{◌≡◌, None, IfOk};
+ghost use Rattle.std.specs.Prelude.{IfOk};
 ghost use Rattle.linker_program.specs.Steps.{Refuses, RefusesWords, TellsReadFailure};
 
 use crate::lines::{read_failure_line, usage_line};
 use crate::status::Status;
-use link_base::{Fault, Memory, Name, fault_line};
+use link_base::{Fault, Memory, fault_line};
 use std::alloc::Global;
 
 /// How the work of a run ended, and the line that says so.
@@ -46,24 +46,4 @@ pub(crate) fn read_failed(alloc: Global, name: &str) -> Result<Answer, Memory>
         status: Status::ReadFailed,
         line,
     })
-}
-
-/// The fault of an input that is not there.
-pub(crate) fn not_found(input: &str) -> Fault<'_>
-    ensures { result ≡ Fault.NotFound input.now None }
-{
-    Fault::NotFound {
-        file: Name::of(input.as_bytes()),
-        member: None,
-    }
-}
-
-/// The fault of an input that has too many bytes.
-pub(crate) fn too_large(input: &str) -> Fault<'_>
-    ensures { result ≡ Fault.FileTooLarge input.now None }
-{
-    Fault::FileTooLarge {
-        file: Name::of(input.as_bytes()),
-        member: None,
-    }
 }

@@ -1,20 +1,11 @@
 //! Laws of the definitions, each the contract of a function that does nothing.
 
-ghost use Rattle.std.specs.Prelude.{◌≡◌, ◌<◌, ℕ, List, length, slice_index};
+ghost use Rattle.std.specs.Prelude.{◌≡◌, ℕ, List};
 ghost use Rattle.link_files.specs.Store.{Store};
-ghost use Rattle.linker_program.specs.ExpectedImage.{ImagePlan, expected_byte, expected_image};
 ghost use Rattle.linker_program.specs.Outcome.{Outcome, HasOutcome};
 
 /// Words and files have one outcome.
 pub fn one_outcome()
     ensures { (words : List (List ℕ)) (store : Store) (first second : Outcome)
         → HasOutcome words store first → HasOutcome words store second → first ≡ second }
-{}
-
-/// The expected image has one byte at each address, and none beyond its size.
-pub fn one_byte_at_each_address()
-    ensures byte { (plan : ImagePlan) (base : ℕ) (identifier : List ℕ) (rva : ℕ) → rva < plan.size
-        → slice_index (expected_image plan base identifier) rva ≡ expected_byte plan base identifier rva }
-    ensures size { (plan : ImagePlan) (base : ℕ) (identifier : List ℕ)
-        → length (expected_image plan base identifier) ≡ plan.size }
 {}

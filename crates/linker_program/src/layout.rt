@@ -1,6 +1,6 @@
 //! Where the pieces of a link stand.
 
-ghost use Rattle.std.specs.Prelude.{◌≡◌, ◌≤◌, ◌<◌, ◌^◌, true, List, length, replicate, slice_index_or, IfOk, IfErr};
+ghost use Rattle.std.specs.Prelude.{◌≡◌, ◌≤◌, ◌<◌, ◌^◌, true, [], length, slice_index_or, IfOk, IfErr};
 ghost use Rattle.std.specs.List.{All};
 ghost use Rattle.section_group.specs.Placement.{IsGrouping};
 ghost use Rattle.section_group.specs.SectionOrder.{no_piece};
@@ -40,12 +40,13 @@ pub(crate) fn lay_out<'a>(
     requires within { entry_piece < length pieces.items }
     requires named { (slice_index_or pieces.items entry_piece no_piece).named ≡ true }
     requires inside { value ≤ (slice_index_or pieces.items entry_piece no_piece).size }
-    ensures laid_out { IfOk result (IsLaidOutPlan modules pieces.items entry_piece value) }
-    ensures refused { IfErr result (IsLayoutRefusal pieces.items) }
+    ensures laid_out { IfOk result (IsLaidOutPlan modules pieces.entry.items entry_piece value) }
+    ensures refused { IfErr result (IsLayoutRefusal pieces.entry.items) }
 {
     let sections = group_all(alloc, &pieces)?;
     let layout = place_all(alloc, &pieces, &sections)?;
-    let entry = layout.pieces[entry_piece] + value;
+    let rva = layout.pieces[entry_piece];
+    let entry = rva + value;
     Ok(LinkPlan {
         modules,
         headers: default_headers_with(entry),

@@ -5,24 +5,24 @@
 #![tactic(auto)]
 
 mod answer;
-mod bytes_out;
 mod definitions;
-mod header_sums;
-mod headers;
-mod image_bytes;
 mod laws;
+mod layout;
 mod lines;
 mod link;
 mod linker;
+mod modules;
+mod names;
 mod opening;
-mod pe_format;
+mod pieces;
 mod placed;
 mod plan;
+mod reading;
 mod refusal;
 mod status;
 mod words;
 mod write;
 
-pub use laws::{one_byte_at_each_address, one_outcome};
+pub use laws::one_outcome;
 pub use linker::run;
 pub use opening::open_object;

@@ -6,16 +6,15 @@ ghost use Rattle.linker_program.specs.RequestView.{request_view};
 ghost use Rattle.linker_program.specs.LinkRun.{Answers, LeftByMemory, Ran, IsOwed, RanWith};
 ghost use Rattle.linker_program.specs.Steps.{files_of, printed_by};
 
-use crate::answer::{Answer, not_found, read_failed, refused, too_large, words_refused};
-use crate::link::link_object;
+use crate::answer::{Answer, read_failed, refused, words_refused};
+use crate::link::link_inputs;
+use crate::reading::read_inputs;
+use crate::refusal::Stop;
 use crate::status::Status;
 use crate::words::{Request, request_of};
 use link_base::Memory;
-use link_files::{FileError, Files, PutError, Sink};
+use link_files::{Files, PutError, Sink};
 use std::alloc::Global;
-
-/// The greatest length of a file that a link reads.
-const FILE_LIMIT: u64 = 268_435_456;
 
 /// Runs the linker on the words, which are those behind the program's own name: it reads and writes by
 /// `files`, and prints one line to `out`. The result is the status that the program ends with: 0 for a link
@@ -81,7 +80,7 @@ fn answer<F: Files>(alloc: Global, files: &mut F, words: &[String]) -> Result<An
     }
 }
 
-/// Reads the input of a request and links it.
+/// Reads the inputs of a request and links them.
 fn link<F: Files>(alloc: Global, files: &mut F, request: &Request<'_>) -> Result<Answer, Memory>
     requires reads_below { F.read_faults files.old < 2 ^ 64 - 1 }
     requires writes_below { F.write_faults files.old < 2 ^ 64 - 1 }
@@ -92,11 +91,10 @@ fn link<F: Files>(alloc: Global, files: &mut F, request: &Request<'_>) -> Result
         → LeftByMemory words (files_of F.store F.read_faults F.write_faults files.old)
         (files_of F.store F.read_faults F.write_faults files.new)) }
 {
-    match files.read(alloc, request.input, FILE_LIMIT) {
-        Ok(bytes) => link_object(alloc, files, request, &bytes),
-        Err(FileError::NotFound) => refused(alloc, &not_found(request.input)),
-        Err(FileError::TooLarge) => refused(alloc, &too_large(request.input)),
-        Err(FileError::Fault) => read_failed(alloc, request.input),
-        Err(FileError::Memory) => Err(Memory),
+    match read_inputs(alloc, files, request.inputs) {
+        Ok(inputs) => link_inputs(alloc, files, request, &inputs),
+        Err(Stop::Fault(fault)) => refused(alloc, &fault),
+        Err(Stop::Read(name)) => read_failed(alloc, name),
+        Err(Stop::Memory) => Err(Memory),
     }
 }

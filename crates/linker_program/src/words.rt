@@ -1,40 +1,63 @@
-//! The words of the command line: so far `link X /ENTRY:e /OUT:o`.
+//! The words of the command line: so far `link`, one or more inputs, `/ENTRY:e`, `/OUT:o`.
 
 ghost use Rattle.std.specs.Prelude.{◌≡◌, List, nat_eq, true, false, map, length, drop, IfSome, IfNone, option_map, string_bytes};
-ghost use Rattle.std.specs.List.{starts_with};
-ghost use Rattle.linker_program.specs.LinkWords.{is_plain_word, is_option, is_input, is_entry_name, entry_option, output_option, is_entry_word, is_output_word, requested};
-ghost use Rattle.linker_program.specs.RequestView.{IsBehind, IsRequestOf, request_view};
+ghost use Rattle.std.specs.List.{starts_with, list_all};
+ghost use Rattle.linker_program.specs.LinkWords.{is_plain_word, is_option, is_input, is_entry_name, is_linker_name, entry_option, output_option, is_entry_word, is_output_word, requested};
+ghost use Rattle.linker_program.specs.RequestView.{IsBehind, request_view};
 
 use link_base::Name;
 
 /// The greatest length of a word.
 const WORD_LIMIT: usize = 32000;
 
-/// What a link is asked for: the names of its input file, its entry and its output file.
+/// The names that the linker gives a meaning itself.
+const LINKER_NAMES: [&[u8]; 11] = [
+    b"__ImageBase",
+    b"__guard_fids_table",
+    b"__guard_fids_count",
+    b"__guard_flags",
+    b"__guard_iat_table",
+    b"__guard_iat_count",
+    b"__guard_longjmp_table",
+    b"__guard_longjmp_count",
+    b"__guard_eh_cont_table",
+    b"__guard_eh_cont_count",
+    b"__enclave_config",
+];
+
+/// What a link is asked for: the names of its input files, of its entry and of its output file.
 #[derive(Clone, Copy)]
 pub struct Request<'w> {
-    pub input: &'w str,
+    pub inputs: &'w [String],
     pub entry: &'w str,
     pub output: &'w str,
 }
 
 /// The request of the words, where they have the form of one.
+#[tactic(auto, unfolding(crate::specs::LinkWords::requested))]
 pub fn request_of<'w>(words: &'w [String]) -> Option<Request<'w>>
     ensures { option_map request_view result ≡ requested (map string_bytes words.now) }
 {
-    if words.len() != 4 {
+    if words.len() < 4 || words[0].as_bytes() != b"link".as_slice() {
         return None;
     }
-    let command = &words[0];
-    let input = &words[1];
-    let entry = &words[2];
-    let output = &words[3];
-    request_of_four(
-        command.as_str(),
-        input.as_str(),
-        entry.as_str(),
-        output.as_str(),
-    )
+    let inputs = &words[1..words.len() - 2];
+    if !are_inputs(inputs) {
+        return None;
+    }
+    let entry = entry_of(words[words.len() - 2].as_str())?;
+    let output = output_of(words[words.len() - 1].as_str())?;
+    Some(Request {
+        inputs,
+        entry,
+        output,
+    })
+}
+
+fn are_inputs(words: &[String]) -> bool
+    ensures { result ≡ list_all is_input (map string_bytes words.now) }
+{
+    words.iter().all(|word| is_input(word.as_str()))
 }
 
 fn is_plain_word(word: &str) -> bool
@@ -61,7 +84,14 @@ fn is_option(word: &str) -> bool
 fn is_entry_name(name: &str) -> bool
     ensures { result ≡ is_entry_name name.now }
 {
-    !name.is_empty() && name.len() <= 8 && !Name::of(name.as_bytes()).is_import()
+    !name.is_empty() && !Name::of(name.as_bytes()).is_import() && !is_linker_name(name.as_bytes())
+}
+
+/// Whether the linker gives the name a meaning itself.
+fn is_linker_name(name: &[u8]) -> bool
+    ensures { result ≡ is_linker_name name.now }
+{
+    LINKER_NAMES.iter().any(|known| name == *known)
 }
 
 /// The text behind an option's spelling, where the word begins with it.
@@ -105,28 +135,5 @@ fn output_of(word: &str) -> Option<&str>
     match behind(word, "/OUT:") {
         Some(name) => { if name.is_empty() { None } else { Some(name) } }
         None => None,
-    }
-}
-
-/// The request of four words.
-#[tactic(auto, unfolding(crate::specs::LinkWords::is_link_form))]
-fn request_of_four<'w>(
-    command: &'w str,
-    input: &'w str,
-    entry: &'w str,
-    output: &'w str,
-) -> Option<Request<'w>>
-    ensures { IsRequestOf result command.now input.now entry.now output.now }
-{
-    if command.as_bytes() != b"link".as_slice() || !is_input(input) {
-        return None;
-    }
-    match (entry_of(entry), output_of(output)) {
-        (Some(entry), Some(output)) => Some(Request {
-            input,
-            entry,
-            output,
-        }),
-        _ => None,
     }
 }

@@ -1,6 +1,6 @@
 use Rattle.std.proofs.Common.{map, string_bytes, sym}
 use Rattle.linker_program.specs.Steps.{files_of}
-use Rattle.linker_program.proofs.ReadLemmas.{if_words_refused}
+use Rattle.linker_program.proofs.StepLemmas.{if_words_refused}
 use Rattle.linker_program.proofs.linker.answer.Goals as goal
 
 pub returns-in-None-clause-answered : goal.returns-in-None-clause-answered

@@ -1,0 +1,134 @@
+-- From what grouping and placing say of the pieces that were made to what a plan says of the modules.
+use Rattle.std.proofs.Common.{◌≡◌, ℕ, ◌+◌, ◌<◌, ◌≤◌, ◌^◌, Bool, true, false, List, [], ◌∷◌, length, map, replicate, get_or, slice_get, Option, Some, None, option_map, refl, sym, ap, ◌∙◌, subst, inl, inr, ◌⊎◌, arith}
+use Rattle.std.specs.List.{All, Contains}
+use Rattle.std.proofs.lemmas.Bool.{lt-ltb, and_from, or_right}
+use Rattle.std.proofs.lemmas.List.{length-map, get_or-map, get_or-replicate}
+use Rattle.link_base.specs.declared.fault.Fault.{Fault}
+use Rattle.link_base.specs.declared.fault.Fault.TheVariants.{TooManySections, ImageTooLarge}
+use Rattle.section_group.specs.declared.piece.Piece.{Piece}
+use Rattle.section_group.specs.declared.piece.OutSection.{OutSection}
+use Rattle.section_group.specs.BarePieces.{bare}
+use Rattle.section_group.specs.Placement.{IsGrouping, needs_place}
+use Rattle.section_group.specs.SectionOrder.{is_used, no_piece}
+use Rattle.section_group.specs.Steps.{input_from}
+use Rattle.section_group.specs.Uniqueness.{rows_of}
+use Rattle.section_group.proofs.CallerLemmas.{grouping_bare}
+use Rattle.address_layout.specs.declared.layout.Layout.{Layout}
+use Rattle.address_layout.specs.Places.{section_count}
+use Rattle.address_layout.specs.Growth.{CanGrow}
+use Rattle.address_layout.specs.Layout.{IsLayout, StandOnce, all_pieces}
+use Rattle.address_layout.proofs.CallerLemmas.{stand_once, stands, layout_bare, size_bare, name_fits}
+use Rattle.image_writer.specs.declared.headers.Headers.{Headers}
+use Rattle.image_writer.specs.ExpectedImage.{MeansPlan, image_file}
+use Rattle.image_writer.specs.WrittenImage.{written_plan, piece_contents, HasItsBytes, IsLaidOut, HasContents}
+use Rattle.linker_program.specs.declared.plan.LinkPlan.{LinkPlan}
+use Rattle.linker_program.specs.declared.refusal.Refusal.{Refusal}
+use Rattle.linker_program.specs.declared.refusal.Refusal.TheVariants as refusal
+use Rattle.linker_program.specs.DefaultHeaders.{default_headers}
+use Rattle.linker_program.specs.Definitions.{all_definitions, definition_at}
+use Rattle.linker_program.specs.Pieces.{link_pieces, link_contents, piece_index, unplaced_of, unplaced_fault}
+use Rattle.linker_program.specs.Outcome.{link_input, IsLayoutFault, IsRefusedLayout, IsImageOf}
+use Rattle.linker_program.specs.PlanSteps.{used_pieces, plan_image, IsPlaced, IsLaidOutPlan, IsLayoutRefusal, IsWritable, IsEntryPlan, IsEntryRefusal}
+use Rattle.linker_program.proofs.OutcomeLemmas.{layout_fault_cases}
+
+laid_out : (pieces : List Piece) (sections : List OutSection) (layout : Layout) → IsLayout pieces sections false layout → StandOnce pieces sections → section_count sections false ≤ 96 → CanGrow layout → IsLaidOut pieces sections layout
+laid_out pieces sections layout is stand few growth = ?
+
+written_means : (headers : Headers) (pieces : List Piece) (sections : List OutSection) (layout : Layout) → IsLaidOut pieces sections layout → HasContents pieces sections → headers.base < 2 ^ 64 → length headers.directories ≡ 16 → slice_get headers.directories 5 ≡ Some (0, 0) → MeansPlan (written_plan headers (rows_of sections) layout.sections.items layout.pieces.items layout.image (map piece_contents pieces)) (image_file (written_plan headers (rows_of sections) layout.sections.items layout.pieces.items layout.image (map piece_contents pieces)))
+written_means headers pieces sections layout is contents base count none = ?
+
+-- ---- pieces without their bytes
+
+-- the grouping of the pieces that were made is that of the modules
+pub grouped_modules : (modules : List (List ℕ)) (pieces : List Piece) (sections : List OutSection) → map bare pieces ≡ link_pieces modules → IsGrouping (input_from pieces (used_pieces pieces) []) sections → IsGrouping (link_input modules) sections
+grouped_modules modules pieces sections are grouped =
+    let used : used_pieces pieces ≡ used_pieces (map bare pieces) = ap (λ (n : ℕ). replicate n true) (sym (length-map pieces bare)) in
+    let bared = subst (λ (u : List Bool). IsGrouping (input_from (map bare pieces) u []) sections) used (grouping_bare pieces (used_pieces pieces) [] sections grouped) in
+    subst (λ (ps : List Piece). IsGrouping (input_from ps (used_pieces ps) []) sections) are bared
+
+pub laid_out_modules : (modules : List (List ℕ)) (pieces : List Piece) (sections : List OutSection) (layout : Layout) → map bare pieces ≡ link_pieces modules → IsLayout pieces sections false layout → IsLayout (link_pieces modules) sections false layout
+laid_out_modules modules pieces sections layout are is =
+    subst (λ (ps : List Piece). IsLayout ps sections false layout) are (layout_bare pieces sections false layout is)
+
+-- ---- no layout
+
+layout_fault_bare : (pieces : List Piece) (sections : List OutSection) (fault : Fault) → IsLayoutFault pieces sections fault → IsLayoutFault (map bare pieces) sections fault
+layout_fault_bare pieces sections fault h =
+    elim (layout_fault_cases pieces sections fault h) [
+      | inl many ↦ subst (IsLayoutFault (map bare pieces) sections) (sym many.1.0) many.1.1
+      | inr large ↦
+          subst (IsLayoutFault (map bare pieces) sections) (sym large.1.0)
+          (large.1.1.0, size_bare pieces sections false large.0 large.1.1.1, large.1.1.2)
+    ]
+
+refused_modules : (modules : List (List ℕ)) (pieces : List Piece) (fault : Fault) → map bare pieces ≡ link_pieces modules → IsLayoutRefusal pieces (refusal.Fault fault) → IsRefusedLayout modules fault
+refused_modules modules pieces fault are h = record {
+  sections = h.0;
+  grouped = grouped_modules modules pieces h.0 are h.1.0;
+  refused = subst (λ (ps : List Piece). IsLayoutFault ps h.0 fault) are (layout_fault_bare pieces h.0 fault h.1.1);
+}
+
+-- an entry that stands in a piece, and no layout
+pub refused_entry : (modules : List (List ℕ)) (definition piece : ℕ) (pieces : List Piece) (r : Refusal) → map bare pieces ≡ link_pieces modules → piece_index (link_pieces modules) (definition_at (all_definitions modules) definition) ≡ Some piece → IsLayoutRefusal pieces r → IsEntryRefusal modules definition r
+refused_entry modules definition piece pieces (refusal.Fault fault) are stands h =
+    inr (ap unplaced_of stands, refused_modules modules pieces fault are h)
+refused_entry modules definition piece pieces refusal.Memory are stands h = tt
+
+-- ---- a layout
+
+-- a piece that is named stands in a section, so an offset in it has an address
+pub entry_fits : (pieces : List Piece) (sections : List OutSection) (layout : Layout) (piece value : ℕ) → IsGrouping (input_from pieces (used_pieces pieces) []) sections → IsPlaced pieces sections layout → piece < length pieces → (get_or pieces piece no_piece).named ≡ true → value ≤ (get_or pieces piece no_piece).size → get_or layout.pieces.items piece 0 < 2 ^ 32 → get_or layout.pieces.items piece 0 + value < 2 ^ 32
+entry_fits pieces sections layout piece value grouped placed within named inside fits =
+    let input = input_from pieces (used_pieces pieces) [] in
+    let used : is_used input piece ≡ true = and_from _ _ (lt-ltb piece (length pieces) within) (get_or-replicate (length pieces) piece true false within) in
+    let needs : needs_place input piece ≡ true = or_right _ _ named in
+    name_fits pieces sections false layout piece value placed.layout_of placed.within (stands input sections piece grouped used needs) fits inside
+
+-- each initialised piece has its bytes
+pub all_contents : (pieces : List Piece) (sections : List OutSection) → StandOnce pieces sections → ((k : ℕ) → k < length pieces → HasItsBytes pieces k) → HasContents pieces sections
+all_contents pieces sections stand each = λ k d lt. each (get_or (all_pieces sections) k d) (stand.within k d lt)
+
+pub writable_plan : (plan : LinkPlan) (entry : ℕ) → plan.headers ≡ default_headers entry → IsGrouping (input_from plan.pieces.items (used_pieces plan.pieces.items) []) plan.sections.items → IsPlaced plan.pieces.items plan.sections.items plan.layout → ((k : ℕ) → k < length plan.pieces.items → HasItsBytes plan.pieces.items k) → IsWritable plan
+writable_plan plan entry headers grouped placed each =
+    let pieces = plan.pieces.items in
+    let sections = plan.sections.items in
+    let stand = stand_once (input_from pieces (used_pieces pieces) []) sections grouped in
+    let ready = laid_out pieces sections plan.layout placed.layout_of stand placed.few placed.growth in
+    let contents = all_contents pieces sections stand each in
+    record {
+      laid_out = ready;
+      contents = contents;
+      means = subst (λ (h : Headers). MeansPlan (written_plan h (rows_of sections) plan.layout.sections.items plan.layout.pieces.items plan.layout.image (map piece_contents pieces)) (image_file (written_plan h (rows_of sections) plan.layout.sections.items plan.layout.pieces.items plan.layout.image (map piece_contents pieces)))) (sym headers) (written_means (default_headers entry) pieces sections plan.layout ready contents (omega arith) refl refl);
+    }
+
+pub planned_entry : (modules : List (List ℕ)) (definition piece value : ℕ) (pieces : List Piece) (plan : LinkPlan)
+    → map bare pieces ≡ link_pieces modules → map piece_contents pieces ≡ link_contents modules
+    → ((k : ℕ) → k < length pieces → HasItsBytes pieces k)
+    → piece_index (link_pieces modules) (definition_at (all_definitions modules) definition) ≡ Some piece
+    → value ≡ (definition_at (all_definitions modules) definition).value
+    → IsLaidOutPlan (length modules) pieces piece value plan → IsEntryPlan modules definition plan
+planned_entry modules definition piece value pieces plan are contents each stands is laid =
+    let sections = plan.sections.items in
+    let entry = get_or plan.layout.pieces.items piece 0 + value in
+    let own = sym laid.same in
+    record {
+      writable = writable_plan plan entry laid.headers
+        (subst (λ (ps : List Piece). IsGrouping (input_from ps (used_pieces ps) []) sections) own laid.grouped)
+        (subst (λ (ps : List Piece). IsPlaced ps sections plan.layout) own laid.placed)
+        (subst (λ (ps : List Piece). (k : ℕ) → k < length ps → HasItsBytes ps k) own each);
+      count = laid.count;
+      stands = ap unplaced_of stands;
+      image = record {
+        sections = sections;
+        grouped = grouped_modules modules pieces sections are laid.grouped;
+        few = laid.placed.few;
+        layout = plan.layout;
+        laid_out = laid_out_modules modules pieces sections plan.layout are laid.placed.layout_of;
+        within = laid.placed.within;
+        entry = entry;
+        is_entry = record { piece = piece; stands = stands; is = ap (λ (v : ℕ). get_or plan.layout.pieces.items piece 0 + v) is };
+        is =
+          ap (λ (h : Headers). written_plan h (rows_of sections) plan.layout.sections.items plan.layout.pieces.items plan.layout.image (map piece_contents plan.pieces.items)) laid.headers
+          ∙ ap (λ (c : List (List ℕ)). written_plan (default_headers entry) (rows_of sections) plan.layout.sections.items plan.layout.pieces.items plan.layout.image c) (ap (map piece_contents) laid.same ∙ contents);
+      };
+    }
