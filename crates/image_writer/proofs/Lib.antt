@@ -1,4 +1,9 @@
 pub mod BufferLemmas
+pub mod RawLemmas
+pub mod ChainLemmas
+pub mod UninitialisedLemmas
+pub mod LaidOutLemmas
+pub mod StepLemmas
 pub mod StandsAt
 pub mod HeaderParts
 pub mod HeaderFields
