@@ -1,7 +1,7 @@
 -- Sections one after the other, as they are written: their rows, their raw data, and the sums over them.
-use Rattle.std.proofs.Common.{◌≡◌, ℕ, zero, suc, ◌+◌, ◌%◌, ◌<◌, ◌≤◌, ◌==◌, Bool, true, false, cond, List, [], ◌∷◌, ◌++◌, length, map, min, slice_get, Some, refl, sym, ap, ◌∙◌, subst, append_assoc, arith, eqb, leb, ltb}
+use Rattle.std.proofs.Common.{◌≡◌, ℕ, zero, suc, ◌+◌, ◌%◌, ◌<◌, ◌≤◌, ◌==◌, Bool, true, false, cond, List, [], ◌∷◌, ◌++◌, length, min, slice_get, Some, refl, sym, ap, ◌∙◌, subst, append_assoc, arith, leb, ltb}
 use Rattle.std.specs.List.{flat_map}
-use Rattle.std.proofs.lemmas.Bool.{and_parts, cases_Bool, leb-true, ltb-true}
+use Rattle.std.proofs.lemmas.Bool.{and_parts, leb-true, ltb-true}
 use Rattle.std.proofs.lemmas.List.{map-append}
 use Rattle.std.proofs.lemmas.List.Sums.{sum_by-cons}
 use Rattle.section_group.specs.Uniqueness.{SectionRow as OutRow}
@@ -58,8 +58,7 @@ rows_placed rvas contents image [] placed start file are = tt
 rows_placed rvas contents image (row ∷ rows) [] start file are = absurd are
 rows_placed rvas contents image (row ∷ rows) (place ∷ placed) start file are =
     let next = place.rva + place.size in
-    let behind = file_inside rvas contents image rows placed next (file + place.raw) are.1 in
-    (
+    let behind = file_inside rvas contents image rows placed next (file + place.raw) are.1 in (
       record {
         aligned = are.0.aligned;
         above = are.0.above;
@@ -103,7 +102,7 @@ all_raw rvas contents image (row ∷ rows) (place ∷ placed) start file before 
     let moved : (before ++ mine) ++ rest ≡ before ++ (mine ++ rest) = append_assoc before mine rest in
     let low : Lie 0 place.rva before = lie_wider 0 start 0 place.rva before (omega arith) are.0.above b in
     let here : laid mine (place.rva + place.raw) place.rva ≡ raw_bytes (before ++ (mine ++ rest)) (header_row row place) =
-        section_raw before mine rest (header_row row place) image low are.0.ascending are.0.lying (later_lie rvas contents image rows placed next (file + place.raw) are.1) in
+    section_raw before mine rest (header_row row place) image low are.0.ascending are.0.lying (later_lie rvas contents image rows placed next (file + place.raw) are.1) in
     let front : Lie 0 next (before ++ mine) = lie_both 0 next before mine (lie_wider 0 start 0 next before (omega arith) (omega (arith, are.0.above)) b) (lie_wider place.rva next 0 next mine (omega arith) (omega arith) are.0.lying) in
     let behind = all_raw rvas contents image rows placed next (file + place.raw) (before ++ mine) are.1 front in
     ap (λ (xs : List ℕ). xs ++ laid_all rvas contents rows placed) here
@@ -136,17 +135,16 @@ each_later row rows (piece ∷ pieces) each =
 each_first : (row : SectionRow) (rows : List SectionRow) (pieces : List PlacedPiece) → Lie row.rva (row.rva + row.raw_size) pieces → Lie row.rva (row.rva + row.size) pieces → EachIn (row ∷ rows) pieces
 unfolding EachIn Lie
 each_first row rows [] a b = tt
-each_first row rows (piece ∷ pieces) a b =
-    (
-      λ rva here.
-          let both = and_parts (leb piece.rva rva) (ltb rva (piece.rva + length piece.bytes)) here in
-          let low : piece.rva ≤ rva = leb-true _ _ both.0 in
-          let high : rva < piece.rva + length piece.bytes = ltb-true _ _ both.1 in
-          let in_raw = a.0 (omega arith) in
-          let in_size = b.0 (omega arith) in
-          (0, (row, refl, omega (arith, in_raw.0), omega (arith, in_raw.1, in_size.1))),
-      each_first row rows pieces a.1 b.1,
-    )
+each_first row rows (piece ∷ pieces) a b = (
+  λ rva here.
+      let both = and_parts (leb piece.rva rva) (ltb rva (piece.rva + length piece.bytes)) here in
+      let low : piece.rva ≤ rva = leb-true _ _ both.0 in
+      let high : rva < piece.rva + length piece.bytes = ltb-true _ _ both.1 in
+      let in_raw = a.0 (omega arith) in
+      let in_size = b.0 (omega arith) in
+      (0, (row, refl, omega (arith, in_raw.0), omega (arith, in_raw.1, in_size.1))),
+  each_first row rows pieces a.1 b.1,
+)
 
 each_in : (rvas : List ℕ) (contents : List (List ℕ)) (image : ℕ) (rows : List OutRow) (placed : List Placed) (start file : ℕ) → AreWritten rvas contents image rows placed start file → EachIn (section_rows rows placed) (placed_pieces rvas contents (all_indexes rows))
 unfolding AreWritten EachIn

@@ -1,5 +1,5 @@
 -- What is laid out can be written: from each section by its index to the sections one after the other.
-use Rattle.std.proofs.Common.{◌≡◌, ℕ, zero, suc, ◌+◌, ◌<◌, ◌≤◌, Bool, true, false, cond, IsTrue, List, [], ◌∷◌, ◌++◌, length, get_or, map, refl, sym, ap, ◌∙◌, subst, arith, length-append}
+use Rattle.std.proofs.Common.{◌≡◌, ℕ, zero, suc, ◌+◌, ◌<◌, ◌≤◌, Bool, true, false, cond, IsTrue, List, [], ◌∷◌, ◌++◌, length, get_or, map, refl, sym, ap, subst, arith, length-append}
 use Rattle.std.specs.List.{All}
 use Rattle.std.proofs.Math.ListN.{get_or-map}
 use Rattle.std.proofs.lemmas.List.{get_or_append_left, get_or-append-add}
@@ -13,7 +13,6 @@ use Rattle.address_layout.specs.declared.layout.Layout.{Layout}
 use Rattle.address_layout.specs.Places.{row_at, piece_in, piece_end, piece_floor, end_before, file_before}
 use Rattle.address_layout.specs.Layout.{all_pieces, placed_at}
 use Rattle.address_layout.proofs.StandingLemmas.{row_here}
-use Rattle.image_writer.specs.ExpectedImage.{PlacedPiece}
 use Rattle.image_writer.specs.WrittenImage.{piece_contents, placed_pieces, place_in, IsSectionLaidOut, IsLaidOut, HasItsBytes, HasContents}
 use Rattle.image_writer.specs.RawData.{next_place, Ascend}
 use Rattle.image_writer.proofs.RawLemmas.{Lie}
@@ -82,8 +81,7 @@ ascends pieces rvas name (k ∷ indexes) start place end low fits has up below =
     let bytes = get_or (map piece_contents pieces) k [] in
     let first : start ≤ rva = up 0 (omega arith) in
     let content = content_size pieces k (All-head (HasItsBytes pieces) k indexes has) in
-    let inside : 0 < length bytes → rva + size ≤ end = λ some. below 0 (omega arith) (content.1 some) in
-    (
+    let inside : 0 < length bytes → rva + size ≤ end = λ some. below 0 (omega arith) (content.1 some) in (
       λ some. omega arith,
       ascends pieces rvas name indexes (rva + size) (next_place bytes rva place) end (next_low bytes rva place start size low first content.0) (next_end bytes rva place end size fits content.0 inside) (All-tail (HasItsBytes pieces) k indexes has) (climbs_on pieces rvas name k indexes start up) (λ j lt init. below (suc j) (omega arith) init),
     )
@@ -98,8 +96,7 @@ lies pieces rvas name (k ∷ indexes) start low high le has up below =
     let first : start ≤ rva = up 0 (omega arith) in
     let content = content_size pieces k (All-head (HasItsBytes pieces) k indexes has) in
     let short : length bytes ≤ size = content.0 in
-    let inside : 0 < size → rva + size ≤ high = λ some. below 0 (omega arith) some in
-    (
+    let inside : 0 < size → rva + size ≤ high = λ some. below 0 (omega arith) some in (
       λ some. (omega arith, omega (arith, inside (omega arith))),
       lies pieces rvas name indexes (rva + size) low high (omega arith) (All-tail (HasItsBytes pieces) k indexes has) (climbs_on pieces rvas name k indexes start up) (λ j lt has_bytes. below (suc j) (omega arith) has_bytes),
     )
@@ -133,13 +130,12 @@ chain pieces rvas image [] [] start file same has each inside fits = (inside, fi
 chain pieces rvas image [] (place ∷ placed) start file same has each inside fits = absurd (omega arith)
 chain pieces rvas image (s ∷ ss) [] start file same has each inside fits = absurd (omega arith)
 chain pieces rvas image (s ∷ ss) (place ∷ placed) start file same has each inside fits =
-    let at : ℕ → ℕ → ℕ → Type 0 = λ i before file_before. IsSectionLaidOut pieces rvas (row_at ss i) before file_before (placed_at placed i) in
-    (
+    let at : ℕ → ℕ → ℕ → Type 0 = λ i before file_before. IsSectionLaidOut pieces rvas (row_at ss i) before file_before (placed_at placed i) in (
       section_written pieces rvas s start file place (each 0 (omega arith)) (all_front (HasItsBytes pieces) s.pieces.items (all_pieces ss) has),
       chain pieces rvas image ss placed (place.rva + place.size) (file + place.raw) (omega arith) (all_back (HasItsBytes pieces) s.pieces.items (all_pieces ss) has)
-      (λ i lt. subst (λ (n : ℕ). at i n (file_before (file + place.raw) (placed_at placed) i)) (end_shift start place placed i) (subst (at i (end_before start (placed_at (place ∷ placed)) (suc i))) (file_shift file place placed i) (each (suc i) (omega arith))))
-      (subst (λ (n : ℕ). n ≤ image) (end_shift start place placed (length placed)) inside)
-      (subst (λ (n : ℕ). n < 4294967296) (file_shift file place placed (length placed)) fits),
+          (λ i lt. subst (λ (n : ℕ). at i n (file_before (file + place.raw) (placed_at placed) i)) (end_shift start place placed i) (subst (at i (end_before start (placed_at (place ∷ placed)) (suc i))) (file_shift file place placed i) (each (suc i) (omega arith))))
+          (subst (λ (n : ℕ). n ≤ image) (end_shift start place placed (length placed)) inside)
+          (subst (λ (n : ℕ). n < 4294967296) (file_shift file place placed (length placed)) fits),
     )
 
 pub laid_out_written : (pieces : List Piece) (sections : List OutSection) (layout : Layout) → IsLaidOut pieces sections layout → HasContents pieces sections → AreWritten layout.pieces.items (map piece_contents pieces) layout.image (rows_of sections) layout.sections.items layout.headers layout.headers

@@ -1,5 +1,5 @@
 -- The raw data of a section, byte by byte: what the pieces put at each address.
-use Rattle.std.proofs.Common.{◌≡◌, ℕ, ◌+◌, ◌-◌, ◌<◌, ◌≤◌, ◌⊎◌, leb, ltb, Bool, true, false, cond, List, [], ◌∷◌, ◌++◌, length, get_or, map, replicate, refl, sym, ap, ◌∙◌, subst, inl, inr, append_assoc, length-append, arith}
+use Rattle.std.proofs.Common.{◌≡◌, ℕ, ◌+◌, ◌-◌, ◌<◌, ◌≤◌, ◌⊎◌, leb, ltb, false, cond, List, [], ◌∷◌, ◌++◌, length, get_or, map, replicate, refl, sym, ap, ◌∙◌, inl, inr, length-append, arith}
 use Rattle.std.specs.List.{range_with_len}
 use Rattle.std.proofs.lemmas.Bool.{and_parts, and_from, cases_Bool, cases_lt, leb-true, ltb-true, cond-true, cond-false, lt-ltb, le-leb, le-ltb}
 use Rattle.std.proofs.lemmas.Grind.{same_number_lists}
@@ -102,8 +102,7 @@ pub ascend_lie : (pieces : List PlacedPiece) (end place : ℕ) → Ascend pieces
 unfolding Ascend Lie
 ascend_lie [] end place up = tt
 ascend_lie (piece ∷ pieces) end place up =
-    let next = next_place piece.bytes piece.rva place in
-    (
+    let next = next_place piece.bytes piece.rva place in (
       next_lies piece.bytes piece.rva place end up.0 (ascend_end pieces end next up.1),
       lie_wider next end place end pieces (place_rises piece.bytes piece.rva place up.0) (omega arith) (ascend_lie pieces end next up.1),
     )

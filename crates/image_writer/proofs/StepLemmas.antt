@@ -1,12 +1,12 @@
 -- The steps of the loops that write: one section or one piece more.
 use Rattle.std.proofs.Common.{◌≡◌, ℕ, ◌+◌, ◌<◌, List, [], ◌∷◌, ◌++◌, length, get_or, map, drop, sym, ap, ◌∙◌, append_assoc, arith}
 use Rattle.std.proofs.Math.ListN as plain
-use Rattle.std.proofs.lemmas.List.{drop_more, get_or-map, length-map}
+use Rattle.std.proofs.lemmas.List.{drop_more, get_or-map, get_or_default, length-map}
 use Rattle.section_group.specs.declared.piece.Piece.{Piece}
 use Rattle.section_group.specs.declared.piece.OutSection.{OutSection}
 use Rattle.section_group.specs.Uniqueness.{SectionRow as OutRow, row_of, rows_of}
 use Rattle.address_layout.specs.declared.layout.Placed.{Placed}
-use Rattle.image_writer.specs.declared.headers.SectionRow.{SectionRow}
+use Rattle.address_layout.specs.Layout.{placed_at}
 use Rattle.image_writer.specs.ExpectedImage.{PlacedPiece}
 use Rattle.image_writer.specs.WrittenImage.{header_row, section_rows, piece_contents, placed_pieces}
 use Rattle.image_writer.specs.RawData.{laid, laid_all}
@@ -19,20 +19,27 @@ rows_to sections i section lt is =
     drop_to (rows_of sections) i (row_of section) (omega (arith, length-map sections row_of)) (ap row_of is ∙ sym (plain.get_or-map row_of sections i section))
 
 -- what is written and what is still to be written are the whole, before and after a step
-pub kept : (new out more rest whole total : List ℕ) → new ≡ out ++ more → out ++ whole ≡ total → whole ≡ more ++ rest → new ++ rest ≡ total
+pub kept : {X : Type 0} (new out more rest whole total : List X) → new ≡ out ++ more → out ++ whole ≡ total → whole ≡ more ++ rest → new ++ rest ≡ total
 kept new out more rest whole total a b c =
-    ap (λ (xs : List ℕ). xs ++ rest) a ∙ append_assoc out more rest ∙ ap (λ (xs : List ℕ). out ++ xs) (sym c) ∙ b
+    ap (λ (xs : _). xs ++ rest) a ∙ append_assoc out more rest ∙ ap (λ (xs : _). out ++ xs) (sym c) ∙ b
 
-pub rows_step : (sections : List OutSection) (placed : List Placed) (i : ℕ) (section : OutSection) (place : Placed) → i < length sections → i < length placed → section ≡ get_or sections i section → place ≡ get_or placed i place → section_rows (drop i (rows_of sections)) (drop i placed) ≡ header_row (row_of section) place ∷ section_rows (drop (i + 1) (rows_of sections)) (drop (i + 1) placed)
-rows_step sections placed i section place lt less is at =
+-- the place of a section by its index
+pub place_here : (placed : List Placed) (i : ℕ) (place : Placed) → i < length placed → place ≡ get_or placed i place → placed_at placed i ≡ place
+place_here placed i place lt is = get_or_default placed i _ place lt ∙ sym is
+
+placed_to : (placed : List Placed) (i : ℕ) → i < length placed → drop i placed ≡ placed_at placed i ∷ drop (i + 1) placed
+placed_to placed i lt = drop_more placed i _ lt
+
+pub rows_step : (sections : List OutSection) (placed : List Placed) (i : ℕ) (section : OutSection) → length placed ≡ length sections → i < length sections → section ≡ get_or sections i section → section_rows (drop i (rows_of sections)) (drop i placed) ≡ header_row (row_of section) (placed_at placed i) ∷ section_rows (drop (i + 1) (rows_of sections)) (drop (i + 1) placed)
+rows_step sections placed i section same lt is =
     ap (λ (rows : List OutRow). section_rows rows (drop i placed)) (rows_to sections i section lt is)
-    ∙ ap (section_rows (row_of section ∷ drop (i + 1) (rows_of sections))) (drop_to placed i place less at)
+    ∙ ap (section_rows (row_of section ∷ drop (i + 1) (rows_of sections))) (placed_to placed i (omega arith))
 
-pub all_step : (rvas : List ℕ) (contents : List (List ℕ)) (sections : List OutSection) (placed : List Placed) (i : ℕ) (section : OutSection) (place : Placed) → i < length sections → i < length placed → section ≡ get_or sections i section → place ≡ get_or placed i place → laid_all rvas contents (drop i (rows_of sections)) (drop i placed) ≡ laid (placed_pieces rvas contents section.pieces.items) (place.rva + place.raw) place.rva ++ laid_all rvas contents (drop (i + 1) (rows_of sections)) (drop (i + 1) placed)
+pub all_step : (rvas : List ℕ) (contents : List (List ℕ)) (sections : List OutSection) (placed : List Placed) (i : ℕ) (section : OutSection) → length placed ≡ length sections → i < length sections → section ≡ get_or sections i section → laid_all rvas contents (drop i (rows_of sections)) (drop i placed) ≡ laid (placed_pieces rvas contents section.pieces.items) ((placed_at placed i).rva + (placed_at placed i).raw) (placed_at placed i).rva ++ laid_all rvas contents (drop (i + 1) (rows_of sections)) (drop (i + 1) placed)
 unfolding laid_all
-all_step rvas contents sections placed i section place lt less is at =
+all_step rvas contents sections placed i section same lt is =
     ap (λ (rows : List OutRow). laid_all rvas contents rows (drop i placed)) (rows_to sections i section lt is)
-    ∙ ap (laid_all rvas contents (row_of section ∷ drop (i + 1) (rows_of sections))) (drop_to placed i place less at)
+    ∙ ap (laid_all rvas contents (row_of section ∷ drop (i + 1) (rows_of sections))) (placed_to placed i (omega arith))
 
 -- the first of the pieces that are still to be written
 pub piece_step : (rvas : List ℕ) (pieces : List Piece) (indexes : List ℕ) (j k : ℕ) (piece : Piece) (bytes : List ℕ) → j < length indexes → k ≡ get_or indexes j 0 → k < length pieces → piece ≡ get_or pieces k piece → bytes ≡ piece_contents piece → placed_pieces rvas (map piece_contents pieces) (drop j indexes) ≡ record { rva = get_or rvas k 0; bytes = bytes } ∷ placed_pieces rvas (map piece_contents pieces) (drop (j + 1) indexes)
