@@ -1,4 +1,10 @@
 pub mod BufferLemmas
+pub mod RawLemmas
+pub mod ChainLemmas
+pub mod UninitialisedLemmas
+pub mod LaidOutLemmas
+pub mod TableLemmas
+pub mod StepLemmas
 pub mod StandsAt
 pub mod HeaderParts
 pub mod HeaderFields
@@ -9,3 +15,4 @@ pub mod ImageTests
 pub mod ImageMemory
 pub mod ImageSlack
 pub mod ImageTheorems
+pub mod CallerLemmas

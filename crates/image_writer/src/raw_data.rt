@@ -43,7 +43,7 @@ fn push_section(
         (placed.now.rva + placed.now.raw) placed.now.rva }
     ensures { OnOk result (out.new.items ≡ out.old.items
         ++ laid (placed_pieces rvas.now (map piece_contents pieces.now) section.now.pieces.items)
-            (placed.now.rva + placed.now.raw) placed.now.rva) }
+        (placed.now.rva + placed.now.raw) placed.now.rva) }
 {
     let mut place = placed.rva as usize;
     for index in &section.pieces {
@@ -51,7 +51,8 @@ fn push_section(
         place = push_piece(out, place, rvas[index] as usize, contents(&pieces[index]))?;
     }
     let end = placed.rva as usize + placed.raw as usize;
-    push_zeros(out, end - place)
+    push_zeros(out, end - place)?;
+    Ok(())
 }
 
 /// Appends zeros up to the place of the bytes, and the bytes, and gives the place behind them. Where there are no bytes,
