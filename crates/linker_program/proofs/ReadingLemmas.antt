@@ -1,10 +1,18 @@
 -- The first fault below an end, in a loop that counts up; why one input is not read; and what is read so far.
-use Rattle.std.proofs.Common.{◌≡◌, ℕ, zero, suc, ◌+◌, ◌<◌, ◌≤◌, nat_lt, false, true, List, [], ◌∷◌, ◌++◌, length, map, take, Option, Some, None, refl, sym, ap, ◌∙◌, inl, inr, add-one, arith, lt-ltb, le-ltb, cond}
+use Rattle.std.proofs.Common.{◌≡◌, ℕ, zero, suc, ◌+◌, ◌<◌, ◌≤◌, List, [], ◌∷◌, ◌++◌, length, get_or, map, take, Option, Some, None, Result, Ok, Err, Vec, refl, sym, ap, ◌∙◌, inl, inr, add-one, arith, le-ltb}
+use Rattle.std.specs.Prelude.{All, unwrap_or}
+use Rattle.std.specs.Option.{ForSome}
 use Rattle.std.proofs.lemmas.Bool.{cases_lt}
-use Rattle.std.specs.Prelude.{IsSomeAnd}
+use Rattle.std.proofs.lemmas.List.{length-map, map-append, take_more, take_all, length_push, get_or-map}
+use Rattle.std.proofs.lemmas.List.Elements.{All-nil, All-same, All-push}
 use Rattle.link_base.specs.declared.fault.Fault.{Fault}
-use Rattle.link_base.specs.declared.fault.Fault.TheVariants.{NotFound, FileTooLarge, InputLimit}
-use Rattle.linker_program.specs.Loading.{file_limit, input_limit, first_fault_below, read_fault}
+use Rattle.link_files.specs.Store.{Store, file_of}
+use Rattle.linker_program.specs.declared.refusal.Stop.{Stop}
+use Rattle.linker_program.specs.declared.refusal.Stop.TheVariants as stop
+use Rattle.linker_program.specs.LinkRun.{Files, AreUntouched}
+use Rattle.linker_program.specs.Loading.{file_limit, input_limit, first_fault_below, bytes_in, contents_of, total_before, read_fault, read_fault_at}
+use Rattle.linker_program.specs.ReadingSteps.{GivesInput, ReadsInput, GivesInputs, ReadsInputs}
+use Rattle.linker_program.proofs.StepLemmas.{untouched}
 
 -- ---- the first fault below an end
 
@@ -31,14 +39,121 @@ kept_no_fault name total bytes file is within together =
     ap (read_fault name total) is
     ∙ rw (le-ltb file_limit (length bytes) within, le-ltb input_limit (total + length bytes) together) refl
 
-pub missing_fault : (name : List ℕ) (total : ℕ) (file : Option (List ℕ)) → file ≡ None → read_fault name total file ≡ Some (NotFound name None)
-missing_fault name total file is = ap (read_fault name total) is
+-- ---- what is read so far
 
-pub larger_fault : (name : List ℕ) (total : ℕ) (file : Option (List ℕ)) → IsSomeAnd file (λ bytes. file_limit < length bytes) → read_fault name total file ≡ Some (FileTooLarge name None)
-larger_fault name total None larger = absurd larger
-larger_fault name total (Some bytes) larger = rw (lt-ltb file_limit (length bytes) larger) refl
+-- the first inputs were read
+pub record ReadSoFar (names : List (List ℕ)) (index : ℕ) (before after : Files) (contents : List (List ℕ)) (total : ℕ) : Type 0 where
+  pub files : AreUntouched before after
+  pub count : length contents ≡ index
+  pub within : All (λ bytes. length bytes ≤ file_limit) contents
+  pub together : total ≤ input_limit
+  pub no_fault : ForSome before.store (λ store. first_fault_below index (read_fault_at store names) ≡ None)
+  pub told : ForSome before.store (λ store. contents ≡ map (contents_of store) (take index names))
+  pub sum : ForSome before.store (λ store. total ≡ total_before store names index)
 
-pub sum_fault : (name : List ℕ) (total : ℕ) (bytes : List ℕ) (file : Option (List ℕ)) → file ≡ Some bytes → length bytes ≤ file_limit → input_limit < total + length bytes → read_fault name total file ≡ Some (InputLimit (total + length bytes))
-sum_fault name total bytes file is within larger =
-    ap (read_fault name total) is
-    ∙ rw (le-ltb file_limit (length bytes) within, lt-ltb input_limit (total + length bytes) larger) refl
+pub nothing_read : (names : List (List ℕ)) (files : Files) (contents : List (List ℕ)) → contents ≡ [] → ReadSoFar names 0 files files contents 0
+unfolding first_fault_below total_before
+nothing_read names files contents empty = record {
+  files = untouched files;
+  count = ap length empty;
+  within = All-same (λ (bytes : List ℕ). length bytes ≤ file_limit) contents [] empty (All-nil (λ (bytes : List ℕ). length bytes ≤ file_limit));
+  together = omega arith;
+  no_fault = λ store is. refl;
+  told = λ store is. empty;
+  sum = λ store is. refl;
+}
+
+untouched_further : (before after later : Files) → AreUntouched before after → AreUntouched after later → AreUntouched before later
+untouched_further before after later first second = record {
+  store = second.store ∙ first.store;
+  reads = second.reads ∙ first.reads;
+  writes = second.writes ∙ first.writes;
+}
+
+-- the fault of an input, behind as many bytes as those before it have
+fault_here : (names : List (List ℕ)) (index : ℕ) (store : Store) (name : List ℕ) (total : ℕ) → name ≡ bytes_in names index → total ≡ total_before store names index → read_fault_at store names index ≡ read_fault name total (file_of store name)
+fault_here names index store name total named sum =
+    sym (ap (λ (n : List ℕ). read_fault n total (file_of store n)) named
+    ∙ ap (λ (t : ℕ). read_fault (bytes_in names index) t (file_of store (bytes_in names index))) sum)
+
+contents_here : (names : List (List ℕ)) (index : ℕ) (store : Store) (name bytes : List ℕ) → name ≡ bytes_in names index → file_of store name ≡ Some bytes → bytes ≡ contents_of store (bytes_in names index)
+contents_here names index store name bytes named told =
+    ap (λ (file : Option (List ℕ)). unwrap_or file []) (sym told) ∙ ap (contents_of store) named
+
+contents_more : (names : List (List ℕ)) (index : ℕ) (store : Store) (contents : List (List ℕ)) (bytes : List ℕ) → index < length names → contents ≡ map (contents_of store) (take index names) → bytes ≡ contents_of store (bytes_in names index) → contents ++ bytes ∷ [] ≡ map (contents_of store) (take (index + 1) names)
+contents_more names index store contents bytes lt so_far here =
+    ap (λ (before : List (List ℕ)). before ++ bytes ∷ []) so_far
+    ∙ ap (λ (last : List ℕ). map (contents_of store) (take index names) ++ last ∷ []) here
+    ∙ sym (map-append (contents_of store) (take index names) (bytes_in names index ∷ []))
+    ∙ ap (map (contents_of store)) (sym (take_more names index [] lt))
+
+total_more : (names : List (List ℕ)) (index : ℕ) (store : Store) (total : ℕ) (bytes : List ℕ) → total ≡ total_before store names index → bytes ≡ contents_of store (bytes_in names index) → total + length bytes ≡ total_before store names (index + 1)
+unfolding total_before
+total_more names index store total bytes so_far here =
+    ap (λ (before : ℕ). before + length bytes) so_far
+    ∙ ap (λ (last : List ℕ). total_before store names index + length last) here
+    ∙ sym (ap (total_before store names) (add-one index))
+
+-- the next input was read too
+pub read_more : (names : List (List ℕ)) (index : ℕ) (before after later : Files) (contents : List (List ℕ)) (total : ℕ) (name bytes : List ℕ) → index < length names → name ≡ bytes_in names index → ReadSoFar names index before after contents total → GivesInput name total after later bytes → ReadSoFar names (index + 1) before later (contents ++ bytes ∷ []) (total + length bytes)
+read_more names index before after later contents total name bytes lt named so_far gives =
+    let file = λ (store : Store) (is : before.store ≡ Some store). gives.told store (so_far.files.store ∙ is) in
+    let here = λ (store : Store) (is : before.store ≡ Some store). contents_here names index store name bytes named (file store is) in
+    record {
+      files = untouched_further before after later so_far.files gives.files;
+      count = length_push contents bytes ∙ ap (λ (n : ℕ). n + 1) so_far.count;
+      within = All-push (λ (b : List ℕ). length b ≤ file_limit) contents bytes so_far.within gives.within;
+      together = gives.together;
+      no_fault = λ store is.
+        first_fault_below-more index (read_fault_at store names) (so_far.no_fault store is)
+        (fault_here names index store name total named (so_far.sum store is)
+        ∙ kept_no_fault name total bytes (file_of store name) (file store is) gives.within gives.together);
+      told = λ store is. contents_more names index store contents bytes lt (so_far.told store is) (here store is);
+      sum = λ store is. total_more names index store total bytes (so_far.sum store is) (here store is);
+    }
+
+-- all inputs were read
+pub all_read : (names : List (List ℕ)) (index : ℕ) (before after : Files) (contents : List (List ℕ)) (total : ℕ) → index ≡ length names → ReadSoFar names index before after contents total → GivesInputs names before after contents
+all_read names index before after contents total all so_far = record {
+  files = so_far.files;
+  count = so_far.count ∙ all;
+  within = so_far.within;
+  no_fault = λ store is. ap (λ (n : ℕ). first_fault_below n (read_fault_at store names)) (sym all) ∙ so_far.no_fault store is;
+  told = λ store is. sym (so_far.told store is ∙ ap (map (contents_of store)) (take_all index names (omega arith)));
+}
+
+-- the next input stops the reading
+pub reading_stops : (A B : Type 0) (names : List (List ℕ)) (index : ℕ) (before after later : Files) (contents : List (List ℕ)) (total : ℕ) (name : List ℕ) (error : Stop) → index < length names → name ≡ bytes_in names index → ReadSoFar names index before after contents total → ReadsInput {A = A} name total after later (Err error) → ReadsInputs {A = A} {B = B} names before later (Err error)
+reading_stops A B names index before after later contents total name (stop.Fault fault) lt named so_far faults = record {
+  files = untouched_further before after later so_far.files faults.files;
+  told = λ store is.
+    first_fault_below-found index (length names) (read_fault_at store names) fault lt (so_far.no_fault store is)
+    (fault_here names index store name total named (so_far.sum store is) ∙ faults.told store (so_far.files.store ∙ is));
+}
+reading_stops A B names index before after later contents total name (stop.Read failed) lt named so_far fails = record {
+  files = record {
+    store = fails.files.store ∙ so_far.files.store;
+    reads = omega (arith, fails.files.reads, so_far.files.reads);
+    writes = fails.files.writes ∙ so_far.files.writes;
+  };
+  input = index;
+  within = lt;
+  named = fails.named ∙ named;
+  earlier = so_far.no_fault;
+}
+reading_stops A B names index before after later contents total name stop.Memory lt named so_far kept = untouched_further before after later so_far.files kept
+
+-- ---- the names and the contents as the program holds them
+
+pub within_names : {X : Type 0} (bytes_of : X → List ℕ) (names : List X) (index : ℕ) → index < length names → index < length (map bytes_of names)
+within_names bytes_of names index lt = omega (arith, length-map names bytes_of)
+
+pub name_at : {X : Type 0} (bytes_of : X → List ℕ) (names : List X) (index : ℕ) (name : X) → index < length names → name ≡ get_or names index name → bytes_of name ≡ bytes_in (map bytes_of names) index
+name_at bytes_of names index name lt is = ap bytes_of is ∙ sym (get_or-map bytes_of names index name [] lt)
+
+pub items_none : {A : Type 0} (contents : List (Vec ℕ A)) → contents ≡ [] → map (λ (bytes : Vec ℕ A). bytes.items) contents ≡ []
+items_none {A} contents empty = ap (map (λ (bytes : Vec ℕ A). bytes.items)) empty
+
+pub items_push : {A : Type 0} (contents later : List (Vec ℕ A)) (last : Vec ℕ A) → later ≡ contents ++ last ∷ [] → map (λ (bytes : Vec ℕ A). bytes.items) later ≡ map (λ (bytes : Vec ℕ A). bytes.items) contents ++ last.items ∷ []
+items_push {A} contents later last pushed =
+    ap (map (λ (bytes : Vec ℕ A). bytes.items)) pushed ∙ map-append (λ (bytes : Vec ℕ A). bytes.items) contents (last ∷ [])
