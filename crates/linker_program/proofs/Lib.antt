@@ -1,7 +1,9 @@
 pub mod OpeningLemmas
 pub mod WordLemmas
+pub mod ReadingLemmas
+pub mod ModuleLemmas
+pub mod DefinitionLemmas
 pub mod OutcomeLemmas
 pub mod RunLemmas
 pub mod PlanLemmas
 pub mod StepLemmas
-pub mod ReadingLemmas

@@ -1,9 +1,9 @@
 -- The first fault below an end, in a loop that counts up; why one input is not read; and what is read so far.
-use Rattle.std.proofs.Common.{◌≡◌, ℕ, zero, suc, ◌+◌, ◌<◌, ◌≤◌, List, [], ◌∷◌, ◌++◌, length, get_or, map, take, Option, Some, None, Result, Ok, Err, refl, sym, ap, ◌∙◌, inl, inr, add-one, arith, le-ltb}
+use Rattle.std.proofs.Common.{◌≡◌, ℕ, zero, suc, ◌+◌, ◌<◌, ◌≤◌, List, [], ◌∷◌, ◌++◌, length, get_or, map, take, Option, Some, None, Err, Vec, refl, sym, ap, ◌∙◌, inl, inr, add-one, arith, le-ltb}
 use Rattle.std.specs.Prelude.{All, unwrap_or}
 use Rattle.std.specs.Option.{ForSome}
 use Rattle.std.proofs.lemmas.Bool.{cases_lt}
-use Rattle.std.proofs.lemmas.List.{map-append, take_more, take_all, length_push, get_or-map}
+use Rattle.std.proofs.lemmas.List.{length-map, map-append, take_more, length_push, get_or-map}
 use Rattle.std.proofs.lemmas.List.Elements.{All-nil, All-same, All-push}
 use Rattle.link_base.specs.declared.fault.Fault.{Fault}
 use Rattle.link_files.specs.Store.{Store, file_of}
@@ -11,8 +11,7 @@ use Rattle.linker_program.specs.declared.refusal.Stop.{Stop}
 use Rattle.linker_program.specs.declared.refusal.Stop.TheVariants as stop
 use Rattle.linker_program.specs.LinkRun.{Files, AreUntouched}
 use Rattle.linker_program.specs.Loading.{file_limit, input_limit, first_fault_below, bytes_in, contents_of, total_before, read_fault, read_fault_at}
-use Rattle.linker_program.specs.ReadingSteps.{GivesInput, ReadsInput, GivesInputs, ReadsInputs}
-use Rattle.linker_program.proofs.StepLemmas.{untouched}
+use Rattle.linker_program.specs.ReadingSteps.{GivesInput, ReadsInput, ReadsInputs}
 
 -- ---- the first fault below an end
 
@@ -34,7 +33,7 @@ first_fault_below-found n (suc m) fault_at fault lt none here =
 -- ---- one input
 
 -- it is there and keeps the limits
-pub kept_no_fault : (name : List ℕ) (total : ℕ) (bytes : List ℕ) (file : Option (List ℕ)) → file ≡ Some bytes → length bytes ≤ file_limit → total + length bytes ≤ input_limit → read_fault name total file ≡ None
+kept_no_fault : (name : List ℕ) (total : ℕ) (bytes : List ℕ) (file : Option (List ℕ)) → file ≡ Some bytes → length bytes ≤ file_limit → total + length bytes ≤ input_limit → read_fault name total file ≡ None
 kept_no_fault name total bytes file is within together =
     ap (read_fault name total) is
     ∙ rw (le-ltb file_limit (length bytes) within, le-ltb input_limit (total + length bytes) together) refl
@@ -54,7 +53,7 @@ pub record ReadSoFar (names : List (List ℕ)) (index : ℕ) (before after : Fil
 pub nothing_read : (names : List (List ℕ)) (files : Files) (contents : List (List ℕ)) → contents ≡ [] → ReadSoFar names 0 files files contents 0
 unfolding first_fault_below total_before
 nothing_read names files contents empty = record {
-  files = untouched files;
+  files = record { store = refl; reads = refl; writes = refl };
   count = ap length empty;
   within = All-same (λ (bytes : List ℕ). length bytes ≤ file_limit) contents [] empty (All-nil (λ (bytes : List ℕ). length bytes ≤ file_limit));
   together = omega arith;
@@ -105,32 +104,22 @@ read_more names index before after later contents total name bytes lt named so_f
       within = All-push (λ (b : List ℕ). length b ≤ file_limit) contents bytes so_far.within gives.within;
       together = gives.together;
       no_fault = λ store is.
-        first_fault_below-more index (read_fault_at store names) (so_far.no_fault store is)
-        (fault_here names index store name total named (so_far.sum store is)
-        ∙ kept_no_fault name total bytes (file_of store name) (file store is) gives.within gives.together);
+          first_fault_below-more index (read_fault_at store names) (so_far.no_fault store is)
+          (fault_here names index store name total named (so_far.sum store is)
+          ∙ kept_no_fault name total bytes (file_of store name) (file store is) gives.within gives.together);
       told = λ store is. contents_more names index store contents bytes lt (so_far.told store is) (here store is);
       sum = λ store is. total_more names index store total bytes (so_far.sum store is) (here store is);
     }
 
--- all inputs were read
-pub all_read : (names : List (List ℕ)) (index : ℕ) (before after : Files) (contents : List (List ℕ)) (total : ℕ) → index ≡ length names → ReadSoFar names index before after contents total → GivesInputs names before after contents
-all_read names index before after contents total all so_far = record {
-  files = so_far.files;
-  count = so_far.count ∙ all;
-  within = so_far.within;
-  no_fault = λ store is. ap (λ (n : ℕ). first_fault_below n (read_fault_at store names)) (sym all) ∙ so_far.no_fault store is;
-  told = λ store is. sym (so_far.told store is ∙ ap (map (contents_of store)) (take_all index names (omega arith)));
-}
-
 -- the next input stops the reading
-pub reading_stops : {A B : Type 0} (names : List (List ℕ)) (index : ℕ) (before after later : Files) (contents : List (List ℕ)) (total : ℕ) (name : List ℕ) (error : Stop) → index < length names → name ≡ bytes_in names index → ReadSoFar names index before after contents total → ReadsInput {A = A} name total after later (Err error) → ReadsInputs {A = A} {B = B} names before later (Err error)
-reading_stops names index before after later contents total name (stop.Fault fault) lt named so_far faults = record {
+pub reading_stops : (A B : Type 0) (names : List (List ℕ)) (index : ℕ) (before after later : Files) (contents : List (List ℕ)) (total : ℕ) (name : List ℕ) (error : Stop) → index < length names → name ≡ bytes_in names index → ReadSoFar names index before after contents total → ReadsInput {A = A} name total after later (Err error) → ReadsInputs {A = A} {B = B} names before later (Err error)
+reading_stops A B names index before after later contents total name (stop.Fault fault) lt named so_far faults = record {
   files = untouched_further before after later so_far.files faults.files;
   told = λ store is.
-    first_fault_below-found index (length names) (read_fault_at store names) fault lt (so_far.no_fault store is)
-    (fault_here names index store name total named (so_far.sum store is) ∙ faults.told store (so_far.files.store ∙ is));
+      first_fault_below-found index (length names) (read_fault_at store names) fault lt (so_far.no_fault store is)
+      (fault_here names index store name total named (so_far.sum store is) ∙ faults.told store (so_far.files.store ∙ is));
 }
-reading_stops names index before after later contents total name (stop.Read failed) lt named so_far fails = record {
+reading_stops A B names index before after later contents total name (stop.Read failed) lt named so_far fails = record {
   files = record {
     store = fails.files.store ∙ so_far.files.store;
     reads = omega (arith, fails.files.reads, so_far.files.reads);
@@ -141,9 +130,19 @@ reading_stops names index before after later contents total name (stop.Read fail
   named = fails.named ∙ named;
   earlier = so_far.no_fault;
 }
-reading_stops names index before after later contents total name stop.Memory lt named so_far kept = untouched_further before after later so_far.files kept
+reading_stops A B names index before after later contents total name stop.Memory lt named so_far kept = untouched_further before after later so_far.files kept
 
 -- ---- the names and the contents as the program holds them
 
+pub within_names : {X : Type 0} (bytes_of : X → List ℕ) (names : List X) (index : ℕ) → index < length names → index < length (map bytes_of names)
+within_names bytes_of names index lt = omega (arith, length-map names bytes_of)
+
 pub name_at : {X : Type 0} (bytes_of : X → List ℕ) (names : List X) (index : ℕ) (name : X) → index < length names → name ≡ get_or names index name → bytes_of name ≡ bytes_in (map bytes_of names) index
 name_at bytes_of names index name lt is = ap bytes_of is ∙ sym (get_or-map bytes_of names index name [] lt)
+
+pub items_none : {A : Type 0} (contents : List (Vec ℕ A)) → contents ≡ [] → map (λ (bytes : Vec ℕ A). bytes.items) contents ≡ []
+items_none {A} contents empty = ap (map (λ (bytes : Vec ℕ A). bytes.items)) empty
+
+pub items_push : {A : Type 0} (contents later : List (Vec ℕ A)) (last : Vec ℕ A) → later ≡ contents ++ last ∷ [] → map (λ (bytes : Vec ℕ A). bytes.items) later ≡ map (λ (bytes : Vec ℕ A). bytes.items) contents ++ last.items ∷ []
+items_push {A} contents later last pushed =
+    ap (map (λ (bytes : Vec ℕ A). bytes.items)) pushed ∙ map-append (λ (bytes : Vec ℕ A). bytes.items) contents (last ∷ [])

@@ -10,6 +10,6 @@ pub mod DefaultHeaders
 pub mod Outcome
 pub mod LinkRun
 pub mod Steps
-pub mod PlanSteps
 pub mod ReadingSteps
 pub mod Refusing
+pub mod PlanSteps

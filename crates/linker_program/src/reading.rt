@@ -1,6 +1,6 @@
 //! The inputs of a link, read in the order of the words.
 
-ghost use Rattle.std.specs.Prelude.{◌≡◌, ◌<◌, ◌≤◌, ◌-◌, ◌^◌, None, map, string_bytes};
+ghost use Rattle.std.specs.Prelude.{None, ◌≡◌, ◌<◌, ◌≤◌, ◌-◌, ◌^◌, map, string_bytes};
 ghost use Rattle.linker_program.specs.Loading.{input_limit};
 ghost use Rattle.linker_program.specs.Steps.{files_of};
 ghost use Rattle.linker_program.specs.ReadingSteps.{ReadsInput, ReadsInputs};
