@@ -1,0 +1,44 @@
+-- Base names, forms of objects, and modules that are opened one by one.
+use Rattle.std.proofs.Common.{◌≡◌, ℕ, suc, ◌+◌, Bool, true, false, ◌&&◌, not, eqb, List, [], ◌∷◌, refl, ap, ◌∙◌, sym, inl, inr, arith}
+use Rattle.std.specs.List.{list_all, position_or_len}
+use Rattle.std.proofs.lemmas.Bool.Decides.{eqb_tells}
+use Rattle.linker_program.specs.Opening.{begins, is_dollar, base_name}
+
+-- ---- base names
+
+not_first : (x s : ℕ) → is_dollar x ≡ true → not (is_dollar s) ≡ true → (both : Bool) → (eqb s x && both) ≡ false
+not_first x s dollar other both =
+    elim (eqb_tells s x) [
+      | inl same ↦ absurd (let e = ap is_dollar same.1 ∙ dollar in let f = sym (ap not e) ∙ other in cc)
+      | inr apart ↦ rw apart.0 refl
+    ]
+
+no_dollar : (s : ℕ) (start : List ℕ) → list_all (λ byte. not (is_dollar byte)) (s ∷ start) ≡ true → (not (is_dollar s) ≡ true) × (list_all (λ byte. not (is_dollar byte)) start ≡ true)
+no_dollar s start free = go (not (is_dollar s)) (list_all (λ byte. not (is_dollar byte)) start) free
+  where
+    go : (a b : Bool) → (a && b) ≡ true → (a ≡ true) × (b ≡ true)
+    go true true e = (refl, refl)
+    go true false e = absurd cc
+    go false b e = absurd cc
+
+base_name_more : (x : ℕ) (text : List ℕ) → is_dollar x ≡ false → base_name (x ∷ text) ≡ x ∷ base_name text
+base_name_more x text other =
+    let next : 1 + position_or_len is_dollar text ≡ suc (position_or_len is_dollar text) = omega arith in
+    rw (other, next) refl
+
+begins_more : (s x : ℕ) (start text : List ℕ) → not (is_dollar s) ≡ true → begins (base_name text) start ≡ begins text start → begins (base_name (x ∷ text)) (s ∷ start) ≡ begins (x ∷ text) (s ∷ start)
+begins_more s x start text free same = go (is_dollar x) refl
+  where
+    go : (b : Bool) → is_dollar x ≡ b → begins (base_name (x ∷ text)) (s ∷ start) ≡ begins (x ∷ text) (s ∷ start)
+    go true e = rw e (sym (not_first x s e free (begins text start)))
+    go false e =
+        ap (λ (name : List ℕ). begins name (s ∷ start)) (base_name_more x text e)
+        ∙ ap (λ (rest : Bool). eqb s x && rest) same
+
+-- a base name begins with what has no dollar exactly where the name does
+pub base_name_begins : (start text : List ℕ) → list_all (λ byte. not (is_dollar byte)) start ≡ true → begins (base_name text) start ≡ begins text start
+base_name_begins [] text free = refl
+base_name_begins (s ∷ start) [] free = refl
+base_name_begins (s ∷ start) (x ∷ text) free =
+    let both = no_dollar s start free in
+    begins_more s x start text both.0 (base_name_begins start text both.1)
