@@ -17,4 +17,5 @@ pub mod StepLemmas
 pub mod ReadLemmas
 pub mod OpeningLemmas
 pub mod ModuleLemmas
+pub mod ReadingLemmas
 mod WorkedLink

@@ -18,6 +18,7 @@ mod opening;
 mod pe_format;
 mod placed;
 mod plan;
+mod reading;
 mod refusal;
 mod status;
 mod words;
