@@ -1,7 +1,12 @@
 -- Base names, forms of objects, and modules that are opened one by one.
-use Rattle.std.proofs.Common.{◌≡◌, ℕ, suc, ◌+◌, Bool, true, false, ◌&&◌, not, eqb, List, [], ◌∷◌, refl, ap, ◌∙◌, sym, inl, inr, arith}
+use Rattle.std.proofs.Common.{◌≡◌, ℕ, suc, ◌+◌, ◌<◌, Bool, true, false, ◌&&◌, not, eqb, List, [], ◌∷◌, None, refl, ap, ◌∙◌, sym, inl, inr, arith}
+use Rattle.std.specs.Prelude.{is_some}
 use Rattle.std.specs.List.{list_all, position_or_len}
 use Rattle.std.proofs.lemmas.Bool.Decides.{eqb_tells}
+use Rattle.link_base.specs.Bytes.{first_below}
+use Rattle.link_base.proofs.CallerLemmas.{first_below-found}
+use Rattle.coff_object.specs.ObjectFile.{aux_left}
+use Rattle.coff_object.specs.ObjectFaults.{of_symbol}
 use Rattle.linker_program.specs.Opening.{begins, is_dollar, base_name}
 
 -- ---- base names
@@ -42,3 +47,23 @@ base_name_begins (s ∷ start) [] free = refl
 base_name_begins (s ∷ start) (x ∷ text) free =
     let both = no_dollar s start free in
     begins_more s x start text both.0 (base_name_begins start text both.1)
+
+-- ---- forms of objects
+
+-- none below n passes, and n does: one below any greater end does
+pub some_found : (n m : ℕ) (test : ℕ → Bool) → n < m → first_below n test ≡ None → test n ≡ true → is_some (first_below m test) ≡ true
+some_found n m test lt none here = ap is_some (first_below-found n m test lt none here)
+
+pub some_none : (n m : ℕ) (test : ℕ → Bool) → m ≡ n → first_below n test ≡ None → is_some (first_below m test) ≡ false
+some_none n m test same none = ap (λ (k : ℕ). is_some (first_below k test)) same ∙ ap is_some none
+
+-- an auxiliary record is no symbol
+pub aux_fails : (bytes : List ℕ) (test : ℕ → Bool) (i : ℕ) → 0 < aux_left bytes i → of_symbol bytes test i ≡ false
+aux_fails bytes test i some =
+    elim (eqb_tells (aux_left bytes i) 0) [
+      | inl is ↦ absurd (omega (arith, is.1))
+      | inr other ↦ rw other.0 refl
+    ]
+
+pub symbol_passes : (bytes : List ℕ) (test : ℕ → Bool) (i : ℕ) → aux_left bytes i ≡ 0 → of_symbol bytes test i ≡ test i
+symbol_passes bytes test i none = rw none refl
