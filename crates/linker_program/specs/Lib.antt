@@ -14,6 +14,7 @@ pub mod Opening
 pub mod Placed
 pub mod Loading
 pub mod Modules
+pub mod Refusing
 pub mod Definitions
 pub mod Pieces
 pub mod ReadingSteps
