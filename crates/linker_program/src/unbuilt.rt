@@ -76,7 +76,7 @@ fn is_special_section(section: &Section<'_>) -> bool
         return false;
     }
     let text = section.name.rest();
-    is_exception_table(text) && comes_in(section.flags, &section.name) || is_resource_table(text)
+    (is_exception_table(text) && comes_in(section.flags, &section.name)) || is_resource_table(text)
 }
 
 /// Whether the base name of a section is that of the exception table.
