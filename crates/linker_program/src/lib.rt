@@ -20,6 +20,7 @@ mod plan;
 mod reading;
 mod refusal;
 mod status;
+mod unbuilt;
 mod words;
 mod write;
 
