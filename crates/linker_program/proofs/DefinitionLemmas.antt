@@ -1,0 +1,126 @@
+-- Lists over a range of numbers, one number more at a time, and what each of their items is.
+use Rattle.std.proofs.Common.{◌≡◌, ℕ, zero, suc, ◌+◌, ◌<◌, ◌≤◌, ◌^◌, ◌≢◌, ℤ, pos, ◌-ℤ◌, Bool, true, false, cond, ◌&&◌, eqb, leb, ltb, List, [], ◌∷◌, ◌++◌, map, filter, refl, sym, ap, ◌∙◌, add-one, arith}
+use Rattle.std.specs.Cmp.Derive.{both_true}
+use Rattle.std.proofs.lemmas.Bool.{false≢true, eq-eqb, ne_eqb}
+use Rattle.std.proofs.lemmas.Int.{ints}
+use Rattle.std.specs.Int.Signed.{lt_z}
+use Rattle.std.specs.List.{All, range_with_len, flat_map}
+use Rattle.std.proofs.lemmas.List.{append-nil, map-append}
+use Rattle.std.proofs.lemmas.List.Concat.{flat_map-append}
+use Rattle.std.proofs.lemmas.List.Elements.{All-nil, All-append, All-map, All-weaker, filter-append}
+use Rattle.coff_object.specs.ObjectFile.{starts_symbol, symbol_section_field, symbol_section_of, symbol_class_of}
+use Rattle.linker_program.specs.declared.definitions.Definition.{Definition}
+use Rattle.linker_program.specs.Definitions.{is_definition}
+use Rattle.section_group.proofs.RangeLemmas.{Passes, range_passes}
+
+-- ---- one more number of a range
+
+range_suc : (a n : ℕ) → range_with_len a (suc n) ≡ range_with_len a n ++ (a + n) ∷ []
+range_suc a zero = let place : a ≡ a + 0 = omega arith in ap (λ (k : ℕ). k ∷ []) place
+range_suc a (suc n) =
+    let place : a + 1 + n ≡ a + suc n = omega arith in
+    ap (λ (ks : List ℕ). a ∷ ks) (range_suc (a + 1) n ∙ ap (λ (k : ℕ). range_with_len (a + 1) n ++ k ∷ []) place)
+
+pub range_more : (a n j : ℕ) → a + n ≡ j → range_with_len a (n + 1) ≡ range_with_len a n ++ j ∷ []
+range_more a n j place =
+    ap (range_with_len a) (add-one n) ∙ range_suc a n ∙ ap (λ (k : ℕ). range_with_len a n ++ k ∷ []) place
+
+-- of those that pass
+pub kept_more : {X : Type 0} (f : ℕ → X) (test : ℕ → Bool) (a n j : ℕ) → a + n ≡ j → map f (filter test (range_with_len a (n + 1))) ≡ map f (filter test (range_with_len a n)) ++ cond (test j) (f j ∷ []) []
+kept_more {X} f test a n j place =
+    ap (λ (ks : List ℕ). map f (filter test ks)) (range_more a n j place)
+    ∙ ap (map f) (filter-append test (range_with_len a n) (j ∷ []))
+    ∙ map-append f (filter test (range_with_len a n)) (filter test (j ∷ []))
+    ∙ ap (λ (ys : List X). map f (filter test (range_with_len a n)) ++ ys) (single (test j))
+  where
+    single : (b : Bool) → map f (cond b (j ∷ []) []) ≡ cond b (f j ∷ []) []
+    single true = refl
+    single false = refl
+
+-- of a list for each
+pub joined_more : {X : Type 0} (f : ℕ → List X) (a n j : ℕ) → a + n ≡ j → flat_map f (range_with_len a (n + 1)) ≡ flat_map f (range_with_len a n) ++ f j
+joined_more {X} f a n j place =
+    ap (flat_map f) (range_more a n j place)
+    ∙ flat_map-append f (range_with_len a n) (j ∷ [])
+    ∙ ap (λ (ys : List X). flat_map f (range_with_len a n) ++ ys) (append-nil (f j))
+
+-- ---- what each item is
+
+pub all_kept : {X : Type 0} (P : X → Type 0) (f : ℕ → X) (test : ℕ → Bool) (a n : ℕ) → ((k : ℕ) → a ≤ k → k < a + n → test k ≡ true → P (f k)) → All P (map f (filter test (range_with_len a n)))
+all_kept P f test a n each =
+    All-map P f (filter test (range_with_len a n))
+    (All-weaker (Passes test a n) (λ k. P (f k)) (λ k w. each k w.low w.high w.passes) (filter test (range_with_len a n)) (range_passes test a n))
+
+pub all_joined : {X : Type 0} (P : X → Type 0) (f : ℕ → List X) (a n : ℕ) → ((k : ℕ) → a ≤ k → k < a + n → All P (f k)) → All P (flat_map f (range_with_len a n))
+all_joined P f a zero each = All-nil P
+all_joined P f a (suc n) each =
+    All-append P (f a) (flat_map f (range_with_len (a + 1) n)) (each a (omega arith) (omega arith))
+    (all_joined P f (a + 1) n (λ k low high. each k (omega arith) (omega arith)))
+
+-- ---- the section number of a symbol
+
+negative : (field : ℕ) → field < 2 ^ 16 → lt_z (pos 0) (pos field -ℤ pos 65536) ≡ false
+negative field low = grind (arith, ints)
+
+-- a number above 0 is that of a section
+pub number_above : (field : ℕ) (number : ℤ) → number ≡ cond (leb field 65279) (pos field) (pos field -ℤ pos 65536) → field < 2 ^ 16 → lt_z (pos 0) number ≡ true → ((ltb 0 field && leb field 65279) ≡ true) × (number ≡ pos field)
+number_above field number is low above = go (leb field 65279) refl is
+  where
+    go : (b : Bool) → leb field 65279 ≡ b → number ≡ cond b (pos field) (pos field -ℤ pos 65536) → ((ltb 0 field && leb field 65279) ≡ true) × (number ≡ pos field)
+    go true e n = (both_true (sym (ap (lt_z (pos 0)) n) ∙ above) e, n)
+    go false e n = absurd (false≢true (sym (negative field low) ∙ sym (ap (lt_z (pos 0)) n) ∙ above))
+
+-- and no other one is
+pub number_not_above : (field : ℕ) (number : ℤ) → number ≡ cond (leb field 65279) (pos field) (pos field -ℤ pos 65536) → lt_z (pos 0) number ≡ false → (ltb 0 field && leb field 65279) ≡ false
+number_not_above field number is low = go (leb field 65279) refl is
+  where
+    and_false : (a b : Bool) → b ≡ false → (a && b) ≡ false
+    and_false true b e = e
+    and_false false b e = refl
+
+    false_and : (a b : Bool) → a ≡ false → (a && b) ≡ false
+    false_and a b e = rw e refl
+
+    go : (b : Bool) → leb field 65279 ≡ b → number ≡ cond b (pos field) (pos field -ℤ pos 65536) → (ltb 0 field && leb field 65279) ≡ false
+    go true e n = false_and (ltb 0 field) (leb field 65279) (sym (ap (lt_z (pos 0)) n) ∙ low)
+    go false e n = and_false (ltb 0 field) (leb field 65279) e
+
+and_third : (a b c : Bool) → c ≡ false → (a && (b && c)) ≡ false
+and_third false b c e = refl
+and_third true false c e = refl
+and_third true true c e = e
+
+and_middle : (a b c : Bool) → b ≡ false → (a && (b && c)) ≡ false
+and_middle false b c e = refl
+and_middle true b c e = rw e refl
+
+-- a symbol of the external class with a number above 0 is a definition
+pub symbol_defines : (bytes : List ℕ) (index : ℕ) → starts_symbol bytes index ≡ true → symbol_class_of bytes index ≡ 2 → (ltb 0 (symbol_section_field bytes index) && leb (symbol_section_field bytes index) 65279) ≡ true → is_definition bytes index ≡ true
+unfolding is_definition
+symbol_defines bytes index starts class inside =
+    both_true starts (both_true (eq-eqb (symbol_class_of bytes index) 2 class) inside)
+
+pub other_class : (bytes : List ℕ) (index : ℕ) → symbol_class_of bytes index ≢ 2 → is_definition bytes index ≡ false
+unfolding is_definition
+other_class bytes index other =
+    and_middle (starts_symbol bytes index) (eqb (symbol_class_of bytes index) 2) (ltb 0 (symbol_section_field bytes index) && leb (symbol_section_field bytes index) 65279) (ne_eqb (symbol_class_of bytes index) 2 other)
+
+pub not_in_section : (bytes : List ℕ) (index : ℕ) → (ltb 0 (symbol_section_field bytes index) && leb (symbol_section_field bytes index) 65279) ≡ false → is_definition bytes index ≡ false
+unfolding is_definition
+not_in_section bytes index outside =
+    and_third (starts_symbol bytes index) (eqb (symbol_class_of bytes index) 2) (ltb 0 (symbol_section_field bytes index) && leb (symbol_section_field bytes index) 65279) outside
+
+abbrev pub definition : List ℕ → ℕ → ℕ → ℕ → Definition
+definition name position section value =
+    record { name = name; «module» = position; section = section; value = value }
+
+pub same_definition : {name name' : List ℕ} (position : ℕ) {section section' value value' : ℕ} → name ≡ name' → section ≡ section' → value ≡ value' → definition name position section value ≡ definition name' position section' value'
+same_definition position same_name same_section same_value = rw (same_name, same_section, same_value) refl
+
+-- ---- a list that may become longer by one
+
+pub one_added : {X : Type 0} (xs ys : List X) (x y : X) (b : Bool) → b ≡ true → ys ≡ xs ++ x ∷ [] → x ≡ y → ys ≡ xs ++ cond b (y ∷ []) []
+one_added {X} xs ys x y b adds is same = rw adds (is ∙ ap (λ (z : X). xs ++ z ∷ []) same)
+
+pub none_added : {X : Type 0} (xs : List X) (x : X) (b : Bool) → b ≡ false → xs ≡ xs ++ cond b (x ∷ []) []
+none_added xs x b none = rw none (sym (append-nil xs))
