@@ -1,5 +1,5 @@
 -- Lists over a range of numbers, one number more at a time, and what each of their items is.
-use Rattle.std.proofs.Common.{◌≡◌, ℕ, zero, suc, ◌+◌, ◌<◌, ◌≤◌, ◌^◌, ◌≢◌, ℤ, pos, ◌-ℤ◌, Bool, true, false, cond, ◌&&◌, eqb, leb, ltb, List, [], ◌∷◌, ◌++◌, map, filter, refl, sym, ap, ◌∙◌, add-one, arith}
+use Rattle.std.proofs.Common.{◌≡◌, ℕ, zero, suc, ◌+◌, ◌<◌, ◌≤◌, ◌^◌, ◌≢◌, ℤ, pos, ◌-ℤ◌, Bool, true, false, cond, ◌&&◌, eqb, leb, ltb, List, [], ◌∷◌, ◌++◌, map, filter, refl, sym, ap, ◌∙◌, append_assoc, add-one, arith}
 use Rattle.std.specs.Cmp.Derive.{both_true}
 use Rattle.std.proofs.lemmas.Bool.{false≢true, eq-eqb, ne_eqb}
 use Rattle.std.proofs.lemmas.Int.{ints}
@@ -8,7 +8,7 @@ use Rattle.std.specs.List.{All, range_with_len, flat_map}
 use Rattle.std.proofs.lemmas.List.{append-nil, map-append}
 use Rattle.std.proofs.lemmas.List.Concat.{flat_map-append}
 use Rattle.std.proofs.lemmas.List.Elements.{All-nil, All-append, All-map, All-weaker, filter-append}
-use Rattle.coff_object.specs.ObjectFile.{starts_symbol, symbol_section_field, symbol_section_of, symbol_class_of}
+use Rattle.coff_object.specs.ObjectFile.{aux_left, record_total, starts_symbol, symbol_section_field, symbol_section_of, symbol_class_of}
 use Rattle.linker_program.specs.declared.definitions.Definition.{Definition}
 use Rattle.linker_program.specs.Definitions.{is_definition}
 use Rattle.section_group.proofs.RangeLemmas.{Passes, range_passes}
@@ -44,6 +44,14 @@ joined_more {X} f a n j place =
     ∙ flat_map-append f (range_with_len a n) (j ∷ [])
     ∙ ap (λ (ys : List X). flat_map f (range_with_len a n) ++ ys) (append-nil (f j))
 
+-- the same behind a list that stood before
+pub kept_grows : {X : Type 0} (f : ℕ → X) (test : ℕ → Bool) (a n j : ℕ) (before now after : List X) → a + n ≡ j → now ≡ before ++ map f (filter test (range_with_len a n)) → after ≡ now ++ cond (test j) (f j ∷ []) [] → after ≡ before ++ map f (filter test (range_with_len a (n + 1)))
+kept_grows {X} f test a n j before now after place was grown =
+    grown
+    ∙ ap (λ (xs : List X). xs ++ cond (test j) (f j ∷ []) []) was
+    ∙ append_assoc before (map f (filter test (range_with_len a n))) (cond (test j) (f j ∷ []) [])
+    ∙ ap (λ (ys : List X). before ++ ys) (sym (kept_more f test a n j place))
+
 -- ---- what each item is
 
 pub all_kept : {X : Type 0} (P : X → Type 0) (f : ℕ → X) (test : ℕ → Bool) (a n : ℕ) → ((k : ℕ) → a ≤ k → k < a + n → test k ≡ true → P (f k)) → All P (map f (filter test (range_with_len a n)))
@@ -58,6 +66,22 @@ all_joined P f a (suc n) each =
     (all_joined P f (a + 1) n (λ k low high. each k (omega arith) (omega arith)))
 
 -- ---- the section number of a symbol
+
+and_second : (a b : Bool) → b ≡ false → (a && b) ≡ false
+and_second true b e = e
+and_second false b e = refl
+
+and_third : (a b c : Bool) → c ≡ false → (a && (b && c)) ≡ false
+and_third false b c e = refl
+and_third true false c e = refl
+and_third true true c e = e
+
+and_middle : (a b c : Bool) → b ≡ false → (a && (b && c)) ≡ false
+and_middle false b c e = refl
+and_middle true b c e = rw e refl
+
+and_first : (a b : Bool) → a ≡ false → (a && b) ≡ false
+and_first a b e = rw e refl
 
 negative : (field : ℕ) → field < 2 ^ 16 → lt_z (pos 0) (pos field -ℤ pos 65536) ≡ false
 negative field low = grind (arith, ints)
@@ -74,25 +98,16 @@ number_above field number is low above = go (leb field 65279) refl is
 pub number_not_above : (field : ℕ) (number : ℤ) → number ≡ cond (leb field 65279) (pos field) (pos field -ℤ pos 65536) → lt_z (pos 0) number ≡ false → (ltb 0 field && leb field 65279) ≡ false
 number_not_above field number is low = go (leb field 65279) refl is
   where
-    and_false : (a b : Bool) → b ≡ false → (a && b) ≡ false
-    and_false true b e = e
-    and_false false b e = refl
-
-    false_and : (a b : Bool) → a ≡ false → (a && b) ≡ false
-    false_and a b e = rw e refl
-
     go : (b : Bool) → leb field 65279 ≡ b → number ≡ cond b (pos field) (pos field -ℤ pos 65536) → (ltb 0 field && leb field 65279) ≡ false
-    go true e n = false_and (ltb 0 field) (leb field 65279) (sym (ap (lt_z (pos 0)) n) ∙ low)
-    go false e n = and_false (ltb 0 field) (leb field 65279) e
+    go true e n = and_first (ltb 0 field) (leb field 65279) (sym (ap (lt_z (pos 0)) n) ∙ low)
+    go false e n = and_second (ltb 0 field) (leb field 65279) e
 
-and_third : (a b c : Bool) → c ≡ false → (a && (b && c)) ≡ false
-and_third false b c e = refl
-and_third true false c e = refl
-and_third true true c e = e
-
-and_middle : (a b c : Bool) → b ≡ false → (a && (b && c)) ≡ false
-and_middle false b c e = refl
-and_middle true b c e = rw e refl
+-- an auxiliary record is no definition
+pub aux_defines_nothing : (bytes : List ℕ) (index : ℕ) → 0 < aux_left bytes index → is_definition bytes index ≡ false
+unfolding is_definition
+aux_defines_nothing bytes index some =
+    and_first (starts_symbol bytes index) ((eqb (symbol_class_of bytes index) 2) && (ltb 0 (symbol_section_field bytes index) && leb (symbol_section_field bytes index) 65279))
+    (and_second (ltb index (record_total bytes)) (eqb (aux_left bytes index) 0) (ne_eqb (aux_left bytes index) 0 (λ e. omega arith)))
 
 -- a symbol of the external class with a number above 0 is a definition
 pub symbol_defines : (bytes : List ℕ) (index : ℕ) → starts_symbol bytes index ≡ true → symbol_class_of bytes index ≡ 2 → (ltb 0 (symbol_section_field bytes index) && leb (symbol_section_field bytes index) 65279) ≡ true → is_definition bytes index ≡ true
