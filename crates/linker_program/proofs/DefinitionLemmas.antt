@@ -1,16 +1,23 @@
 -- Lists over a range of numbers, one number more at a time, and what each of their items is.
-use Rattle.std.proofs.Common.{◌≡◌, ℕ, zero, suc, ◌+◌, ◌<◌, ◌≤◌, ◌^◌, ◌≢◌, ℤ, pos, ◌-ℤ◌, Bool, true, false, cond, ◌&&◌, eqb, leb, ltb, List, [], ◌∷◌, ◌++◌, map, filter, refl, sym, ap, ◌∙◌, append_assoc, add-one, arith}
+use Rattle.std.proofs.Common.{◌≡◌, ℕ, zero, suc, ◌+◌, ◌<◌, ◌≤◌, ◌^◌, ◌≢◌, ℤ, pos, ◌-ℤ◌, Bool, true, false, cond, ◌&&◌, eqb, leb, ltb, Option, Some, None, List, [], ◌∷◌, ◌++◌, length, map, filter, refl, sym, ap, ◌∙◌, append_assoc, add-one, arith}
 use Rattle.std.specs.Cmp.Derive.{both_true}
-use Rattle.std.proofs.lemmas.Bool.{false≢true, eq-eqb, ne_eqb}
+use Rattle.std.proofs.lemmas.Bool.{false≢true, eq-eqb, eqb-true, ne_eqb, ltb-true, leb-true}
 use Rattle.std.proofs.lemmas.Int.{ints}
 use Rattle.std.specs.Int.Signed.{lt_z}
 use Rattle.std.specs.List.{All, range_with_len, flat_map}
 use Rattle.std.proofs.lemmas.List.{append-nil, map-append}
 use Rattle.std.proofs.lemmas.List.Concat.{flat_map-append}
 use Rattle.std.proofs.lemmas.List.Elements.{All-nil, All-append, All-map, All-weaker, filter-append}
-use Rattle.coff_object.specs.ObjectFile.{aux_left, record_total, starts_symbol, symbol_section_field, symbol_section_of, symbol_class_of}
+use Rattle.std.specs.Prelude.{is_some}
+use Rattle.link_base.specs.Bytes.{first_below}
+use Rattle.link_base.proofs.CallerLemmas.{first_below-none}
+use Rattle.coff_object.specs.ObjectFaults.{means_a_place, object_fault}
+use Rattle.coff_object.proofs.CallerLemmas.{symbol_section_inside, symbol_value_inside}
+use Rattle.coff_object.specs.ObjectFile.{section_total, raw_size_of, aux_left, record_total, starts_symbol, symbol_section_field, symbol_section_of, symbol_class_of}
 use Rattle.linker_program.specs.declared.definitions.Definition.{Definition}
-use Rattle.linker_program.specs.Definitions.{is_definition}
+use Rattle.linker_program.specs.Loading.{bytes_in}
+use Rattle.linker_program.specs.Definitions.{is_definition, definition_of, definitions_in, all_definitions, no_definition, definition_at}
+use Rattle.linker_program.specs.Pieces.{defines_in, is_named}
 use Rattle.section_group.proofs.RangeLemmas.{Passes, range_passes}
 
 -- ---- one more number of a range
@@ -51,6 +58,13 @@ kept_grows {X} f test a n j before now after place was grown =
     ∙ ap (λ (xs : List X). xs ++ cond (test j) (f j ∷ []) []) was
     ∙ append_assoc before (map f (filter test (range_with_len a n))) (cond (test j) (f j ∷ []) [])
     ∙ ap (λ (ys : List X). before ++ ys) (sym (kept_more f test a n j place))
+
+pub joined_grows : {X : Type 0} (f : ℕ → List X) (a n j : ℕ) (now after last : List X) → a + n ≡ j → now ≡ flat_map f (range_with_len a n) → after ≡ now ++ last → last ≡ f j → after ≡ flat_map f (range_with_len a (n + 1))
+joined_grows {X} f a n j now after last place was grown is =
+    grown
+    ∙ ap (λ (xs : List X). xs ++ last) was
+    ∙ ap (λ (ys : List X). flat_map f (range_with_len a n) ++ ys) is
+    ∙ sym (joined_more f a n j place)
 
 -- ---- what each item is
 
@@ -139,3 +153,83 @@ one_added {X} xs ys x y b adds is same = rw adds (is ∙ ap (λ (z : X). xs ++ z
 
 pub none_added : {X : Type 0} (xs : List X) (x : X) (b : Bool) → b ≡ false → xs ≡ xs ++ cond b (x ∷ []) []
 none_added xs x b none = rw none (sym (append-nil xs))
+
+-- ---- what callers may cite of definitions: where each is placed
+
+-- its module is there, its section is one of the module's, and its value is in the section or at its end
+pub record StandsIn (modules : List (List ℕ)) (definition : Definition) : Type 0 where
+  pub within : definition.«module» < length modules
+  pub first : 1 ≤ definition.section
+  pub last : definition.section ≤ section_total (bytes_in modules definition.«module»)
+  pub value : definition.value ≤ raw_size_of (bytes_in modules definition.«module») definition.section
+  pub named : is_named (bytes_in modules definition.«module») definition.section ≡ true
+
+-- what the test of a symbol says of it
+record Defines (bytes : List ℕ) (index : ℕ) : Type 0 where
+  starts : starts_symbol bytes index ≡ true
+  class : symbol_class_of bytes index ≡ 2
+  some : 0 < symbol_section_field bytes index
+  low : symbol_section_field bytes index ≤ 65279
+
+halves : (a b : Bool) → (a && b) ≡ true → (a ≡ true) × (b ≡ true)
+halves true b e = (refl, e)
+halves false b e = absurd (false≢true e)
+
+defines : (bytes : List ℕ) (index : ℕ) → is_definition bytes index ≡ true → Defines bytes index
+unfolding is_definition
+defines bytes index e =
+    let field = symbol_section_field bytes index in
+    let whole = halves (starts_symbol bytes index) ((eqb (symbol_class_of bytes index) 2) && (ltb 0 field && leb field 65279)) e in
+    let inner = halves (eqb (symbol_class_of bytes index) 2) (ltb 0 field && leb field 65279) whole.1 in
+    let number = halves (ltb 0 field) (leb field 65279) inner.1 in
+    record {
+      starts = whole.0;
+      class = eqb-true (symbol_class_of bytes index) 2 inner.0;
+      some = ltb-true 0 field number.0;
+      low = leb-true field 65279 number.1;
+    }
+
+below : (bytes : List ℕ) (index : ℕ) → starts_symbol bytes index ≡ true → index < record_total bytes
+below bytes index starts =
+    ltb-true index (record_total bytes) (halves (ltb index (record_total bytes)) (eqb (aux_left bytes index) 0) starts).0
+
+-- one passes: there is a least one
+some_passes : (n k : ℕ) (test : ℕ → Bool) → k < n → test k ≡ true → is_some (first_below n test) ≡ true
+some_passes n k test lt passes = go (first_below n test) refl
+  where
+    go : (found : Option ℕ) → first_below n test ≡ found → is_some found ≡ true
+    go None e = absurd (false≢true (sym (first_below-none n test e k lt) ∙ passes))
+    go (Some m) e = refl
+
+names_its_section : (bytes : List ℕ) (index : ℕ) → is_definition bytes index ≡ true → is_named bytes (symbol_section_field bytes index) ≡ true
+unfolding is_named
+names_its_section bytes index e =
+    let field = symbol_section_field bytes index in
+    some_passes (record_total bytes) index (defines_in bytes field) (below bytes index (defines bytes index e).starts)
+    (both_true e (eq-eqb field field refl))
+
+means_place : (class : ℕ) → class ≡ 2 → means_a_place class ≡ true
+means_place class e = rw e refl
+
+symbol_stands : (modules : List (List ℕ)) (position index : ℕ) → position < length modules → object_fault (bytes_in modules position) ≡ None → is_definition (bytes_in modules position) index ≡ true → StandsIn modules (definition_of position (bytes_in modules position) index)
+symbol_stands modules position index within sound e =
+    let bytes = bytes_in modules position in
+    let d = defines bytes index e in
+    record {
+      within = within;
+      first = omega (arith, d.some);
+      last = symbol_section_inside bytes index sound d.starts d.low;
+      value = symbol_value_inside bytes index sound d.starts d.some d.low (means_place (symbol_class_of bytes index) d.class);
+      named = names_its_section bytes index e;
+    }
+
+-- of well formed modules
+pub definitions_stand : (modules : List (List ℕ)) → ((m : ℕ) → m < length modules → object_fault (bytes_in modules m) ≡ None) → All (StandsIn modules) (all_definitions modules)
+definitions_stand modules sound =
+    all_joined (StandsIn modules) (λ m. definitions_in m (bytes_in modules m)) 0 (length modules) (λ m low high.
+    let within : m < length modules = omega arith in
+    all_kept (StandsIn modules) (definition_of m (bytes_in modules m)) (is_definition (bytes_in modules m)) 0 (record_total (bytes_in modules m)) (λ index first last e.
+    symbol_stands modules m index within (sound m within) e))
+
+pub definition_stands : (modules : List (List ℕ)) (k : ℕ) → ((m : ℕ) → m < length modules → object_fault (bytes_in modules m) ≡ None) → k < length (all_definitions modules) → StandsIn modules (definition_at (all_definitions modules) k)
+definition_stands modules k sound lt = definitions_stand modules sound k no_definition lt
