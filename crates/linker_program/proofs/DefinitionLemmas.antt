@@ -8,15 +8,18 @@ use Rattle.std.specs.List.{All, range_with_len, flat_map}
 use Rattle.std.proofs.lemmas.List.{append-nil, map-append}
 use Rattle.std.proofs.lemmas.List.Concat.{flat_map-append}
 use Rattle.std.proofs.lemmas.List.Elements.{All-nil, All-append, All-map, All-weaker, filter-append}
-use Rattle.std.specs.Prelude.{is_some}
-use Rattle.link_base.specs.Bytes.{first_below}
-use Rattle.link_base.proofs.CallerLemmas.{first_below-none}
+use Rattle.std.specs.Prelude.{is_some, unwrap_or}
+use Rattle.link_base.specs.Bytes.{first_below, first_of}
+use Rattle.link_base.proofs.CallerLemmas.{first_below-none, first_below-found, first_below-some}
 use Rattle.coff_object.specs.ObjectFaults.{means_a_place, object_fault}
 use Rattle.coff_object.proofs.CallerLemmas.{symbol_section_inside, symbol_value_inside}
 use Rattle.coff_object.specs.ObjectFile.{section_total, raw_size_of, aux_left, record_total, starts_symbol, symbol_section_field, symbol_section_of, symbol_class_of}
 use Rattle.linker_program.specs.declared.definitions.Definition.{Definition}
 use Rattle.linker_program.specs.Loading.{bytes_in}
-use Rattle.linker_program.specs.Definitions.{is_definition, definition_of, definitions_in, all_definitions, no_definition, definition_at}
+use Rattle.linker_program.specs.Definitions.{is_definition, definition_of, definitions_in, all_definitions, no_definition, definition_at, defines as named_by, earlier, clashes, duplicate_of, duplicate_fault}
+use Rattle.linker_program.specs.Placed.{same_name}
+use Rattle.std.proofs.lemmas.Slice.Eq.{bytes_eq-Decides}
+use Rattle.link_base.specs.declared.fault.Fault.TheVariants.{Duplicate}
 use Rattle.linker_program.specs.Pieces.{defines_in, is_named}
 use Rattle.section_group.proofs.RangeLemmas.{Passes, range_passes}
 
@@ -233,3 +236,33 @@ definitions_stand modules sound =
 
 pub definition_stands : (modules : List (List ℕ)) (k : ℕ) → ((m : ℕ) → m < length modules → object_fault (bytes_in modules m) ≡ None) → k < length (all_definitions modules) → StandsIn modules (definition_at (all_definitions modules) k)
 definition_stands modules k sound lt = definitions_stand modules sound k no_definition lt
+
+-- ---- names
+
+-- a table of the names of the first definitions, after one more whose name was not in it
+pub noted_more : (definitions : List Definition) (k : ℕ) (name base : List ℕ) (old : List ℕ → Option ℕ) (new : Option ℕ) → base ≡ (definition_at definitions k).name → ((q : List ℕ) → old q ≡ first_below k (named_by definitions q)) → old base ≡ None → new ≡ cond (same_name base name) (Some k) (old name) → new ≡ first_below (k + 1) (named_by definitions name)
+unfolding first_below
+noted_more definitions k name base old new is so_far absent after =
+    after ∙ go (same_name base name) refl ∙ sym (ap (λ (n : ℕ). first_below n (named_by definitions name)) (add-one k))
+  where
+    here : same_name (definition_at definitions k).name name ≡ same_name base name
+    here = ap (λ (b : List ℕ). same_name b name) (sym is)
+
+    first_of_none : (o : Option ℕ) → first_of o None ≡ o
+    first_of_none None = refl
+    first_of_none (Some n) = refl
+
+    go : (b : Bool) → same_name base name ≡ b → cond b (Some k) (old name) ≡ first_of (first_below k (named_by definitions name)) (cond (same_name (definition_at definitions k).name name) (Some k) None)
+    go true e =
+        let same : base ≡ name = (bytes_eq-Decides base name).0 e in
+        let none = sym (so_far name) ∙ ap old (sym same) ∙ absent in
+        rw (here, e, none) refl
+    go false e = rw (here, e) (so_far name ∙ sym (first_of_none (first_below k (named_by definitions name))))
+
+pub earlier_before : (definitions : List Definition) (k first : ℕ) → earlier definitions k ≡ Some first → first < k
+earlier_before definitions k first e = (first_below-some k first (named_by definitions (definition_at definitions k).name) e).0
+
+pub duplicate_found : (definitions : List Definition) (k first : ℕ) → k < length definitions → first_below k (clashes definitions) ≡ None → earlier definitions k ≡ Some first → duplicate_fault definitions ≡ Some (Duplicate (definition_at definitions k).name (Some (definition_at definitions first).«module») (Some (definition_at definitions k).«module»))
+duplicate_found definitions k first lt none e =
+    ap (duplicate_of definitions) (first_below-found k (length definitions) (clashes definitions) lt none (ap is_some e))
+    ∙ ap (λ (o : Option ℕ). Some (Duplicate (definition_at definitions k).name (Some (definition_at definitions (unwrap_or o 0)).«module») (Some (definition_at definitions k).«module»))) e
