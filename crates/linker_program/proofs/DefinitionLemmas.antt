@@ -16,7 +16,7 @@ use Rattle.coff_object.proofs.CallerLemmas.{symbol_section_inside, symbol_value_
 use Rattle.coff_object.specs.ObjectFile.{section_total, raw_size_of, aux_left, record_total, starts_symbol, symbol_section_field, symbol_section_of, symbol_class_of}
 use Rattle.linker_program.specs.declared.definitions.Definition.{Definition}
 use Rattle.linker_program.specs.Loading.{bytes_in}
-use Rattle.linker_program.specs.Definitions.{is_definition, definition_of, definitions_in, all_definitions, no_definition, definition_at, defines as named_by, earlier, clashes, duplicate_of, duplicate_fault}
+use Rattle.linker_program.specs.Definitions.{is_definition, definition_of, definitions_in, all_definitions, no_definition, definition_at, defines as named_by, definition_named, earlier, clashes, duplicate_of, duplicate_fault}
 use Rattle.linker_program.specs.Placed.{same_name}
 use Rattle.std.proofs.lemmas.Slice.Eq.{bytes_eq-Decides}
 use Rattle.link_base.specs.declared.fault.Fault.TheVariants.{Duplicate}
@@ -266,3 +266,6 @@ pub duplicate_found : (definitions : List Definition) (k first : ℕ) → k < le
 duplicate_found definitions k first lt none e =
     ap (duplicate_of definitions) (first_below-found k (length definitions) (clashes definitions) lt none (ap is_some e))
     ∙ ap (λ (o : Option ℕ). Some (Duplicate (definition_at definitions k).name (Some (definition_at definitions (unwrap_or o 0)).«module») (Some (definition_at definitions k).«module»))) e
+
+pub named_within : (definitions : List Definition) (name : List ℕ) (k : ℕ) → definition_named definitions name ≡ Some k → k < length definitions
+named_within definitions name k e = (first_below-some (length definitions) k (named_by definitions name) e).0
