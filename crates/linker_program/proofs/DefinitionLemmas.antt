@@ -1,4 +1,5 @@
--- Lists over a range of numbers, one number more at a time, and what each of their items is.
+-- Lists over a range of numbers, one number more at a time, and what each of their items is; which symbols are
+-- definitions, where definitions stand, and what their names say.
 use Rattle.std.proofs.Common.{◌≡◌, ℕ, zero, suc, ◌+◌, ◌<◌, ◌≤◌, ◌^◌, ◌≢◌, ℤ, pos, ◌-ℤ◌, Bool, true, false, cond, ◌&&◌, eqb, leb, ltb, Option, Some, None, List, [], ◌∷◌, ◌++◌, length, map, filter, refl, sym, ap, ◌∙◌, append_assoc, add-one, arith}
 use Rattle.std.specs.Cmp.Derive.{both_true}
 use Rattle.std.proofs.lemmas.Bool.{false≢true, eq-eqb, eqb-true, ne_eqb, ltb-true, leb-true}
@@ -13,7 +14,7 @@ use Rattle.link_base.specs.Bytes.{first_below, first_of}
 use Rattle.link_base.proofs.CallerLemmas.{first_below-none, first_below-found, first_below-some}
 use Rattle.coff_object.specs.ObjectFaults.{means_a_place, object_fault}
 use Rattle.coff_object.proofs.CallerLemmas.{symbol_section_inside, symbol_value_inside}
-use Rattle.coff_object.specs.ObjectFile.{section_total, raw_size_of, aux_left, record_total, starts_symbol, symbol_section_field, symbol_section_of, symbol_class_of}
+use Rattle.coff_object.specs.ObjectFile.{section_total, raw_size_of, aux_left, record_total, starts_symbol, symbol_section_field, symbol_class_of}
 use Rattle.linker_program.specs.declared.definitions.Definition.{Definition}
 use Rattle.linker_program.specs.Loading.{bytes_in}
 use Rattle.linker_program.specs.Definitions.{is_definition, definition_of, definitions_in, all_definitions, no_definition, definition_at, defines as named_by, definition_named, earlier, clashes, duplicate_of, duplicate_fault}
@@ -69,6 +70,14 @@ joined_grows {X} f a n j now after last place was grown is =
     ∙ ap (λ (ys : List X). flat_map f (range_with_len a n) ++ ys) is
     ∙ sym (joined_more f a n j place)
 
+-- ---- a list that may become longer by one
+
+pub one_added : {X : Type 0} (xs ys : List X) (x y : X) (b : Bool) → b ≡ true → ys ≡ xs ++ x ∷ [] → x ≡ y → ys ≡ xs ++ cond b (y ∷ []) []
+one_added {X} xs ys x y b adds is same = rw adds (is ∙ ap (λ (z : X). xs ++ z ∷ []) same)
+
+pub none_added : {X : Type 0} (xs : List X) (x : X) (b : Bool) → b ≡ false → xs ≡ xs ++ cond b (x ∷ []) []
+none_added xs x b none = rw none (sym (append-nil xs))
+
 -- ---- what each item is
 
 pub all_kept : {X : Type 0} (P : X → Type 0) (f : ℕ → X) (test : ℕ → Bool) (a n : ℕ) → ((k : ℕ) → a ≤ k → k < a + n → test k ≡ true → P (f k)) → All P (map f (filter test (range_with_len a n)))
@@ -82,7 +91,7 @@ all_joined P f a (suc n) each =
     All-append P (f a) (flat_map f (range_with_len (a + 1) n)) (each a (omega arith) (omega arith))
     (all_joined P f (a + 1) n (λ k low high. each k (omega arith) (omega arith)))
 
--- ---- the section number of a symbol
+-- ---- which symbols are definitions
 
 and_second : (a b : Bool) → b ≡ false → (a && b) ≡ false
 and_second true b e = e
@@ -100,6 +109,7 @@ and_middle true b c e = rw e refl
 and_first : (a b : Bool) → a ≡ false → (a && b) ≡ false
 and_first a b e = rw e refl
 
+-- a section number that is none is at most 0
 negative : (field : ℕ) → field < 2 ^ 16 → lt_z (pos 0) (pos field -ℤ pos 65536) ≡ false
 negative field low = grind (arith, ints)
 
@@ -142,20 +152,13 @@ unfolding is_definition
 not_in_section bytes index outside =
     and_third (starts_symbol bytes index) (eqb (symbol_class_of bytes index) 2) (ltb 0 (symbol_section_field bytes index) && leb (symbol_section_field bytes index) 65279) outside
 
-abbrev pub definition : List ℕ → ℕ → ℕ → ℕ → Definition
-definition name position section value =
+-- definitions with the same fields are one
+abbrev pub definition_with : List ℕ → ℕ → ℕ → ℕ → Definition
+definition_with name position section value =
     record { name = name; «module» = position; section = section; value = value }
 
-pub same_definition : {name name' : List ℕ} (position : ℕ) {section section' value value' : ℕ} → name ≡ name' → section ≡ section' → value ≡ value' → definition name position section value ≡ definition name' position section' value'
+pub same_definition : {name name' : List ℕ} (position : ℕ) {section section' value value' : ℕ} → name ≡ name' → section ≡ section' → value ≡ value' → definition_with name position section value ≡ definition_with name' position section' value'
 same_definition position same_name same_section same_value = rw (same_name, same_section, same_value) refl
-
--- ---- a list that may become longer by one
-
-pub one_added : {X : Type 0} (xs ys : List X) (x y : X) (b : Bool) → b ≡ true → ys ≡ xs ++ x ∷ [] → x ≡ y → ys ≡ xs ++ cond b (y ∷ []) []
-one_added {X} xs ys x y b adds is same = rw adds (is ∙ ap (λ (z : X). xs ++ z ∷ []) same)
-
-pub none_added : {X : Type 0} (xs : List X) (x : X) (b : Bool) → b ≡ false → xs ≡ xs ++ cond b (x ∷ []) []
-none_added xs x b none = rw none (sym (append-nil xs))
 
 -- ---- what callers may cite of definitions: where each is placed
 

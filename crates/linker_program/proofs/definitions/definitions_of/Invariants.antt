@@ -1,4 +1,4 @@
-use Rattle.std.proofs.Common.{◌≡◌, ℕ}
+use Rattle.std.proofs.Common.{◌≡◌}
 use Rattle.std.specs.List.{range_with_len, flat_map}
 use Rattle.linker_program.specs.Loading.{bytes_in}
 use Rattle.linker_program.specs.Definitions.{definitions_in}

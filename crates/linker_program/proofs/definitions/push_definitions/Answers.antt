@@ -1,4 +1,4 @@
-use Rattle.std.proofs.Common.{◌≡◌, refl, sym, ap, ◌∙◌, arith}
+use Rattle.std.proofs.Common.{◌≡◌, refl, sym, arith}
 use Rattle.std.proofs.lemmas.List.{append-nil}
 use Rattle.coff_object.specs.ObjectFile.{aux_left}
 use Rattle.linker_program.specs.Definitions.{is_definition, definition_of}
@@ -18,7 +18,7 @@ loop-index-preserved-then-left-gt0 c =
     record {
       left = left_behind_aux bytes i c.loop-index.left c.loop-index.invariant.left c.if-left-gt0.true;
       items = kept_grows (definition_of c.args.position bytes) (is_definition bytes) 0 i i c.args.definitions.now.items now now (omega arith) c.loop-index.invariant.items
-        (none_added now (definition_of c.args.position bytes i) (is_definition bytes i) (aux_defines_nothing bytes i (omega (arith, c.loop-index.invariant.left))));
+          (none_added now (definition_of c.args.position bytes i) (is_definition bytes i) (aux_defines_nothing bytes i (omega (arith, c.loop-index.invariant.left))));
     }
 
 pub loop-index-preserved : goal.loop-index-preserved

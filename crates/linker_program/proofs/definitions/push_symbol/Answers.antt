@@ -1,9 +1,8 @@
-use Rattle.std.proofs.Common.{◌≡◌, pos, to_z, of_z, w32, FitsSigned, Bool, false, true, cond, List, [], ◌∷◌, ◌++◌, sym, ap, ◌∙◌, arith, rules}
+use Rattle.std.proofs.Common.{◌≡◌, pos, w32, FitsSigned, false, sym, ap, ◌∙◌, rules}
 use Rattle.std.specs.Int.Signed.{lt_z}
 use lib.IntN.{nat_abs}
 use Rattle.std.proofs.lemmas.Int.{to_z-of_z}
 use Rattle.coff_object.specs.ObjectFile.{symbol_section_field}
-use Rattle.linker_program.specs.declared.definitions.Definition.{Definition}
 use Rattle.linker_program.specs.Definitions.{is_definition, definition_of}
 use Rattle.linker_program.proofs.DefinitionLemmas.{number_above, number_not_above, symbol_defines, other_class, not_in_section, same_definition, one_added, none_added}
 use Rattle.linker_program.proofs.definitions.push_symbol.Goals as goal

@@ -1,4 +1,4 @@
-use Rattle.std.proofs.Common.{ℕ, List, Option, sym, ap, ◌∙◌}
+use Rattle.std.proofs.Common.{ℕ, List, sym, ap, ◌∙◌}
 use Rattle.std.proofs.lemmas.List.{get_or_default}
 use Rattle.indexmap.specs.IndexMap.{get}
 use Rattle.section_group.specs.Chains.{same_text}
