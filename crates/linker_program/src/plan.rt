@@ -61,12 +61,9 @@ fn plan_of_modules<'a>(
 {
     let definitions = definitions_of(alloc, modules)?;
     let names = index_names(alloc, &definitions)?;
-    match entry_definition(&names, &entry) {
-        Some(index) => plan_with_entry(alloc, modules, &definitions, index),
-        None => Err(Refusal::Fault(Fault::Undefined {
-            name: entry,
-            module: None,
-        })),
+    match entry_definition(&names, &definitions, &entry) {
+        Ok(index) => plan_with_entry(alloc, modules, &definitions, index),
+        Err(fault) => Err(Refusal::Fault(fault)),
     }
 }
 
