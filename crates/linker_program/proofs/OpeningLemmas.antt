@@ -1,17 +1,20 @@
 -- The names of an object, in a loop over its sections or its records; a file that is too short; and what callers
 -- may cite of a file that opens.
-use Rattle.std.proofs.Common.{◌≡◌, ℕ, ◌+◌, ◌-◌, ◌<◌, ◌≤◌, Bool, true, false, cond, ◌||◌, eqb, List, [], ◌∷◌, Option, Some, None, length, drop, inl, inr, refl, sym, ap, ◌∙◌, add-one, arith}
-use Rattle.std.specs.Prelude.{is_some}
+use Rattle.std.proofs.Common.{◌≡◌, ℕ, zero, suc, ◌+◌, ◌-◌, ◌<◌, ◌≤◌, Bool, true, false, cond, ◌&&◌, ◌||◌, eqb, List, [], ◌∷◌, Option, Some, None, length, take, drop, nat_eq, inl, inr, refl, sym, ap, ◌∙◌, add-one, lt-ltb, arith}
+use Rattle.std.specs.Prelude.{is_some, codes}
+use lib.Pointwise.{pointwise}
+use Rattle.std.proofs.lemmas.Bool.{cases_lt}
 use Rattle.std.proofs.lemmas.Bool.Decides.{eqb_tells}
-use Rattle.std.proofs.lemmas.List.{drop_all}
+use Rattle.std.proofs.lemmas.List.{drop_all, take_all, take-take, length-take-le}
 use Rattle.link_base.specs.Bytes.{first_below}
 use Rattle.link_base.proofs.CallerLemmas.{first_below-found, first_below-none}
 use Rattle.link_base.specs.declared.kind.Kind.{Kind}
 use Rattle.link_base.specs.declared.kind.Kind.TheVariants as form
 use Rattle.coff_object.specs.declared.error.ObjError.{ObjError}
 use Rattle.coff_object.specs.ObjectFaults.{object_fault}
+use Rattle.coff_object.proofs.CallerLemmas.{before_first-take}
 use Rattle.coff_object.specs.ObjectFile.{section_total, section_name_of, record_total, symbol_name_of, aux_total_of, aux_left}
-use Rattle.linker_program.specs.Opening.{shown, first_standing, first_fault, of_kind, of_error, begins, big_object_class, kind_by_bytes, is_linker_section, is_long, kind_by_names, opening_fault, names_section, some_section, names_symbol, some_symbol}
+use Rattle.linker_program.specs.Opening.{shown, first_standing, first_fault, of_kind, of_error, begins, big_object_class, kind_by_bytes, is_dollar, base_name, is_linker_section, name_limit, is_long, kind_by_names, opening_fault, names_section, some_section, names_symbol, some_symbol}
 
 -- a file of fewer than twelve bytes has no class identifier
 pub no_class : (bytes : List ℕ) → length bytes < 12 → begins (drop 12 bytes) big_object_class ≡ false
@@ -28,6 +31,36 @@ some_section_found bytes test i lt none here =
 pub some_section_none : (bytes : List ℕ) (test : List ℕ → Bool) (i : ℕ) → section_total bytes ≡ i → first_below i (names_section bytes test) ≡ None → some_section bytes test ≡ false
 unfolding some_section
 some_section_none bytes test i same none = ap (λ (k : ℕ). is_some (first_below k (names_section bytes test))) same ∙ ap is_some none
+
+-- ---- the first bytes of a name
+
+-- they tell whether the name is a shorter text
+same_by_start : (n : ℕ) (name text : List ℕ) → length text < n → pointwise nat_eq (take n name) text ≡ pointwise nat_eq name text
+same_by_start zero name text lt = absurd (omega arith)
+same_by_start (suc n) [] text lt = refl
+same_by_start (suc n) (byte ∷ name) [] lt = refl
+same_by_start (suc n) (byte ∷ name) (other ∷ text) lt =
+    ap (λ (rest : Bool). nat_eq byte other && rest) (same_by_start n name text (omega arith))
+
+-- seven tell whether the linker makes the section itself
+pub is_linker_section-take : (n : ℕ) (name : List ℕ) → 7 ≤ n → is_linker_section (take n name) ≡ is_linker_section name
+unfolding is_linker_section
+is_linker_section-take n name le =
+    let import_part = ap (pointwise nat_eq (codes ".idata$")) (take-take 7 n name le) in
+    let shorter = same_by_start n (base_name name) (codes ".reloc") (omega arith) in
+    let relocations = ap (λ (base : List ℕ). pointwise nat_eq base (codes ".reloc")) (before_first-take is_dollar n name) ∙ shorter in
+    ap (λ (b : Bool). b || pointwise nat_eq (base_name (take n name)) (codes ".reloc")) import_part
+    ∙ ap (λ (b : Bool). begins name (codes ".idata$") || b) relocations
+
+-- one more than the limit tell whether the name is too long
+pub is_long-take : (n : ℕ) (name : List ℕ) → name_limit < n → is_long (take n name) ≡ is_long name
+is_long-take n name lt =
+    elim (cases_lt (length name) n) [
+      | inl short ↦ ap is_long (take_all n name (omega arith))
+      | inr long ↦
+          let cut = length-take-le n name long in
+          lt-ltb name_limit (length (take n name)) (omega arith) ∙ sym (lt-ltb name_limit (length name) (omega arith))
+    ]
 
 -- ---- symbols
 

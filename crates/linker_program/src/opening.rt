@@ -12,6 +12,10 @@ use link_base::{Fault, Kind, Name, field_u16};
 /// A name of more bytes is not taken.
 const NAME_LIMIT: usize = 32_000;
 
+/// So many bytes of a section's name show whether it is taken, and no more of them are looked at: many sections
+/// may share one long text.
+const NAME_START: usize = 32_001;
+
 /// The object with these bytes. The file is refused, under this name, for the first of: a form that the first
 /// bytes show (`Unsupported`), a fault of the object (`BadObject`), and a form that its names show
 /// (`Unsupported`): a section that the linker makes itself, or a name of more than 32,000 bytes.
@@ -146,7 +150,7 @@ fn has_linker_section(object: &Object<'_>) -> bool
     ensures { result ≡ some_section object.now is_linker_section }
 {
     for index in 0..object.section_count() {
-        if is_linker_section(&object.section(index + 1).name) {
+        if is_linker_section(&object.section_name_start(index + 1, NAME_START)) {
             return true;
         }
     }
@@ -158,7 +162,7 @@ fn has_long_section_name(object: &Object<'_>) -> bool
     ensures { result ≡ some_section object.now is_long }
 {
     for index in 0..object.section_count() {
-        if is_long(&object.section(index + 1).name) {
+        if is_long(&object.section_name_start(index + 1, NAME_START)) {
             return true;
         }
     }

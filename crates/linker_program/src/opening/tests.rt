@@ -132,3 +132,36 @@ fn refuses_by_first_bytes_and_by_names(rt: HostRuntime) -> Result<(), Fail> {
     }
     Ok(())
 }
+
+/// The rest of the header of a section that has no data, behind its name.
+const EMPTY_SECTION: &[u8] = b"\0\0\0\0\0\0\0\0\0\0\0\0\0\0\0\0\
+    \0\0\0\0\0\0\0\0\0\0\0\0\x80\0\x10\xc0";
+
+/// An object of this many sections without data that share one name of this length.
+fn of_one_name(alloc: Global, sections: u16, len: u32) -> Result<Vec<u8>, Memory> {
+    let mut bytes = Vec::new(alloc);
+    bytes.extend_from_slice(b"\x64\x86")?;
+    bytes.extend_from_slice(&sections.to_le_bytes())?;
+    bytes.extend_from_slice(b"\0\0\0\0")?;
+    let symbols = 20 + 40 * u32::from(sections);
+    bytes.extend_from_slice(&symbols.to_le_bytes())?;
+    bytes.extend_from_slice(b"\0\0\0\0\0\0\0\0")?;
+    for _ in 0..sections {
+        bytes.extend_from_slice(b"/4\0\0\0\0\0\0")?;
+        bytes.extend_from_slice(EMPTY_SECTION)?;
+    }
+    let size = u32::wrapping_add(len, 5);
+    bytes.extend_from_slice(&size.to_le_bytes())?;
+    let name = vec![in alloc; b'a'; len as usize]?;
+    bytes.extend_from_slice(&name)?;
+    bytes.push(0)?;
+    Ok(bytes)
+}
+
+#[test]
+fn refuses_a_long_name_that_many_sections_share(rt: HostRuntime) -> Result<(), Fail> {
+    let bytes = of_one_name(rt.alloc(), 2_000, 1_000_000)?;
+    let line = line_of(rt.alloc(), &bytes)?;
+    assert!(rt; line.as_slice() == b"fault 9 Unsupported a.obj LongName\n".as_slice());
+    Ok(())
+}
