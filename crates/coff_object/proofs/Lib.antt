@@ -7,6 +7,3 @@ pub mod RowLemmas
 pub mod Readable
 pub mod CallerLemmas
 mod WorkedObject
-pub mod FirstFormLemmas
-pub mod FirstFormFacts
-pub mod FirstFormOpens

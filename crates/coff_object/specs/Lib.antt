@@ -2,4 +2,3 @@ pub mod Constants
 pub mod ObjectFile
 pub mod ObjectFaults
 pub mod TextEnd
-pub mod FirstForm

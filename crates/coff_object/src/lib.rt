@@ -9,7 +9,6 @@ pub mod constants;
 mod error;
 mod fault;
 mod fields;
-mod first_form;
 mod header;
 mod object;
 mod relocation;
@@ -20,7 +19,6 @@ mod symbol;
 mod symbol_fault;
 
 pub use error::ObjError;
-pub use first_form::is_first_form;
 pub use link_base::ObjFault;
 pub use object::Object;
 pub use relocation::Relocation;

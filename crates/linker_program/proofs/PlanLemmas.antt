@@ -1,8 +1,9 @@
 -- From what grouping and placing say of the pieces that were made to what a plan says of the modules.
-use Rattle.std.proofs.Common.{◌≡◌, ℕ, ◌+◌, ◌<◌, ◌≤◌, ◌^◌, Bool, true, false, List, [], ◌∷◌, length, map, replicate, get_or, slice_get, Option, Some, None, option_map, refl, sym, ap, ◌∙◌, subst, inl, inr, ◌⊎◌, arith}
+use Rattle.std.proofs.Common.{◌≡◌, ℕ, ◌+◌, ◌<◌, ◌≤◌, ◌^◌, Bool, true, false, List, [], ◌∷◌, length, map, replicate, get_or, Option, Some, None, Result, Ok, Err, refl, sym, ap, ◌∙◌, subst, inl, inr, ◌⊎◌, arith}
+use Rattle.std.specs.Prelude.{IfOk, IfErr}
 use Rattle.std.specs.List.{All, Contains}
 use Rattle.std.proofs.lemmas.Bool.{lt-ltb, and_from, or_right}
-use Rattle.std.proofs.lemmas.List.{length-map, get_or-map, get_or-replicate}
+use Rattle.std.proofs.lemmas.List.{length-map, get_or-map, get_or-replicate, get_or_default}
 use Rattle.link_base.specs.declared.fault.Fault.{Fault}
 use Rattle.link_base.specs.declared.fault.Fault.TheVariants.{TooManySections, ImageTooLarge}
 use Rattle.section_group.specs.declared.piece.Piece.{Piece}
@@ -21,21 +22,19 @@ use Rattle.address_layout.proofs.CallerLemmas.{stand_once, stands, layout_bare, 
 use Rattle.image_writer.specs.declared.headers.Headers.{Headers}
 use Rattle.image_writer.specs.ExpectedImage.{MeansPlan, image_file}
 use Rattle.image_writer.specs.WrittenImage.{written_plan, piece_contents, HasItsBytes, IsLaidOut, HasContents}
+use Rattle.image_writer.proofs.CallerLemmas.{laid_out, written_means}
 use Rattle.linker_program.specs.declared.plan.LinkPlan.{LinkPlan}
 use Rattle.linker_program.specs.declared.refusal.Refusal.{Refusal}
 use Rattle.linker_program.specs.declared.refusal.Refusal.TheVariants as refusal
 use Rattle.linker_program.specs.DefaultHeaders.{default_headers}
-use Rattle.linker_program.specs.Definitions.{all_definitions, definition_at}
-use Rattle.linker_program.specs.Pieces.{link_pieces, link_contents, piece_index, unplaced_of, unplaced_fault}
+use Rattle.linker_program.specs.declared.definitions.Definition.{Definition}
+use Rattle.linker_program.specs.Loading.{bytes_in}
+use Rattle.linker_program.specs.Definitions.{all_definitions, definition_at, no_definition}
+use Rattle.linker_program.specs.Pieces.{link_pieces, link_contents, piece_of, piece_index, unplaced_of, unplaced_fault}
 use Rattle.linker_program.specs.Outcome.{link_input, IsLayoutFault, IsRefusedLayout, IsImageOf}
 use Rattle.linker_program.specs.PlanSteps.{used_pieces, plan_image, IsPlaced, IsLaidOutPlan, IsLayoutRefusal, IsWritable, IsEntryPlan, IsEntryRefusal}
+use Rattle.linker_program.proofs.DefinitionLemmas.{StandsIn}
 use Rattle.linker_program.proofs.OutcomeLemmas.{layout_fault_cases}
-
-laid_out : (pieces : List Piece) (sections : List OutSection) (layout : Layout) → IsLayout pieces sections false layout → StandOnce pieces sections → section_count sections false ≤ 96 → CanGrow layout → IsLaidOut pieces sections layout
-laid_out pieces sections layout is stand few growth = ?
-
-written_means : (headers : Headers) (pieces : List Piece) (sections : List OutSection) (layout : Layout) → IsLaidOut pieces sections layout → HasContents pieces sections → headers.base < 2 ^ 64 → length headers.directories ≡ 16 → slice_get headers.directories 5 ≡ Some (0, 0) → MeansPlan (written_plan headers (rows_of sections) layout.sections.items layout.pieces.items layout.image (map piece_contents pieces)) (image_file (written_plan headers (rows_of sections) layout.sections.items layout.pieces.items layout.image (map piece_contents pieces)))
-written_means headers pieces sections layout is contents base count none = ?
 
 -- ---- pieces without their bytes
 
@@ -132,3 +131,49 @@ planned_entry modules definition piece value pieces plan are contents each stand
           ∙ ap (λ (c : List (List ℕ)). written_plan (default_headers entry) (rows_of sections) plan.layout.sections.items plan.layout.pieces.items plan.layout.image c) (ap (map piece_contents) laid.same ∙ contents);
       };
     }
+
+piece_found : (modules : List (List ℕ)) (definition : Definition) (k : ℕ) → piece_index (link_pieces modules) definition ≡ Some k → (k < length (link_pieces modules)) × (get_or (link_pieces modules) k no_piece ≡ piece_of definition.«module» (bytes_in modules definition.«module») definition.section)
+piece_found modules definition k found = ?
+
+-- ---- the piece of the entry
+
+-- the piece that a definition stands in is found, named, and as long as its section
+pub record EntryPiece (modules : List (List ℕ)) (pieces : List Piece) (definition : Definition) (piece : ℕ) : Type 0 where
+  pub found : piece_index (link_pieces modules) definition ≡ Some piece
+  pub within : piece < length pieces
+  pub named : (get_or pieces piece no_piece).named ≡ true
+  pub inside : definition.value ≤ (get_or pieces piece no_piece).size
+
+pub entry_piece : (modules : List (List ℕ)) (pieces : List Piece) (definition : Definition) (piece : ℕ) → map bare pieces ≡ link_pieces modules → StandsIn modules definition → Some piece ≡ piece_index (map bare pieces) definition → EntryPiece modules pieces definition piece
+entry_piece modules pieces definition piece are stands found =
+    let here : piece_index (link_pieces modules) definition ≡ Some piece = ap (λ (ps : List Piece). piece_index ps definition) (sym are) ∙ sym found in
+    let is = piece_found modules definition piece here in
+    let within : piece < length pieces = omega (arith, is.0, ap length are, length-map pieces bare) in
+    let bared : bare (get_or pieces piece no_piece) ≡ piece_of definition.«module» (bytes_in modules definition.«module») definition.section =
+      sym (get_or-map bare pieces piece no_piece no_piece within) ∙ ap (λ (ps : List Piece). get_or ps piece no_piece) are ∙ is.1
+    in
+    record {
+      found = here;
+      within = within;
+      named = ap (λ (p : Piece). p.named) bared ∙ stands.named;
+      inside = subst (λ (n : ℕ). definition.value ≤ n) (sym (ap (λ (p : Piece). p.size) bared)) stands.value;
+    }
+
+pub definition_read : (definitions all : List Definition) (k : ℕ) (definition : Definition) → definitions ≡ all → k < length definitions → definition ≡ get_or definitions k definition → definition ≡ definition_at all k
+definition_read definitions all k definition same within is =
+    is ∙ sym (get_or_default definitions k no_definition definition within) ∙ ap (λ (ds : List Definition). get_or ds k no_definition) same
+
+-- ---- by the result of the layout
+
+pub if_planned_entry : (r : Result LinkPlan Refusal) (modules : List (List ℕ)) (definition piece value : ℕ) (pieces : List Piece)
+    → map bare pieces ≡ link_pieces modules → map piece_contents pieces ≡ link_contents modules
+    → ((k : ℕ) → k < length pieces → HasItsBytes pieces k)
+    → piece_index (link_pieces modules) (definition_at (all_definitions modules) definition) ≡ Some piece
+    → value ≡ (definition_at (all_definitions modules) definition).value
+    → IfOk r (IsLaidOutPlan (length modules) pieces piece value) → IfOk r (IsEntryPlan modules definition)
+if_planned_entry (Ok plan) modules definition piece value pieces are contents each stands is laid = planned_entry modules definition piece value pieces plan are contents each stands is laid
+if_planned_entry (Err r) modules definition piece value pieces are contents each stands is laid = tt
+
+pub if_refused_entry : (r : Result LinkPlan Refusal) (modules : List (List ℕ)) (definition piece : ℕ) (pieces : List Piece) → map bare pieces ≡ link_pieces modules → piece_index (link_pieces modules) (definition_at (all_definitions modules) definition) ≡ Some piece → IfErr r (IsLayoutRefusal pieces) → IfErr r (IsEntryRefusal modules definition)
+if_refused_entry (Ok plan) modules definition piece pieces are stands h = tt
+if_refused_entry (Err r) modules definition piece pieces are stands h = refused_entry modules definition piece pieces r are stands h
