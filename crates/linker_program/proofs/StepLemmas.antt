@@ -1,14 +1,15 @@
 -- From what the steps of a run promise to what the run promises.
-use Rattle.std.proofs.Common.{◌≡◌, ℕ, ◌<◌, ◌≤◌, true, List, [], ◌∷◌, length, map, Option, Result, Ok, Err, refl, sym, ap, ◌∙◌, subst, arith, inl, inr, ◌⊎◌}
+use Rattle.std.proofs.Common.{◌≡◌, ℕ, suc, ◌<◌, ◌≤◌, true, List, [], ◌∷◌, length, map, Option, Result, Ok, Err, refl, sym, ap, ◌∙◌, subst, arith, inl, inr, ◌⊎◌}
 use Rattle.std.specs.Prelude.{IfOk, IfErr, OnErr, Some, None, codes}
 use Rattle.std.specs.Option.{ForSome}
 use Rattle.std.proofs.lemmas.List.{length-map}
 use Rattle.link_base.specs.declared.fault.Fault.{Fault}
 use Rattle.link_base.specs.declared.memory.Memory.{Memory}
 use Rattle.link_files.specs.Store.{Store}
-use Rattle.section_group.specs.declared.piece.OutSection.{OutSection}
-use Rattle.section_group.specs.Uniqueness.{rows_of, row_of}
-use Rattle.image_writer.specs.ExpectedImage.{MeansPlan, image_file}
+use Rattle.section_group.specs.Uniqueness.{SectionRow as OutRow, rows_of, row_of}
+use Rattle.address_layout.specs.declared.layout.Placed.{Placed}
+use Rattle.image_writer.specs.ExpectedImage.{image_file}
+use Rattle.image_writer.specs.WrittenImage.{section_rows, written_plan}
 use Rattle.linker_program.specs.declared.answer.Answer.{Answer}
 use Rattle.linker_program.specs.declared.plan.LinkPlan.{LinkPlan}
 use Rattle.linker_program.specs.declared.refusal.Refusal.{Refusal}
@@ -21,9 +22,10 @@ use Rattle.linker_program.specs.Loading.{reading_fault, read_files}
 use Rattle.linker_program.specs.Modules.{modules_fault}
 use Rattle.linker_program.specs.Definitions.{all_definitions, definition_named, duplicate_fault, undefined_fault, undefined_of}
 use Rattle.linker_program.specs.Pieces.{link_pieces}
-use Rattle.linker_program.specs.Outcome.{Outcome, Usage, Refused, Linked, Plan, link_fault, entry_fault, files_fault, IsRefusedLayout, IsPlan, LayoutOutcome, OutcomeBehind, FilesOutcome, ReadOutcome, WordsOutcome, HasOutcome}
+use Rattle.linker_program.specs.Outcome.{Outcome, Usage, Refused, Linked, Plan, link_fault, entry_fault, files_fault, IsRefusedLayout, IsPlan, LayoutOutcome, OutcomeBehind, FilesOutcome, ReadOutcome, WordsOutcome, HasOutcome, read_failure_line}
 use Rattle.linker_program.specs.LinkRun.{Files, AreUntouched, Expects, Answers, LeftByMemory}
-use Rattle.linker_program.specs.Steps.{AreRead, IsLoaded, Refuses, RefusesWords, AnswersWrite, LeftByWrite}
+use Rattle.linker_program.specs.Steps.{AreRead, IsLoaded, Refuses, RefusesWords, TellsReadFailure, AnswersWrite, LeftByWrite}
+use Rattle.linker_program.specs.ReadingSteps.{GivesInputs, FaultsInputs, FailsInputs}
 use Rattle.linker_program.specs.PlanSteps.{plan_image, outcome_plan, IsWritable, IsPlanned, IsPlanRefusal, IsModulesPlan, IsModulesRefusal, IsEntryPlan, IsEntryRefusal}
 
 pub untouched : (files : Files) → AreUntouched files files
@@ -169,3 +171,84 @@ on_left (Err error) before after request inputs plan made left = λ words loaded
         files = torn;
       })))
     ]
+
+-- as many rows as sections
+rows_count : (rows : List OutRow) (placed : List Placed) → length placed ≡ length rows → length (section_rows rows placed) ≡ length rows
+rows_count [] placed same = refl
+rows_count (row ∷ rows) [] same = absurd (omega (arith, same))
+rows_count (row ∷ rows) (place ∷ placed) same = ap suc (rows_count rows placed (omega (arith, same)))
+
+pub made : (request : LinkRequest) (inputs : List (List ℕ)) (plan : LinkPlan) → IsPlanned request inputs plan → Made request inputs plan
+unfolding written_plan
+made request inputs plan planned =
+    let count : length (rows_of plan.sections.items) ≡ length plan.sections.items = length-map plan.sections.items row_of in
+    record {
+      planned = planned;
+      rows = rows_count (rows_of plan.sections.items) plan.layout.sections.items (planned.writable.laid_out.section_for_each ∙ sym count) ∙ count;
+    }
+
+-- ---- inputs that are read
+
+files_from : Option Store → ℕ → ℕ → Files
+files_from store reads writes = record { store = store; read_faults = reads; write_faults = writes }
+
+same_files : (before after : Files) → AreUntouched before after → after ≡ before
+unfolding files_from
+same_files before after kept =
+    let start : after ≡ files_from after.store after.read_faults after.write_faults = refl in
+    let end : before ≡ files_from before.store before.read_faults before.write_faults = refl in
+    start
+    ∙ ap (λ (s : Option Store). files_from s after.read_faults after.write_faults) kept.store
+    ∙ ap (λ (n : ℕ). files_from before.store n after.write_faults) kept.reads
+    ∙ ap (λ (n : ℕ). files_from before.store before.read_faults n) kept.writes
+    ∙ sym end
+
+loaded_inputs : (words : List (List ℕ)) (before later : Files) (request : LinkRequest) (inputs : List (List ℕ)) → requested words ≡ Some request → GivesInputs request.inputs before later inputs → IsLoaded words before request inputs
+loaded_inputs words before later request inputs asked given = record {
+  asked = asked;
+  told = λ store told. record { none = given.no_fault store told; are = given.told store told };
+}
+
+-- the link goes on with the inputs that were read
+pub if_read : (r : Result Answer Memory) (before later after : Files) (request : LinkRequest) (inputs : List (List ℕ)) → GivesInputs request.inputs before later inputs
+    → IfOk r (λ answer. (words : List (List ℕ)) → IsLoaded words later request inputs → Answers words later after answer.status answer.line.items)
+    → IfOk r (λ answer. (words : List (List ℕ)) → requested words ≡ Some request → Answers words before after answer.status answer.line.items)
+if_read (Ok answer) before later after request inputs given goes_on = λ words asked.
+    let same = same_files before later given.files in
+    let loaded = loaded_inputs words before later request inputs asked given in
+    subst (λ (files : Files). Answers words files after answer.status answer.line.items) same
+    (goes_on words (subst (λ (files : Files). IsLoaded words files request inputs) (sym same) loaded))
+if_read (Err error) before later after request inputs given goes_on = tt
+
+pub on_left_read : (r : Result Answer Memory) (before later after : Files) (request : LinkRequest) (inputs : List (List ℕ)) → GivesInputs request.inputs before later inputs
+    → OnErr r ((words : List (List ℕ)) → IsLoaded words later request inputs → LeftByMemory words later after)
+    → OnErr r ((words : List (List ℕ)) → requested words ≡ Some request → LeftByMemory words before after)
+on_left_read (Ok answer) before later after request inputs given left = tt
+on_left_read (Err error) before later after request inputs given left = λ words asked.
+    let same = same_files before later given.files in
+    let loaded = loaded_inputs words before later request inputs asked given in
+    subst (λ (files : Files). LeftByMemory words files after) same
+    (left words (subst (λ (files : Files). IsLoaded words files request inputs) (sym same) loaded))
+
+-- an input is refused at its read
+pub if_refused_read : (r : Result Answer Memory) (before after : Files) (fault : Fault) (request : LinkRequest) → FaultsInputs request.inputs before after fault
+    → IfOk r (λ answer. Refuses answer fault)
+    → IfOk r (λ answer. (words : List (List ℕ)) → requested words ≡ Some request → Answers words before after answer.status answer.line.items)
+if_refused_read (Ok answer) before after fault request faults refuses = λ words asked.
+    refused_answer words before after fault answer faults.files refuses (record { told = λ store told. outcome_unread words store request fault asked (faults.told store told) })
+if_refused_read (Err error) before after fault request faults refuses = tt
+
+-- the read of an input failed
+pub if_read_failed : (r : Result Answer Memory) (before after : Files) (request : LinkRequest) (name : List ℕ) → FailsInputs request.inputs before after name
+    → IfOk r (λ answer. TellsReadFailure answer name)
+    → IfOk r (λ answer. (words : List (List ℕ)) → requested words ≡ Some request → Answers words before after answer.status answer.line.items)
+if_read_failed (Ok answer) before after request name fails tells = λ words asked.
+    subst (λ (s : Status). Answers words before after s answer.line.items) (sym tells.status)
+    (request, (fails.input, record {
+      asked = asked;
+      within = fails.within;
+      reached = fails.earlier;
+      files = fails.files;
+      says = tells.line ∙ ap read_failure_line fails.named;
+    }))
+if_read_failed (Err error) before after request name fails tells = tt

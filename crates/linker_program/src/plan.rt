@@ -56,8 +56,8 @@ fn plan_of_modules<'a>(
 ) -> Result<LinkPlan<'a>, Refusal<'a>>
     requires few { length modules.now ≤ 65534 }
     requires well_formed { All (λ object. object_fault object ≡ None) modules.now }
-    ensures planned { IfOk result (IsModulesPlan entry modules.now) }
-    ensures refused { IfErr result (IsModulesRefusal entry modules.now) }
+    ensures planned { IfOk result (IsModulesPlan entry.entry modules.now) }
+    ensures refused { IfErr result (IsModulesRefusal entry.entry modules.now) }
 {
     let definitions = definitions_of(alloc, modules)?;
     let names = index_names(alloc, &definitions)?;
