@@ -1,14 +1,17 @@
 -- What callers may cite: what `place` gives can be written, and the file of what is written loads as planned.
-use Rattle.std.proofs.Common.{◌≡◌, ℕ, zero, suc, ◌+◌, ◌*◌, ◌%◌, ◌<◌, ◌≤◌, ◌^◌, false, IsTrue, List, length, map, slice_get, Some, sym, ap, ◌∙◌, subst, inl, inr, arith}
+use Rattle.std.proofs.Common.{◌≡◌, ℕ, zero, suc, ◌+◌, ◌*◌, ◌%◌, ◌<◌, ◌≤◌, ◌^◌, false, IsTrue, List, length, get_or, map, slice_get, Some, sym, ap, ◌∙◌, subst, inl, inr, arith}
 use Rattle.std.specs.Int.{next_multiple_of}
 use Rattle.std.proofs.lemmas.Bool.{false≢true, cases_lt}
+use Rattle.std.specs.List.{All}
+use Rattle.std.proofs.lemmas.List.Elements.{All-get_or}
 use Rattle.section_group.specs.declared.piece.Piece.{Piece}
 use Rattle.section_group.specs.declared.piece.OutSection.{OutSection}
+use Rattle.section_group.specs.SectionOrder.{no_piece}
 use Rattle.section_group.specs.Uniqueness.{rows_of}
 use Rattle.address_layout.specs.declared.layout.Placed.{Placed}
 use Rattle.address_layout.specs.declared.layout.Layout.{Layout}
 use Rattle.address_layout.specs.Places.{IsLeastMultiple, IsPlacedSection, piece_in, piece_end, piece_floor, row_at, section_count, end_before, file_before}
-use Rattle.address_layout.specs.Layout.{StandOnce, IsLayout, placed_at}
+use Rattle.address_layout.specs.Layout.{all_pieces, StandOnce, IsLayout, placed_at}
 use Rattle.address_layout.specs.Growth.{CanGrow}
 use Rattle.image_writer.specs.declared.headers.Headers.{Headers}
 use Rattle.image_writer.specs.HeaderTable.{size_of_headers}
@@ -21,7 +24,7 @@ use Rattle.image_writer.proofs.ImageTheorems.{file_means_plan}
 
 -- ---- what `place` gives is laid out
 
-least_is_next : (low x : ℕ) → IsLeastMultiple 512 low x → x ≡ next_multiple_of low 512
+pub least_is_next : (low x : ℕ) → IsLeastMultiple 512 low x → x ≡ next_multiple_of low 512
 least_is_next low x least =
     let above : low ≤ next_multiple_of low 512 = omega arith in
     let below : next_multiple_of low 512 < low + 512 = omega arith in
@@ -66,7 +69,7 @@ bytes_inside pieces row before file placed place is j lt some =
     let up : Rises pieces row placed.rva place = λ k below. (is.each k below).above in
     omega (arith, end_in_floor pieces row placed.rva place j (length row.1) up lt (omega arith), is.size_of_bytes (j, lt, some))
 
-section_laid_out : (pieces : List Piece) (rvas : List ℕ) (row : List ℕ × List ℕ) (before file : ℕ) (placed : Placed) (place : ℕ → ℕ) → IsPlacedSection pieces row before file placed place → ((j : ℕ) → j < length row.1 → place_in rvas row j ≡ place j) → IsSectionLaidOut pieces rvas row before file placed
+pub section_laid_out : (pieces : List Piece) (rvas : List ℕ) (row : List ℕ × List ℕ) (before file : ℕ) (placed : Placed) (place : ℕ → ℕ) → IsPlacedSection pieces row before file placed place → ((j : ℕ) → j < length row.1 → place_in rvas row j ≡ place j) → IsSectionLaidOut pieces rvas row before file placed
 section_laid_out pieces rvas row before file placed place is same = record {
   aligned = is.start.multiple;
   above = is.start.above;
@@ -92,6 +95,13 @@ laid_out pieces sections layout is standing few growth = record {
   small = growth.small;
   file = growth.file;
 }
+
+-- ---- contents
+
+-- where each initialised piece has as many bytes as its size, those of the sections have
+pub has_contents : (pieces : List Piece) (sections : List OutSection) → All (λ piece. IsTrue piece.init → length (piece_contents piece) ≡ piece.size) pieces → StandOnce pieces sections → HasContents pieces sections
+has_contents pieces sections filled standing =
+    λ i d lt. All-get_or (λ (piece : Piece). IsTrue piece.init → length (piece_contents piece) ≡ piece.size) pieces (get_or (all_pieces sections) i d) no_piece (standing.within i d lt) filled
 
 -- ---- what is written loads as planned
 

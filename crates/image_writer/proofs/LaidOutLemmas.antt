@@ -1,7 +1,8 @@
 -- What is laid out can be written: from each section by its index to the sections one after the other.
-use Rattle.std.proofs.Common.{◌≡◌, ℕ, zero, suc, ◌+◌, ◌<◌, ◌≤◌, Bool, true, false, cond, IsTrue, List, [], ◌∷◌, ◌++◌, length, get_or, map, refl, sym, ap, subst, arith, length-append}
+use Rattle.std.proofs.Common.{◌≡◌, ℕ, zero, suc, ◌+◌, ◌<◌, ◌≤◌, Bool, true, false, cond, IsTrue, List, [], ◌∷◌, ◌++◌, length, get_or, map, refl, sym, ap, subst, inl, inr, arith, length-append}
 use Rattle.std.specs.List.{All}
 use Rattle.std.proofs.Math.ListN.{get_or-map}
+use Rattle.std.proofs.lemmas.Bool.{cases_lt}
 use Rattle.std.proofs.lemmas.List.{get_or_append_left, get_or-append-add}
 use Rattle.std.proofs.lemmas.List.Elements.{All-head, All-tail}
 use Rattle.section_group.specs.declared.piece.Piece.{Piece}
@@ -123,6 +124,17 @@ end_shift start place placed (suc i) = refl
 file_shift : (start : ℕ) (place : Placed) (placed : List Placed) (i : ℕ) → file_before start (placed_at (place ∷ placed)) (suc i) ≡ file_before (start + place.raw) (placed_at placed) i
 file_shift start place placed zero = refl
 file_shift start place placed (suc i) = ap (λ (n : ℕ). n + (placed_at placed i).raw) (file_shift start place placed i)
+
+pub file_rises : (start : ℕ) (placed : ℕ → Placed) (i n : ℕ) → i ≤ n → file_before start placed i ≤ file_before start placed n
+file_rises start placed i zero le =
+    let same : i ≡ 0 = omega arith in subst (λ (k : ℕ). file_before start placed k ≤ file_before start placed 0) (sym same) (omega arith)
+file_rises start placed i (suc n) le =
+    elim (cases_lt i (suc n)) [
+      | inl before ↦ omega (arith, file_rises start placed i n (omega arith))
+      | inr last ↦
+          let same : i ≡ suc n = omega arith in
+          subst (λ (k : ℕ). file_before start placed k ≤ file_before start placed (suc n)) (sym same) (omega arith)
+    ]
 
 chain : (pieces : List Piece) (rvas : List ℕ) (image : ℕ) (sections : List OutSection) (placed : List Placed) (start file : ℕ) → length placed ≡ length sections → HasContents pieces sections → ((i : ℕ) → i < length sections → IsSectionLaidOut pieces rvas (row_at sections i) (end_before start (placed_at placed) i) (file_before file (placed_at placed) i) (placed_at placed i)) → end_before start (placed_at placed) (length placed) ≤ image → file_before file (placed_at placed) (length placed) < 4294967296 → AreWritten rvas (map piece_contents pieces) image (rows_of sections) placed start file
 unfolding AreWritten

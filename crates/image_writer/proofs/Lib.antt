@@ -16,3 +16,4 @@ pub mod ImageMemory
 pub mod ImageSlack
 pub mod ImageTheorems
 pub mod CallerLemmas
+pub mod AppendedLemmas

@@ -18,3 +18,6 @@ mod writing;
 pub use headers::Headers;
 pub use laws::one_byte_at_each_address;
 pub use writing::image;
+
+#[cfg(test)]
+mod tests;

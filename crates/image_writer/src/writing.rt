@@ -1,7 +1,8 @@
 //! The whole image file.
 
-ghost use Rattle.std.specs.Prelude.{◌≡◌, map, IfOk};
+ghost use Rattle.std.specs.Prelude.{◌≡◌, ◌<◌, ◌^◌, map, IfOk};
 ghost use Rattle.section_group.specs.Uniqueness.{rows_of};
+ghost use Rattle.address_layout.specs.Growth.{raw_end};
 ghost use Rattle.image_writer.specs.ExpectedImage.{image_file};
 ghost use Rattle.image_writer.specs.WrittenImage.{piece_contents, written_plan, IsLaidOut, HasContents};
 
@@ -35,10 +36,13 @@ pub fn image(
 }
 
 /// The length of the file.
-fn file_len(layout: &Layout) -> usize {
+fn file_len(layout: &Layout) -> usize
+    requires { raw_end layout.now < 2 ^ 32 }
+    ensures { result ≡ raw_end layout.now }
+{
     let mut len = layout.headers as usize;
     for placed in &layout.sections {
-        len = len.saturating_add(placed.raw as usize);
+        len += placed.raw as usize;
     }
     len
 }
