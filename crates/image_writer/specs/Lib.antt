@@ -1,0 +1,6 @@
+pub mod ImageFormat
+pub mod HeaderTable
+pub mod LoadedImage
+pub mod ExpectedImage
+pub mod WrittenImage
+pub mod RawData

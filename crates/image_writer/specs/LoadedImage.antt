@@ -1,0 +1,219 @@
+-- An image as it stands in memory (PE Format; which loaders refuse what, and when, is own): its refusals, in
+-- their order, and the memory at a base.
+use Rattle.std.specs.Prelude.{◌≡◌, ◌≤◌, ℕ, zero, suc, ◌+◌, ◌-◌, ◌*◌, ◌%◌, ◌^◌, Bool, true, false, ◌&&◌, ◌||◌, ◌==◌, nat_le, nat_lt, min, if◌then◌else◌, List, [], ◌∷◌, length, map, slice_index, Option, Some, None, is_none}
+use Rattle.std.specs.List.{range_with_len}
+use Rattle.link_base.specs.Bytes.{u16_at, u32_at, u64_at, has_bytes, bytes_at, all_below, first_below}
+use Rattle.link_base.specs.declared.kind.ImageKind.{ImageKind}
+use Rattle.link_base.specs.declared.kind.ImageKind.TheVariants as bad
+use Rattle.address_layout.specs.declared.base.BaseRule.{BaseRule}
+use Rattle.address_layout.specs.PermittedBase.{is_permitted}
+use Rattle.image_writer.specs.ImageFormat.{page_size, file_alignment, optional_header_len, section_header_len, directory_count, machine_amd64, pe32_plus_magic, dos_magic, pe_signature, file_relocs_stripped, file_large_address_aware, image_limit, has_flag}
+use Rattle.base_reloc.specs.Blocks.{Walk, Fields, MalformedAt, walk_of, walked_fields, raised_all}
+
+-- ---- the headers' places
+
+unfoldable pub signature_at : List ℕ → ℕ
+signature_at image = u32_at image 60
+
+abbrev pub file_header_at : List ℕ → ℕ
+file_header_at image = signature_at image + 4
+
+abbrev pub optional_at : List ℕ → ℕ
+optional_at image = signature_at image + 24
+
+-- ---- the headers' fields
+
+unfoldable pub section_count : List ℕ → ℕ
+section_count image = u16_at image (file_header_at image + 2)
+
+unfoldable pub file_characteristics : List ℕ → ℕ
+file_characteristics image = u16_at image (file_header_at image + 18)
+
+unfoldable pub image_base : List ℕ → ℕ
+image_base image = u64_at image (optional_at image + 24)
+
+unfoldable pub size_of_image : List ℕ → ℕ
+size_of_image image = u32_at image (optional_at image + 56)
+
+unfoldable pub headers_size : List ℕ → ℕ
+headers_size image = u32_at image (optional_at image + 60)
+
+-- a data directory: its RVA and its size
+unfoldable pub directory_rva : List ℕ → ℕ → ℕ
+directory_rva image number = u32_at image (optional_at image + 112 + 8 * number)
+
+unfoldable pub directory_size : List ℕ → ℕ → ℕ
+directory_size image number = u32_at image (optional_at image + 116 + 8 * number)
+
+-- the header of a section, by its index from 0
+abbrev pub section_at : List ℕ → ℕ → ℕ
+section_at image index = optional_at image + optional_header_len + section_header_len * index
+
+unfoldable pub virtual_size : List ℕ → ℕ → ℕ
+virtual_size image index = u32_at image (section_at image index + 8)
+
+unfoldable pub virtual_address : List ℕ → ℕ → ℕ
+virtual_address image index = u32_at image (section_at image index + 12)
+
+unfoldable pub raw_size : List ℕ → ℕ → ℕ
+raw_size image index = u32_at image (section_at image index + 16)
+
+unfoldable pub raw_offset : List ℕ → ℕ → ℕ
+raw_offset image index = u32_at image (section_at image index + 20)
+
+abbrev pub is_fixed : List ℕ → Bool
+is_fixed image = has_flag (file_characteristics image) file_relocs_stripped
+
+abbrev pub is_large : List ℕ → Bool
+is_large image = has_flag (file_characteristics image) file_large_address_aware
+
+-- ---- the tests, in the order of their refusals
+
+unfoldable pub has_dos_header : List ℕ → Bool
+has_dos_header image = has_bytes image 0 64 && (u16_at image 0 == dos_magic)
+
+unfoldable pub has_signature : List ℕ → Bool
+has_signature image = has_bytes image (signature_at image) 4 && (u32_at image (signature_at image) == pe_signature)
+
+unfoldable pub has_machine : List ℕ → Bool
+has_machine image = has_bytes image (file_header_at image) 2 && (u16_at image (file_header_at image) == machine_amd64)
+
+unfoldable pub has_optional_header : List ℕ → Bool
+has_optional_header image =
+    has_bytes image (optional_at image) optional_header_len && (u16_at image (file_header_at image + 16) == optional_header_len)
+
+unfoldable pub has_magic : List ℕ → Bool
+has_magic image = u16_at image (optional_at image) == pe32_plus_magic
+
+unfoldable pub has_alignments : List ℕ → Bool
+has_alignments image = (u32_at image (optional_at image + 32) == page_size) && (u32_at image (optional_at image + 36) == file_alignment)
+
+unfoldable pub has_directories : List ℕ → Bool
+has_directories image = u32_at image (optional_at image + 108) == directory_count
+
+unfoldable pub has_size : List ℕ → Bool
+has_size image = nat_lt 0 (size_of_image image) && nat_le (size_of_image image) image_limit
+
+unfoldable pub has_headers : List ℕ → Bool
+has_headers image =
+    nat_le (section_at image (section_count image)) (headers_size image)
+    && (nat_le (headers_size image) (length image) && nat_le (headers_size image) (size_of_image image))
+
+-- where what stands before a section ends: the section before it, or the headers
+abbrev pub end_before : List ℕ → ℕ → ℕ
+end_before image zero = headers_size image
+end_before image (suc index) = virtual_address image index + virtual_size image index
+
+abbrev pub is_section_placed : List ℕ → ℕ → Bool
+is_section_placed image index =
+    (virtual_address image index % page_size == 0)
+    && (nat_le (end_before image index) (virtual_address image index)
+    && nat_le (virtual_address image index + virtual_size image index) (size_of_image image))
+
+unfoldable pub has_sections : List ℕ → Bool
+has_sections image = all_below (section_count image) (is_section_placed image)
+
+-- a range of no bytes leaves nothing
+abbrev pub is_section_in_file : List ℕ → ℕ → Bool
+is_section_in_file image index =
+    (raw_size image index == 0) || nat_le (raw_offset image index + raw_size image index) (length image)
+
+unfoldable pub has_raw_bytes : List ℕ → Bool
+has_raw_bytes image = all_below (section_count image) (is_section_in_file image)
+
+-- ---- the memory before fields are raised
+
+-- how many bytes of a section come from the file
+abbrev pub copied_len : List ℕ → ℕ → ℕ
+copied_len image index = min (raw_size image index) (virtual_size image index)
+
+abbrev pub is_copied_into : List ℕ → ℕ → ℕ → Bool
+is_copied_into image rva index =
+    nat_le (virtual_address image index) rva && nat_lt rva (virtual_address image index + copied_len image index)
+
+abbrev pub section_byte : List ℕ → ℕ → Option ℕ → ℕ
+section_byte image rva None = 0
+section_byte image rva (Some index) = slice_index image (raw_offset image index + (rva - virtual_address image index))
+
+-- the byte at an RVA: of the headers, of a section's raw bytes, or zero
+unfoldable pub copied_byte : List ℕ → ℕ → ℕ
+copied_byte image rva =
+    if nat_lt rva (headers_size image) then slice_index image rva
+    else section_byte image rva (first_below (section_count image) (is_copied_into image rva))
+
+unfoldable pub copied : List ℕ → List ℕ
+copied image = map (copied_byte image) (range_with_len 0 (size_of_image image))
+
+-- ---- the fields that are raised: those of the base relocation directory
+
+abbrev pub reloc_directory : ℕ
+reloc_directory = 5
+
+unfoldable pub base_walk : List ℕ → Walk
+base_walk image =
+    walk_of (size_of_image image) (bytes_at (copied image) (directory_rva image reloc_directory) (directory_size image reloc_directory))
+
+abbrev pub is_walked : Walk → Bool
+is_walked (Fields fields) = true
+is_walked (MalformedAt offset) = false
+
+unfoldable pub has_blocks : List ℕ → Bool
+has_blocks image =
+    (directory_size image reloc_directory == 0)
+    || (nat_le (directory_rva image reloc_directory + directory_size image reloc_directory) (size_of_image image) && is_walked (base_walk image))
+
+-- ---- the refusal, and the memory
+
+-- the kind beside the first test that fails
+abbrev pub first_failed : List (ImageKind × Bool) → Option ImageKind
+first_failed [] = None
+first_failed (test ∷ tests) = if test.1 then first_failed tests else Some test.0
+
+unfoldable pub image_fault : List ℕ → Option ImageKind
+image_fault image =
+    first_failed
+    ((bad.Dos, has_dos_header image)
+    ∷ (bad.Signature, has_signature image)
+    ∷ (bad.Machine, has_machine image)
+    ∷ (bad.OptionalSize, has_optional_header image)
+    ∷ (bad.Magic, has_magic image)
+    ∷ (bad.Alignment, has_alignments image)
+    ∷ (bad.Directories, has_directories image)
+    ∷ (bad.ImageSize, has_size image)
+    ∷ (bad.Headers, has_headers image)
+    ∷ (bad.Sections, has_sections image)
+    ∷ (bad.Raw, has_raw_bytes image)
+    ∷ (bad.Blocks, has_blocks image)
+    ∷ [])
+
+-- how much a base lies above the image's own, modulo 2^64
+abbrev pub base_delta : List ℕ → ℕ → ℕ
+base_delta image base = (base + 2 ^ 64 - image_base image) % 2 ^ 64
+
+-- what the headers say of the base
+abbrev pub base_rule : List ℕ → BaseRule
+base_rule image = record { base = image_base image; fixed = is_fixed image; large = is_large image }
+
+-- the memory of an image at a base, where nothing refuses it and the base is permitted
+unfoldable pub loaded : List ℕ → ℕ → Option (List ℕ)
+loaded image base =
+    if is_none (image_fault image) && is_permitted (base_rule image) (size_of_image image) base
+    then Some (raised_all (base_delta image base) (copied image) (walked_fields (base_walk image)))
+    else None
+
+-- ---- what loading leaves out
+
+-- the file ends with the last section's raw bytes, or with the headers where there is no section with any
+abbrev pub file_end : List ℕ → ℕ → ℕ
+file_end image zero = headers_size image
+file_end image (suc index) =
+    if raw_size image index == 0 then file_end image index else raw_offset image index + raw_size image index
+
+abbrev pub is_copied_from : List ℕ → ℕ → ℕ → Bool
+is_copied_from image offset index =
+    nat_le (raw_offset image index) offset && nat_lt offset (raw_offset image index + copied_len image index)
+
+-- every byte of the file that loading does not copy is zero
+pub record HasZeroSlack (image : List ℕ) : Type 0 where
+  pub ends : length image ≡ file_end image (section_count image)
+  pub zero_elsewhere : (offset : ℕ) → headers_size image ≤ offset → first_below (section_count image) (is_copied_from image offset) ≡ None → slice_index image offset ≡ 0

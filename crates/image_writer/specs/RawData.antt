@@ -1,0 +1,35 @@
+-- The raw data of a section, as it is written: piece by piece, from a place on.
+use Rattle.std.specs.Prelude.{◌≤◌, ◌<◌, ℕ, ◌+◌, ◌-◌, List, [], ◌∷◌, ◌++◌, length, replicate}
+use Rattle.section_group.specs.Uniqueness.{SectionRow as OutRow}
+use Rattle.address_layout.specs.declared.layout.Placed.{Placed}
+use Rattle.image_writer.specs.ExpectedImage.{PlacedPiece}
+use Rattle.image_writer.specs.WrittenImage.{placed_pieces}
+
+-- how many zeros stand before bytes that begin at an RVA, from a place on; none before no bytes
+abbrev pub gap : List ℕ → ℕ → ℕ → ℕ
+gap [] rva place = 0
+gap (byte ∷ bytes) rva place = rva - place
+
+-- the place behind the bytes
+abbrev pub next_place : List ℕ → ℕ → ℕ → ℕ
+next_place [] rva place = place
+next_place (byte ∷ bytes) rva place = rva + length (byte ∷ bytes)
+
+-- the bytes from a place up to an end
+unfoldable pub laid : List PlacedPiece → ℕ → ℕ → List ℕ
+laid [] end place = replicate (end - place) 0
+laid (piece ∷ pieces) end place =
+    (replicate (gap piece.bytes piece.rva place) 0 ++ piece.bytes) ++ laid pieces end (next_place piece.bytes piece.rva place)
+
+-- the pieces with bytes ascend from a place, and end before an end
+unfoldable pub Ascend : List PlacedPiece → ℕ → ℕ → Type 0
+Ascend [] end place = place ≤ end
+Ascend (piece ∷ pieces) end place =
+    (0 < length piece.bytes → place ≤ piece.rva) × Ascend pieces end (next_place piece.bytes piece.rva place)
+
+-- the raw data of all sections, one behind the other
+unfoldable pub laid_all : List ℕ → List (List ℕ) → List OutRow → List Placed → List ℕ
+laid_all rvas contents [] placed = []
+laid_all rvas contents (row ∷ rows) [] = []
+laid_all rvas contents (row ∷ rows) (place ∷ placed) =
+    laid (placed_pieces rvas contents row.pieces) (place.rva + place.raw) place.rva ++ laid_all rvas contents rows placed
