@@ -2,7 +2,7 @@
 
 ghost use Rattle.std.specs.Prelude.{◌≡◌, ◌<◌, ◌≤◌, ◌^◌, length, IfOk, OnOk, IfErr, is_ok, is_none, true, None, Some};
 ghost use Rattle.std.specs.Option.{option_copied};
-ghost use Rattle.coff_object.specs.ObjectFile.{section_total, section_name_of, raw_size_of, flags_of, alignment_of, body_of, relocation_total, relocation_offset_of, relocation_symbol_of, relocation_kind_of, record_total, starts_symbol, symbol_name_of, symbol_value_of, symbol_section_of, symbol_kind_of, symbol_class_of, aux_total_of, aux_record};
+ghost use Rattle.coff_object.specs.ObjectFile.{section_total, section_name_of, raw_size_of, flags_of, alignment_of, body_of, relocation_total, relocation_offset_of, relocation_symbol_of, relocation_kind_of, record_total, starts_symbol, symbol_name_of, symbol_value_of, symbol_section_field, symbol_section_of, symbol_kind_of, symbol_class_of, aux_total_of, aux_record};
 ghost use Rattle.coff_object.specs.ObjectFaults.{object_fault};
 
 use crate::error::ObjError;
@@ -102,6 +102,7 @@ impl<'a> Object<'a> {
         ensures name { result.name ≡ symbol_name_of self.now j }
         ensures value { result.value ≡ symbol_value_of self.now j }
         ensures section { result.section ≡ symbol_section_of self.now j }
+        ensures field { symbol_section_field self.now j < 2 ^ 16 }
         ensures kind { result.kind ≡ symbol_kind_of self.now j }
         ensures class { result.class ≡ symbol_class_of self.now j }
         ensures aux { result.aux ≡ aux_total_of self.now j }

@@ -69,6 +69,7 @@ pub(crate) fn symbol_in(bytes: &[u8], index: u32) -> Symbol<'_>
     ensures name { result.name ≡ symbol_name_of bytes.now index }
     ensures value { result.value ≡ symbol_value_of bytes.now index }
     ensures section { result.section ≡ symbol_section_of bytes.now index }
+    ensures field { symbol_section_field bytes.now index < 2 ^ 16 }
     ensures kind { result.kind ≡ symbol_kind_of bytes.now index }
     ensures class { result.class ≡ symbol_class_of bytes.now index }
     ensures aux { result.aux ≡ aux_total_of bytes.now index }

@@ -16,4 +16,5 @@ pub mod PlacedImage
 pub mod StepLemmas
 pub mod ReadLemmas
 pub mod OpeningLemmas
+pub mod DefinitionLemmas
 mod WorkedLink

@@ -16,3 +16,4 @@ pub mod Loading
 pub mod Modules
 pub mod Definitions
 pub mod Pieces
+pub mod Refusals

@@ -14,6 +14,7 @@ mod laws;
 mod lines;
 mod link;
 mod linker;
+mod names;
 mod opening;
 mod pe_format;
 mod placed;
