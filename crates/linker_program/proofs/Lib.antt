@@ -17,4 +17,6 @@ pub mod StepLemmas
 pub mod ReadLemmas
 pub mod OpeningLemmas
 pub mod DefinitionLemmas
+pub mod ModuleLemmas
+pub mod ReadingLemmas
 mod WorkedLink

@@ -14,6 +14,8 @@ pub mod Opening
 pub mod Placed
 pub mod Loading
 pub mod Modules
+pub mod Refusing
 pub mod Definitions
 pub mod Pieces
 pub mod Refusals
+pub mod ReadingSteps

@@ -1,13 +1,14 @@
 -- The second part of loading: the inputs are opened in the order of the words, and the first that is no module, or one
 -- too many, is its fault. Own.
-use Rattle.std.specs.Prelude.{ℕ, zero, suc, ◌+◌, Bool, ◌&&◌, ◌||◌, not, ◌==◌, nat_le, nat_lt, if◌then◌else◌, List, [], ◌∷◌, ◌++◌, length, Option, Some, None, codes, is_some}
+use Rattle.std.specs.Prelude.{ℕ, ◌+◌, pos, negsuc, Bool, ◌&&◌, ◌||◌, not, ◌==◌, nat_le, nat_lt, if◌then◌else◌, List, [], ◌∷◌, ◌++◌, length, Option, Some, None, codes, is_some}
+use Rattle.std.specs.Ordering.{int_eq}
 use Rattle.link_base.specs.Bytes.{first_below}
 use Rattle.link_base.specs.NameText.{begins_import}
 use Rattle.link_base.specs.declared.fault.Fault.{Fault}
 use Rattle.link_base.specs.declared.fault.Fault.TheVariants.{InputLimit}
 use Rattle.link_base.specs.declared.kind.Kind.TheVariants as form
 use Rattle.coff_object.specs.Constants.{SCN_LNK_COMDAT, SYM_CLASS_EXTERNAL, SYM_CLASS_WEAK_EXTERNAL}
-use Rattle.coff_object.specs.ObjectFile.{section_total, section_name_of, raw_size_of, flags_of, has_flag, is_uninitialised, relocation_total, record_total, symbol_name_of, symbol_section_field, symbol_class_of}
+use Rattle.coff_object.specs.ObjectFile.{section_total, section_name_of, raw_size_of, flags_of, has_flag, is_uninitialised, relocation_total, record_total, symbol_name_of, symbol_section_of, symbol_class_of}
 use Rattle.coff_object.specs.ObjectFaults.{of_symbol}
 use Rattle.linker_program.specs.Opening.{begins, base_name, shown, of_kind, first_fault, opening_fault}
 use Rattle.linker_program.specs.Placed.{same_name, is_placed}
@@ -50,11 +51,18 @@ abbrev pub is_external_name : List ℕ → ℕ → Bool
 is_external_name bytes symbol =
     (symbol_class_of bytes symbol == SYM_CLASS_EXTERNAL) || (symbol_class_of bytes symbol == SYM_CLASS_WEAK_EXTERNAL)
 
+-- an undefined symbol, or a common
+abbrev pub is_undefined : List ℕ → ℕ → Bool
+is_undefined bytes symbol = int_eq (symbol_section_of bytes symbol) (pos 0)
+
+-- a symbol of a value that is no address: section -1
+abbrev pub is_absolute : List ℕ → ℕ → Bool
+is_absolute bytes symbol = int_eq (symbol_section_of bytes symbol) (negsuc 0)
+
 -- an external symbol that is undefined, a common or absolute
 abbrev pub is_outside_sections : List ℕ → ℕ → Bool
 is_outside_sections bytes symbol =
-    (symbol_class_of bytes symbol == SYM_CLASS_EXTERNAL)
-    && ((symbol_section_field bytes symbol == 0) || (symbol_section_field bytes symbol == 65535))
+    (symbol_class_of bytes symbol == SYM_CLASS_EXTERNAL) && (is_undefined bytes symbol || is_absolute bytes symbol)
 
 -- a name that the loader of a program looks for (PE Format, "The .tls Section", "The Load Configuration Structure")
 abbrev pub is_loader_name : List ℕ → Bool
@@ -64,7 +72,7 @@ unfoldable pub is_unbuilt_symbol : List ℕ → ℕ → Bool
 is_unbuilt_symbol bytes symbol =
     (symbol_class_of bytes symbol == SYM_CLASS_WEAK_EXTERNAL)
     || (is_outside_sections bytes symbol
-    || (((symbol_section_field bytes symbol == 0) && begins_import (symbol_name_of bytes symbol))
+    || ((is_undefined bytes symbol && begins_import (symbol_name_of bytes symbol))
     || (is_external_name bytes symbol && is_loader_name (symbol_name_of bytes symbol))))
 
 -- sections are numbered from 1

@@ -14,13 +14,16 @@ mod laws;
 mod lines;
 mod link;
 mod linker;
+mod modules;
 mod names;
 mod opening;
 mod pe_format;
 mod placed;
 mod plan;
+mod reading;
 mod refusal;
 mod status;
+mod unbuilt;
 mod words;
 mod write;
 

@@ -1,6 +1,7 @@
 //! Which sections come into the image.
 
-ghost use Rattle.std.specs.Prelude.{◌≡◌, ◌||◌};
+ghost use Rattle.std.specs.Prelude.{◌≡◌, nat_eq, codes};
+ghost use lib.Pointwise.{pointwise};
 ghost use Rattle.linker_program.specs.Opening.{begins, base_name};
 ghost use Rattle.linker_program.specs.Placed.{is_linker_table, is_debug_section, is_left_out, comes_in};
 
@@ -39,10 +40,25 @@ fn is_debug_section(name: &Name<'_>) -> bool
     if name.is_import() {
         return false;
     }
-    match name.rest().strip_prefix(b".debug") {
-        Some(suffix) => suffix.is_empty() || suffix[0] == b'$' || suffix[0] == b'_',
+    let text = name.rest();
+    is_debug_table(text) || is_debug_part(text)
+}
+
+/// Whether the base name of a section is `.debug`.
+fn is_debug_table(name: &[u8]) -> bool
+    ensures { result ≡ pointwise nat_eq (base_name name.now) (codes ".debug") }
+{
+    match name.strip_prefix(b".debug") {
+        Some(suffix) => suffix.is_empty() || suffix[0] == b'$',
         None => false,
     }
+}
+
+/// Whether the base name of a section begins `.debug_`.
+fn is_debug_part(name: &[u8]) -> bool
+    ensures { result ≡ begins (base_name name.now) (codes ".debug_") }
+{
+    name.starts_with(b".debug_")
 }
 
 fn is_linker_table(name: &Name<'_>) -> bool
