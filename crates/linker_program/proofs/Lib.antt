@@ -17,6 +17,7 @@ pub mod StepLemmas
 pub mod ReadLemmas
 pub mod OpeningLemmas
 pub mod DefinitionLemmas
+pub mod PieceLemmas
 pub mod ModuleLemmas
 pub mod ReadingLemmas
 mod WorkedLink
