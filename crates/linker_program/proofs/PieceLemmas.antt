@@ -4,11 +4,9 @@ use Rattle.std.proofs.Common.{◌≡◌, ℕ, zero, suc, ◌+◌, ◌-◌, ◌*�
 use Rattle.std.specs.Prelude.{is_some, unwrap_or}
 use Rattle.std.specs.Bool.{IsTrue}
 use Rattle.std.specs.List.{All, range_with_len, flat_map}
-use Rattle.std.specs.Option.{option_copied}
-use Rattle.std.specs.Borrow.{Bor}
 use Rattle.std.proofs.lemmas.Bool.{false≢true, eqb-true, ltb-true, leb-true}
 use Rattle.std.proofs.lemmas.Bool.Decides.{eqb_tells}
-use Rattle.std.proofs.lemmas.List.{get_or-set_same, get_or-set_other, get_or_default, length-map, map-append}
+use Rattle.std.proofs.lemmas.List.{get_or-set_same, get_or-set_other, get_or_default, length-map}
 use Rattle.std.proofs.Math.ListN.{get_or-map}
 use Rattle.std.proofs.Math.Seq.{take-append_seam}
 use Rattle.std.proofs.lemmas.Nat.{pow-add, pow_pos}
@@ -88,55 +86,6 @@ all_marked bytes index section mark all is =
 -- a list whose slice was written
 pub written : {X : Type 0} (n : ℕ) (xs ys : List X) → n ≡ length xs → take n (xs ++ ys) ≡ xs
 written n xs ys is = ap (λ (k : ℕ). take k (xs ++ ys)) is ∙ take-append_seam xs ys
-
--- ---- one piece
-
--- a section's piece without its bytes, by its parts
-abbrev pub section_piece : ℕ → ℕ → List ℕ → ℕ → ℕ → ℕ → Bool → Bool → Piece
-section_piece position number name flags size align init named =
-    record {
-      «module» = position;
-      number = number;
-      name = name;
-      flags = flags;
-      size = size;
-      align = align;
-      body = None;
-      init = init;
-      named = named;
-    }
-
-pub same_piece : (position number : ℕ) {name name' : List ℕ} {flags flags' size size' align align' : ℕ} {init init' named named' : Bool} → name ≡ name' → flags ≡ flags' → size ≡ size' → align ≡ align' → init ≡ init' → named ≡ named' → section_piece position number name flags size align init named ≡ section_piece position number name' flags' size' align' init' named'
-same_piece position number same_name same_flags same_size same_align same_init same_named =
-    rw (same_name, same_flags, same_size, same_align, same_init, same_named) refl
-
-is_some_copied : (body : Option (Bor (List ℕ))) → is_some body ≡ is_some (option_copied body)
-is_some_copied None = refl
-is_some_copied (Some bytes) = refl
-
-has_body : (uninitialised : Bool) (bytes : List ℕ) → is_some (cond uninitialised None (Some bytes)) ≡ not uninitialised
-has_body true bytes = refl
-has_body false bytes = refl
-
--- a section is initialised where it has a body
-pub initialised : (bytes : List ℕ) (section : ℕ) (body : Option (Bor (List ℕ))) → option_copied body ≡ body_of bytes section → is_some body ≡ not (is_uninitialised bytes section)
-initialised bytes section body is =
-    is_some_copied body ∙ ap is_some is ∙ has_body (is_uninitialised bytes section) (bytes_at bytes (raw_offset_of bytes section) (raw_size_of bytes section))
-
-held : (body : Option (Bor (List ℕ))) → cond (is_some body) (unwrap_or (option_copied body) []) [] ≡ unwrap_or (option_copied body) []
-held None = refl
-held (Some bytes) = refl
-
--- and holds what its body holds
-pub holds : (bytes : List ℕ) (section : ℕ) (init : Bool) (body : Option (Bor (List ℕ))) → init ≡ is_some body → option_copied body ≡ body_of bytes section → cond init (unwrap_or (option_copied body) []) [] ≡ section_contents bytes section
-holds bytes section init body same is =
-    ap (λ (b : Bool). cond b (unwrap_or (option_copied body) []) []) same ∙ held body ∙ ap (λ (o : Option (List ℕ)). unwrap_or o []) is
-
--- ---- lists that grow by what a piece is
-
-pub grows : {X Y : Type 0} (f : X → Y) (before after : List X) (x : X) (y : Y) (b : Bool) → b ≡ true → after ≡ before ++ x ∷ [] → f x ≡ y → map f after ≡ map f before ++ cond b (y ∷ []) []
-grows {X} {Y} f before after x y b adds is same =
-    rw adds (ap (map f) is ∙ map-append f before (x ∷ []) ∙ ap (λ (z : Y). map f before ++ z ∷ []) same)
 
 -- ---- pieces beside what they hold
 
@@ -256,6 +205,13 @@ piece_is modules k lt = pieces_are modules k no_piece lt
 abbrev pub holds_definition : List Piece → Definition → ℕ → Bool
 holds_definition pieces definition k = is_piece_of definition (get_or pieces k no_piece)
 
+pub first_fails : (a b : Bool) → a ≡ false → (a && b) ≡ false
+first_fails a b e = rw e refl
+
+pub second_fails : (a b : Bool) → b ≡ false → (a && b) ≡ false
+second_fails true b e = e
+second_fails false b e = refl
+
 -- a piece at an index, without its bytes
 pub read_piece : (pieces : List Piece) (definition : Definition) (k : ℕ) (piece : Piece) → k < length pieces → piece ≡ get_or pieces k piece → holds_definition (map bare pieces) definition k ≡ is_piece_of definition piece
 read_piece pieces definition k piece lt is =
@@ -293,10 +249,3 @@ found_piece modules definition k e =
       placed = ap (λ (m : ℕ). is_placed (bytes_in modules m) definition.section) (sym same.0) ∙ ap (is_placed (bytes_in modules piece.«module»)) (sym same.1) ∙ section.placed;
       is = section.is ∙ ap (λ (m : ℕ). piece_of m (bytes_in modules m) piece.number) same.0 ∙ ap (piece_of definition.«module» (bytes_in modules definition.«module»)) same.1;
     }
-
-pub first_fails : (a b : Bool) → a ≡ false → (a && b) ≡ false
-first_fails a b e = rw e refl
-
-pub second_fails : (a b : Bool) → b ≡ false → (a && b) ≡ false
-second_fails true b e = e
-second_fails false b e = refl
