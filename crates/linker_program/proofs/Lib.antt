@@ -3,6 +3,7 @@ pub mod WordLemmas
 pub mod ReadingLemmas
 pub mod ModuleLemmas
 pub mod DefinitionLemmas
+pub mod PieceLemmas
 pub mod OutcomeLemmas
 pub mod RunLemmas
 pub mod PlanLemmas

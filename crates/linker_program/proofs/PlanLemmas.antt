@@ -34,6 +34,7 @@ use Rattle.linker_program.specs.Pieces.{link_pieces, link_contents, piece_of, pi
 use Rattle.linker_program.specs.Outcome.{link_input, IsLayoutFault, IsRefusedLayout, IsImageOf}
 use Rattle.linker_program.specs.PlanSteps.{used_pieces, plan_image, IsPlaced, IsLaidOutPlan, IsLayoutRefusal, IsWritable, IsEntryPlan, IsEntryRefusal}
 use Rattle.linker_program.proofs.DefinitionLemmas.{StandsIn}
+use Rattle.linker_program.proofs.PieceLemmas.{found_piece}
 use Rattle.linker_program.proofs.OutcomeLemmas.{layout_fault_cases}
 
 -- ---- pieces without their bytes
@@ -132,9 +133,6 @@ planned_entry modules definition piece value pieces plan are contents each stand
       };
     }
 
-piece_found : (modules : List (List ℕ)) (definition : Definition) (k : ℕ) → piece_index (link_pieces modules) definition ≡ Some k → (k < length (link_pieces modules)) × (get_or (link_pieces modules) k no_piece ≡ piece_of definition.«module» (bytes_in modules definition.«module») definition.section)
-piece_found modules definition k found = ?
-
 -- ---- the piece of the entry
 
 -- the piece that a definition stands in is found, named, and as long as its section
@@ -147,10 +145,10 @@ pub record EntryPiece (modules : List (List ℕ)) (pieces : List Piece) (definit
 pub entry_piece : (modules : List (List ℕ)) (pieces : List Piece) (definition : Definition) (piece : ℕ) → map bare pieces ≡ link_pieces modules → StandsIn modules definition → Some piece ≡ piece_index (map bare pieces) definition → EntryPiece modules pieces definition piece
 entry_piece modules pieces definition piece are stands found =
     let here : piece_index (link_pieces modules) definition ≡ Some piece = ap (λ (ps : List Piece). piece_index ps definition) (sym are) ∙ sym found in
-    let is = piece_found modules definition piece here in
-    let within : piece < length pieces = omega (arith, is.0, ap length are, length-map pieces bare) in
+    let is = found_piece modules definition piece here in
+    let within : piece < length pieces = omega (arith, is.within, ap length are, length-map pieces bare) in
     let bared : bare (get_or pieces piece no_piece) ≡ piece_of definition.«module» (bytes_in modules definition.«module») definition.section =
-      sym (get_or-map bare pieces piece no_piece no_piece within) ∙ ap (λ (ps : List Piece). get_or ps piece no_piece) are ∙ is.1
+      sym (get_or-map bare pieces piece no_piece no_piece within) ∙ ap (λ (ps : List Piece). get_or ps piece no_piece) are ∙ is.is
     in
     record {
       found = here;

@@ -1,5 +1,5 @@
 -- What stripping an option's spelling from a word says.
-use Rattle.std.proofs.Common.{◌≡◌, ℕ, true, false, List, [], ◌∷◌, get_or, length, arith, ◌<◌, refl, option_map, drop, nat_eq, Option, Some, None, sym, subst, ap, ◌∙◌}
+use Rattle.std.proofs.Common.{◌≡◌, ℕ, zero, suc, true, false, List, [], ◌∷◌, get_or, length, take, arith, ◌<◌, ◌≤◌, ◌-◌, refl, option_map, drop, nat_eq, Option, Some, None, sym, subst, ap, ◌∙◌}
 use Rattle.std.specs.Prelude.{IfSome, IfNone, MatchOption}
 use Rattle.std.specs.Borrow.{Bor}
 use Rattle.std.specs.Str.{IsCharBoundary}
@@ -7,10 +7,11 @@ use Rattle.std.specs.List.{starts_with}
 use Rattle.std.specs.Str.Pattern.{FindsTextPrefix, StripsPrefix}
 use Rattle.std.proofs.lemmas.Str.Pattern.{starts_text}
 use Rattle.std.proofs.Common.{map, String, string_bytes, Global}
-use Rattle.std.proofs.lemmas.List.{get_or-map, length-map}
+use Rattle.std.proofs.lemmas.List.{get_or-map, length-map, drop-map}
+use Rattle.std.proofs.lemmas.Bool.{le-leb, lt-leb}
 use Rattle.linker_program.specs.RequestView.{IsBehind, IsRequestOf, request_view}
 use Rattle.linker_program.specs.declared.words.Request.{Request}
-use Rattle.linker_program.specs.LinkWords.{requested}
+use Rattle.linker_program.specs.LinkWords.{requested, word_at, inputs_of, entry_word, output_word}
 
 abbrev Stripped : List ℕ → List ℕ → Option (Bor (List ℕ)) → Type 0
 Stripped word option r = MatchOption r (FindsTextPrefix option word None) (λ x. StripsPrefix (FindsTextPrefix option) word x.now)
@@ -26,36 +27,35 @@ pub none_behind : (word option : List ℕ) (r : Option (Bor (List ℕ))) → Str
 none_behind word option None h = sym (starts_text false option word h)
 none_behind word option (Some value) h = tt
 
--- ---- four words
+-- ---- the request of words
 
-pub requested_other : (texts : List (List ℕ)) → (length texts ≡ 4 → ⊥) → requested texts ≡ None
+pub requested_few : (texts : List (List ℕ)) → length texts < 4 → requested texts ≡ None
 unfolding requested
-requested_other [] other = refl
-requested_other (a ∷ []) other = refl
-requested_other (a ∷ b ∷ []) other = refl
-requested_other (a ∷ b ∷ c ∷ []) other = refl
-requested_other (a ∷ b ∷ c ∷ d ∷ []) other = absurd (other refl)
-requested_other (a ∷ b ∷ c ∷ d ∷ e ∷ texts) other = refl
+requested_few texts few = rw (lt-leb 4 (length texts) few) refl
 
-of_four : (a b c d : List ℕ) (r : Option Request) → IsRequestOf r a b c d → option_map request_view r ≡ requested (a ∷ b ∷ c ∷ d ∷ [])
+pub requested_many : (texts : List (List ℕ)) (r : Option Request) → 4 ≤ length texts → IsRequestOf r (word_at texts 0) (inputs_of texts) (entry_word texts) (output_word texts) → option_map request_view r ≡ requested texts
 unfolding requested
-of_four a b c d None h = rw h refl
-of_four a b c d (Some request) h = rw h.0 (ap Some h.1)
-
-pub requested_four : (texts : List (List ℕ)) (r : Option Request) → length texts ≡ 4 → IsRequestOf r (get_or texts 0 []) (get_or texts 1 []) (get_or texts 2 []) (get_or texts 3 []) → option_map request_view r ≡ requested texts
-requested_four [] r four h = absurd (omega arith)
-requested_four (a ∷ []) r four h = absurd (omega arith)
-requested_four (a ∷ b ∷ []) r four h = absurd (omega arith)
-requested_four (a ∷ b ∷ c ∷ []) r four h = absurd (omega arith)
-requested_four (a ∷ b ∷ c ∷ d ∷ []) r four h = of_four a b c d r h
-requested_four (a ∷ b ∷ c ∷ d ∷ e ∷ texts) r four h = absurd (omega arith)
+requested_many texts None many h = rw (le-leb 4 (length texts) many, h) refl
+requested_many texts (Some request) many h = rw (le-leb 4 (length texts) many, h.0) (ap Some h.1)
 
 -- the bytes of a word that was read by its index
-pub word_at : (words : List (String Global)) (i : ℕ) (word : String Global) → i < length words → word ≡ get_or words i word → string_bytes word ≡ get_or (map string_bytes words) i []
-word_at words i word lt is = ap string_bytes is ∙ sym (get_or-map string_bytes words i word [] lt)
+pub word_read : (words : List (String Global)) (i k : ℕ) (word : String Global) → i ≡ k → i < length words → word ≡ get_or words i word → string_bytes word ≡ get_or (map string_bytes words) k []
+word_read words i k word same lt is = ap string_bytes is ∙ sym (get_or-map string_bytes words i word [] lt) ∙ ap (λ (n : ℕ). get_or (map string_bytes words) n []) same
 
-pub requested_words : (words : List (String Global)) (r : Option Request) (a b c d : List ℕ) → length words ≡ 4
-    → a ≡ get_or (map string_bytes words) 0 [] → b ≡ get_or (map string_bytes words) 1 [] → c ≡ get_or (map string_bytes words) 2 [] → d ≡ get_or (map string_bytes words) 3 []
-    → IsRequestOf r a b c d → option_map request_view r ≡ requested (map string_bytes words)
-requested_words words r a b c d four ea eb ec ed h =
-    requested_four (map string_bytes words) r (length-map words string_bytes ∙ four) (rw (← ea, ← eb, ← ec, ← ed) h)
+take_texts : (n : ℕ) (words : List (String Global)) → map string_bytes (take n words) ≡ take n (map string_bytes words)
+take_texts zero words = refl
+take_texts (suc n) [] = refl
+take_texts (suc n) (word ∷ words) = ap (λ (texts : List (List ℕ)). string_bytes word ∷ texts) (take_texts n words)
+
+pub inputs_read : (words : List (String Global)) (n : ℕ) → n ≡ length words - 3 → map string_bytes (take n (drop 1 words)) ≡ inputs_of (map string_bytes words)
+inputs_read words n is =
+    take_texts n (drop 1 words)
+    ∙ ap (take n) (sym (drop-map string_bytes 1 words))
+    ∙ ap (λ (k : ℕ). take k (drop 1 (map string_bytes words))) (is ∙ ap (λ (k : ℕ). k - 3) (sym (length-map words string_bytes)))
+
+pub requested_words : (words : List (String Global)) (r : Option Request) (command entry output : List ℕ) (inputs : List (List ℕ)) → 4 ≤ length words
+    → command ≡ word_at (map string_bytes words) 0 → inputs ≡ inputs_of (map string_bytes words)
+    → entry ≡ entry_word (map string_bytes words) → output ≡ output_word (map string_bytes words)
+    → IsRequestOf r command inputs entry output → option_map request_view r ≡ requested (map string_bytes words)
+requested_words words r command entry output inputs many is_command are_inputs is_entry is_output h =
+    requested_many (map string_bytes words) r (omega (arith, length-map words string_bytes, many)) (rw (← is_command, ← are_inputs, ← is_entry, ← is_output) h)

@@ -64,18 +64,20 @@ entry_word words = word_at words (length words - 2)
 abbrev pub output_word : List (List ℕ) → List ℕ
 output_word words = word_at words (length words - 1)
 
-unfoldable pub is_link_form : List (List ℕ) → Bool
-is_link_form words =
-    (nat_le 4 (length words) && pointwise nat_eq (word_at words 0) (codes "link"))
-    && (list_all is_input (inputs_of words) && (is_entry_word (entry_word words) && is_output_word (output_word words)))
+unfoldable pub is_link_form : List ℕ → List (List ℕ) → List ℕ → List ℕ → Bool
+is_link_form command inputs entry output =
+    pointwise nat_eq command (codes "link")
+    && (list_all is_input inputs && (is_entry_word entry && is_output_word output))
 
-abbrev pub request_of : List (List ℕ) → LinkRequest
-request_of words = record {
-  inputs = inputs_of words;
-  entry = drop (length entry_option) (entry_word words);
-  output = drop (length output_option) (output_word words);
+abbrev pub request_of : List (List ℕ) → List ℕ → List ℕ → LinkRequest
+request_of inputs entry output = record {
+  inputs = inputs;
+  entry = drop (length entry_option) entry;
+  output = drop (length output_option) output;
 }
 
 -- the request of the words, where they have the form
 unfoldable pub requested : List (List ℕ) → Option LinkRequest
-requested words = if is_link_form words then Some (request_of words) else None
+requested words =
+    if nat_le 4 (length words) && is_link_form (word_at words 0) (inputs_of words) (entry_word words) (output_word words)
+    then Some (request_of (inputs_of words) (entry_word words) (output_word words)) else None

@@ -12,6 +12,7 @@ mod lines;
 mod link;
 mod linker;
 mod modules;
+mod named;
 mod names;
 mod opening;
 mod pieces;

@@ -2,8 +2,8 @@
 
 ghost use Rattle.std.specs.Prelude.{◌≡◌, List, nat_eq, true, false, map, length, drop, IfSome, IfNone, option_map, string_bytes};
 ghost use Rattle.std.specs.List.{starts_with, list_all};
-ghost use Rattle.linker_program.specs.LinkWords.{is_plain_word, is_option, is_input, is_entry_name, is_linker_name, entry_option, output_option, is_entry_word, is_output_word, requested};
-ghost use Rattle.linker_program.specs.RequestView.{IsBehind, request_view};
+ghost use Rattle.linker_program.specs.LinkWords.{is_plain_word, is_option, is_input, is_entry_name, is_linker_name, entry_option, output_option, is_entry_word, is_output_word, is_link_form, requested};
+ghost use Rattle.linker_program.specs.RequestView.{IsBehind, IsRequestOf, request_view};
 
 use link_base::Name;
 
@@ -34,24 +34,41 @@ pub struct Request<'w> {
 }
 
 /// The request of the words, where they have the form of one.
-#[tactic(auto, unfolding(crate::specs::LinkWords::requested))]
 pub fn request_of<'w>(words: &'w [String]) -> Option<Request<'w>>
     ensures { option_map request_view result ≡ requested (map string_bytes words.now) }
 {
-    if words.len() < 4 || words[0].as_bytes() != b"link".as_slice() {
+    let count = words.len();
+    if count < 4 {
         return None;
     }
-    let inputs = &words[1..words.len() - 2];
-    if !are_inputs(inputs) {
+    let command = &words[0];
+    let inputs = &words[1..count - 2];
+    let entry = &words[count - 2];
+    let output = &words[count - 1];
+    request_with(command.as_str(), inputs, entry.as_str(), output.as_str())
+}
+
+/// The request of these words.
+#[tactic(auto, unfolding(crate::specs::LinkWords::is_link_form))]
+fn request_with<'w>(
+    command: &'w str,
+    inputs: &'w [String],
+    entry: &'w str,
+    output: &'w str,
+) -> Option<Request<'w>>
+    ensures { IsRequestOf result command.now (map string_bytes inputs.now) entry.now output.now }
+{
+    if command.as_bytes() != b"link".as_slice() || !are_inputs(inputs) {
         return None;
     }
-    let entry = entry_of(words[words.len() - 2].as_str())?;
-    let output = output_of(words[words.len() - 1].as_str())?;
-    Some(Request {
-        inputs,
-        entry,
-        output,
-    })
+    match (entry_of(entry), output_of(output)) {
+        (Some(entry), Some(output)) => Some(Request {
+            inputs,
+            entry,
+            output,
+        }),
+        _ => None,
+    }
 }
 
 fn are_inputs(words: &[String]) -> bool
