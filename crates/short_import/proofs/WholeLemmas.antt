@@ -6,15 +6,15 @@ use Rattle.link_base.specs.declared.kind.ImpFault.{ImpFault}
 use Rattle.link_base.specs.declared.kind.ImpFault.TheVariants as fault
 use Rattle.short_import.specs.ImportFaults.{is_cut, row, first_row, header_fault}
 
-or_left : (a b : Bool) → (a || b) ≡ false → a ≡ false
+pub or_left : (a b : Bool) → (a || b) ≡ false → a ≡ false
 or_left true b e = absurd (false≢true (sym e))
 or_left false b e = refl
 
-or_right : (a b : Bool) → (a || b) ≡ false → b ≡ false
+pub or_right : (a b : Bool) → (a || b) ≡ false → b ≡ false
 or_right true b e = absurd (false≢true (sym e))
 or_right false b e = e
 
-ltb_false : (m n : ℕ) → ltb m n ≡ false → n ≤ m
+pub ltb_false : (m n : ℕ) → ltb m n ≡ false → n ≤ m
 ltb_false m n e =
     elim (cases_lt m n) [
       | inl lt ↦ absurd (false≢true (sym e ∙ lt-ltb m n lt))
