@@ -1,5 +1,5 @@
 -- What callers may cite of bytes that are a short import.
-use Rattle.std.proofs.Common.{◌≡◌, ℕ, ◌+◌, ◌<◌, ◌≤◌, Bool, true, false, ◌||◌, not, eqb, ltb, List, length, slice_index, Option, None, Some, inl, inr, refl, sym, ap, ◌∙◌, arith}
+use Rattle.std.proofs.Common.{◌≡◌, ℕ, ◌+◌, ◌<◌, ◌≤◌, Bool, true, false, not, eqb, List, length, slice_index, Option, None, Some, inl, inr, refl, sym, ap, ◌∙◌, arith}
 use Rattle.std.proofs.lemmas.Bool.{false≢true, eqb-true}
 use Rattle.std.proofs.lemmas.Bool.Decides.{eqb_tells}
 use Rattle.std.proofs.lemmas.List.{length-take-le, length-drop}
@@ -10,7 +10,7 @@ use Rattle.short_import.specs.Constants.{FILE_MACHINE_AMD64, IMPORT_CONST, IMPOR
 use Rattle.short_import.specs.ShortImport.{machine_of, data_size, import_type, name_type, import_data, symbol_of, dll_of}
 use Rattle.short_import.specs.ImportFaults.{is_cut, is_other_machine, has_other_type, has_other_name_type, lacks_text, row, first_row, header_fault, import_fault}
 use Rattle.short_import.proofs.WholeLemmas.{or_left, or_right, ltb_false, data_whole}
-use Rattle.short_import.proofs.SpanLemmas.{IsSpan, text_from-span, bytes_at-bytes_at}
+use Rattle.short_import.proofs.SpanLemmas.{text_from-span, bytes_at-bytes_at}
 
 pub record IsShortImport (bytes : List ℕ) : Type 0 where
   pub machine : machine_of bytes ≡ FILE_MACHINE_AMD64
@@ -95,8 +95,8 @@ import_read bytes e =
       name_type_known = ltb_false IMPORT_NAME_UNDECORATE (name_type bytes) header.name_type_known;
       symbol = symbol.part ∙ bytes_at-bytes_at bytes 20 (data_size bytes) 0 (length (symbol_of bytes)) (omega arith);
       dll = dll.part
-        ∙ bytes_at-bytes_at bytes 20 (data_size bytes) (length (symbol_of bytes) + 1) (length (dll_of bytes)) (omega arith)
-        ∙ ap (λ (n : ℕ). bytes_at bytes n (length (dll_of bytes))) (omega arith);
+          ∙ bytes_at-bytes_at bytes 20 (data_size bytes) (length (symbol_of bytes) + 1) (length (dll_of bytes)) (omega arith)
+          ∙ ap (λ (n : ℕ). bytes_at bytes n (length (dll_of bytes))) (omega arith);
       some_symbol = some_symbol;
       some_dll = some_dll;
       plain_symbol = symbol.plain;
