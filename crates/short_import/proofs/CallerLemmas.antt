@@ -78,6 +78,7 @@ data_length bytes e =
     length-take-le (data_size bytes) _ (omega (arith, data_whole bytes e, length-drop 20 bytes))
 
 pub import_read : (bytes : List ℕ) → import_fault bytes ≡ None → IsShortImport bytes
+unfolding symbol_of dll_of
 import_read bytes e =
     let parts = has_text bytes e in
     let header = passes bytes parts.0 in

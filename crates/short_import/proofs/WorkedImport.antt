@@ -20,32 +20,32 @@ import : List ℕ
 import = header ++ texts
 
 import-well_formed : import_fault import ≡ None
-unfolding import header texts number_at text_from is_cut header_fault import_fault
+unfolding import header texts number_at text_from symbol_of dll_of is_cut header_fault import_fault
 import-well_formed = refl
 
 import-symbol : symbol_of import ≡ codes "_f@4"
-unfolding import header texts number_at text_from
+unfolding import header texts number_at text_from symbol_of
 import-symbol = refl
 
 import-dll : dll_of import ≡ codes "k.dll"
-unfolding import header texts number_at text_from
+unfolding import header texts number_at text_from symbol_of dll_of
 import-dll = refl
 
 import-kind : import_kind import ≡ kind.Code
-unfolding import header texts number_at
+unfolding import header texts number_at import_kind
 import-kind = refl
 
 import-by : import_by import ≡ by.Named 3 (codes "f")
-unfolding import header texts number_at text_from
+unfolding import header texts number_at text_from symbol_of import_by
 import-by = refl
 
 -- cut in the header, and in the data
 import-cut_header : import_fault (take 19 import) ≡ Some fault.Length
-unfolding import header texts number_at text_from is_cut header_fault import_fault
+unfolding import header texts number_at text_from symbol_of dll_of is_cut header_fault import_fault
 import-cut_header = refl
 
 import-cut_data : import_fault (take 30 import) ≡ Some fault.Length
-unfolding import header texts number_at text_from is_cut header_fault import_fault
+unfolding import header texts number_at text_from symbol_of dll_of is_cut header_fault import_fault
 import-cut_data = refl
 
 -- ---- decorations

@@ -42,11 +42,11 @@ import_data bytes = bytes_at bytes 20 (data_size bytes)
 unfoldable pub text_from : List ℕ → ℕ → List ℕ
 text_from bytes offset = unwrap_or (text_at bytes offset) []
 
-abbrev pub symbol_of : List ℕ → List ℕ
+unfoldable pub symbol_of : List ℕ → List ℕ
 symbol_of bytes = text_from (import_data bytes) 0
 
 -- behind the symbol and its NUL
-abbrev pub dll_of : List ℕ → List ℕ
+unfoldable pub dll_of : List ℕ → List ℕ
 dll_of bytes = text_from (import_data bytes) (length (symbol_of bytes) + 1)
 
 -- ---- what the fields mean; a type and a name type that the format does not have are refused
@@ -63,8 +63,8 @@ by_of_type number field symbol =
     else (if number == IMPORT_NAME_NOPREFIX then by.Named field (no_prefix symbol)
     else by.Named field (undecorated symbol)))
 
-abbrev pub import_kind : List ℕ → ImportKind
+unfoldable pub import_kind : List ℕ → ImportKind
 import_kind bytes = kind_of_type (import_type bytes)
 
-abbrev pub import_by : List ℕ → ImportBy
+unfoldable pub import_by : List ℕ → ImportBy
 import_by bytes = by_of_type (name_type bytes) (ordinal_or_hint bytes) (symbol_of bytes)

@@ -47,7 +47,7 @@ impl<'a> Import<'a> {
     /// `Text` comes for the symbol or, behind it, the DLL. The first six bytes, which tell a short import
     /// from an object, and the time stamp are not looked at: the caller judged the former. An import name
     /// that its rule leaves empty, as that of the symbol `_`, is allowed. (PE Format, "Import Library Format".)
-    #[tactic(auto, unfolding(crate::specs::ImportFaults::import_fault))]
+    #[tactic(auto, unfolding(crate::specs::ShortImport::symbol_of, crate::specs::ShortImport::dll_of, crate::specs::ShortImport::import_kind, crate::specs::ShortImport::import_by, crate::specs::ImportFaults::import_fault))]
     pub fn read(bytes: &'a [u8]) -> Result<Import<'a>, ImpFault>
         ensures symbol { IfOk result (λ import. import.symbol ≡ symbol_of bytes.now) }
         ensures dll { IfOk result (λ import. import.dll ≡ dll_of bytes.now) }
