@@ -1,12 +1,10 @@
-//! The fields of a short import, in bytes that hold them (PE Format, "Import Header").
+//! The header of a short import, in bytes that hold it (PE Format, "Import Header").
 
-ghost use Rattle.std.specs.Prelude.{◌≡◌, ◌≤◌, ◌+◌, length, false};
+ghost use Rattle.std.specs.Prelude.{◌≡◌, ◌≤◌, ◌+◌, length};
 ghost use Rattle.link_base.specs.Bytes.{u16_at, u32_at};
-ghost use Rattle.short_import.specs.ShortImport.{machine_of, data_size, ordinal_or_hint, import_type, name_type, import_data, text_from};
-ghost use Rattle.short_import.specs.ImportFaults.{is_cut};
+ghost use Rattle.short_import.specs.ShortImport.{machine_of, data_size, ordinal_or_hint, import_type, name_type};
 
 use link_base::{field_u16, field_u32};
-use memchr::memchr;
 
 /// The size of the header in bytes.
 pub(crate) const HEADER_SIZE: usize = 20;
@@ -71,29 +69,4 @@ pub(crate) fn name_type(bytes: &[u8]) -> u16
     ensures { result ≡ name_type bytes.now }
 {
     u16_in(bytes, 18) / 4 % 8
-}
-
-/// The bytes behind the header that the header counts.
-pub(crate) fn import_data(bytes: &[u8]) -> &[u8]
-    requires { is_cut bytes.now ≡ false }
-    ensures { result.now ≡ import_data bytes.now }
-{
-    let (_, rest) = bytes.split_at(HEADER_SIZE);
-    let (part, _) = rest.split_at(data_size(bytes));
-    part
-}
-
-/// The text from `at` up to the first NUL at or after it, empty where there is none.
-#[tactic(auto, using(crate::proofs::TextLemmas::text_beyond))]
-pub(crate) fn text_from(bytes: &[u8], at: usize) -> &[u8]
-    ensures { result.now ≡ text_from bytes.now at }
-{
-    if at > bytes.len() {
-        return &[];
-    }
-    let (_, rest) = bytes.split_at(at);
-    match memchr(0, rest) {
-        Some(len) => &rest[..len],
-        None => &[],
-    }
 }

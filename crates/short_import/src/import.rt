@@ -8,8 +8,8 @@ use crate::constants::{
     IMPORT_CODE, IMPORT_DATA, IMPORT_NAME, IMPORT_NAME_NOPREFIX, IMPORT_ORDINAL,
 };
 use crate::decoration::{no_prefix, undecorated};
-use crate::fault::header_fault;
-use crate::fields::{import_data, import_type, name_type, ordinal_or_hint, text_from};
+use crate::fields::{import_type, name_type, ordinal_or_hint};
+use crate::texts::texts_in;
 use link_base::{ImpFault, Name};
 
 /// A short import: one symbol that a DLL exports. The names are borrowed from the bytes.
@@ -47,7 +47,7 @@ impl<'a> Import<'a> {
     /// `Text` comes for the symbol or, behind it, the DLL. The first six bytes, which tell a short import
     /// from an object, and the time stamp are not looked at: the caller judged the former. An import name
     /// that its rule leaves empty, as that of the symbol `_`, is allowed. (PE Format, "Import Library Format".)
-    #[tactic(auto, unfolding(crate::specs::ShortImport::symbol_of, crate::specs::ShortImport::dll_of, crate::specs::ShortImport::import_kind, crate::specs::ShortImport::import_by, crate::specs::ImportFaults::import_fault))]
+    #[tactic(auto, unfolding(crate::specs::ShortImport::import_kind, crate::specs::ShortImport::import_by))]
     pub fn read(bytes: &'a [u8]) -> Result<Import<'a>, ImpFault>
         ensures symbol { IfOk result (λ import. import.symbol ≡ symbol_of bytes.now) }
         ensures dll { IfOk result (λ import. import.dll ≡ dll_of bytes.now) }
@@ -56,20 +56,12 @@ impl<'a> Import<'a> {
         ensures refused { IfErr result (λ fault. import_fault bytes.now ≡ Some fault) }
         ensures reads { is_ok result ≡ is_none (import_fault bytes.now) }
     {
-        if let Some(fault) = header_fault(bytes) {
-            return Err(fault);
-        }
-        let texts = import_data(bytes);
-        let symbol = text_from(texts, 0);
-        let dll = text_from(texts, symbol.len() + 1);
-        if symbol.is_empty() || dll.is_empty() {
-            return Err(ImpFault::Text);
-        }
+        let texts = texts_in(bytes)?;
         Ok(Import {
-            symbol: Name::of(symbol),
-            dll: Name::of(dll),
+            symbol: Name::of(texts.symbol),
+            dll: Name::of(texts.dll),
             kind: kind_of_type(import_type(bytes)),
-            by: by_of_type(name_type(bytes), ordinal_or_hint(bytes), symbol),
+            by: by_of_type(name_type(bytes), ordinal_or_hint(bytes), texts.symbol),
         })
     }
 }

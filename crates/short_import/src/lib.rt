@@ -10,6 +10,7 @@ mod decoration;
 mod fault;
 mod fields;
 mod import;
+mod texts;
 
 pub use import::{Import, ImportBy, ImportKind};
 pub use link_base::ImpFault;
