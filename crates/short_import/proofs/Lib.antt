@@ -1,0 +1,5 @@
+pub mod WholeLemmas
+pub mod TextLemmas
+pub mod SpanLemmas
+pub mod CallerLemmas
+mod WorkedImport

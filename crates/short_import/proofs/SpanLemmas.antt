@@ -1,0 +1,47 @@
+-- Where a text stands in bytes, and in the bytes that those were taken from.
+use Rattle.std.proofs.Common.{◌≡◌, ℕ, ◌+◌, ◌-◌, ◌<◌, ◌≤◌, false, List, [], length, take, drop, slice_index, inl, inr, refl, sym, ap, subst, ◌∙◌, lt-ltb, le-ltb, arith}
+use Rattle.std.specs.List.{position_or_len}
+use Rattle.std.proofs.lemmas.Bool.{cases_lt}
+use Rattle.std.proofs.lemmas.List.{length-take-le, length-drop, get_or-take, take-take, drop-drop, drop-take}
+use Rattle.std.proofs.lemmas.List.Sums.{fails_before_first}
+use Rattle.link_base.specs.Bytes.{bytes_at, is_nul}
+use Rattle.short_import.specs.ShortImport.{text_from}
+
+-- the text is the bytes from the offset on, none of them a NUL; where it is not empty, a byte stands behind it
+pub record IsSpan (bytes text : List ℕ) (offset : ℕ) : Type 0 where
+  pub part : text ≡ bytes_at bytes offset (length text)
+  pub ended : 0 < length text → offset + length text < length bytes
+  pub plain : (k : ℕ) → k < length text → is_nul (slice_index text k) ≡ false
+
+empty : (bytes text : List ℕ) (offset : ℕ) → text ≡ [] → IsSpan bytes text offset
+empty bytes text offset e =
+    subst (λ (t : List ℕ). IsSpan bytes t offset) (sym e) (record { part = refl; ended = λ lt. absurd (omega arith); plain = λ k lt. absurd (omega arith) })
+
+taken : (bytes : List ℕ) (offset len : ℕ) → len ≡ position_or_len is_nul (drop offset bytes) → len < length (drop offset bytes) → IsSpan bytes (take len (drop offset bytes)) offset
+taken bytes offset len first lt =
+    let rest = drop offset bytes in
+    let size : length (take len rest) ≡ len = length-take-le len rest (omega arith) in
+    record {
+      part = ap (λ (n : ℕ). take n rest) (sym size);
+      ended = λ some. omega (arith, length-drop offset bytes);
+      plain = λ k below. ap is_nul (get_or-take len rest k 0 (omega arith)) ∙ fails_before_first is_nul rest k 0 (omega arith);
+    }
+
+pub text_from-span : (bytes : List ℕ) (offset : ℕ) → IsSpan bytes (text_from bytes offset) offset
+unfolding text_from
+text_from-span bytes offset =
+    let rest = drop offset bytes in
+    elim (cases_lt (position_or_len is_nul rest) (length rest)) [
+      | inl lt ↦ rw (lt-ltb _ _ lt) (taken bytes offset (position_or_len is_nul rest) refl lt)
+      | inr le ↦ rw (le-ltb _ _ le) (empty bytes [] offset refl)
+    ]
+
+-- a part of a part
+pub bytes_at-bytes_at : (bytes : List ℕ) (start size offset count : ℕ) → offset + count ≤ size → bytes_at (bytes_at bytes start size) offset count ≡ bytes_at bytes (start + offset) count
+bytes_at-bytes_at bytes start size offset count fits =
+    let rest = drop start bytes in
+    let whole : size ≡ offset + (size - offset) = omega arith in
+    ap (λ (n : ℕ). take count (drop offset (take n rest))) whole
+    ∙ ap (take count) (drop-take offset (size - offset) rest)
+    ∙ take-take count (size - offset) (drop offset rest) (omega arith)
+    ∙ ap (take count) (drop-drop offset start bytes)

@@ -1,0 +1,4 @@
+pub mod Constants
+pub mod Decoration
+pub mod ShortImport
+pub mod ImportFaults
