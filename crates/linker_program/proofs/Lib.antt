@@ -8,3 +8,4 @@ pub mod OutcomeLemmas
 pub mod RunLemmas
 pub mod PlanLemmas
 pub mod StepLemmas
+mod WorkedLink
