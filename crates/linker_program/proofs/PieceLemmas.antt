@@ -4,7 +4,7 @@ use Rattle.std.proofs.Common.{◌≡◌, ℕ, zero, suc, ◌+◌, ◌-◌, ◌*�
 use Rattle.std.specs.Prelude.{is_some, unwrap_or}
 use Rattle.std.specs.Bool.{IsTrue}
 use Rattle.std.specs.List.{All, range_with_len, flat_map}
-use Rattle.std.proofs.lemmas.Bool.{false≢true, eqb-true, ltb-true, leb-true}
+use Rattle.std.proofs.lemmas.Bool.{false≢true, eqb-true, leb-true}
 use Rattle.std.proofs.lemmas.Bool.Decides.{eqb_tells}
 use Rattle.std.proofs.lemmas.List.{get_or-set_same, get_or-set_other, get_or_default, length-map}
 use Rattle.std.proofs.Math.ListN.{get_or-map}
@@ -14,7 +14,7 @@ use Rattle.std.proofs.Math.Nat.{mul-mod_left}
 use Rattle.link_base.specs.Bytes.{first_below, first_of, bytes_at}
 use Rattle.link_base.proofs.CallerLemmas.{first_below-some, first_below-found}
 use Rattle.coff_object.specs.ObjectFaults.{object_fault}
-use Rattle.coff_object.specs.ObjectFile.{section_total, flags_of, alignment_of, raw_size_of, raw_offset_of, is_uninitialised, body_of, record_total, starts_symbol, symbol_section_field}
+use Rattle.coff_object.specs.ObjectFile.{section_total, flags_of, alignment_of, raw_size_of, raw_offset_of, is_uninitialised, record_total, starts_symbol, symbol_section_field}
 use Rattle.coff_object.proofs.CallerLemmas.{symbol_section_inside, body_length, section_alignment, IsAlignment as IsPower}
 use Rattle.section_group.specs.declared.piece.Piece.{Piece}
 use Rattle.section_group.specs.BarePieces.{bare}
@@ -24,9 +24,8 @@ use Rattle.image_writer.specs.WrittenImage.{piece_contents, HasItsBytes}
 use Rattle.linker_program.specs.declared.definitions.Definition.{Definition}
 use Rattle.linker_program.specs.Loading.{bytes_in}
 use Rattle.linker_program.specs.Placed.{is_placed}
-use Rattle.linker_program.specs.Definitions.{is_definition}
-use Rattle.linker_program.specs.Pieces.{defines_in, is_named, piece_of, section_contents, placed_sections, pieces_in, contents_in, link_pieces, link_contents, is_piece_of, piece_index}
-use Rattle.linker_program.proofs.DefinitionLemmas.{all_kept, all_joined}
+use Rattle.linker_program.specs.Pieces.{defines_in, is_named, piece_of, section_contents, pieces_in, contents_in, link_pieces, link_contents, is_piece_of, piece_index}
+use Rattle.linker_program.proofs.DefinitionLemmas.{all_kept, all_joined, StandsIn}
 
 -- ---- the sections that definitions stand in
 
@@ -248,4 +247,25 @@ found_piece modules definition k e =
       within = found.0;
       placed = ap (λ (m : ℕ). is_placed (bytes_in modules m) definition.section) (sym same.0) ∙ ap (is_placed (bytes_in modules piece.«module»)) (sym same.1) ∙ section.placed;
       is = section.is ∙ ap (λ (m : ℕ). piece_of m (bytes_in modules m) piece.number) same.0 ∙ ap (piece_of definition.«module» (bytes_in modules definition.«module»)) same.1;
+    }
+
+-- a piece without its bytes is one of the link
+pub bare_at : (modules : List (List ℕ)) (pieces : List Piece) (k : ℕ) → map bare pieces ≡ link_pieces modules → bare (get_or pieces k no_piece) ≡ get_or (link_pieces modules) k no_piece
+bare_at modules pieces k same =
+    sym (get_or-map bare pieces k no_piece) ∙ ap (λ (ps : List Piece). get_or ps k no_piece) same
+
+-- the piece of a definition is named, and the definition is in it or at its end
+pub record HoldsDefinition (pieces : List Piece) (definition : Definition) (k : ℕ) : Type 0 where
+  pub within : k < length pieces
+  pub named : (get_or pieces k no_piece).named ≡ true
+  pub value : definition.value ≤ (get_or pieces k no_piece).size
+
+pub definition_held : (modules : List (List ℕ)) (pieces : List Piece) (definition : Definition) (k : ℕ) → map bare pieces ≡ link_pieces modules → StandsIn modules definition → piece_index (link_pieces modules) definition ≡ Some k → HoldsDefinition pieces definition k
+definition_held modules pieces definition k same stands e =
+    let found = found_piece modules definition k e in
+    let is = bare_at modules pieces k same ∙ found.is in
+    record {
+      within = omega (arith, found.within, ap length same, length-map pieces bare);
+      named = ap (λ (p : Piece). p.named) is ∙ stands.named;
+      value = let size = ap (λ (p : Piece). p.size) is in omega (arith, stands.value, size);
     }
