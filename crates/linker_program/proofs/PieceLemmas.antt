@@ -3,30 +3,32 @@
 use Rattle.std.proofs.Common.{◌≡◌, ℕ, zero, suc, ◌+◌, ◌-◌, ◌*◌, ◌%◌, ◌^◌, ◌<◌, ◌≤◌, Bool, true, false, cond, ◌||◌, ◌&&◌, not, eqb, leb, ltb, Option, Some, None, List, [], ◌∷◌, ◌++◌, length, map, filter, take, get_or, set, inl, inr, refl, sym, ap, subst, ◌∙◌, add-one, arith}
 use Rattle.std.specs.Prelude.{is_some, unwrap_or}
 use Rattle.std.specs.Bool.{IsTrue}
-use Rattle.std.specs.List.{All, range_with_len, flat_map}
-use Rattle.std.proofs.lemmas.Bool.{false≢true, eqb-true, ltb-true, leb-true}
+use Rattle.std.specs.Cmp.Derive.{both_true}
+use Rattle.std.specs.List.{All, Contains, range_with_len, flat_map}
+use Rattle.std.proofs.lemmas.Bool.{false≢true, cases_lt, eq-eqb, eqb-true, leb-true}
 use Rattle.std.proofs.lemmas.Bool.Decides.{eqb_tells}
 use Rattle.std.proofs.lemmas.List.{get_or-set_same, get_or-set_other, get_or_default, length-map}
+use Rattle.std.proofs.lemmas.List.Elements.{Contains-append_left, Contains-append_right}
 use Rattle.std.proofs.Math.ListN.{get_or-map}
 use Rattle.std.proofs.Math.Seq.{take-append_seam}
 use Rattle.std.proofs.lemmas.Nat.{pow-add, pow_pos}
 use Rattle.std.proofs.Math.Nat.{mul-mod_left}
 use Rattle.link_base.specs.Bytes.{first_below, first_of, bytes_at}
-use Rattle.link_base.proofs.CallerLemmas.{first_below-some, first_below-found}
+use Rattle.link_base.proofs.CallerLemmas.{first_below-some, first_below-found, first_below-none}
 use Rattle.coff_object.specs.ObjectFaults.{object_fault}
-use Rattle.coff_object.specs.ObjectFile.{section_total, flags_of, alignment_of, raw_size_of, raw_offset_of, is_uninitialised, body_of, record_total, starts_symbol, symbol_section_field}
+use Rattle.coff_object.specs.ObjectFile.{section_total, flags_of, alignment_of, raw_size_of, raw_offset_of, is_uninitialised, record_total, starts_symbol, symbol_section_field}
 use Rattle.coff_object.proofs.CallerLemmas.{symbol_section_inside, body_length, section_alignment, IsAlignment as IsPower}
 use Rattle.section_group.specs.declared.piece.Piece.{Piece}
 use Rattle.section_group.specs.BarePieces.{bare}
 use Rattle.section_group.specs.SectionOrder.{no_piece}
+use Rattle.section_group.proofs.RangeLemmas.{range_has}
 use Rattle.address_layout.specs.Layout.{IsAlignment}
 use Rattle.image_writer.specs.WrittenImage.{piece_contents, HasItsBytes}
 use Rattle.linker_program.specs.declared.definitions.Definition.{Definition}
 use Rattle.linker_program.specs.Loading.{bytes_in}
 use Rattle.linker_program.specs.Placed.{is_placed}
-use Rattle.linker_program.specs.Definitions.{is_definition}
-use Rattle.linker_program.specs.Pieces.{defines_in, is_named, piece_of, section_contents, placed_sections, pieces_in, contents_in, link_pieces, link_contents, is_piece_of, piece_index}
-use Rattle.linker_program.proofs.DefinitionLemmas.{all_kept, all_joined}
+use Rattle.linker_program.specs.Pieces.{defines_in, is_named, piece_of, section_contents, pieces_in, contents_in, link_pieces, link_contents, is_piece_of, piece_index}
+use Rattle.linker_program.proofs.DefinitionLemmas.{all_kept, all_joined, StandsIn}
 
 -- ---- the sections that definitions stand in
 
@@ -249,3 +251,64 @@ found_piece modules definition k e =
       placed = ap (λ (m : ℕ). is_placed (bytes_in modules m) definition.section) (sym same.0) ∙ ap (is_placed (bytes_in modules piece.«module»)) (sym same.1) ∙ section.placed;
       is = section.is ∙ ap (λ (m : ℕ). piece_of m (bytes_in modules m) piece.number) same.0 ∙ ap (piece_of definition.«module» (bytes_in modules definition.«module»)) same.1;
     }
+
+-- a piece without its bytes is one of the link
+pub bare_at : (modules : List (List ℕ)) (pieces : List Piece) (k : ℕ) → map bare pieces ≡ link_pieces modules → bare (get_or pieces k no_piece) ≡ get_or (link_pieces modules) k no_piece
+bare_at modules pieces k same =
+    sym (get_or-map bare pieces k no_piece) ∙ ap (λ (ps : List Piece). get_or ps k no_piece) same
+
+-- the piece of a definition is named, and the definition is in it or at its end
+pub record HoldsDefinition (pieces : List Piece) (definition : Definition) (k : ℕ) : Type 0 where
+  pub within : k < length pieces
+  pub named : (get_or pieces k no_piece).named ≡ true
+  pub value : definition.value ≤ (get_or pieces k no_piece).size
+
+pub definition_held : (modules : List (List ℕ)) (pieces : List Piece) (definition : Definition) (k : ℕ) → map bare pieces ≡ link_pieces modules → StandsIn modules definition → piece_index (link_pieces modules) definition ≡ Some k → HoldsDefinition pieces definition k
+definition_held modules pieces definition k same stands e =
+    let found = found_piece modules definition k e in
+    let is = bare_at modules pieces k same ∙ found.is in
+    record {
+      within = omega (arith, found.within, ap length same, length-map pieces bare);
+      named = ap (λ (p : Piece). p.named) is ∙ stands.named;
+      value = let size = ap (λ (p : Piece). p.size) is in omega (arith, stands.value, size);
+    }
+
+-- ---- a definition with no piece stands in a section that does not come into the image
+
+has_kept : {X : Type 0} (f : ℕ → X) (test : ℕ → Bool) (a n j : ℕ) → a ≤ j → j < a + n → test j ≡ true → Contains (map f (filter test (range_with_len a n))) (f j)
+has_kept f test a n j low high passes =
+    let kept = filter test (range_with_len a n) in
+    let there = range_has test a n j low high passes in
+    (there.0, omega (arith, there.1, length-map kept f), get_or-map f kept there.0 j ∙ ap f there.2)
+
+has_joined : {X : Type 0} (f : ℕ → List X) (a n j : ℕ) (x : X) → a ≤ j → j < a + n → Contains (f j) x → Contains (flat_map f (range_with_len a n)) x
+has_joined f a zero j x low high here = absurd (omega arith)
+has_joined f a (suc n) j x low high here =
+    elim (cases_lt a j) [
+      | inl above ↦
+          Contains-append_right (f a) (flat_map f (range_with_len (a + 1) n)) x (has_joined f (a + 1) n j x (omega arith) (omega arith) here)
+      | inr level ↦
+          let same : j ≡ a = omega arith in
+          Contains-append_left (f a) (flat_map f (range_with_len (a + 1) n)) x (subst (λ (k : ℕ). Contains (f k) x) same here)
+    ]
+
+-- each section that comes into the image is a piece
+pub has_piece : (modules : List (List ℕ)) (m section : ℕ) → m < length modules → 1 ≤ section → section ≤ section_total (bytes_in modules m) → is_placed (bytes_in modules m) section ≡ true → Contains (link_pieces modules) (piece_of m (bytes_in modules m) section)
+has_piece modules m section within first last placed =
+    let bytes = bytes_in modules m in
+    has_joined (λ k. pieces_in k (bytes_in modules k)) 0 (length modules) m (piece_of m bytes section) (omega arith) (omega arith)
+    (has_kept (piece_of m bytes) (is_placed bytes) 1 (section_total bytes) section first (omega arith) placed)
+
+pub unplaced : (modules : List (List ℕ)) (definition : Definition) → StandsIn modules definition → piece_index (link_pieces modules) definition ≡ None → is_placed (bytes_in modules definition.«module») definition.section ≡ false
+unplaced modules definition stands none = go (is_placed (bytes_in modules definition.«module») definition.section) refl
+  where
+    go : (b : Bool) → is_placed (bytes_in modules definition.«module») definition.section ≡ b → b ≡ false
+    go false placed = refl
+    go true placed =
+        let pieces = link_pieces modules in
+        let piece = piece_of definition.«module» (bytes_in modules definition.«module») definition.section in
+        let there = has_piece modules definition.«module» definition.section stands.within stands.first stands.last placed in
+        let read : piece ≡ get_or pieces there.0 no_piece = sym there.2 ∙ get_or_default pieces there.0 piece no_piece there.1 in
+        let other = first_below-none (length pieces) (holds_definition pieces definition) none there.0 there.1 in
+        let own : is_piece_of definition piece ≡ true = both_true (eq-eqb definition.«module» definition.«module» refl) (eq-eqb definition.section definition.section refl) in
+        sym own ∙ ap (is_piece_of definition) read ∙ other

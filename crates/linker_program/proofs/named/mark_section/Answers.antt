@@ -1,4 +1,4 @@
-use Rattle.std.proofs.Common.{◌≡◌, ◌<◌, ◌≤◌, ◌^◌, ℤ, pos, to_z, of_z, w32, FitsSigned, Bool, true, false, cond, ◌&&◌, leb, ltb, ◌-ℤ◌, ℕ, List, length, sym, ap, ◌∙◌, arith, rules}
+use Rattle.std.proofs.Common.{◌≡◌, ◌<◌, ◌^◌, ℤ, pos, to_z, of_z, w32, FitsSigned, true, false, cond, ◌&&◌, leb, ltb, ◌-ℤ◌, ℕ, sym, ap, ◌∙◌, arith, rules}
 use Rattle.std.specs.Int.Signed.{lt_z}
 use lib.IntN.{nat_abs}
 use Rattle.std.proofs.lemmas.Int.{to_z-of_z}

@@ -1,4 +1,4 @@
-use Rattle.std.proofs.Common.{◌≡◌, ◌+◌, ◌≤◌, ℕ, Bool, true, false, cond, ◌||◌, List, length, get_or, refl, sym, ap, ◌∙◌, arith, rules}
+use Rattle.std.proofs.Common.{◌≡◌, Bool, false, ◌||◌, List, length, get_or, refl, sym, ap, ◌∙◌, arith}
 use Rattle.std.proofs.lemmas.List.{get_or-replicate}
 use Rattle.coff_object.specs.ObjectFile.{aux_left}
 use Rattle.link_base.specs.Bytes.{first_below}
@@ -28,8 +28,8 @@ loop-index-preserved-then-left-gt0 c =
       left = left_behind_aux bytes i c.loop-index.left c.loop-index.invariant.left c.if-left-gt0.true;
       count = c.loop-index.invariant.count;
       marks = λ section last.
-        let mark = get_or c.loop-index.named.items section false in
-        marks_more bytes i section mark mark (c.loop-index.invariant.marks section last) (unmarked mark (is_definition bytes i) _ none);
+          let mark = get_or c.loop-index.named.items section false in
+          marks_more bytes i section mark mark (c.loop-index.invariant.marks section last) (unmarked mark (is_definition bytes i) _ none);
     }
 
 pub loop-index-preserved : goal.loop-index-preserved
@@ -43,9 +43,9 @@ loop-index-preserved c =
       left = left_behind_symbol bytes i c.mark_section-left.result starts c.mark_section-left.ensures.aux;
       count = ap length whole ∙ c.mark_section-left.auto.named ∙ ap length c.deref_mut.ensures.value ∙ c.loop-index.invariant.count;
       marks = λ section last.
-        let before = get_or c.loop-index.named.items section false in
-        ap (λ (ms : List Bool). get_or ms section false) whole
-        ∙ marks_more bytes i section before (get_or marks section false) (c.loop-index.invariant.marks section last)
+          let before = get_or c.loop-index.named.items section false in
+          ap (λ (ms : List Bool). get_or ms section false) whole
+          ∙ marks_more bytes i section before (get_or marks section false) (c.loop-index.invariant.marks section last)
           (c.mark_section-left.ensures.marked section last ∙ ap (λ (ms : List Bool). get_or ms section false || defines_in bytes section i) c.deref_mut.ensures.value);
     }
 

@@ -1,10 +1,9 @@
-use Rattle.std.proofs.Common.{◌≡◌, false, eqb, ◌&&◌, refl, sym, ap, ◌∙◌, arith}
+use Rattle.std.proofs.Common.{◌≡◌, false, eqb, map, refl, sym, ◌∙◌, arith}
 use Rattle.std.specs.Cmp.Derive.{both_true}
 use Rattle.std.proofs.lemmas.Bool.{eq-eqb, ne_eqb}
 use Rattle.link_base.specs.Bytes.{first_below}
 use Rattle.link_base.proofs.CallerLemmas.{first_below-more}
 use Rattle.section_group.specs.BarePieces.{bare}
-use Rattle.std.proofs.Common.{map}
 use Rattle.linker_program.specs.Pieces.{is_piece_of}
 use Rattle.linker_program.proofs.PieceLemmas.{holds_definition, read_piece, index_found, index_none, first_fails, second_fails}
 use Rattle.linker_program.proofs.pieces.piece_index.Goals as goal

@@ -1,10 +1,10 @@
-use Rattle.std.proofs.Common.{◌≡◌, ◌<◌, ℕ, List, [], length, map, sym, ap, ◌∙◌, arith}
+use Rattle.std.proofs.Common.{◌≡◌, ◌<◌, ℕ, List, [], length, map, ap, ◌∙◌, arith}
 use Rattle.std.specs.List.{range_with_len, flat_map}
 use Rattle.std.proofs.lemmas.List.{get_or_default}
 use Rattle.section_group.specs.BarePieces.{bare}
 use Rattle.image_writer.specs.WrittenImage.{piece_contents}
 use Rattle.linker_program.specs.Loading.{bytes_in}
-use Rattle.linker_program.specs.Pieces.{pieces_in, contents_in, link_pieces, link_contents}
+use Rattle.linker_program.specs.Pieces.{pieces_in, contents_in}
 use Rattle.linker_program.proofs.DefinitionLemmas.{joined_grows}
 use Rattle.linker_program.proofs.PieceLemmas.{aligned, bodies}
 use Rattle.linker_program.proofs.pieces.pieces_of.Goals as goal
