@@ -6,6 +6,7 @@ use Rattle.std.proofs.lemmas.Bool.{lt-ltb, and_from, or_right}
 use Rattle.std.proofs.lemmas.List.{length-map, get_or-map, get_or-replicate, get_or_default}
 use Rattle.link_base.specs.declared.fault.Fault.{Fault}
 use Rattle.link_base.specs.declared.fault.Fault.TheVariants.{TooManySections, ImageTooLarge}
+use Rattle.coff_object.specs.ObjectFaults.{object_fault}
 use Rattle.section_group.specs.declared.piece.Piece.{Piece}
 use Rattle.section_group.specs.declared.piece.OutSection.{OutSection}
 use Rattle.section_group.specs.BarePieces.{bare}
@@ -33,8 +34,8 @@ use Rattle.linker_program.specs.Definitions.{all_definitions, definition_at, no_
 use Rattle.linker_program.specs.Pieces.{link_pieces, link_contents, piece_of, piece_index, unplaced_of, unplaced_fault}
 use Rattle.linker_program.specs.Outcome.{link_input, IsLayoutFault, IsRefusedLayout, IsImageOf}
 use Rattle.linker_program.specs.PlanSteps.{used_pieces, plan_image, IsPlaced, IsLaidOutPlan, IsLayoutRefusal, IsWritable, IsEntryPlan, IsEntryRefusal}
-use Rattle.linker_program.proofs.DefinitionLemmas.{StandsIn}
-use Rattle.linker_program.proofs.PieceLemmas.{found_piece}
+use Rattle.linker_program.proofs.DefinitionLemmas.{StandsIn, definition_stands}
+use Rattle.linker_program.proofs.PieceLemmas.{found_piece, each_sound}
 use Rattle.linker_program.proofs.OutcomeLemmas.{layout_fault_cases}
 
 -- ---- pieces without their bytes
@@ -160,6 +161,17 @@ entry_piece modules pieces definition piece are stands found =
 pub definition_read : (definitions all : List Definition) (k : ℕ) (definition : Definition) → definitions ≡ all → k < length definitions → definition ≡ get_or definitions k definition → definition ≡ definition_at all k
 definition_read definitions all k definition same within is =
     is ∙ sym (get_or_default definitions k no_definition definition within) ∙ ap (λ (ds : List Definition). get_or ds k no_definition) same
+
+-- the same of what the code reads
+pub read_entry_piece : (modules : List (List ℕ)) (definitions : List Definition) (entry : ℕ) (definition : Definition) (pieces seen : List Piece) (piece : ℕ)
+    → definitions ≡ all_definitions modules → entry < length definitions → definition ≡ get_or definitions entry definition
+    → All (λ object. object_fault object ≡ None) modules → map bare pieces ≡ link_pieces modules → seen ≡ pieces
+    → Some piece ≡ piece_index (map bare seen) definition → EntryPiece modules pieces definition piece
+read_entry_piece modules definitions entry definition pieces seen piece same within is sound are dereferenced found =
+    let read = definition_read definitions (all_definitions modules) entry definition same within is in
+    let there : entry < length (all_definitions modules) = subst (λ (ds : List Definition). entry < length ds) same within in
+    let stands = subst (StandsIn modules) (sym read) (definition_stands modules entry (each_sound modules sound) there) in
+    entry_piece modules pieces definition piece are stands (found ∙ ap (λ (ps : List Piece). piece_index (map bare ps) definition) dereferenced)
 
 -- ---- by the result of the layout
 

@@ -2,7 +2,10 @@
 use Rattle.std.proofs.Common.{◌≡◌, ℕ, suc, ◌<◌, ◌≤◌, true, List, [], ◌∷◌, length, map, Option, Result, Ok, Err, refl, sym, ap, ◌∙◌, subst, arith, inl, inr, ◌⊎◌}
 use Rattle.std.specs.Prelude.{IfOk, IfErr, OnErr, Some, None, codes}
 use Rattle.std.specs.Option.{ForSome}
-use Rattle.std.proofs.lemmas.List.{length-map}
+use Rattle.std.specs.Prelude.{Vec, String, string_bytes}
+use Rattle.std.specs.declared.alloc.Global.{Global}
+use Rattle.std.specs.List.{All}
+use Rattle.std.proofs.lemmas.List.{length-map, get_or-map}
 use Rattle.link_base.specs.declared.fault.Fault.{Fault}
 use Rattle.link_base.specs.declared.memory.Memory.{Memory}
 use Rattle.link_files.specs.Store.{Store}
@@ -18,15 +21,17 @@ use Rattle.linker_program.specs.declared.status.Status.{Status}
 use Rattle.linker_program.specs.declared.status.Status.TheVariants as status
 use Rattle.linker_program.specs.LinkWords.{LinkRequest, requested}
 use Rattle.linker_program.specs.Opening.{first_fault}
-use Rattle.linker_program.specs.Loading.{reading_fault, read_files}
+use Rattle.linker_program.specs.Loading.{file_limit, reading_fault, read_files}
 use Rattle.linker_program.specs.Modules.{modules_fault}
+use Rattle.linker_program.specs.declared.definitions.Definition.{Definition}
+use Rattle.linker_program.specs.Refusing.{RefusesFor}
 use Rattle.linker_program.specs.Definitions.{all_definitions, definition_named, duplicate_fault, undefined_fault, undefined_of}
 use Rattle.linker_program.specs.Pieces.{link_pieces}
 use Rattle.linker_program.specs.Outcome.{Outcome, Usage, Refused, Linked, Plan, link_fault, entry_fault, files_fault, IsRefusedLayout, IsPlan, LayoutOutcome, OutcomeBehind, FilesOutcome, ReadOutcome, WordsOutcome, HasOutcome, read_failure_line}
 use Rattle.linker_program.specs.LinkRun.{Files, AreUntouched, Expects, Answers, LeftByMemory}
 use Rattle.linker_program.specs.Steps.{AreRead, IsLoaded, Refuses, RefusesWords, TellsReadFailure, AnswersWrite, LeftByWrite}
 use Rattle.linker_program.specs.ReadingSteps.{GivesInputs, FaultsInputs, FailsInputs}
-use Rattle.linker_program.specs.PlanSteps.{plan_image, outcome_plan, IsWritable, IsPlanned, IsPlanRefusal, IsModulesPlan, IsModulesRefusal, IsEntryPlan, IsEntryRefusal}
+use Rattle.linker_program.specs.PlanSteps.{file_bytes, plan_image, outcome_plan, IsWritable, IsPlanned, IsPlanRefusal, IsModulesPlan, IsModulesRefusal, IsEntryPlan, IsEntryRefusal}
 
 pub untouched : (files : Files) → AreUntouched files files
 untouched files = record { store = refl; reads = refl; writes = refl }
@@ -252,3 +257,50 @@ if_read_failed (Ok answer) before after request name fails tells = λ words aske
       says = tells.line ∙ ap read_failure_line fails.named;
     }))
 if_read_failed (Err error) before after request name fails tells = tt
+
+-- as many inputs as names, none too large
+pub given_count : (names : List (String Global)) (before later : Files) (inputs : List (Vec ℕ Global)) → GivesInputs (map string_bytes names) before later (file_bytes inputs) → length names ≡ length inputs
+given_count names before later inputs given =
+    sym (length-map names string_bytes) ∙ sym given.count ∙ length-map inputs (λ (file : Vec ℕ Global). file.items)
+
+pub given_small : (names : List (String Global)) (before later : Files) (inputs : List (Vec ℕ Global)) → GivesInputs (map string_bytes names) before later (file_bytes inputs) → All (λ file. length file.items ≤ file_limit) inputs
+given_small names before later inputs given = λ k d lt.
+    let within : k < length (file_bytes inputs) = omega (arith, length-map inputs (λ (file : Vec ℕ Global). file.items), lt) in
+    let small = given.within k [] within in
+    subst (λ (bytes : List ℕ). length bytes ≤ file_limit) (get_or-map (λ (file : Vec ℕ Global). file.items) inputs k d [] lt) small
+
+-- ---- by the result of a stage
+
+pub refused_opening : (request : LinkRequest) (files : List (List ℕ)) (r : Refusal) → RefusesFor (modules_fault request.inputs files) r → IsPlanRefusal request files r
+refused_opening request files (refusal.Fault fault) is = modules_stage request files fault is
+refused_opening request files refusal.Memory is = tt
+
+pub if_refused_link : (r : Result LinkPlan Refusal) (request : LinkRequest) (files modules : List (List ℕ)) (entry : List ℕ) → entry ≡ request.entry → modules ≡ files → modules_fault request.inputs files ≡ None → IfErr r (IsModulesRefusal entry modules) → IfErr r (IsPlanRefusal request files)
+if_refused_link (Ok plan) request files modules entry named same opened h = tt
+if_refused_link (Err r) request files modules entry named same opened h =
+    refused_link request files r opened (rw (← named, ← same) h)
+
+pub if_planned_link : (r : Result LinkPlan Refusal) (request : LinkRequest) (files modules : List (List ℕ)) (entry : List ℕ) → entry ≡ request.entry → modules ≡ files → modules_fault request.inputs files ≡ None → IfOk r (IsModulesPlan entry modules) → IfOk r (IsPlanned request files)
+if_planned_link (Ok plan) request files modules entry named same opened h =
+    planned_link request files plan opened
+    (subst (λ (ms : List (List ℕ)). IsModulesPlan request.entry ms plan) same (subst (λ (e : List ℕ). IsModulesPlan e modules plan) named h))
+if_planned_link (Err r) request files modules entry named same opened h = tt
+
+pub refused_names : (entry : List ℕ) (modules : List (List ℕ)) (definitions : List Definition) (r : Refusal) → definitions ≡ all_definitions modules → RefusesFor (duplicate_fault definitions) r → IsModulesRefusal entry modules r
+refused_names entry modules definitions (refusal.Fault fault) same is =
+    inl (duplicate_stage entry modules fault (ap duplicate_fault (sym same) ∙ is))
+refused_names entry modules definitions refusal.Memory same is = tt
+
+pub undefined_entry : (entry : List ℕ) (modules : List (List ℕ)) (definitions : List Definition) (fault : Fault) → definitions ≡ all_definitions modules → duplicate_fault definitions ≡ None → undefined_fault definitions entry ≡ Some fault → IsModulesRefusal entry modules (refusal.Fault fault)
+undefined_entry entry modules definitions fault same single is =
+    inl (undefined_stage entry modules fault (ap duplicate_fault (sym same) ∙ single) (ap (λ (ds : List Definition). undefined_fault ds entry) (sym same) ∙ is))
+
+pub if_refused_modules : (r : Result LinkPlan Refusal) (entry : List ℕ) (modules : List (List ℕ)) (definitions : List Definition) (k : ℕ) → definitions ≡ all_definitions modules → duplicate_fault definitions ≡ None → definition_named definitions entry ≡ Some k → IfErr r (IsEntryRefusal modules k) → IfErr r (IsModulesRefusal entry modules)
+if_refused_modules (Ok plan) entry modules definitions k same single named h = tt
+if_refused_modules (Err r) entry modules definitions k same single named h =
+    refused_modules entry modules k r (ap duplicate_fault (sym same) ∙ single) (ap (λ (ds : List Definition). definition_named ds entry) (sym same) ∙ named) h
+
+pub if_planned_modules : (r : Result LinkPlan Refusal) (entry : List ℕ) (modules : List (List ℕ)) (definitions : List Definition) (k : ℕ) → definitions ≡ all_definitions modules → duplicate_fault definitions ≡ None → definition_named definitions entry ≡ Some k → IfOk r (IsEntryPlan modules k) → IfOk r (IsModulesPlan entry modules)
+if_planned_modules (Ok plan) entry modules definitions k same single named h =
+    planned_modules entry modules k plan (ap duplicate_fault (sym same) ∙ single) (ap (λ (ds : List Definition). definition_named ds entry) (sym same) ∙ named) h
+if_planned_modules (Err r) entry modules definitions k same single named h = tt

@@ -44,8 +44,10 @@ pub(crate) fn plan_of<'a>(
     ensures planned { IfOk result (IsPlanned (request_view request.now) (file_bytes files.now)) }
     ensures refused { IfErr result (IsPlanRefusal (request_view request.now) (file_bytes files.now)) }
 {
-    let modules = open_all(alloc, request.inputs, files)?;
-    plan_of_modules(alloc, Name::of(request.entry.as_bytes()), &modules)
+    match open_all(alloc, request.inputs, files) {
+        Ok(modules) => plan_of_modules(alloc, Name::of(request.entry.as_bytes()), &modules),
+        Err(refusal) => Err(refusal),
+    }
 }
 
 /// The plan of a link of modules: their definitions are named, and the entry is found among them.
@@ -60,7 +62,10 @@ fn plan_of_modules<'a>(
     ensures refused { IfErr result (IsModulesRefusal entry.entry modules.now) }
 {
     let definitions = definitions_of(alloc, modules)?;
-    let names = index_names(alloc, &definitions)?;
+    let names = match index_names(alloc, &definitions) {
+        Ok(names) => names,
+        Err(refusal) => return Err(refusal),
+    };
     match entry_definition(&names, &definitions, &entry) {
         Ok(index) => plan_with_entry(alloc, modules, &definitions, index),
         Err(fault) => Err(Refusal::Fault(fault)),

@@ -29,4 +29,4 @@ returns-in-Err-Fault-clause-answered g c =
     let inputs = file_bytes c.args.inputs.now in
     let files = files_of g.F.Files.store g.F.Files.read_faults g.F.Files.write_faults c.args.files.now in
     let refused = rw c.in-Err-Fault.field-0-is at c.in-Err-Fault.ensures.refused in
-    if_refused c.refused.result files c.in-Err-Fault.fault request inputs refused c.refused.ensures
+    if_refused c.refused.result files c.in-Err-Fault.fault request inputs refused (rw c.in-Err-Fault.field-0-is at c.refused.ensures)

@@ -7,5 +7,5 @@ use Rattle.linker_program.proofs.words.are_inputs.Goals as goal
 
 pub returns : goal.returns
 returns c =
-    all_from_yields_List (λ word. is_input (string_bytes word.now)) _ _ c.all.result c.all.ensures.ran (YieldsList-from_slice _ c.iter.ensures.rest) (λ x b q k. search (rules, tests))
+    all_from_yields_List (λ word. is_input (string_bytes word)) _ _ c.all.result c.all.ensures.ran (YieldsList-from_slice _ c.iter.ensures.rest) (λ x b q k. search (rules, tests))
     ∙ sym (list_all-map is_input string_bytes c.args.words.now)

@@ -12,8 +12,8 @@ returns c =
     let words = c.args.words.now in
     let count = length-map words string_bytes in
     requested_words words c.request_with.result _ _ _ _ (omega arith)
-    (c.as_str.ensures.value ∙ word_read words 0 0 c.index-command.result (omega arith) (omega arith) c.index-command.is)
+    (c.as_str.ensures.value ∙ word_read words 0 0 c.index-words-0.result (omega arith) (omega arith) c.index-words-0.is)
     (inputs_read words _ (omega arith))
-    (c.as_str-2.ensures.value ∙ word_read words _ _ c.index-entry.result (omega (arith, count)) (omega arith) c.index-entry.is)
-    (c.as_str-3.ensures.value ∙ word_read words _ _ c.index-output.result (omega (arith, count)) (omega arith) c.index-output.is)
+    (c.as_str-2.ensures.value ∙ word_read words _ _ c.index-words-count.result (omega (arith, count)) (omega arith) c.index-words-count.is)
+    (c.as_str-3.ensures.value ∙ word_read words _ _ c.index-words-count-2.result (omega (arith, count)) (omega arith) c.index-words-count-2.is)
     c.request_with.ensures
