@@ -1,6 +1,9 @@
--- What callers may cite: pieces that were grouped stand once, so that they can be placed.
-use Rattle.std.proofs.Common.{◌≡◌, ◌≢◌, ℕ, suc, ◌<◌, Bool, true, false, ◌&&◌, eqb, IsTrue, List, [], ◌∷◌, ◌++◌, length, get_or, refl, sym, ap, ◌∙◌, subst, inl, inr, arith}
-use Rattle.std.specs.List.{All, AllPairs, Contains, IsDistinct}
+-- What callers may cite: pieces that were grouped stand once, so that they can be placed, and what a layout says of them.
+pub use Rattle.address_layout.proofs.BareLemmas.{layout_bare, size_bare, stand_bare}
+pub use Rattle.address_layout.proofs.RowLemmas.{layout_same_rows, size_same_rows}
+pub use Rattle.address_layout.proofs.InsideLemmas.{places_ascend, piece_end_inside, initialised_end_inside, all_ends_inside, name_fits}
+use Rattle.std.proofs.Common.{◌≡◌, ◌≢◌, ℕ, zero, suc, ◌<◌, Bool, true, false, ◌&&◌, eqb, IsTrue, List, [], ◌∷◌, ◌++◌, length, get_or, refl, sym, ap, ◌∙◌, subst, inl, inr, arith}
+use Rattle.std.specs.List.{All, AllPairs, Any, Contains, IsDistinct}
 use Rattle.std.specs.Ordering.{is_lt, nat_cmp, ordering_then}
 use Rattle.std.specs.Cmp.{IsTotalOrder, tied_itself}
 use Rattle.std.specs.Cmp.Rules.{comparing}
@@ -9,12 +12,12 @@ use Rattle.std.specs.declared.cmp.Ordering.TheVariants.{Equal}
 use Rattle.std.proofs.Common.{rules}
 use Rattle.std.proofs.lemmas.Bool.{false≢true, eqb-true}
 use Rattle.std.proofs.lemmas.Cmp.{nat_cmp_total}
-use Rattle.std.proofs.lemmas.List.Elements.{All-head, All-tail, All-append, All-nil, All-from_recursion, recursion_from_All, Contains-get_or, Contains-append_cases}
+use Rattle.std.proofs.lemmas.List.Elements.{All-head, All-tail, All-append, All-nil, All-from_recursion, recursion_from_All, Contains-get_or, Contains-append_left, Contains-append_right, Contains-append_cases}
 use Rattle.std.proofs.lemmas.Map.Keys.{IsDistinct-from_apart, IsDistinct-cons}
 use Rattle.section_group.specs.declared.piece.OutSection.{OutSection}
 use Rattle.section_group.specs.Merging.{same_name}
 use Rattle.section_group.specs.SectionOrder.{Input, is_used, section_name, place_cmp, inside_cmp, rank_of, ComesBefore}
-use Rattle.section_group.specs.Placement.{goes_to, section_attributes, IsSection, IsGrouping}
+use Rattle.section_group.specs.Placement.{goes_to, section_attributes, needs_place, IsSection, IsGrouping}
 use Rattle.section_group.proofs.ChainLemmas.{same_is}
 use Rattle.section_group.proofs.PartLemmas.{used_within}
 use Rattle.section_group.proofs.SectionLemmas.{both_parts}
@@ -113,3 +116,16 @@ stand_once input sections grouped = record {
   within = all_within input sections grouped.each;
   once = all_distinct input sections grouped.each grouped.ascending;
 }
+
+-- ---- each piece that needs a place has one
+
+in_section : (sections : List OutSection) (k : ℕ) → Any (λ section. Contains section.pieces.items k) sections → Contains (all_pieces sections) k
+in_section [] k there = absurd (omega (arith, there.2))
+in_section (s ∷ ss) k (zero, section, lt, is, there) =
+    Contains-append_left s.pieces.items (all_pieces ss) k (subst (λ (x : OutSection). Contains x.pieces.items k) (sym is) there)
+in_section (s ∷ ss) k (suc i, section, lt, is, there) =
+    Contains-append_right s.pieces.items (all_pieces ss) k (in_section ss k (i, section, omega (arith, lt), is, there))
+
+-- a used piece that has bytes or is named stands in a section
+pub stands : (input : Input) (sections : List OutSection) (k : ℕ) → IsGrouping input sections → IsTrue (is_used input k) → IsTrue (needs_place input k) → Contains (all_pieces sections) k
+stands input sections k grouped used needs = in_section sections k (grouped.complete k used needs)

@@ -5,5 +5,8 @@ pub mod SectionsLemmas
 pub mod ArrangementLemmas
 pub mod LayoutLemmas
 pub mod RelocLemmas
+pub mod BareLemmas
+pub mod RowLemmas
+pub mod InsideLemmas
 pub mod CallerLemmas
 pub mod Theorems

@@ -13,4 +13,5 @@ pub mod RangeLemmas
 pub mod OrderedLemmas
 pub mod MemberLemmas
 pub mod GroupingLemmas
+pub mod CallerLemmas
 pub mod Theorems

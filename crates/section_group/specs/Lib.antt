@@ -7,3 +7,4 @@ pub mod Gathering
 pub mod Keys
 pub mod Sections
 pub mod Uniqueness
+pub mod BarePieces
