@@ -1,5 +1,6 @@
 -- A layout that `place` made with room for one more section stays laid out with the section of base relocations behind it.
 use Rattle.std.proofs.Common.{◌≡◌, ℕ, zero, suc, ◌+◌, ◌*◌, ◌%◌, ◌<◌, ◌≤◌, Bool, true, false, cond, IsTrue, eqb, List, [], ◌∷◌, ◌++◌, length, get_or, refl, sym, ap, ◌∙◌, subst, inl, inr, arith, length-append}
+use Rattle.std.specs.Int.{next_multiple_of}
 use Rattle.std.specs.List.{All}
 use Rattle.std.proofs.Math.Seq.{get_or-append_seam}
 use Rattle.std.proofs.lemmas.Bool.{cases_lt, eqb-true}
@@ -11,13 +12,14 @@ use Rattle.section_group.specs.declared.piece.OutSection.{OutSection}
 use Rattle.section_group.specs.SectionOrder.{no_piece}
 use Rattle.address_layout.specs.declared.layout.Placed.{Placed}
 use Rattle.address_layout.specs.declared.layout.Layout.{Layout}
-use Rattle.address_layout.specs.Places.{row_at, section_row, section_count, piece_in, piece_end, piece_floor, end_before, file_before}
-use Rattle.address_layout.specs.Layout.{all_pieces, StandOnce, IsLayout, placed_at}
+use Rattle.address_layout.specs.Places.{IsLeastMultiple, row_at, section_row, section_count, piece_in, piece_end, piece_floor, end_before, file_before}
+use Rattle.address_layout.specs.Layout.{all_pieces, StandOnce, IsAlignment, IsLayout, placed_at}
 use Rattle.address_layout.specs.Growth.{last_end, raw_end, grown_size, Appends}
 use Rattle.address_layout.proofs.StandingLemmas.{row_here}
 use Rattle.image_writer.specs.HeaderTable.{size_of_headers}
 use Rattle.image_writer.specs.WrittenImage.{place_in, IsSectionLaidOut, IsLaidOut}
 use Rattle.image_writer.proofs.LaidOutLemmas.{all_front, all_back}
+use Rattle.image_writer.proofs.FileEndLemmas.{raw_end_small}
 use Rattle.image_writer.proofs.CallerLemmas.{least_is_next, section_laid_out}
 
 -- ---- lists with one more
@@ -173,9 +175,9 @@ each_appended pieces piece sections section old len more is standing only size a
     ]
 
 -- what `place` gave with room for one more section, and `append_reloc` extended, is laid out; the last piece is that of the
--- section of base relocations, and the file ends below 4 GiB
-pub appended_laid_out : (pieces : List Piece) (piece : Piece) (sections : List OutSection) (section : OutSection) (old new : Layout) (len : ℕ) → IsLayout pieces sections true old → StandOnce pieces sections → section_count sections true ≤ 96 → Appends old new len → new.image ≤ 536870912 → raw_end new < 4294967296 → section.pieces.items ≡ length pieces ∷ [] → piece.size ≡ len → IsLaidOut (pieces ++ piece ∷ []) (sections ++ section ∷ []) new
-appended_laid_out pieces piece sections section old new len is standing few more small file only size =
+-- section of base relocations
+pub appended_laid_out : (pieces : List Piece) (piece : Piece) (sections : List OutSection) (section : OutSection) (old new : Layout) (len : ℕ) → IsLayout pieces sections true old → All (λ piece. IsAlignment piece.align) pieces → StandOnce pieces sections → section_count sections true ≤ 96 → Appends old new len → new.image ≤ 536870912 → section.pieces.items ≡ length pieces ∷ [] → piece.size ≡ len → IsLaidOut (pieces ++ piece ∷ []) (sections ++ section ∷ []) new
+appended_laid_out pieces piece sections section old new len is alignments standing few more small only size =
     let sections' = sections ++ section ∷ [] in
     let count : length sections' ≡ section_count sections true = omega (arith, length-append sections (section ∷ [])) in
     let rvas = more.pieces in
@@ -195,9 +197,28 @@ appended_laid_out pieces piece sections section old new len is standing few more
           (subst (λ (h : ℕ). LaidOutAt pieces' (old.pieces.items ++ more.placed.rva ∷ []) sections' h (old.sections.items ++ more.placed ∷ []) i) (sym more.headers) (each i lt)));
       inside = subst (λ (ps : List Placed). end_before new.headers (placed_at ps) (length ps) ≤ new.image) (sym placed) (ends_inside old.sections.items more.placed new.headers new.image more.image.above);
       small = small;
-      file = file;
+      file = subst (λ (ps : List Placed). file_before new.headers (placed_at ps) (length ps) < 4294967296) (sym placed)
+          (subst (λ (h : ℕ). file_before h (placed_at (old.sections.items ++ more.placed ∷ [])) (length (old.sections.items ++ more.placed ∷ [])) < 4294967296) (sym more.headers)
+          (file_inside old.sections.items more.placed old.headers
+          (fits (raw_end old) (last_end old) (length sections) len more.placed.raw more.placed.rva more.placed.size new.image (raw_end_small pieces sections true old alignments standing is) (omega (arith, few)) (raw_near len more.placed.raw more.raw) more.start.above (grown_holds len more.placed.size more.size) more.image.above small)));
     }
   where
+    raw_near : (len raw : ℕ) → IsLeastMultiple 512 len raw → raw ≤ len + 511
+    raw_near len raw least =
+        let near : next_multiple_of len 512 < len + 512 = omega arith in
+        omega (arith, near, least.least (next_multiple_of len 512) (omega arith) (omega arith))
+
+    fits : (file end count len raw rva size image : ℕ) → file ≤ end + count * 8702 → count ≤ 95 → raw ≤ len + 511 → end ≤ rva → len ≤ size → rva + size ≤ image → image ≤ 536870912 → file + raw < 4294967296
+    fits file end count len raw rva size image a b c d e f g = omega arith
+
+    file_inside : (placed : List Placed) (more : Placed) (headers : ℕ) → file_before headers (placed_at placed) (length placed) + more.raw < 4294967296 → file_before headers (placed_at (placed ++ more ∷ [])) (length (placed ++ more ∷ [])) < 4294967296
+    file_inside placed more headers lt =
+        let P : ℕ → Type 0 = λ n. file_before headers (placed_at (placed ++ more ∷ [])) n < 4294967296 in
+        let here : suc (length placed) ≡ length (placed ++ more ∷ []) = omega (arith, length-append placed (more ∷ [])) in
+        let none : Placed = record { rva = 0; size = 0; raw = 0; file = 0 } in
+        let raw = ap (λ (p : Placed). p.raw) (last_here placed more none (length placed) refl) in
+        subst P here (omega (arith, file_kept headers placed more (length placed) (omega arith), raw, lt))
+
     ends_inside : (placed : List Placed) (more : Placed) (headers image : ℕ) → more.rva + more.size ≤ image → end_before headers (placed_at (placed ++ more ∷ [])) (length (placed ++ more ∷ [])) ≤ image
     ends_inside placed more headers image le =
         let P : ℕ → Type 0 = λ n. end_before headers (placed_at (placed ++ more ∷ [])) n ≤ image in

@@ -48,7 +48,7 @@ ends_rise pieces row start place j (suc k) up le lt =
           let same : j ≡ suc k = omega arith in subst (λ (n : ℕ). piece_end pieces row place n ≤ piece_end pieces row place (suc k)) (sym same) (omega arith)
     ]
 
-end_in_floor : (pieces : List Piece) (row : List ℕ × List ℕ) (start : ℕ) (place : ℕ → ℕ) (j n : ℕ) → Rises pieces row start place → j < n → n ≤ length row.1 → piece_end pieces row place j ≤ piece_floor pieces row start place n
+pub end_in_floor : (pieces : List Piece) (row : List ℕ × List ℕ) (start : ℕ) (place : ℕ → ℕ) (j n : ℕ) → Rises pieces row start place → j < n → n ≤ length row.1 → piece_end pieces row place j ≤ piece_floor pieces row start place n
 end_in_floor pieces row start place j zero up lt le = absurd (omega arith)
 end_in_floor pieces row start place j (suc n) up lt le = ends_rise pieces row start place j n up (omega arith) (omega arith)
 

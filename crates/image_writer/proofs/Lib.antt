@@ -16,4 +16,5 @@ pub mod ImageMemory
 pub mod ImageSlack
 pub mod ImageTheorems
 pub mod CallerLemmas
+pub mod FileEndLemmas
 pub mod AppendedLemmas

@@ -1,4 +1,4 @@
--- The raw data of a section, as it is written: piece by piece, from a place on.
+-- The raw data of a section, as it is written: piece by piece, from a place on (PE Format, "Section Data"; the steps are own).
 use Rattle.std.specs.Prelude.{◌≤◌, ◌<◌, ℕ, ◌+◌, ◌-◌, List, [], ◌∷◌, ◌++◌, length, replicate}
 use Rattle.section_group.specs.Uniqueness.{SectionRow as OutRow}
 use Rattle.address_layout.specs.declared.layout.Placed.{Placed}
