@@ -45,7 +45,8 @@ pub(crate) fn decimal_number(text: &[u8]) -> Option<usize>
 #[tactic(auto, unfolding(crate::specs::ArchiveMember::header_is_bad))]
 pub(crate) fn header_is_bad(bytes: &[u8], at: usize) -> bool
     requires { at < 2 ^ 32 }
-    ensures { result ≡ header_is_bad bytes.now at }
+    ensures bad { result ≡ header_is_bad bytes.now at }
+    ensures whole { result ≡ false → at + 60 ≤ length bytes.now }
 {
     at + SIZEOF_ARCHIVE_MEMBER_HDR > bytes.len() || slice_in(bytes, at + 58, 2) != ARCHIVE_END
 }

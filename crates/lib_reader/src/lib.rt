@@ -8,7 +8,15 @@
 mod constants;
 mod error;
 mod fields;
+mod first_directory;
 mod header;
+mod listings;
+mod long_name;
+mod member_fault;
+mod member_name;
+mod second_directory;
+mod texts;
 
 pub use error::LibError;
 pub use link_base::LibFault;
+pub use listings::Listings;
