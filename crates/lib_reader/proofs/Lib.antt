@@ -2,3 +2,4 @@ pub mod HeaderLemmas
 pub mod TextLemmas
 pub mod TableLemmas
 pub mod TextsLemmas
+pub mod ListingLemmas

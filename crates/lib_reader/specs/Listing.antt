@@ -1,6 +1,6 @@
 -- What a directory lists: pairs of a name and the offset of the header of the member that defines it, in the
 -- directory's order.
-use Rattle.std.specs.Prelude.{ℕ, zero, suc, Bool, ◌||◌, not, nat_eq, if◌then◌else◌, List, [], ◌∷◌, drop, Option, Some, None}
+use Rattle.std.specs.Prelude.{◌≡◌, ◌<◌, ◌≤◌, ◌+◌, ◌^◌, ℕ, zero, suc, Bool, true, false, ◌||◌, not, nat_eq, if◌then◌else◌, List, [], ◌∷◌, drop, Option, Some, None}
 use lib.Pointwise.{pointwise}
 use Rattle.lib_reader.specs.Texts.{first_text, behind_text, texts_end}
 use Rattle.lib_reader.specs.FirstDirectory.{first_count, first_offset, first_names_place, first_table_leaves}
@@ -52,3 +52,12 @@ listings_in is_second directory =
 unfoldable pub first_of_name : List ℕ → List Entry → Option ℕ
 first_of_name name [] = None
 first_of_name name (entry ∷ rest) = if pointwise nat_eq entry.0 name then Some entry.1 else first_of_name name rest
+
+-- ---- listings that are still to come
+
+-- `left` more can be read from an index on, whose names stand at the start of a text
+pub record IsReadable (is_second : Bool) (directory : List ℕ) (index left : ℕ) (names : List ℕ) : Type 0 where
+  pub table : table_leaves is_second directory ≡ false
+  pub there : index + left ≤ listed_count is_second directory
+  pub fits : index + left < 2 ^ 32
+  pub names_end : texts_end left names ≡ true

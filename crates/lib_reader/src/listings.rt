@@ -29,15 +29,14 @@ pub struct Listings<'a> {
 }
 
 impl<'a> Model for Listings<'a> {
-    ghost use Rattle.std.specs.Prelude.{◌≡◌, ◌≤◌, ◌+◌, List, false, true};
-    ghost use Rattle.lib_reader.specs.Texts.{texts_end};
-    ghost use Rattle.lib_reader.specs.Listing.{Entry, listed_count, listed_offset, table_leaves, listings_from};
+    ghost use Rattle.std.specs.Prelude.{List};
+    ghost use Rattle.lib_reader.specs.Listing.{Entry, listed_offset, listings_from, IsReadable};
 
     ghost Value = { List Entry };
 
     ghost view = { λ it. listings_from (listed_offset it.is_second it.directory.now) it.index it.left it.names.now };
 
-    ghost invariant = { λ it. (table_leaves it.is_second it.directory.now ≡ false) × (it.index + it.left ≤ listed_count it.is_second it.directory.now) × (texts_end it.left it.names.now ≡ true) };
+    ghost invariant = { λ it. IsReadable it.is_second it.directory.now it.index it.left it.names.now };
 }
 
 /// Whether the counts, the offsets or the indices of a directory leave its member.
@@ -90,5 +89,85 @@ fn listed_offset(is_second: bool, directory: &[u8], index: u32) -> u32
         second_offset(directory, index)
     } else {
         first_offset(directory, index)
+    }
+}
+
+impl<'a> Listings<'a> {
+    /// What a directory lists, by the data of its member, where its counts, indices and names do not leave it.
+    #[tactic(auto, unfolding(crate::specs::Listing::directory_is_bad, crate::specs::Listing::listings_in))]
+    pub(crate) fn open(is_second: bool, directory: &'a [u8]) -> Option<Listings<'a>>
+        ensures opens { is_none result ≡ directory_is_bad is_second directory.now }
+        ensures listed { IfSome result (λ listings. listings ≡ listings_in is_second directory.now) }
+    {
+        if table_leaves(is_second, directory) {
+            return None;
+        }
+        let left = listed_count(is_second, directory);
+        let (_, names) = directory.split_at(names_place(is_second, directory));
+        if !texts_end(names, left) {
+            return None;
+        }
+        Some(Listings {
+            directory,
+            is_second,
+            index: 0,
+            left,
+            names,
+        })
+    }
+
+    /// No listings.
+    #[tactic(auto, unfolding(crate::specs::Listing::listings_from))]
+    pub(crate) fn empty() -> Listings<'a>
+        ensures { result ≡ [] }
+    {
+        Listings {
+            directory: EMPTY_DIRECTORY,
+            is_second: false,
+            index: 0,
+            left: 0,
+            names: &[],
+        }
+    }
+
+    /// How many listings are left.
+    #[tactic(auto, using(crate::proofs::ListingLemmas::listings_from_length))]
+    pub(crate) fn left(&self) -> u32
+        ensures { result ≡ length self.now }
+    {
+        self.left
+    }
+
+    /// The same listings.
+    pub(crate) fn again(&self) -> Listings<'a>
+        ensures { result ≡ self.now }
+    {
+        Listings {
+            directory: self.directory,
+            is_second: self.is_second,
+            index: self.index,
+            left: self.left,
+            names: self.names,
+        }
+    }
+}
+
+impl<'a> Iterator for Listings<'a> {
+    type Item = (Name<'a>, u32);
+
+    ghost next_gives = { YieldsFirst (λ listings. listings) };
+
+    ghost remaining = { item_count (λ listings. listings) };
+
+    fn next(&mut self) -> Option<(Name<'a>, u32)> {
+        if self.left == 0 {
+            return None;
+        }
+        let at = listed_offset(self.is_second, self.directory, self.index);
+        let (name, names) = first_text(self.names);
+        self.index += 1;
+        self.left -= 1;
+        self.names = names;
+        Some((Name::of(name), at))
     }
 }
