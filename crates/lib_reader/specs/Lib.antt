@@ -6,3 +6,4 @@ pub mod Texts
 pub mod FirstDirectory
 pub mod SecondDirectory
 pub mod Listing
+pub mod LibraryWalk

@@ -16,6 +16,7 @@ mod member_fault;
 mod member_name;
 mod second_directory;
 mod texts;
+mod walk;
 
 pub use error::LibError;
 pub use link_base::LibFault;
