@@ -3,3 +3,4 @@ pub mod TextLemmas
 pub mod TableLemmas
 pub mod TextsLemmas
 pub mod ListingLemmas
+pub mod WalkLemmas
