@@ -4,3 +4,4 @@ pub mod TableLemmas
 pub mod TextsLemmas
 pub mod ListingLemmas
 pub mod WalkLemmas
+pub mod EndLemmas

@@ -7,3 +7,4 @@ pub mod FirstDirectory
 pub mod SecondDirectory
 pub mod Listing
 pub mod LibraryWalk
+pub mod OpenLibrary

@@ -10,6 +10,7 @@ mod error;
 mod fields;
 mod first_directory;
 mod header;
+mod library;
 mod listings;
 mod long_name;
 mod member_fault;
@@ -19,5 +20,6 @@ mod texts;
 mod walk;
 
 pub use error::LibError;
+pub use library::{Library, Member};
 pub use link_base::LibFault;
 pub use listings::Listings;

@@ -1,17 +1,18 @@
 //! The walk along the members at the start of a library: its directories, its long names and the members for other
 //! machines. It ends at the first member that is none of these, which is judged too, or at the end of the file.
 
-ghost use Rattle.std.specs.Prelude.{◌≡◌, ◌<◌, ◌≤◌, ◌+◌, ◌^◌, ◌&&◌, ◌==◌, length, true, false, is_some, is_none, None, Some, IfSome, IfOk, IfErr, OnOk, if◌then◌else◌, unwrap_or, []};
+ghost use Rattle.std.specs.Prelude.{◌≡◌, ◌<◌, ◌≤◌, ◌+◌, ◌^◌, ◌-◌, ◌&&◌, ◌==◌, length, true, false, is_some, is_none, None, Some, IfSome, IfOk, IfErr, OnOk, if◌then◌else◌, unwrap_or, []};
 ghost use Rattle.std.specs.Option.{option_copied};
 ghost use Rattle.lib_reader.specs.ArchiveMember.{size_is_bad};
 ghost use Rattle.lib_reader.specs.MemberFault.{member_fault};
 ghost use Rattle.lib_reader.specs.Listing.{directory_is_bad, listings_in};
 ghost use Rattle.lib_reader.specs.LibraryWalk.{has_magic, header_at, first_listed, second_listed, has_directory_fault, long_names_data, long_names_among, position_fault, library_fault, listing_of, long_names_of};
 
+use crate::constants::ARCHIVE_START;
 use crate::error::LibError;
 use crate::header::{data_in, name_text, next_header};
 use crate::listings::Listings;
-use crate::member_fault::{fault, member_fault};
+use crate::member_fault::member_fault;
 use crate::member_name::{names_directory, names_long_names, names_special};
 use link_base::LibFault;
 
@@ -126,7 +127,7 @@ fn judged<'a>(
 
 /// The long names, where a member has them.
 fn or_empty<'a>(text: Option<&'a [u8]>) -> &'a [u8]
-    ensures { result.now ≡ unwrap_or (option_copied text) [] }
+    ensures { result.now ≡ unwrap_or (option_copied text.entry) [] }
 {
     match text {
         Some(text) => text,
@@ -149,4 +150,33 @@ fn start_of<'a>(found: Directories<'a>, long_names: Option<&'a [u8]>) -> Start<'
         listings,
         long_names: or_empty(long_names),
     }
+}
+
+/// What a library says at its start, or the first fault in the order of the walk.
+pub(crate) fn walk(bytes: &[u8]) -> Result<Start<'_>, LibError>
+    requires small { length bytes.now < 2 ^ 32 - 1 }
+    requires start { 8 ≤ length bytes.now }
+    requires magic { has_magic bytes.now ≡ true }
+    ensures refused { IfErr result (λ error. library_fault bytes.now ≡ Some error) }
+    ensures passes { OnOk result (library_fault bytes.now ≡ None) }
+    ensures listings { IfOk result (λ start. start.listings ≡ listing_of bytes.now) }
+    ensures long_names { IfOk result (λ start. start.long_names.now ≡ long_names_of bytes.now) }
+{
+    let mut at = ARCHIVE_START.len();
+    let mut position = 0;
+    let mut directories = Directories {
+        first: None,
+        second: None,
+    };
+    let mut long_names = None;
+    while at < bytes.len() {
+        directories = judged(directories, or_empty(long_names), bytes, at, position)?;
+        if !names_special(name_text(bytes, at)) {
+            return Ok(start_of(directories, long_names));
+        }
+        long_names = long_names_behind(long_names, bytes, at, position);
+        at = next_header(bytes, at);
+        position += 1;
+    }
+    Ok(start_of(directories, long_names))
 }
