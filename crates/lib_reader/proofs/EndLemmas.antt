@@ -1,13 +1,13 @@
 -- Where the walk ends, and what a library is by its end.
-use Rattle.std.proofs.Common.{◌≡◌, ℕ, suc, ◌+◌, ◌<◌, ◌≤◌, Bool, true, false, ◌||◌, not, leb, List, [], length, Option, Some, None, unwrap_or, refl, sym, ap, ◌∙◌, add-one, le-leb}
-use Rattle.std.specs.Prelude.{is_some, option_and_then}
+use Rattle.std.proofs.Common.{◌≡◌, ℕ, ◌+◌, ◌<◌, ◌≤◌, Bool, true, false, ◌||◌, not, leb, List, [], length, Some, None, unwrap_or, refl, sym, ap, ◌∙◌, add-one, le-leb}
+use Rattle.std.specs.Prelude.{is_some}
 use Rattle.std.proofs.lemmas.Bool.{lt-leb}
 use Rattle.link_base.specs.Bytes.{first_below}
 use Rattle.link_base.proofs.CallerLemmas.{first_below-found, first_below-more}
+use Rattle.link_base.specs.declared.kind.LibFault.TheVariants as kind
 use Rattle.lib_reader.specs.declared.error.LibError.{LibError}
 use Rattle.lib_reader.specs.ArchiveMember.{next_header}
 use Rattle.lib_reader.specs.MemberName.{names_directory, names_long_names, names_other, names_special}
-use Rattle.lib_reader.specs.Listing.{Entry}
 use Rattle.lib_reader.specs.LibraryWalk.{has_magic, header_at, text_at_position, is_past_end, is_directory, position_fault, ends_at, ends_walk, walk_end, end_fault, library_fault, long_names_of, long_names_among, first_listed, second_listed, listing_of}
 
 -- ---- the next header, and the first
@@ -97,3 +97,9 @@ unfolding names_special
 no_directory bytes position other =
     let text = text_at_position bytes position in
     not_special (names_directory text) (names_long_names text || names_other text) other
+
+-- ---- a file that is no library
+
+pub no_magic : (bytes : List ℕ) → has_magic bytes ≡ false → library_fault bytes ≡ Some (record { kind = kind.Magic; at = 0 })
+unfolding library_fault
+no_magic bytes other = rw other refl

@@ -1,9 +1,9 @@
 -- What is whole in a directory, by its tests that do not stand.
-use Rattle.std.proofs.Common.{◌≡◌, ℕ, ◌+◌, ◌-◌, ◌*◌, ◌<◌, ◌≤◌, Bool, true, false, ◌&&◌, ◌||◌, not, ltb, leb, List, length, refl, sym, ap, ◌∙◌}
+use Rattle.std.proofs.Common.{◌≡◌, ℕ, ◌+◌, ◌<◌, ◌≤◌, Bool, true, false, ◌&&◌, ◌||◌, not, ltb, List, length, refl, sym}
 use Rattle.std.proofs.lemmas.Bool.{false≢true, ltb-true, ltb-false, leb-true}
 use Rattle.link_base.specs.Bytes.{all_below}
 use Rattle.link_base.proofs.CallerLemmas.{all_below-each}
-use Rattle.lib_reader.specs.FirstDirectory.{first_count, first_names_place, first_table_leaves}
+use Rattle.lib_reader.specs.FirstDirectory.{first_names_place, first_table_leaves}
 use Rattle.lib_reader.specs.SecondDirectory.{member_count, name_count_place, second_count, member_index, second_names_place, second_counts_leave, has_member, second_table_leaves}
 use Rattle.lib_reader.specs.Listing.{table_leaves}
 

@@ -1,16 +1,13 @@
 -- The walk, one member on: the directories and the long names among one more member, and where the walk ends.
-use Rattle.std.proofs.Common.{Bor, ◌≡◌, ℕ, zero, suc, ◌+◌, ◌<◌, ◌≤◌, Bool, true, false, cond, ◌&&◌, ◌||◌, not, leb, List, [], Option, Some, None, option_map, unwrap_or, refl, sym, ap, ◌∙◌, inl, inr, add-one, le-leb, arith}
-use Rattle.std.specs.Prelude.{is_some, is_none, option_and_then}
+use Rattle.std.proofs.Common.{Bor, ◌≡◌, ℕ, ◌+◌, Bool, true, false, cond, ◌&&◌, List, Option, Some, None, option_map, refl, sym, ap, ◌∙◌, inl, inr, add-one}
+use Rattle.std.specs.Prelude.{is_some, is_none}
 use Rattle.std.specs.Option.{option_copied}
-use Rattle.std.proofs.lemmas.Bool.{false≢true, lt-leb}
+use Rattle.std.proofs.lemmas.Bool.{false≢true}
 use Rattle.std.proofs.lemmas.Bool.Decides.{eqb_tells}
 use Rattle.link_base.specs.Bytes.{first_below, first_of}
-use Rattle.link_base.proofs.CallerLemmas.{first_below-found, first_below-more}
-use Rattle.lib_reader.specs.declared.error.LibError.{LibError}
-use Rattle.lib_reader.specs.ArchiveMember.{name_text, data_of, next_header}
-use Rattle.lib_reader.specs.MemberName.{names_directory, names_long_names, names_other, names_special}
+use Rattle.lib_reader.specs.ArchiveMember.{name_text, data_of}
 use Rattle.lib_reader.specs.Listing.{Entry, directory_is_bad, listings_in}
-use Rattle.lib_reader.specs.LibraryWalk.{has_magic, header_at, text_at_position, data_at_position, is_past_end, is_directory, first_directory, is_later_directory, second_directory, is_long_names, first_long_names, long_names_data, long_names_among, directory_fails, has_directory_fault, position_fault, ends_at, ends_walk, walk_end, end_fault, library_fault, long_names_of, first_listed, second_listed, listing_of}
+use Rattle.lib_reader.specs.LibraryWalk.{header_at, text_at_position, data_at_position, is_directory, first_directory, is_later_directory, second_directory, is_long_names, first_long_names, long_names_data, directory_fails, has_directory_fault, first_listed, second_listed}
 
 -- ---- the least position that passes, one member on
 

@@ -1,6 +1,6 @@
 -- A member of a library, by the header of 60 bytes at an offset: its name field, its size and its data (PE Format,
 -- "Archive Member Headers").
-use Rattle.std.specs.Prelude.{ℕ, zero, suc, ◌+◌, ◌-◌, ◌*◌, ◌%◌, Bool, ◌||◌, ◌&&◌, not, ◌==◌, nat_lt, nat_le, nat_eq, if◌then◌else◌, List, length, take, drop, slice_index, Option, Some, None, is_none, unwrap_or, fold}
+use Rattle.std.specs.Prelude.{ℕ, zero, suc, ◌+◌, ◌-◌, ◌*◌, ◌%◌, Bool, ◌||◌, ◌&&◌, not, ◌==◌, nat_lt, nat_le, nat_eq, if◌then◌else◌, List, length, take, slice_index, Option, Some, None, is_none, unwrap_or, fold}
 use Rattle.std.specs.List.{list_all}
 use lib.Pointwise.{pointwise}
 use Rattle.link_base.specs.Bytes.{bytes_at}

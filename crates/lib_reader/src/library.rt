@@ -102,7 +102,7 @@ impl<'a> Library<'a> {
     /// The offset of the header of the member that defines a name: that of its first listing, where it has one. It
     /// is looked for from the first listing on.
     pub fn find(&self, name: Name<'_>) -> Option<u32>
-        ensures { result ≡ first_of_name name (listing_of self.now) }
+        ensures { result ≡ first_of_name name.entry (listing_of self.now) }
     {
         let mut listings = self.listings();
         while let Some((listed, at)) = listings.next() {

@@ -53,7 +53,10 @@ fn member_index(directory: &[u8], index: u32) -> u16
     requires there { index < second_count directory.now }
     ensures { result ≡ member_index directory.now index }
 {
-    u16_in(directory, name_count_place(directory) + 4 + 2 * (index as usize))
+    u16_in(
+        directory,
+        name_count_place(directory) + 4 + 2 * (index as usize),
+    )
 }
 
 /// Whether the index of a name is one of the members'.

@@ -59,7 +59,12 @@ fn with_directory<'a>(found: Directories<'a>, content: &'a [u8]) -> Option<Direc
 
 /// The directories with the member at a place, where it is one; none where it is malformed, or where the first
 /// member is no directory.
-fn directories_behind<'a>(found: Directories<'a>, bytes: &'a [u8], at: usize, position: usize) -> Option<Directories<'a>>
+fn directories_behind<'a>(
+    found: Directories<'a>,
+    bytes: &'a [u8],
+    at: usize,
+    position: usize,
+) -> Option<Directories<'a>>
     requires place { at ≡ header_at bytes.now position }
     requires header { at + 60 ≤ length bytes.now }
     requires size { size_is_bad bytes.now at ≡ false }
@@ -79,7 +84,12 @@ fn directories_behind<'a>(found: Directories<'a>, bytes: &'a [u8], at: usize, po
 }
 
 /// The long names with the member at a place, where it has them and none before it does.
-fn long_names_behind<'a>(found: Option<&'a [u8]>, bytes: &'a [u8], at: usize, position: usize) -> Option<&'a [u8]>
+fn long_names_behind<'a>(
+    found: Option<&'a [u8]>,
+    bytes: &'a [u8],
+    at: usize,
+    position: usize,
+) -> Option<&'a [u8]>
     requires place { at ≡ header_at bytes.now position }
     requires header { at + 60 ≤ length bytes.now }
     requires size { size_is_bad bytes.now at ≡ false }

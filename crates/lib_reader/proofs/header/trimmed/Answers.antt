@@ -1,4 +1,4 @@
-use Rattle.std.proofs.Common.{◌≡◌, ℕ, List, take, sym, ap, ◌∙◌, arith}
+use Rattle.std.proofs.Common.{◌≡◌, ℕ, take, sym, ap, ◌∙◌, arith}
 use Rattle.lib_reader.specs.ArchiveMember.{trimmed, trimmed_length}
 use Rattle.lib_reader.proofs.HeaderLemmas.{trimmed_length-blank, trimmed_length-kept, trimmed_length-none}
 use Rattle.lib_reader.proofs.header.trimmed.Goals as goal

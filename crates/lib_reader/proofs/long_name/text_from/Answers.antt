@@ -1,4 +1,4 @@
-use Rattle.std.proofs.Common.{List, ℕ, ap, subst, ◌∙◌, ◌≡◌, Some, None}
+use Rattle.std.proofs.Common.{List, ℕ, ap, ◌∙◌}
 use Rattle.std.specs.List.{before_first}
 use Rattle.lib_reader.specs.MemberName.{ends_long_name}
 use Rattle.lib_reader.proofs.TextLemmas.{before_place, before_none}

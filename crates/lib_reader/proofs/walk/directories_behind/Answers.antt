@@ -1,8 +1,7 @@
-use Rattle.std.proofs.Common.{◌≡◌, ◌+◌, List, Bool, true, false, Option, subst, sym, ◌∙◌}
+use Rattle.std.proofs.Common.{◌≡◌, List, Option, subst, sym, ◌∙◌}
 use Rattle.std.specs.Prelude.{IfSome}
 use Rattle.lib_reader.specs.MemberName.{names_directory}
 use Rattle.lib_reader.specs.Listing.{Entry}
-use Rattle.lib_reader.specs.LibraryWalk.{first_listed, second_listed}
 use Rattle.lib_reader.proofs.WalkLemmas.{directory_judged, directory_first, directory_second, other_judged, other_first_judged, other_first, other_second, text_tested, data_read}
 use Rattle.lib_reader.proofs.walk.directories_behind.Goals as goal
 

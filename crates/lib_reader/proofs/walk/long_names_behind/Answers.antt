@@ -1,8 +1,6 @@
-use Rattle.std.proofs.Common.{◌≡◌, ◌+◌, List, Option, Some, None, ap, sym, ◌∙◌, refl}
+use Rattle.std.proofs.Common.{Some, ap, sym, ◌∙◌}
 use Rattle.std.specs.Prelude.{is_some}
-use Rattle.std.specs.Option.{option_copied}
 use Rattle.lib_reader.specs.MemberName.{names_long_names}
-use Rattle.lib_reader.specs.LibraryWalk.{long_names_data}
 use Rattle.lib_reader.proofs.WalkLemmas.{long_names_passed, long_names_kept, long_names_found, text_tested, data_read, copied_some}
 use Rattle.lib_reader.proofs.walk.long_names_behind.Goals as goal
 use Rattle.lib_reader.proofs.walk.long_names_behind.Goals.{then-is_some-via-then-is_some, then-is_some-via-else-is_some+then-not-names_long_names}

@@ -1,9 +1,9 @@
-use Rattle.std.proofs.Common.{◌≡◌, ℕ, ◌+◌, ◌<◌, List, Option, unwrap_or, [], refl, ap, sym, ◌∙◌, arith}
+use Rattle.std.proofs.Common.{ℕ, List, Option, unwrap_or, [], refl, ap, sym, ◌∙◌, arith}
 use Rattle.std.proofs.lemmas.Result.{err_from_is_err_and}
 use Rattle.link_base.specs.Bytes.{first_below}
 use Rattle.lib_reader.specs.MemberName.{names_special}
 use Rattle.lib_reader.specs.Listing.{Entry}
-use Rattle.lib_reader.specs.LibraryWalk.{header_at, first_listed, second_listed, first_directory, second_directory, first_long_names}
+use Rattle.lib_reader.specs.LibraryWalk.{header_at, second_listed, first_directory, second_directory, first_long_names}
 use Rattle.lib_reader.proofs.WalkLemmas.{other_first, other_second, text_tested}
 use Rattle.lib_reader.proofs.EndLemmas.{header_next, goes_behind, ends_past, past_well, ends_badly, ends_there, there_well, no_directory}
 use Rattle.lib_reader.proofs.walk.walk.Goals as goal

@@ -1,6 +1,6 @@
-use Rattle.std.proofs.Common.{ℕ, List, ◌≡◌, ◌<◌, ◌+◌, ◌-◌, ◌∷◌, length, subst, sym, ap, ◌∙◌, arith, rules}
-use Rattle.lib_reader.specs.Texts.{texts_end, first_text, behind_text}
-use Rattle.lib_reader.specs.Listing.{Entry, listed_offset, listings_from}
+use Rattle.std.proofs.Common.{ℕ, List, ◌-◌, sym, ap, ◌∙◌, arith}
+use Rattle.lib_reader.specs.Texts.{texts_end}
+use Rattle.lib_reader.specs.Listing.{listed_offset}
 use Rattle.lib_reader.proofs.TextsLemmas.{texts_end-first, texts_end-behind}
 use Rattle.lib_reader.proofs.ListingLemmas.{listings_from-none, listings_step, listings_less}
 use Rattle.lib_reader.proofs.listings.ListingsIterator.next.Goals as goal
@@ -23,8 +23,8 @@ invariant_of-self c =
       there = omega (arith, c.self.invariant.there);
       fits = omega (arith, c.self.invariant.fits);
       names_end =
-        ap (λ (text : List ℕ). texts_end (inside.left - 1) text) c.first_text.ensures.rest
-        ∙ texts_end-behind inside.left inside.names.now (omega arith) c.self.invariant.names_end;
+          ap (λ (text : List ℕ). texts_end (inside.left - 1) text) c.first_text.ensures.rest
+          ∙ texts_end-behind inside.left inside.names.now (omega arith) c.self.invariant.names_end;
     }
 
 pub returns-clause-steps : goal.returns-clause-steps
