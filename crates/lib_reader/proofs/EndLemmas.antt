@@ -39,7 +39,7 @@ pub record EndsAt (bytes : List ℕ) (position : ℕ) : Type 0 where
   pub listings : listing_of bytes ≡ unwrap_or (second_listed bytes position) (unwrap_or (first_listed bytes position) [])
   pub long_names : long_names_of bytes ≡ long_names_among bytes position
 
-ended : (bytes : List ℕ) (position : ℕ) → has_magic bytes ≡ true → walk_end bytes ≡ Some position → EndsAt bytes position
+pub ended : (bytes : List ℕ) (position : ℕ) → has_magic bytes ≡ true → walk_end bytes ≡ Some position → EndsAt bytes position
 unfolding library_fault listing_of long_names_of
 ended bytes position magic is = record {
   fault = rw (magic, is) refl;
@@ -47,7 +47,7 @@ ended bytes position magic is = record {
   long_names = rw is refl;
 }
 
-found_end : (bytes : List ℕ) (position : ℕ) → position < length bytes → first_below position (ends_walk bytes) ≡ None → ends_walk bytes position ≡ true → walk_end bytes ≡ Some position
+pub found_end : (bytes : List ℕ) (position : ℕ) → position < length bytes → first_below position (ends_walk bytes) ≡ None → ends_walk bytes position ≡ true → walk_end bytes ≡ Some position
 unfolding walk_end
 found_end bytes position lt before here = first_below-found position (length bytes) (ends_walk bytes) lt before here
 

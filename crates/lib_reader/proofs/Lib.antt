@@ -5,3 +5,4 @@ pub mod TextsLemmas
 pub mod ListingLemmas
 pub mod WalkLemmas
 pub mod EndLemmas
+mod WorkedLibrary

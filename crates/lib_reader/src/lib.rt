@@ -23,3 +23,6 @@ pub use error::LibError;
 pub use library::{Library, Member};
 pub use link_base::LibFault;
 pub use listings::Listings;
+
+#[cfg(test)]
+mod tests;
