@@ -6,3 +6,4 @@ pub mod ListingLemmas
 pub mod WalkLemmas
 pub mod EndLemmas
 mod WorkedLibrary
+pub mod CallerLemmas
