@@ -1,14 +1,12 @@
 -- What callers may cite: what `first_of_name` says of the listings, and what is whole in a member that is not refused.
-use Rattle.std.proofs.Common.{◌≡◌, ℕ, zero, suc, ◌+◌, ◌<◌, ◌≤◌, Bool, true, false, cond, ◌||◌, List, [], ◌∷◌, length, drop, Option, Some, None, refl, sym, ap, ◌∙◌, inl, inr, arith}
+use Rattle.std.proofs.Common.{◌≡◌, ℕ, zero, suc, ◌+◌, ◌<◌, ◌≤◌, Bool, true, false, cond, ◌||◌, List, [], ◌∷◌, length, drop, Option, Some, None, refl, sym, ap, ◌∙◌, arith}
 use Rattle.std.specs.Prelude.{nat_eq, is_none}
 use Rattle.std.specs.List.{slice_get}
 use Rattle.std.proofs.lemmas.Bool.{false≢true, ltb-false}
 use Rattle.std.proofs.lemmas.List.{length-take-le, length-drop}
 use lib.Pointwise.{pointwise}
-use Rattle.link_base.specs.Bytes.{bytes_at}
-use Rattle.lib_reader.specs.Constants.{SIZEOF_ARCHIVE_MEMBER_HDR}
-use Rattle.lib_reader.specs.ArchiveMember.{size_number, size_of, data_place, data_of, header_is_bad, size_is_bad, name_text}
-use Rattle.lib_reader.specs.MemberFault.{lacks_long_name, member_fault}
+use Rattle.lib_reader.specs.ArchiveMember.{size_number, size_of, data_place, data_of, header_is_bad, size_is_bad}
+use Rattle.lib_reader.specs.MemberFault.{member_fault}
 use Rattle.lib_reader.specs.Listing.{Entry, first_of_name}
 
 -- ---- the first listing of a name
@@ -38,25 +36,26 @@ first_of_name-none name (first ∷ rest) none (suc k) entry is =
     later true at others none = absurd cc
     later false at others none = none
 
+-- one more listing, with another name, before them all
+before_next : (name : List ℕ) (first : Entry) (rest : List Entry) (index : ℕ) → pointwise nat_eq first.0 name ≡ false → ((k : ℕ) (entry : Entry) → k < index → slice_get rest k ≡ Some entry → pointwise nat_eq entry.0 name ≡ false) → (k : ℕ) (entry : Entry) → k < suc index → slice_get (first ∷ rest) k ≡ Some entry → pointwise nat_eq entry.0 name ≡ false
+before_next name first rest index other others zero entry lt is =
+    let same : first ≡ entry = cc in ap (λ (e : Entry). pointwise nat_eq e.0 name) (sym same) ∙ other
+before_next name first rest index other others (suc k) entry lt is = others k entry (omega arith) is
+
+first_or_later : (name : List ℕ) (first : Entry) (rest : List Entry) (at : ℕ) (b : Bool) → pointwise nat_eq first.0 name ≡ b → cond b (Some first.1) (first_of_name name rest) ≡ Some at → (first_of_name name rest ≡ Some at → (index : ℕ) × IsFirstListing name rest at index) → (index : ℕ) × IsFirstListing name (first ∷ rest) at index
+first_or_later name first rest at true same some later =
+    let place : first.1 ≡ at = cc in
+    (0, record { listed = first.0; here = ap (λ (k : ℕ). Some (first.0, k)) place; same = same; before = λ k entry lt is. absurd (omega arith) })
+first_or_later name first rest at false other some later =
+    let found = later some in
+    (suc found.0, record { listed = found.1.listed; here = found.1.here; same = found.1.same; before = before_next name first rest found.0 other found.1.before })
+
 -- some has it: the first that does
 pub first_of_name-some : (name : List ℕ) (listings : List Entry) (at : ℕ) → first_of_name name listings ≡ Some at → (index : ℕ) × IsFirstListing name listings at index
 unfolding first_of_name
 first_of_name-some name [] at some = absurd cc
 first_of_name-some name (first ∷ rest) at some =
-    go (pointwise nat_eq first.0 name) refl some
-  where
-    go : (b : Bool) → pointwise nat_eq first.0 name ≡ b → cond b (Some first.1) (first_of_name name rest) ≡ Some at → (index : ℕ) × IsFirstListing name (first ∷ rest) at index
-    go true same some =
-        let place : first.1 ≡ at = cc in
-        (0, record { listed = first.0; here = ap (λ (k : ℕ). Some (first.0, k)) place; same = same; before = λ k entry lt is. absurd (omega arith) })
-    go false other some =
-        let found = first_of_name-some name rest at some in
-        (suc found.0, record { listed = found.1.listed; here = found.1.here; same = found.1.same; before = before found.0 found.1.before })
-      where
-        before : (index : ℕ) → ((k : ℕ) (entry : Entry) → k < index → slice_get rest k ≡ Some entry → pointwise nat_eq entry.0 name ≡ false) → (k : ℕ) (entry : Entry) → k < suc index → slice_get (first ∷ rest) k ≡ Some entry → pointwise nat_eq entry.0 name ≡ false
-        before index others zero entry lt is =
-            let same : first ≡ entry = cc in ap (λ (e : Entry). pointwise nat_eq e.0 name) (sym same) ∙ other
-        before index others (suc k) entry lt is = others k entry (omega arith) is
+    first_or_later name first rest at (pointwise nat_eq first.0 name) refl some (λ some. first_of_name-some name rest at some)
 
 -- ---- a member that is not refused
 
