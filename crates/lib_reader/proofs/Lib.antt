@@ -1,0 +1,9 @@
+pub mod HeaderLemmas
+pub mod TextLemmas
+pub mod TableLemmas
+pub mod TextsLemmas
+pub mod ListingLemmas
+pub mod WalkLemmas
+pub mod EndLemmas
+mod WorkedLibrary
+pub mod CallerLemmas

@@ -1,0 +1,47 @@
+-- The first byte of a text that passes a test, and what stands before it.
+use Rattle.std.specs.Prelude.{IfSome, position}
+use Rattle.std.proofs.Common.{◌≡◌, ℕ, ◌<◌, ◌≤◌, Bool, Option, Some, None, List, length, take, refl, lt-ltb, le-ltb, inl, inr, sym, ap, ◌∙◌, arith}
+use Rattle.std.specs.List.{position_or_len, before_first}
+use Rattle.std.proofs.lemmas.List.{take_all}
+use Rattle.std.proofs.lemmas.List.Sums.{passes_at_first, fails_before_first}
+use Rattle.std.proofs.lemmas.Bool.{cases_lt, false≢true}
+use Rattle.memchr.specs.Find.{IsFirstByte}
+
+-- the search's answer is the first place
+pub first_place : (test : ℕ → Bool) (text : List ℕ) (k : ℕ) → IsFirstByte test text (Some k) → position_or_len test text ≡ k
+first_place test text k h =
+    let p = position_or_len test text in
+    elim (cases_lt p k) [
+      | inl lt ↦ absurd (h.0.before p (omega arith) lt (passes_at_first test text 0 (omega (arith, h.0.high))))
+      | inr le ↦ elim (cases_lt k p) [
+        | inl lt ↦ absurd (false≢true (sym (fails_before_first test text k 0 lt) ∙ h.1))
+        | inr ge ↦ omega arith
+      ]
+    ]
+
+-- without one the place is the end
+pub no_place : (test : ℕ → Bool) (text : List ℕ) → IsFirstByte test text None → length text ≤ position_or_len test text
+no_place test text none =
+    elim (cases_lt (position_or_len test text) (length text)) [
+      | inl lt ↦ absurd (none (position_or_len test text) (omega arith) lt (passes_at_first test text 0 (omega arith)))
+      | inr le ↦ le
+    ]
+
+pub before_place : (test : ℕ → Bool) (text : List ℕ) (k : ℕ) → IsFirstByte test text (Some k) → take k text ≡ before_first test text
+before_place test text k h = ap (λ (n : ℕ). take n text) (sym (first_place test text k h))
+
+pub before_none : (test : ℕ → Bool) (text : List ℕ) → IsFirstByte test text None → text ≡ before_first test text
+before_none test text none = sym (take_all (position_or_len test text) text (no_place test text none))
+
+-- ---- the search's answer as a whole
+
+pub place_is : (test : ℕ → Bool) (text : List ℕ) (r : Option ℕ) → IsFirstByte test text r → r ≡ position test text
+place_is test text None none = rw (le-ltb _ _ (no_place test text none)) refl
+place_is test text (Some k) h =
+    let same = first_place test text k h in
+    let lt : k < length text = h.0.high in
+    rw (same, lt-ltb _ _ lt) refl
+
+pub place_len : (test : ℕ → Bool) (text : List ℕ) (r : Option ℕ) → IsFirstByte test text r → IfSome r (λ len. position_or_len test text ≡ len)
+place_len test text None none = tt
+place_len test text (Some k) h = first_place test text k h
