@@ -53,6 +53,26 @@ impl<'a> Section<'a> {
             relocations,
         }
     }
+
+    /// Initialised data that is only read, at any address.
+    pub fn data(name: &'a str, bytes: &'a [u8]) -> Section<'a> {
+        Section {
+            name,
+            flags: 0x4010_0040,
+            contents: Contents::Initialised(bytes),
+            relocations: &[],
+        }
+    }
+
+    /// So many bytes without initial values in `.bss`, at any address.
+    pub fn zeros(size: u32) -> Section<'a> {
+        Section {
+            name: ".bss",
+            flags: 0xc010_0080,
+            contents: Contents::Uninitialised(size),
+            relocations: &[],
+        }
+    }
 }
 
 /// An auxiliary record.

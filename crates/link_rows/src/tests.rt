@@ -3,6 +3,10 @@
 mod builder;
 mod case;
 mod failures;
+mod limits;
+mod links;
+mod many_objects;
 mod objects;
 mod one_object;
+mod opening;
 mod refusals;

@@ -1,8 +1,9 @@
 //! Reads, writes and puts that fail, one at a time and together.
 
 use super::case::{Case, assert_case, refusal, run_case};
-use super::objects::WORDS;
+use super::objects::{PLAIN, WORDS};
 use super::one_object::{SUMMARY, image};
+use crate::{Section, object_file, run_with_failures};
 use std::alloc::Global;
 use std::test::Fail;
 
@@ -30,6 +31,27 @@ fn each_failing_call_has_its_status_and_leaves_the_rest(rt: HostRuntime) -> Resu
             written,
         };
         assert_case(&rt, rt.alloc(), &image, &case)?;
+    }
+    Ok(())
+}
+
+/// The failing call of a link of two inputs, its status and what it printed.
+const TWO_INPUTS: [(u64, u8, &[u8]); 4] = [
+    (1, 4, b"read fault a.obj\n"),
+    (2, 4, b"read fault b.obj\n"),
+    (3, 5, b"write fault a.exe\n"),
+    (4, 0, b"linked a.exe: 2 modules, 2 sections, 1536 bytes\n"),
+];
+
+#[test]
+fn each_input_is_read_in_its_turn(rt: HostRuntime) -> Result<(), Fail> {
+    let data = object_file(rt.alloc(), &[Section::data(".rdata", b"S")], &[])?;
+    let files = [("a.obj", PLAIN), ("b.obj", data.as_slice())];
+    let words = ["link", "a.obj", "b.obj", "/ENTRY:main", "/OUT:a.exe"];
+    for (failing_call, status, printed) in TWO_INPUTS {
+        let ended = run_with_failures(rt.alloc(), &files, &[failing_call], &[], &words)?;
+        assert_eq!(rt; ended.out.taken(), printed);
+        assert_eq!(rt; ended.status, status);
     }
     Ok(())
 }

@@ -1,14 +1,12 @@
 //! One small object and the image that is made of it.
 
+use super::links::OPTIONAL_HEADER;
 use super::objects::{FILES, PLAIN, WORDS};
 use crate::{Section, Symbol, object_file, run_with_failures, run_without_failures};
 use link_base::field_u32;
 use link_files::{FileError, Files, MemFiles};
 use std::alloc::Global;
 use std::test::Fail;
-
-/// The place of the optional header in an image: behind the DOS header, the signature and the file header.
-const OPTIONAL_HEADER: usize = 0x40 + 24;
 
 pub(super) const SUMMARY: &[u8] = b"linked a.exe: 1 modules, 1 sections, 1024 bytes\n";
 

@@ -22,11 +22,62 @@ fn each_refusal_has_its_status_and_line_and_writes_nothing(rt: HostRuntime) -> R
         refusal(
             &["link", "empty.obj", "/ENTRY:main", "/OUT:a.exe"],
             1,
-            b"fault 9 Unsupported empty.obj NotBuilt\n",
+            b"fault 5 BadObject empty.obj Truncated 0\n",
+        ),
+        refusal(
+            &["link", "a.obj", "empty.obj", "/ENTRY:f", "/OUT:a.exe"],
+            1,
+            b"fault 5 BadObject empty.obj Truncated 0\n",
+        ),
+        refusal(
+            &["link", "empty.obj", "x.obj", "/ENTRY:main", "/OUT:a.exe"],
+            1,
+            b"fault 2 NotFound x.obj\n",
+        ),
+        refusal(
+            &["link", "a.obj", "/ENTRY:main_of_the_program", "/OUT:a.exe"],
+            1,
+            b"fault 13 Undefined main_of_the_program -\n",
         ),
         refusal(&["link", "a.obj", "/ENTRY:main"], 2, b"usage 0 NotBuilt\n"),
+        refusal(
+            &["link", "/ENTRY:main", "/OUT:a.exe"],
+            2,
+            b"usage 0 NotBuilt\n",
+        ),
     ] {
         assert_case(&rt, rt.alloc(), b"", &case)?;
+    }
+    Ok(())
+}
+
+/// Words for an entry whose name the linker gives a meaning itself.
+const LINKER_NAMES: [&str; 12] = [
+    "/ENTRY:__ImageBase",
+    "/ENTRY:__guard_fids_table",
+    "/ENTRY:__guard_fids_count",
+    "/ENTRY:__guard_flags",
+    "/ENTRY:__guard_iat_table",
+    "/ENTRY:__guard_iat_count",
+    "/ENTRY:__guard_longjmp_table",
+    "/ENTRY:__guard_longjmp_count",
+    "/ENTRY:__guard_eh_cont_table",
+    "/ENTRY:__guard_eh_cont_count",
+    "/ENTRY:__enclave_config",
+    "/ENTRY:__imp_main",
+];
+
+#[test]
+fn an_entry_has_a_name_of_the_inputs(rt: HostRuntime) -> Result<(), Fail> {
+    for entry in LINKER_NAMES {
+        let words = ["link", "a.obj", entry, "/OUT:a.exe"];
+        let ended = run_with_failures(rt.alloc(), &[("a.obj", PLAIN)], &[], &[], &words)?;
+        assert_eq!(rt;
+            ended.out.taken(),
+            b"usage 0 NotBuilt\n".as_slice(),
+            "{entry}"
+        );
+        assert_eq!(rt; ended.status, 2, "{entry}");
     }
     Ok(())
 }
