@@ -1,5 +1,5 @@
 -- Words and files have one outcome.
-use Rattle.std.proofs.Common.{◌≡◌, ℕ, ◌+◌, ◌<◌, ◌≤◌, Bool, true, false, List, [], ◌∷◌, length, map, get_or, Option, Some, None, refl, sym, ap, ◌∙◌, subst, inl, inr, ◌⊎◌, arith}
+use Rattle.std.proofs.Common.{◌≡◌, ℕ, ◌+◌, false, List, length, get_or, Option, Some, None, refl, sym, ap, ◌∙◌, subst, inl, inr, ◌⊎◌, arith}
 use Rattle.std.proofs.lemmas.List.{length-map}
 use Rattle.link_base.specs.declared.fault.Fault.{Fault}
 use Rattle.link_base.specs.declared.fault.Fault.TheVariants.{NotFound, FileTooLarge, InputLimit, BadObject, BadLibrary, BadImport, Unsupported, Duplicate, Undefined, BadTarget, BadMerge, TooManySections, ImageTooLarge}
@@ -21,7 +21,7 @@ use Rattle.linker_program.specs.DefaultHeaders.{default_headers}
 use Rattle.linker_program.specs.Definitions.{all_definitions, definition_at}
 use Rattle.linker_program.specs.Pieces.{link_pieces, link_contents}
 use Rattle.linker_program.specs.Loading.{reading_fault, read_files}
-use Rattle.linker_program.specs.Outcome.{Plan, Outcome, Usage, Refused, Linked, link_input, files_fault, IsLayoutFault, IsRefusedLayout, IsImageOf, IsPlan, LayoutOutcome, OutcomeBehind, FilesOutcome, ReadOutcome, WordsOutcome, HasOutcome}
+use Rattle.linker_program.specs.Outcome.{Plan, Outcome, Usage, Refused, Linked, link_input, files_fault, IsLayoutFault, IsRefusedLayout, IsImageOf, IsPlan, LayoutOutcome, OutcomeBehind, ReadOutcome, WordsOutcome, HasOutcome}
 
 some_same : (a b : ℕ) → Some a ≡ Some b → a ≡ b
 some_same a b e = cc
@@ -98,10 +98,10 @@ same_image modules definition a b x y =
     let same = one_layout pieces y.sections false x.layout y.layout (layout_same_rows pieces x.sections y.sections false x.layout rows x.laid_out) y.laid_out in
     let piece = some_same x.is_entry.piece y.is_entry.piece (sym x.is_entry.stands ∙ y.is_entry.stands) in
     let entry : x.entry ≡ y.entry =
-      x.is_entry.is
-      ∙ ap (λ (k : ℕ). get_or x.layout.pieces.items k 0 + value) piece
-      ∙ ap (λ (rvas : List ℕ). get_or rvas y.is_entry.piece 0 + value) (sym same.pieces)
-      ∙ sym y.is_entry.is
+    x.is_entry.is
+    ∙ ap (λ (k : ℕ). get_or x.layout.pieces.items k 0 + value) piece
+    ∙ ap (λ (rvas : List ℕ). get_or rvas y.is_entry.piece 0 + value) (sym same.pieces)
+    ∙ sym y.is_entry.is
     in
     x.is
     ∙ ap (λ (e : ℕ). written_plan (default_headers e) (rows_of x.sections) x.layout.sections.items x.layout.pieces.items x.layout.image contents) entry

@@ -1,11 +1,10 @@
 -- From what grouping and placing say of the pieces that were made to what a plan says of the modules.
-use Rattle.std.proofs.Common.{◌≡◌, ℕ, ◌+◌, ◌<◌, ◌≤◌, ◌^◌, Bool, true, false, List, [], ◌∷◌, length, map, replicate, get_or, Option, Some, None, Result, Ok, Err, refl, sym, ap, ◌∙◌, subst, inl, inr, ◌⊎◌, arith}
+use Rattle.std.proofs.Common.{◌≡◌, ℕ, ◌+◌, ◌<◌, ◌≤◌, ◌^◌, Bool, true, false, List, [], length, map, replicate, get_or, Some, None, Result, Ok, Err, refl, sym, ap, ◌∙◌, subst, inl, inr, arith}
 use Rattle.std.specs.Prelude.{IfOk, IfErr}
-use Rattle.std.specs.List.{All, Contains}
+use Rattle.std.specs.List.{All}
 use Rattle.std.proofs.lemmas.Bool.{lt-ltb, and_from, or_right}
 use Rattle.std.proofs.lemmas.List.{length-map, get_or-map, get_or-replicate, get_or_default}
 use Rattle.link_base.specs.declared.fault.Fault.{Fault}
-use Rattle.link_base.specs.declared.fault.Fault.TheVariants.{TooManySections, ImageTooLarge}
 use Rattle.coff_object.specs.ObjectFaults.{object_fault}
 use Rattle.section_group.specs.declared.piece.Piece.{Piece}
 use Rattle.section_group.specs.declared.piece.OutSection.{OutSection}
@@ -16,13 +15,11 @@ use Rattle.section_group.specs.Steps.{input_from}
 use Rattle.section_group.specs.Uniqueness.{rows_of}
 use Rattle.section_group.proofs.CallerLemmas.{grouping_bare}
 use Rattle.address_layout.specs.declared.layout.Layout.{Layout}
-use Rattle.address_layout.specs.Places.{section_count}
-use Rattle.address_layout.specs.Growth.{CanGrow}
 use Rattle.address_layout.specs.Layout.{IsLayout, StandOnce, all_pieces}
 use Rattle.address_layout.proofs.CallerLemmas.{stand_once, stands, layout_bare, size_bare, name_fits}
 use Rattle.image_writer.specs.declared.headers.Headers.{Headers}
 use Rattle.image_writer.specs.ExpectedImage.{MeansPlan, image_file}
-use Rattle.image_writer.specs.WrittenImage.{written_plan, piece_contents, HasItsBytes, IsLaidOut, HasContents}
+use Rattle.image_writer.specs.WrittenImage.{written_plan, piece_contents, HasItsBytes, HasContents}
 use Rattle.image_writer.proofs.CallerLemmas.{laid_out, written_means}
 use Rattle.linker_program.specs.declared.plan.LinkPlan.{LinkPlan}
 use Rattle.linker_program.specs.declared.refusal.Refusal.{Refusal}
@@ -31,9 +28,9 @@ use Rattle.linker_program.specs.DefaultHeaders.{default_headers}
 use Rattle.linker_program.specs.declared.definitions.Definition.{Definition}
 use Rattle.linker_program.specs.Loading.{bytes_in}
 use Rattle.linker_program.specs.Definitions.{all_definitions, definition_at, no_definition}
-use Rattle.linker_program.specs.Pieces.{link_pieces, link_contents, piece_of, piece_index, unplaced_of, unplaced_fault}
-use Rattle.linker_program.specs.Outcome.{link_input, IsLayoutFault, IsRefusedLayout, IsImageOf}
-use Rattle.linker_program.specs.PlanSteps.{used_pieces, plan_image, IsPlaced, IsLaidOutPlan, IsLayoutRefusal, IsWritable, IsEntryPlan, IsEntryRefusal}
+use Rattle.linker_program.specs.Pieces.{link_pieces, link_contents, piece_of, piece_index, unplaced_of}
+use Rattle.linker_program.specs.Outcome.{link_input, IsLayoutFault, IsRefusedLayout}
+use Rattle.linker_program.specs.PlanSteps.{used_pieces, IsPlaced, IsLaidOutPlan, IsLayoutRefusal, IsWritable, IsEntryPlan, IsEntryRefusal}
 use Rattle.linker_program.proofs.DefinitionLemmas.{StandsIn, definition_stands}
 use Rattle.linker_program.proofs.PieceLemmas.{found_piece, each_sound}
 use Rattle.linker_program.proofs.OutcomeLemmas.{layout_fault_cases}
@@ -114,9 +111,9 @@ planned_entry modules definition piece value pieces plan are contents each stand
     let own = sym laid.same in
     record {
       writable = writable_plan plan entry laid.headers
-        (subst (λ (ps : List Piece). IsGrouping (input_from ps (used_pieces ps) []) sections) own laid.grouped)
-        (subst (λ (ps : List Piece). IsPlaced ps sections plan.layout) own laid.placed)
-        (subst (λ (ps : List Piece). (k : ℕ) → k < length ps → HasItsBytes ps k) own each);
+          (subst (λ (ps : List Piece). IsGrouping (input_from ps (used_pieces ps) []) sections) own laid.grouped)
+          (subst (λ (ps : List Piece). IsPlaced ps sections plan.layout) own laid.placed)
+          (subst (λ (ps : List Piece). (k : ℕ) → k < length ps → HasItsBytes ps k) own each);
       count = laid.count;
       stands = ap unplaced_of stands;
       image = record {
@@ -129,8 +126,8 @@ planned_entry modules definition piece value pieces plan are contents each stand
         entry = entry;
         is_entry = record { piece = piece; stands = stands; is = ap (λ (v : ℕ). get_or plan.layout.pieces.items piece 0 + v) is };
         is =
-          ap (λ (h : Headers). written_plan h (rows_of sections) plan.layout.sections.items plan.layout.pieces.items plan.layout.image (map piece_contents plan.pieces.items)) laid.headers
-          ∙ ap (λ (c : List (List ℕ)). written_plan (default_headers entry) (rows_of sections) plan.layout.sections.items plan.layout.pieces.items plan.layout.image c) (ap (map piece_contents) laid.same ∙ contents);
+            ap (λ (h : Headers). written_plan h (rows_of sections) plan.layout.sections.items plan.layout.pieces.items plan.layout.image (map piece_contents plan.pieces.items)) laid.headers
+            ∙ ap (λ (c : List (List ℕ)). written_plan (default_headers entry) (rows_of sections) plan.layout.sections.items plan.layout.pieces.items plan.layout.image c) (ap (map piece_contents) laid.same ∙ contents);
       };
     }
 
@@ -149,7 +146,7 @@ entry_piece modules pieces definition piece are stands found =
     let is = found_piece modules definition piece here in
     let within : piece < length pieces = omega (arith, is.within, ap length are, length-map pieces bare) in
     let bared : bare (get_or pieces piece no_piece) ≡ piece_of definition.«module» (bytes_in modules definition.«module») definition.section =
-      sym (get_or-map bare pieces piece no_piece no_piece within) ∙ ap (λ (ps : List Piece). get_or ps piece no_piece) are ∙ is.is
+    sym (get_or-map bare pieces piece no_piece no_piece within) ∙ ap (λ (ps : List Piece). get_or ps piece no_piece) are ∙ is.is
     in
     record {
       found = here;

@@ -1,5 +1,5 @@
 -- The status that is owed, from what a run promises.
-use Rattle.std.proofs.Common.{◌≡◌, ℕ, ◌<◌, List, Some, refl, sym, ap, ◌∙◌, inl, inr, ◌⊎◌, arith}
+use Rattle.std.proofs.Common.{◌≡◌, ℕ, List, Some, refl, ap, ◌∙◌, inl, inr, ◌⊎◌, arith}
 use Rattle.link_files.specs.Store.{Store}
 use Rattle.linker_program.specs.declared.status.Status.{Status}
 use Rattle.linker_program.specs.declared.status.Status.TheVariants as status
@@ -36,6 +36,6 @@ either_code code answer wanted is h = elim h [
 pub owed : (words : List (List ℕ)) (before after : Files) (shown shown_after : Printed) (code : ℕ) → Ran words before after shown shown_after code → IsOwed words before after shown shown_after code
 owed words before after shown shown_after code ran = record {
   owed = λ store outcome told quiet has.
-    either_code code (status_code ran.status) (outcome_code outcome) ran.code_is
-    (code_of_status words before after shown shown_after store outcome ran.status told quiet has ran.ran);
+      either_code code (status_code ran.status) (outcome_code outcome) ran.code_is
+      (code_of_status words before after shown shown_after store outcome ran.status told quiet has ran.ran);
 }

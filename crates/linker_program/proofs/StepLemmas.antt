@@ -1,7 +1,6 @@
 -- From what the steps of a run promise to what the run promises.
-use Rattle.std.proofs.Common.{◌≡◌, ℕ, suc, ◌<◌, ◌≤◌, true, List, [], ◌∷◌, length, map, Option, Result, Ok, Err, refl, sym, ap, ◌∙◌, subst, arith, inl, inr, ◌⊎◌}
+use Rattle.std.proofs.Common.{◌≡◌, ℕ, suc, ◌<◌, ◌≤◌, List, [], ◌∷◌, length, map, Option, Result, Ok, Err, refl, sym, ap, ◌∙◌, subst, arith, inl, inr}
 use Rattle.std.specs.Prelude.{IfOk, IfErr, OnErr, Some, None, codes}
-use Rattle.std.specs.Option.{ForSome}
 use Rattle.std.specs.Prelude.{Vec, String, string_bytes}
 use Rattle.std.specs.declared.alloc.Global.{Global}
 use Rattle.std.specs.List.{All}
@@ -20,18 +19,16 @@ use Rattle.linker_program.specs.declared.refusal.Refusal.TheVariants as refusal
 use Rattle.linker_program.specs.declared.status.Status.{Status}
 use Rattle.linker_program.specs.declared.status.Status.TheVariants as status
 use Rattle.linker_program.specs.LinkWords.{LinkRequest, requested}
-use Rattle.linker_program.specs.Opening.{first_fault}
-use Rattle.linker_program.specs.Loading.{file_limit, reading_fault, read_files}
+use Rattle.linker_program.specs.Loading.{file_limit, reading_fault}
 use Rattle.linker_program.specs.Modules.{modules_fault}
 use Rattle.linker_program.specs.declared.definitions.Definition.{Definition}
 use Rattle.linker_program.specs.Refusing.{RefusesFor}
-use Rattle.linker_program.specs.Definitions.{all_definitions, definition_named, duplicate_fault, undefined_fault, undefined_of}
-use Rattle.linker_program.specs.Pieces.{link_pieces}
-use Rattle.linker_program.specs.Outcome.{Outcome, Usage, Refused, Linked, Plan, link_fault, entry_fault, files_fault, IsRefusedLayout, IsPlan, LayoutOutcome, OutcomeBehind, FilesOutcome, ReadOutcome, WordsOutcome, HasOutcome, read_failure_line}
+use Rattle.linker_program.specs.Definitions.{all_definitions, definition_named, duplicate_fault, undefined_fault}
+use Rattle.linker_program.specs.Outcome.{Outcome, Usage, Refused, Linked, link_fault, entry_fault, files_fault, IsPlan, FilesOutcome, HasOutcome, read_failure_line}
 use Rattle.linker_program.specs.LinkRun.{Files, AreUntouched, Expects, Answers, LeftByMemory}
 use Rattle.linker_program.specs.Steps.{AreRead, IsLoaded, Refuses, RefusesWords, TellsReadFailure, AnswersWrite, LeftByWrite}
 use Rattle.linker_program.specs.ReadingSteps.{GivesInputs, FaultsInputs, FailsInputs}
-use Rattle.linker_program.specs.PlanSteps.{file_bytes, plan_image, outcome_plan, IsWritable, IsPlanned, IsPlanRefusal, IsModulesPlan, IsModulesRefusal, IsEntryPlan, IsEntryRefusal}
+use Rattle.linker_program.specs.PlanSteps.{file_bytes, plan_image, outcome_plan, IsPlanned, IsPlanRefusal, IsModulesPlan, IsModulesRefusal, IsEntryPlan, IsEntryRefusal}
 
 pub untouched : (files : Files) → AreUntouched files files
 untouched files = record { store = refl; reads = refl; writes = refl }
@@ -140,13 +137,18 @@ pub record Made (request : LinkRequest) (inputs : List (List ℕ)) (plan : LinkP
 write_answers : (words : List (List ℕ)) (before after : Files) (request : LinkRequest) (inputs : List (List ℕ)) (plan : LinkPlan) (answer : Status) (line : List ℕ)
     → Made request inputs plan → Expects words before (Linked (outcome_plan request inputs plan))
     → AnswersWrite before after request.output plan.modules (length plan.sections.items) (image_file (plan_image plan)) answer line → Answers words before after answer line
-write_answers words before after request inputs plan status.Done line made expects wrote =
-    (outcome_plan request inputs plan, (image_file (plan_image plan), record {
+write_answers words before after request inputs plan status.Done line made expects wrote = (
+  outcome_plan request inputs plan,
+  (
+    image_file (plan_image plan),
+    record {
       outcome = expects;
       means = made.planned.writable.means;
       files = wrote.files;
       says = rw (← made.planned.count, made.rows) wrote.says;
-    }))
+    },
+  ),
+)
 write_answers words before after request inputs plan status.WriteFailed line made expects failed =
     (outcome_plan request inputs plan, (image_file (plan_image plan), record { outcome = expects; means = made.planned.writable.means; files = failed.files; says = failed.says }))
 write_answers words before after request inputs plan status.Refused line made expects none = absurd none
@@ -170,11 +172,17 @@ on_left (Ok answer) before after request inputs plan made left = tt
 on_left (Err error) before after request inputs plan made left = λ words loaded.
     elim left [
       | inl nothing ↦ inl nothing
-      | inr torn ↦ inr (inr (outcome_plan request inputs plan, (image_file (plan_image plan), record {
-        outcome = outcome_expected words before request inputs (Linked (outcome_plan request inputs plan)) loaded made.planned.outcome;
-        means = made.planned.writable.means;
-        files = torn;
-      })))
+      | inr torn ↦ inr (inr (
+        outcome_plan request inputs plan,
+        (
+          image_file (plan_image plan),
+          record {
+            outcome = outcome_expected words before request inputs (Linked (outcome_plan request inputs plan)) loaded made.planned.outcome;
+            means = made.planned.writable.means;
+            files = torn;
+          },
+        ),
+      ))
     ]
 
 -- as many rows as sections
@@ -248,14 +256,19 @@ pub if_read_failed : (r : Result Answer Memory) (before after : Files) (request 
     → IfOk r (λ answer. TellsReadFailure answer name)
     → IfOk r (λ answer. (words : List (List ℕ)) → requested words ≡ Some request → Answers words before after answer.status answer.line.items)
 if_read_failed (Ok answer) before after request name fails tells = λ words asked.
-    subst (λ (s : Status). Answers words before after s answer.line.items) (sym tells.status)
-    (request, (fails.input, record {
-      asked = asked;
-      within = fails.within;
-      reached = fails.earlier;
-      files = fails.files;
-      says = tells.line ∙ ap read_failure_line fails.named;
-    }))
+    subst (λ (s : Status). Answers words before after s answer.line.items) (sym tells.status) (
+      request,
+      (
+        fails.input,
+        record {
+          asked = asked;
+          within = fails.within;
+          reached = fails.earlier;
+          files = fails.files;
+          says = tells.line ∙ ap read_failure_line fails.named;
+        },
+      ),
+    )
 if_read_failed (Err error) before after request name fails tells = tt
 
 -- as many inputs as names, none too large

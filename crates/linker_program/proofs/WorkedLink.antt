@@ -1,5 +1,5 @@
 -- The definitions on the smallest object: one section `.text` of three bytes, and the symbol `main` at its start.
-use Rattle.std.proofs.Common.{◌≡◌, ℕ, List, [], ◌∷◌, ◌++◌, true, false, refl}
+use Rattle.std.proofs.Common.{◌≡◌, ℕ, List, [], ◌∷◌, ◌++◌, true, refl}
 use Rattle.std.specs.Prelude.{Some, None, codes, option_map}
 use Rattle.link_base.specs.Bytes.{number_at, number_bytes, all_below, first_below, bytes_at}
 use Rattle.coff_object.specs.ObjectFile.{name_at, text_in_table, decimal_number, long_section_name, section_name_of, aux_left}

@@ -1,6 +1,6 @@
 -- The expected outcome of a link: what its words and files decide, stage by stage. The first stage that has a fault ends
 -- it, and where none has, the plan is linked. The order of the stages is own.
-use Rattle.std.specs.Prelude.{◌≡◌, ◌≤◌, ◌+◌, ℕ, true, false, List, [], ◌∷◌, ◌++◌, length, map, replicate, slice_index, Option, Some, None, codes}
+use Rattle.std.specs.Prelude.{◌≡◌, ◌≤◌, ◌+◌, ℕ, true, false, List, [], ◌∷◌, ◌++◌, length, replicate, slice_index, Option, Some, None, codes}
 use Rattle.std.specs.Fmt.{decimal}
 use Rattle.link_base.specs.LineText.{escaped}
 use Rattle.link_base.specs.declared.fault.Fault.{Fault}

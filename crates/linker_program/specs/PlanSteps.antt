@@ -1,7 +1,6 @@
 -- What the steps of planning promise to one another.
 use Rattle.std.specs.Prelude.{◌≡◌, ◌≤◌, ◌+◌, ℕ, Bool, true, false, List, [], length, map, replicate, slice_index, Some, None, ◌⊎◌, Vec}
 use Rattle.std.specs.declared.alloc.Global.{Global}
-use Rattle.link_base.specs.declared.fault.Fault.{Fault}
 use Rattle.section_group.specs.declared.piece.Piece.{Piece}
 use Rattle.section_group.specs.declared.piece.OutSection.{OutSection}
 use Rattle.section_group.specs.Placement.{IsGrouping}

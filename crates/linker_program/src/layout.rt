@@ -57,10 +57,7 @@ pub(crate) fn lay_out<'a>(
 }
 
 /// Groups the pieces. Nothing is merged beyond the presets.
-fn group_all<'a>(
-    alloc: Global,
-    pieces: &[Piece<'a>],
-) -> Result<Vec<OutSection<'a>>, Refusal<'a>>
+fn group_all<'a>(alloc: Global, pieces: &[Piece<'a>]) -> Result<Vec<OutSection<'a>>, Refusal<'a>>
     requires { length pieces.now < 2 ^ 31 }
     ensures grouped { IfOk result (λ sections. IsGrouping (input_from pieces.now (used_pieces pieces.now) []) sections.items) }
     ensures refused { IfErr result IsUnmergedRefusal }
@@ -87,7 +84,9 @@ fn place_all<'a>(
 {
     match place(alloc, pieces, sections, false) {
         Ok(layout) => Ok(layout),
-        Err(LayoutError::TooManySections(count)) => Err(Refusal::Fault(Fault::TooManySections { count })),
+        Err(LayoutError::TooManySections(count)) => Err(Refusal::Fault(Fault::TooManySections {
+            count,
+        })),
         Err(LayoutError::ImageTooLarge(size)) => Err(Refusal::Fault(Fault::ImageTooLarge { size })),
         Err(LayoutError::BaseRange(_) | LayoutError::Memory) => Err(Refusal::Memory),
     }

@@ -35,7 +35,13 @@ pub(crate) fn write_image<F: Files>(
         (files_of F.store F.read_faults F.write_faults files.new)
         output.now (image_file (plan_image plan.now))) }
 {
-    let image = image(alloc, &plan.headers, &plan.layout, &plan.sections, &plan.pieces)?;
+    let image = image(
+        alloc,
+        &plan.headers,
+        &plan.layout,
+        &plan.sections,
+        &plan.pieces,
+    )?;
     let line = summary_line(
         alloc,
         output,

@@ -1,4 +1,4 @@
-use Rattle.std.proofs.Common.{◌≡◌, ℕ, ◌+◌, ◌<◌, ◌^◌, List, length, get_or, sym, subst, ap, ◌∙◌, arith}
+use Rattle.std.proofs.Common.{◌≡◌, ◌<◌, ◌^◌, List, length, get_or, sym, subst, ◌∙◌, arith}
 use Rattle.std.proofs.lemmas.List.{get_or_default}
 use Rattle.section_group.specs.declared.piece.Piece.{Piece}
 use Rattle.section_group.specs.Placement.{IsGrouping}
@@ -16,7 +16,7 @@ overflow_add-entry c =
     let placed : IsPlaced pieces sections layout = rw (← c.deref-2.ensures.value, ← c.deref-3.ensures.value) c.in_ok-layout.ensures.placed in
     let within : c.args.entry_piece < length layout.pieces.items = rw (placed.layout_of.rva_for_each) c.requires.within in
     let read : get_or layout.pieces.items c.args.entry_piece 0 ≡ c.index-rva.result.now =
-      get_or_default layout.pieces.items c.args.entry_piece 0 c.index-rva.result.now within ∙ sym c.index-rva.ensures
+    get_or_default layout.pieces.items c.args.entry_piece 0 c.index-rva.result.now within ∙ sym c.index-rva.ensures
     in
     let small : get_or layout.pieces.items c.args.entry_piece 0 < 2 ^ 32 = rw read (omega (arith, c.type_inv.rva)) in
     let fits = entry_fits pieces sections layout c.args.entry_piece c.args.value grouped placed c.requires.within c.requires.named c.requires.inside small in

@@ -1,4 +1,3 @@
-use Rattle.std.proofs.Common.{ℕ}
 use Rattle.linker_program.specs.PlanSteps.{file_bytes}
 use Rattle.linker_program.specs.RequestView.{request_view}
 use Rattle.linker_program.specs.Steps.{files_of}

@@ -1,4 +1,4 @@
-use Rattle.std.proofs.Common.{List, ◌∙◌}
+use Rattle.std.proofs.Common.{◌∙◌}
 use Rattle.linker_program.specs.PlanSteps.{file_bytes}
 use Rattle.linker_program.specs.RequestView.{request_view}
 use Rattle.linker_program.proofs.StepLemmas.{refused_opening, if_refused_link, if_planned_link}

@@ -1,4 +1,4 @@
-use Rattle.std.proofs.Common.{◌≡◌, ℕ, Some, length, map, sym, ap, subst, ◌<◌, ◌∙◌}
+use Rattle.std.proofs.Common.{◌≡◌, Some, ap, subst}
 use Rattle.linker_program.specs.declared.definitions.Definition.{Definition}
 use Rattle.linker_program.specs.Definitions.{all_definitions}
 use Rattle.linker_program.specs.Pieces.{link_pieces, piece_index}

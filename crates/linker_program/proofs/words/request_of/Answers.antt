@@ -1,4 +1,4 @@
-use Rattle.std.proofs.Common.{length, map, string_bytes, arith, sym, ap, ◌∙◌}
+use Rattle.std.proofs.Common.{map, string_bytes, arith, sym, ◌∙◌}
 use Rattle.std.proofs.lemmas.List.{length-map}
 use Rattle.linker_program.proofs.WordLemmas.{requested_few, requested_words, word_read, inputs_read}
 use Rattle.linker_program.proofs.words.request_of.Goals as goal
