@@ -6,7 +6,7 @@ use crate::{Aux, Contents, Section, Symbol};
 use std::test::Fail;
 
 /// An object whose `main` calls `g`, with its one relocation last in the file.
-const CALL: &[u8] =
+const CALL: &[u8; 116] =
     b"\x64\x86\x01\x00\x00\x00\x00\x00\x42\x00\x00\x00\x02\x00\x00\x00\x00\x00\x00\x00\
     .text\x00\x00\x00\x00\x00\x00\x00\x00\x00\x00\x00\x06\x00\x00\x00\x3c\x00\x00\x00\
     \x6a\x00\x00\x00\x00\x00\x00\x00\x01\x00\x00\x00\x20\x00\x50\x60\
@@ -26,7 +26,7 @@ fn files_that_are_no_object_of_the_linked_form_are_refused(rt: HostRuntime) -> R
         ),
         (
             "a.obj",
-            CALL.split_at(115).0,
+            &CALL[..115],
             b"fault 5 BadObject a.obj RelocationRange 1\n",
         ),
         ("a.obj", CALL, b"fault 9 Unsupported a.obj NotBuilt\n"),
