@@ -20,7 +20,7 @@ use Rattle.image_writer.specs.HeaderTable.{size_of_headers}
 use Rattle.image_writer.specs.WrittenImage.{place_in, IsSectionLaidOut, IsLaidOut}
 use Rattle.image_writer.proofs.LaidOutLemmas.{all_front, all_back}
 use Rattle.image_writer.proofs.FileEndLemmas.{raw_end_small}
-use Rattle.image_writer.proofs.CallerLemmas.{least_is_next, section_laid_out}
+use Rattle.image_writer.proofs.PlaceLemmas.{least_is_next, section_laid_out}
 
 -- ---- lists with one more
 

@@ -12,7 +12,7 @@ use Rattle.address_layout.specs.Places.{row_at, piece_in, piece_end, end_before,
 use Rattle.address_layout.specs.Layout.{StandOnce, IsAlignment, IsLayout, placed_at}
 use Rattle.address_layout.specs.Growth.{last_end, raw_end}
 use Rattle.address_layout.proofs.ArrangementLemmas.{Aligned, aligned_rows}
-use Rattle.image_writer.proofs.CallerLemmas.{end_in_floor}
+use Rattle.image_writer.proofs.PlaceLemmas.{end_in_floor}
 
 divides_more : (a m : ℕ) → 8192 % a ≡ 0 → m % 8192 ≡ 0 → 0 < a → m % a ≡ 0
 divides_more a m divides multiple some =

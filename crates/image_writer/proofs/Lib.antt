@@ -15,6 +15,7 @@ pub mod ImageTests
 pub mod ImageMemory
 pub mod ImageSlack
 pub mod ImageTheorems
-pub mod CallerLemmas
+pub mod PlaceLemmas
 pub mod FileEndLemmas
 pub mod AppendedLemmas
+pub mod CallerLemmas
