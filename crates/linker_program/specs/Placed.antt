@@ -1,14 +1,11 @@
 -- Which sections come into the image (PE Format, "Section Flags": IMAGE_SCN_LNK_REMOVE and IMAGE_SCN_LNK_INFO; the names
 -- are those of sections for debuggers and for link-time tables that this linker does not make; own).
-use Rattle.std.specs.Prelude.{ℕ, Bool, ◌&&◌, ◌||◌, not, nat_eq, List, [], ◌∷◌, codes}
+use Rattle.std.specs.Prelude.{ℕ, Bool, ◌&&◌, ◌||◌, not, List, [], ◌∷◌, codes}
 use Rattle.std.specs.List.{list_any}
-use lib.Pointwise.{pointwise}
+pub use Rattle.section_group.specs.Merging.{same_name}
 use Rattle.coff_object.specs.ObjectFile.{section_name_of, flags_of, has_flag}
 use Rattle.coff_object.specs.Constants.{SCN_LNK_INFO, SCN_LNK_REMOVE}
 use Rattle.linker_program.specs.Opening.{begins, base_name}
-
-abbrev pub same_name : List ℕ → List ℕ → Bool
-same_name a b = pointwise nat_eq a b
 
 -- sections that say something to the linker alone
 abbrev pub linker_tables : List (List ℕ)

@@ -12,8 +12,10 @@ use link_base::{Fault, Kind, Name, field_u16};
 /// A name of more bytes is not taken.
 const NAME_LIMIT: usize = 32_000;
 
-/// So many bytes of a section's name show whether it is taken, and no more of them are looked at: many sections
-/// may share one long text.
+/// So many bytes of a section's name show whether the linker makes it itself, and so many whether it is too long. No
+/// more of them are looked at: many sections may share one long text.
+const LINKER_NAME_START: usize = 7;
+
 const NAME_START: usize = 32_001;
 
 /// The object with these bytes. The file is refused, under this name, for the first of: a form that the first
@@ -150,7 +152,7 @@ fn has_linker_section(object: &Object<'_>) -> bool
     ensures { result ≡ some_section object.now is_linker_section }
 {
     for index in 0..object.section_count() {
-        if is_linker_section(&object.section_name_start(index + 1, NAME_START)) {
+        if is_linker_section(&object.section_name_start(index + 1, LINKER_NAME_START)) {
             return true;
         }
     }
