@@ -42,7 +42,7 @@ fn a_file_with_another_start_is_no_library(rt: HostRuntime) {
 }
 
 /// Members, and the fault of the library that they make.
-const FAULTS: [(&[Row], LibFault, u32); 20] = [
+const FAULTS: [(&[Row], LibFault, u32); 21] = [
     (&[("a.obj/", "0", b"")], LibFault::Directory, 8),
     (&[("//", "0", b"")], LibFault::Directory, 8),
     (&[("/<HYBRIDMAP>/", "0", b"")], LibFault::Directory, 8),
@@ -54,6 +54,7 @@ const FAULTS: [(&[Row], LibFault, u32); 20] = [
     (&[("/", "5", NO_NAMES)], LibFault::Size, 8),
     (&[("/", "3", b"\0\0\0")], LibFault::Directory, 8),
     (&[("/", "4", b"\0\0\0\x01")], LibFault::Directory, 8),
+    (&[("/", "4", b"\xff\xff\xff\xff")], LibFault::Directory, 8),
     (
         &[("/", "8", b"\x01\0\0\0\0\0\0\x08")],
         LibFault::Directory,
@@ -205,6 +206,23 @@ fn the_second_directory_counts_where_there_is_one(rt: HostRuntime) -> Result<(),
 
     let empty = Library::open(b"!<arch>\n").map_err(|_| "refused")?;
     assert!(rt; lists(&empty, &[]));
+    Ok(())
+}
+
+/// A directory that lists `f` far beyond the file.
+const BEYOND: &[u8] = b"\x00\x00\x00\x01\xff\xff\xff\xf0f\x00";
+
+#[test]
+fn a_listing_beyond_the_file_names_no_member(rt: HostRuntime) -> Result<(), Fail> {
+    let bytes = library_bytes(rt.alloc(), &[("/", "10", BEYOND)])?;
+    assert!(rt; bytes.len() < 0xffff_ffff);
+    let library = Library::open(&bytes).map_err(|_| "refused")?;
+    assert!(rt; place_of(&library, "f") == Some(0xffff_fff0));
+    let fault = library
+        .member(0xffff_fff0)
+        .err()
+        .map(|error| (error.kind, error.at));
+    assert!(rt; fault == Some((LibFault::Header, 0xffff_fff0)));
     Ok(())
 }
 
