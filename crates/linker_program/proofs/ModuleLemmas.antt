@@ -12,41 +12,42 @@ use Rattle.coff_object.specs.ObjectFile.{aux_left}
 use Rattle.coff_object.specs.ObjectFaults.{of_symbol, object_fault}
 use Rattle.linker_program.specs.Loading.{bytes_in}
 use Rattle.linker_program.specs.Modules.{module_fault, module_fault_at}
-use Rattle.linker_program.specs.Opening.{begins, is_dollar, base_name}
+use Rattle.linker_program.specs.Opening.{begins, base_name}
+use Rattle.section_group.specs.SectionOrder.{is_cut}
 
 -- ---- base names
 
-not_first : (x s : ℕ) → is_dollar x ≡ true → not (is_dollar s) ≡ true → (both : Bool) → (eqb s x && both) ≡ false
+not_first : (x s : ℕ) → is_cut x ≡ true → not (is_cut s) ≡ true → (both : Bool) → (eqb s x && both) ≡ false
 not_first x s dollar other both =
     elim (eqb_tells s x) [
-      | inl same ↦ absurd (let e = ap is_dollar same.1 ∙ dollar in let f = sym (ap not e) ∙ other in cc)
+      | inl same ↦ absurd (let e = ap is_cut same.1 ∙ dollar in let f = sym (ap not e) ∙ other in cc)
       | inr apart ↦ rw apart.0 refl
     ]
 
-no_dollar : (s : ℕ) (start : List ℕ) → list_all (λ byte. not (is_dollar byte)) (s ∷ start) ≡ true → (not (is_dollar s) ≡ true) × (list_all (λ byte. not (is_dollar byte)) start ≡ true)
-no_dollar s start free = go (not (is_dollar s)) (list_all (λ byte. not (is_dollar byte)) start) free
+no_dollar : (s : ℕ) (start : List ℕ) → list_all (λ byte. not (is_cut byte)) (s ∷ start) ≡ true → (not (is_cut s) ≡ true) × (list_all (λ byte. not (is_cut byte)) start ≡ true)
+no_dollar s start free = go (not (is_cut s)) (list_all (λ byte. not (is_cut byte)) start) free
   where
     go : (a b : Bool) → (a && b) ≡ true → (a ≡ true) × (b ≡ true)
     go true true e = (refl, refl)
     go true false e = absurd cc
     go false b e = absurd cc
 
-base_name_more : (x : ℕ) (text : List ℕ) → is_dollar x ≡ false → base_name (x ∷ text) ≡ x ∷ base_name text
+base_name_more : (x : ℕ) (text : List ℕ) → is_cut x ≡ false → base_name (x ∷ text) ≡ x ∷ base_name text
 base_name_more x text other =
-    let next : 1 + position_or_len is_dollar text ≡ suc (position_or_len is_dollar text) = omega arith in
+    let next : 1 + position_or_len is_cut text ≡ suc (position_or_len is_cut text) = omega arith in
     rw (other, next) refl
 
-begins_more : (s x : ℕ) (start text : List ℕ) → not (is_dollar s) ≡ true → begins (base_name text) start ≡ begins text start → begins (base_name (x ∷ text)) (s ∷ start) ≡ begins (x ∷ text) (s ∷ start)
-begins_more s x start text free same = go (is_dollar x) refl
+begins_more : (s x : ℕ) (start text : List ℕ) → not (is_cut s) ≡ true → begins (base_name text) start ≡ begins text start → begins (base_name (x ∷ text)) (s ∷ start) ≡ begins (x ∷ text) (s ∷ start)
+begins_more s x start text free same = go (is_cut x) refl
   where
-    go : (b : Bool) → is_dollar x ≡ b → begins (base_name (x ∷ text)) (s ∷ start) ≡ begins (x ∷ text) (s ∷ start)
+    go : (b : Bool) → is_cut x ≡ b → begins (base_name (x ∷ text)) (s ∷ start) ≡ begins (x ∷ text) (s ∷ start)
     go true e = rw e (sym (not_first x s e free (begins text start)))
     go false e =
         ap (λ (name : List ℕ). begins name (s ∷ start)) (base_name_more x text e)
         ∙ ap (λ (rest : Bool). eqb s x && rest) same
 
 -- a base name begins with what has no dollar exactly where the name does
-pub base_name_begins : (start text : List ℕ) → list_all (λ byte. not (is_dollar byte)) start ≡ true → begins (base_name text) start ≡ begins text start
+pub base_name_begins : (start text : List ℕ) → list_all (λ byte. not (is_cut byte)) start ≡ true → begins (base_name text) start ≡ begins text start
 base_name_begins [] text free = refl
 base_name_begins (s ∷ start) [] free = refl
 base_name_begins (s ∷ start) (x ∷ text) free =

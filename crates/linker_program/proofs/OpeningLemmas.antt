@@ -14,7 +14,8 @@ use Rattle.coff_object.specs.declared.error.ObjError.{ObjError}
 use Rattle.coff_object.specs.ObjectFaults.{object_fault}
 use Rattle.coff_object.proofs.CallerLemmas.{before_first-take}
 use Rattle.coff_object.specs.ObjectFile.{section_total, section_name_of, record_total, symbol_name_of, aux_total_of, aux_left}
-use Rattle.linker_program.specs.Opening.{shown, first_standing, first_fault, of_kind, of_error, begins, big_object_class, kind_by_bytes, is_dollar, base_name, is_linker_section, name_limit, is_long, kind_by_names, opening_fault, names_section, some_section, names_symbol, some_symbol}
+use Rattle.section_group.specs.SectionOrder.{is_cut}
+use Rattle.linker_program.specs.Opening.{shown, first_standing, first_fault, of_kind, of_error, begins, big_object_class, kind_by_bytes, base_name, is_linker_section, name_limit, is_long, kind_by_names, opening_fault, names_section, some_section, names_symbol, some_symbol}
 
 -- a file of fewer than twelve bytes has no class identifier
 pub no_class : (bytes : List ℕ) → length bytes < 12 → begins (drop 12 bytes) big_object_class ≡ false
@@ -48,7 +49,7 @@ unfolding is_linker_section
 is_linker_section-take n name le =
     let import_part = ap (pointwise nat_eq (codes ".idata$")) (take-take 7 n name le) in
     let shorter = same_by_start n (base_name name) (codes ".reloc") (omega arith) in
-    let relocations = ap (λ (base : List ℕ). pointwise nat_eq base (codes ".reloc")) (before_first-take is_dollar n name) ∙ shorter in
+    let relocations = ap (λ (base : List ℕ). pointwise nat_eq base (codes ".reloc")) (before_first-take is_cut n name) ∙ shorter in
     ap (λ (b : Bool). b || pointwise nat_eq (base_name (take n name)) (codes ".reloc")) import_part
     ∙ ap (λ (b : Bool). begins name (codes ".idata$") || b) relocations
 

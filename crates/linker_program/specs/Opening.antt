@@ -1,7 +1,7 @@
 -- Which files do not open as an object, and why: the forms that the first bytes show, then the faults of the
 -- object, then the forms that its names show.
 use Rattle.std.specs.Prelude.{ℕ, ◌+◌, Bool, ◌||◌, ◌&&◌, not, ◌==◌, nat_lt, nat_eq, if◌then◌else◌, List, [], ◌∷◌, length, drop, Option, Some, None, is_some, codes}
-use Rattle.std.specs.List.{starts_with, before_first}
+use Rattle.std.specs.List.{starts_with}
 use lib.Pointwise.{pointwise}
 use Rattle.link_base.specs.Bytes.{u16_at, has_bytes, first_below}
 use Rattle.link_base.specs.declared.fault.Fault.{Fault}
@@ -11,6 +11,7 @@ use Rattle.link_base.specs.declared.kind.Kind.TheVariants as form
 use Rattle.coff_object.specs.declared.error.ObjError.{ObjError}
 use Rattle.coff_object.specs.ObjectFile.{section_total, section_name_of, record_total, symbol_name_of}
 use Rattle.coff_object.specs.ObjectFaults.{of_symbol, object_fault}
+pub use Rattle.section_group.specs.SectionOrder.{base_name}
 
 -- ---- the first bytes
 
@@ -80,13 +81,6 @@ kind_by_bytes bytes =
     ∷ [])
 
 -- ---- the names of an object
-
-abbrev pub is_dollar : ℕ → Bool
-is_dollar byte = byte == 36
-
--- a section's name up to its first dollar (PE Format, "Grouped Sections (Object Only)")
-abbrev pub base_name : List ℕ → List ℕ
-base_name name = before_first is_dollar name
 
 -- a section that the linker makes itself: a part of the import tables, or the base relocations (PE Format, "The
 -- .idata Section" and "The .reloc Section (Image Only)"); that it is refused is own

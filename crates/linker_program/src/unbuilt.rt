@@ -5,7 +5,7 @@ ghost use Rattle.std.specs.Ordering.{int_eq};
 ghost use lib.Pointwise.{pointwise};
 ghost use Rattle.link_base.specs.Bytes.{first_below};
 ghost use Rattle.link_base.specs.NameText.{begins_import};
-ghost use Rattle.coff_object.specs.ObjectFile.{section_total, record_total, starts_symbol};
+ghost use Rattle.coff_object.specs.ObjectFile.{section_total, record_total, starts_symbol, aux_total_of};
 ghost use Rattle.coff_object.specs.ObjectFaults.{of_symbol};
 ghost use Rattle.linker_program.specs.Opening.{base_name};
 ghost use Rattle.linker_program.specs.Placed.{same_name, comes_in};
@@ -108,26 +108,29 @@ fn has_unbuilt_symbol(object: &Object<'_>) -> bool
             left -= 1;
             continue;
         }
-        let symbol = object.symbol(index);
-        if is_unbuilt_symbol(object, index) {
+        let (unbuilt, aux) = judge_symbol(object, index);
+        if unbuilt {
             return true;
         }
-        left = symbol.aux;
+        left = aux;
     }
     false
 }
 
-/// Whether the symbol that starts at a record needs more than an address in its section.
+/// Whether the symbol that starts at a record needs more than an address in its section, and how many auxiliary
+/// records it has.
 #[tactic(auto, unfolding(crate::specs::Modules::is_unbuilt_symbol))]
-fn is_unbuilt_symbol(object: &Object<'_>, index: u32) -> bool
+fn judge_symbol(object: &Object<'_>, index: u32) -> (bool, u8)
     requires { starts_symbol object.now index ≡ true }
-    ensures { result ≡ is_unbuilt_symbol object.now index }
+    ensures unbuilt { result.0 ≡ is_unbuilt_symbol object.now index }
+    ensures aux { result.1 ≡ aux_total_of object.now index }
 {
     let symbol = object.symbol(index);
-    symbol.class == SYM_CLASS_WEAK_EXTERNAL
+    let unbuilt = symbol.class == SYM_CLASS_WEAK_EXTERNAL
         || is_outside_sections(&symbol)
         || is_import_reference(&symbol)
-        || is_loader_symbol(&symbol)
+        || is_loader_symbol(&symbol);
+    (unbuilt, symbol.aux)
 }
 
 /// Whether an external symbol is undefined, a common or absolute.

@@ -20,19 +20,19 @@ loop-index-preserved-then-left-gt0 c =
       none = first_below-more c.loop-index.index (of_symbol bytes (is_unbuilt_symbol bytes)) c.loop-index.invariant.none (aux_fails bytes (is_unbuilt_symbol bytes) c.loop-index.index (omega (arith, c.loop-index.invariant.left)));
     }
 
-pub returns-then-is_unbuilt_symbol : goal.returns-then-is_unbuilt_symbol
-returns-then-is_unbuilt_symbol c =
+pub returns-then-unbuilt : goal.returns-then-unbuilt
+returns-then-unbuilt c =
     let bytes = c.args.object.now in
     let starts : aux_left bytes c.loop-index.index ≡ 0 = omega (arith, c.loop-index.invariant.left, c.if-left-gt0.false) in
-    sym (some_found c.loop-index.index _ (of_symbol bytes (is_unbuilt_symbol bytes)) (omega (arith, c.record_count-index-end.ensures)) c.loop-index.invariant.none (symbol_passes bytes (is_unbuilt_symbol bytes) c.loop-index.index starts ∙ sym c.is_unbuilt_symbol.ensures ∙ c.if-is_unbuilt_symbol.true))
+    sym (some_found c.loop-index.index _ (of_symbol bytes (is_unbuilt_symbol bytes)) (omega (arith, c.record_count-index-end.ensures)) c.loop-index.invariant.none (symbol_passes bytes (is_unbuilt_symbol bytes) c.loop-index.index starts ∙ sym c.judge_symbol-unbuilt.ensures.unbuilt ∙ c.if-unbuilt.true))
 
 pub loop-index-preserved : goal.loop-index-preserved
 loop-index-preserved c =
     let bytes = c.args.object.now in
     let starts : aux_left bytes c.loop-index.index ≡ 0 = omega (arith, c.loop-index.invariant.left, c.if-left-gt0.false) in
     record {
-      left = left_behind_symbol bytes c.loop-index.index c.symbol-symbol.result.aux starts c.symbol-symbol.ensures.aux;
-      none = first_below-more c.loop-index.index (of_symbol bytes (is_unbuilt_symbol bytes)) c.loop-index.invariant.none (symbol_passes bytes (is_unbuilt_symbol bytes) c.loop-index.index starts ∙ sym c.is_unbuilt_symbol.ensures ∙ c.if-is_unbuilt_symbol.false);
+      left = left_behind_symbol bytes c.loop-index.index c.judge_symbol-unbuilt.result.1 starts c.judge_symbol-unbuilt.ensures.aux;
+      none = first_below-more c.loop-index.index (of_symbol bytes (is_unbuilt_symbol bytes)) c.loop-index.invariant.none (symbol_passes bytes (is_unbuilt_symbol bytes) c.loop-index.index starts ∙ sym c.judge_symbol-unbuilt.ensures.unbuilt ∙ c.if-unbuilt.false);
     }
 
 pub returns : goal.returns
