@@ -9,7 +9,7 @@ use crate::field::BaseField;
 use crate::format::{
     BLOCK_HEADER_LEN, PAGE_SIZE, REL_BASED_ABSOLUTE, REL_BASED_DIR64, REL_BASED_HIGHLOW,
 };
-use link_base::{Field, Memory, push_fields};
+use link_base::{LeNumber, Memory, push_fields};
 use std::alloc::Global;
 
 /// The blocks that list the fields: one for each page that has a field, with its entries in the order of the fields, and
@@ -61,7 +61,7 @@ fn push_block(table: &mut Vec<u8>, fields: &[BaseField]) -> Result<(), Memory>
     let size = BLOCK_HEADER_LEN + 2 * count;
     push_fields(
         table,
-        &[Field::U32(page_of(fields[0])), Field::U32(size as u32)],
+        &[LeNumber::U32(page_of(fields[0])), LeNumber::U32(size as u32)],
     )?;
     push_entries(table, fields)?;
     push_filler(table, fields.len())
@@ -72,7 +72,7 @@ fn push_entries(table: &mut Vec<u8>, fields: &[BaseField]) -> Result<(), Memory>
     ensures { OnOk result (table.new.items ≡ table.old.items ++ flat_map (number_bytes 2) (map entry_word fields.now)) }
 {
     for field in fields {
-        push_fields(table, &[Field::U16(entry_word(*field))])?;
+        push_fields(table, &[LeNumber::U16(entry_word(*field))])?;
     }
     Ok(())
 }
@@ -96,5 +96,5 @@ fn push_filler(table: &mut Vec<u8>, count: usize) -> Result<(), Memory>
     if count % 2 == 0 {
         return Ok(());
     }
-    push_fields(table, &[Field::U16(REL_BASED_ABSOLUTE * PAGE_SIZE as u16)])
+    push_fields(table, &[LeNumber::U16(REL_BASED_ABSOLUTE * PAGE_SIZE as u16)])
 }

@@ -1,8 +1,8 @@
 -- What an object is in which no kind of fault stands.
 use Rattle.std.proofs.Common.{◌≡◌, ℕ, Bool, true, false, List, Option, Some, None, refl}
-use Rattle.link_base.specs.declared.kind.ObjFault.{ObjFault}
+use Rattle.link_base.specs.declared.kinds.object.ObjFault.{ObjFault}
 use Rattle.coff_object.specs.declared.error.ObjError.{ObjError}
-use Rattle.link_base.specs.Bytes.{first_of}
+use Rattle.std.specs.Option.{option_or}
 use Rattle.coff_object.specs.ObjectFaults.{at_start, first_section, first_symbol, is_truncated, is_other_machine, body_leaves, relocations_leave, symbol_range_fault, table_leaves, string_table_fault, lacks_section_name, has_no_alignment, has_no_section, value_exceeds, row, first_row, range_rows, value_rows, object_fault}
 
 neither_row : (first later : Option ObjError) → first_row first later ≡ None → (first ≡ None) × (later ≡ None)
@@ -17,7 +17,7 @@ start_none : (fails : Bool) → at_start fails ≡ None → fails ≡ false
 start_none true e = absurd cc
 start_none false e = refl
 
-neither_of : (first later : Option ℕ) → first_of first later ≡ None → (first ≡ None) × (later ≡ None)
+neither_of : (first later : Option ℕ) → option_or first later ≡ None → (first ≡ None) × (later ≡ None)
 neither_of None later e = (refl, e)
 neither_of (Some k) later e = absurd cc
 

@@ -2,7 +2,7 @@
 use Rattle.std.proofs.Common.{◌≡◌, ℕ, List, [], ◌∷◌, ◌++◌, take, true, Some, None, refl}
 use Rattle.std.specs.Prelude.{codes}
 use Rattle.link_base.specs.Bytes.{number_at, first_below}
-use Rattle.link_base.specs.declared.kind.ObjFault.TheVariants as kind
+use Rattle.link_base.specs.declared.kinds.object.ObjFault.TheVariants as kind
 use Rattle.coff_object.specs.ObjectFile.{name_at, text_in_table, decimal_number, long_section_name, section_name_of, raw_size_of, flags_of, alignment_of, body_of, record_total, starts_symbol, symbol_name_of, symbol_value_of, aux_left}
 use Rattle.coff_object.specs.ObjectFaults.{first_section, first_symbol, is_truncated, is_other_machine, body_leaves, counted_leave, relocations_leave, symbol_leaves, symbol_range_fault, lacks_section_name, lacks_symbol_name, string_table_fault, has_no_alignment, has_no_section, value_exceeds, range_rows, value_rows, object_fault}
 

@@ -2,9 +2,10 @@
 -- records, it stands; it is judged where no earlier kind stands, and the least place counts. Own; the fields
 -- are those of the PE Format specification.
 use Rattle.std.specs.Prelude.{ℕ, ◌+◌, ◌*◌, Bool, ◌||◌, ◌&&◌, not, ◌==◌, nat_le, nat_lt, if◌then◌else◌, List, [], ◌∷◌, length, Option, Some, None, option_map, is_none}
-use Rattle.link_base.specs.Bytes.{u32_at, first_below, first_of}
-use Rattle.link_base.specs.declared.kind.ObjFault.{ObjFault}
-use Rattle.link_base.specs.declared.kind.ObjFault.TheVariants as kind
+use Rattle.std.specs.Option.{option_or}
+use Rattle.link_base.specs.Bytes.{u32_at, first_below}
+use Rattle.link_base.specs.declared.kinds.object.ObjFault.{ObjFault}
+use Rattle.link_base.specs.declared.kinds.object.ObjFault.TheVariants as kind
 use Rattle.coff_object.specs.declared.error.ObjError.{ObjError}
 use Rattle.coff_object.specs.Constants.{FILE_MACHINE_AMD64, FILE_MACHINE_UNKNOWN, SCN_TYPE_NO_PAD, SYM_CLASS_EXTERNAL, SYM_CLASS_STATIC, SYM_CLASS_LABEL}
 use Rattle.coff_object.specs.ObjectFile.{machine_of, section_total, record_total, optional_header_size, string_table_offset, string_table_size, text_in_table, short_name_at, names_an_offset, long_section_name, section_header, raw_size_of, raw_offset_of, relocations_offset_of, relocation_field_of, flags_of, has_flag, alignment_value, is_uninitialised, has_overflow_count, symbol_record, symbol_value_of, symbol_section_field, symbol_class_of, aux_total_of, aux_left}
@@ -106,8 +107,8 @@ lacks_symbol_name bytes index =
 -- the table itself, then sections, then records behind the sections' numbers
 unfoldable pub string_table_fault : List ℕ → Option ℕ
 string_table_fault bytes =
-    first_of (at_start (table_leaves bytes))
-    (first_of (first_section bytes (lacks_section_name bytes))
+    option_or (at_start (table_leaves bytes))
+    (option_or (first_section bytes (lacks_section_name bytes))
     (option_map (λ index. section_total bytes + index) (first_symbol bytes (lacks_symbol_name bytes))))
 
 -- ---- 7 Alignment

@@ -3,7 +3,7 @@
 use Rattle.std.specs.Prelude.{ℕ, ◌+◌, ◌-◌, ◌*◌, cond, if◌then◌else◌, List, [], ◌∷◌, ◌++◌, length, take, replicate, sum_by}
 use Rattle.std.specs.Int.{next_multiple_of}
 use Rattle.std.specs.List.{flat_map}
-use Rattle.link_base.specs.declared.numbers.Field.TheVariants.{U8, U16, U32, U64}
+use Rattle.link_base.specs.declared.numbers.LeNumber.TheVariants.{U8, U16, U32, U64}
 use Rattle.link_base.specs.Fields.{fields}
 use Rattle.image_writer.specs.declared.headers.Headers.{Headers}
 use Rattle.image_writer.specs.declared.headers.SectionRow.{SectionRow}

@@ -3,8 +3,8 @@
 use Rattle.std.specs.Prelude.{◌≡◌, ◌≤◌, ℕ, zero, suc, ◌+◌, ◌-◌, ◌*◌, ◌%◌, ◌^◌, Bool, true, false, ◌&&◌, ◌||◌, ◌==◌, nat_le, nat_lt, min, if◌then◌else◌, List, [], ◌∷◌, length, map, slice_index, Option, Some, None, is_none}
 use Rattle.std.specs.List.{range_with_len}
 use Rattle.link_base.specs.Bytes.{u16_at, u32_at, u64_at, has_bytes, bytes_at, all_below, first_below}
-use Rattle.link_base.specs.declared.kind.ImageKind.{ImageKind}
-use Rattle.link_base.specs.declared.kind.ImageKind.TheVariants as bad
+use Rattle.link_base.specs.declared.kinds.image.ImageKind.{ImageKind}
+use Rattle.link_base.specs.declared.kinds.image.ImageKind.TheVariants as bad
 use Rattle.address_layout.specs.declared.base.BaseRule.{BaseRule}
 use Rattle.address_layout.specs.PermittedBase.{is_permitted}
 use Rattle.image_writer.specs.ImageFormat.{page_size, file_alignment, optional_header_len, section_header_len, directory_count, machine_amd64, pe32_plus_magic, dos_magic, pe_signature, file_relocs_stripped, file_large_address_aware, image_limit, has_flag}

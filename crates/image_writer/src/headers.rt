@@ -12,7 +12,7 @@ use crate::pe_format::{
     NT_SIGNATURE, OPTIONAL_HEADER_LEN, PAGE_SIZE, PE_HEADER_OFFSET, SECTION_HEADER_LEN,
     SECTION_HEADERS_OFFSET,
 };
-use link_base::Field::{U8, U16, U32, U64};
+use link_base::LeNumber::{U8, U16, U32, U64};
 use link_base::{Memory, Name, push_fields};
 
 /// What the headers say of the image beside its sections. `flags` are the DLL characteristics; a

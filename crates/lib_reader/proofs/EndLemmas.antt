@@ -4,7 +4,7 @@ use Rattle.std.specs.Prelude.{is_some}
 use Rattle.std.proofs.lemmas.Bool.{lt-leb}
 use Rattle.link_base.specs.Bytes.{first_below}
 use Rattle.link_base.proofs.CallerLemmas.{first_below-found, first_below-more}
-use Rattle.link_base.specs.declared.kind.LibFault.TheVariants as kind
+use Rattle.link_base.specs.declared.kinds.library.LibFault.TheVariants as kind
 use Rattle.lib_reader.specs.declared.error.LibError.{LibError}
 use Rattle.lib_reader.specs.ArchiveMember.{next_header}
 use Rattle.lib_reader.specs.MemberName.{names_directory, names_long_names, names_other, names_special}

@@ -4,29 +4,30 @@ use Rattle.std.specs.Prelude.{is_some, is_none}
 use Rattle.std.specs.Option.{option_copied}
 use Rattle.std.proofs.lemmas.Bool.{false≢true}
 use Rattle.std.proofs.lemmas.Bool.Decides.{eqb_tells}
-use Rattle.link_base.specs.Bytes.{first_below, first_of}
+use Rattle.std.specs.Option.{option_or}
+use Rattle.link_base.specs.Bytes.{first_below}
 use Rattle.lib_reader.specs.ArchiveMember.{name_text, data_of}
 use Rattle.lib_reader.specs.Listing.{Entry, directory_is_bad, listings_in}
 use Rattle.lib_reader.specs.LibraryWalk.{header_at, text_at_position, data_at_position, is_directory, first_directory, is_later_directory, second_directory, is_long_names, first_long_names, long_names_data, directory_fails, has_directory_fault, first_listed, second_listed}
 
 -- ---- the least position that passes, one member on
 
-next_below : (n : ℕ) (test : ℕ → Bool) → first_below (n + 1) test ≡ first_of (first_below n test) (cond (test n) (Some n) None)
+next_below : (n : ℕ) (test : ℕ → Bool) → first_below (n + 1) test ≡ option_or (first_below n test) (cond (test n) (Some n) None)
 unfolding first_below
 next_below n test = rw add-one refl
 
-first_of_none : (earlier : Option ℕ) → first_of earlier None ≡ earlier
+first_of_none : (earlier : Option ℕ) → option_or earlier None ≡ earlier
 first_of_none None = refl
 first_of_none (Some k) = refl
 
 passed_by : (n : ℕ) (test : ℕ → Bool) → test n ≡ false → first_below (n + 1) test ≡ first_below n test
 passed_by n test fails =
     next_below n test
-    ∙ (ap (λ (b : Bool). first_of (first_below n test) (cond b (Some n) None)) fails ∙ first_of_none (first_below n test))
+    ∙ (ap (λ (b : Bool). option_or (first_below n test) (cond b (Some n) None)) fails ∙ first_of_none (first_below n test))
 
-found_by : (n : ℕ) (test : ℕ → Bool) (b : Bool) → test n ≡ b → first_below (n + 1) test ≡ first_of (first_below n test) (cond b (Some n) None)
+found_by : (n : ℕ) (test : ℕ → Bool) (b : Bool) → test n ≡ b → first_below (n + 1) test ≡ option_or (first_below n test) (cond b (Some n) None)
 found_by n test b is =
-    next_below n test ∙ ap (λ (b : Bool). first_of (first_below n test) (cond b (Some n) None)) is
+    next_below n test ∙ ap (λ (b : Bool). option_or (first_below n test) (cond b (Some n) None)) is
 
 -- ---- a member that is a directory
 
@@ -39,7 +40,7 @@ unfolding has_directory_fault directory_fails
 directory_judged bytes position content first second one two is directory =
     rw (one, two, is, directory, none_mapped (λ k. listings_in false (data_at_position bytes k)) (first_directory bytes position), none_mapped (λ k. listings_in true (data_at_position bytes k)) (second_directory bytes position)) refl
 
-first_chosen : {A : Type 0} (f : ℕ → A) (x : Option ℕ) (n : ℕ) → cond (is_none (option_map f x)) (Some (f n)) (option_map f x) ≡ option_map f (first_of x (Some n))
+first_chosen : {A : Type 0} (f : ℕ → A) (x : Option ℕ) (n : ℕ) → cond (is_none (option_map f x)) (Some (f n)) (option_map f x) ≡ option_map f (option_or x (Some n))
 first_chosen f None n = refl
 first_chosen f (Some k) n = refl
 
@@ -49,7 +50,7 @@ directory_first bytes position content first one is directory =
     let f = λ (k : ℕ). listings_in false (data_at_position bytes k) in
     rw (one, is) (first_chosen f (first_below position (is_directory bytes)) position ∙ ap (option_map f) (sym (found_by position (is_directory bytes) true directory)))
 
-second_chosen : {A B : Type 0} (f : ℕ → A) (g : ℕ → B) (x y : Option ℕ) (n : ℕ) → cond (is_some (option_map f x) && is_none (option_map g y)) (Some (g n)) (option_map g y) ≡ option_map g (first_of y (cond (is_some x) (Some n) None))
+second_chosen : {A B : Type 0} (f : ℕ → A) (g : ℕ → B) (x y : Option ℕ) (n : ℕ) → cond (is_some (option_map f x) && is_none (option_map g y)) (Some (g n)) (option_map g y) ≡ option_map g (option_or y (cond (is_some x) (Some n) None))
 second_chosen f g None None n = refl
 second_chosen f g None (Some j) n = refl
 second_chosen f g (Some k) None n = refl
@@ -101,11 +102,11 @@ pub long_names_passed : (bytes : List ℕ) (position : ℕ) → is_long_names by
 unfolding first_long_names
 long_names_passed bytes position other = ap (option_map (data_at_position bytes)) (passed_by position (is_long_names bytes) other)
 
-kept_first : {A : Type 0} (f : ℕ → A) (x : Option ℕ) (b : Bool) (n : ℕ) → is_some (option_map f x) ≡ true → option_map f (first_of x (cond b (Some n) None)) ≡ option_map f x
+kept_first : {A : Type 0} (f : ℕ → A) (x : Option ℕ) (b : Bool) (n : ℕ) → is_some (option_map f x) ≡ true → option_map f (option_or x (cond b (Some n) None)) ≡ option_map f x
 kept_first f None b n some = absurd (false≢true some)
 kept_first f (Some k) b n some = refl
 
-made_first : {A : Type 0} (f : ℕ → A) (x : Option ℕ) (n : ℕ) → is_some (option_map f x) ≡ false → option_map f (first_of x (Some n)) ≡ Some (f n)
+made_first : {A : Type 0} (f : ℕ → A) (x : Option ℕ) (n : ℕ) → is_some (option_map f x) ≡ false → option_map f (option_or x (Some n)) ≡ Some (f n)
 made_first f None n none = refl
 made_first f (Some k) n none = absurd (false≢true (sym none))
 

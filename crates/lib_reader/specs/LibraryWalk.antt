@@ -4,7 +4,7 @@
 use Rattle.std.specs.Prelude.{ℕ, zero, suc, Bool, ◌||◌, ◌&&◌, not, ◌==◌, nat_le, nat_eq, true, false, if◌then◌else◌, List, [], length, Option, Some, None, is_some, is_none, option_map, option_and_then, unwrap_or}
 use Rattle.std.specs.List.{starts_with}
 use Rattle.link_base.specs.Bytes.{first_below}
-use Rattle.link_base.specs.declared.kind.LibFault.TheVariants as kind
+use Rattle.link_base.specs.declared.kinds.library.LibFault.TheVariants as kind
 use Rattle.lib_reader.specs.declared.error.LibError.{LibError}
 use Rattle.lib_reader.specs.Constants.{ARCHIVE_START, ARCHIVE_START_SIZE}
 use Rattle.lib_reader.specs.ArchiveMember.{name_text, data_of, next_header}

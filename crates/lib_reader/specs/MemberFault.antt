@@ -1,7 +1,7 @@
 -- What is wrong with one header, in the order of the tests. Own; the fields are those of the PE Format specification.
 use Rattle.std.specs.Prelude.{ℕ, Bool, ◌&&◌, if◌then◌else◌, List, Option, Some, None, is_none}
-use Rattle.link_base.specs.declared.kind.LibFault.{LibFault}
-use Rattle.link_base.specs.declared.kind.LibFault.TheVariants as kind
+use Rattle.link_base.specs.declared.kinds.library.LibFault.{LibFault}
+use Rattle.link_base.specs.declared.kinds.library.LibFault.TheVariants as kind
 use Rattle.lib_reader.specs.declared.error.LibError.{LibError}
 use Rattle.lib_reader.specs.ArchiveMember.{name_text, header_is_bad, size_is_bad}
 use Rattle.lib_reader.specs.MemberName.{names_an_offset, long_name}

@@ -19,6 +19,10 @@ pub number_from_drop : (width offset : ℕ) (bytes : List ℕ) → little_number
 unfolding number_at
 number_from_drop width offset bytes = little_from-drop width offset 0 bytes ∙ ap (λ (k : ℕ). little_from k width bytes) (omega arith)
 
+-- a number that is read at an offset
+pub number_is : (width offset n : ℕ) (bytes : List ℕ) → n ≡ little_number width (drop offset bytes) → n ≡ number_at width bytes offset
+number_is width offset n bytes is = is ∙ number_from_drop width offset bytes
+
 -- a number that is read where it fits
 pub field_is : (width offset n : ℕ) (bytes : List ℕ) → offset + width ≤ length bytes → n ≡ little_number width (drop offset bytes) → Some n ≡ field width bytes offset
 field_is width offset n bytes fits is = rw (le-leb _ _ fits) (ap Some (is ∙ number_from_drop width offset bytes))

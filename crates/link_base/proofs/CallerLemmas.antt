@@ -2,7 +2,8 @@
 use Rattle.std.proofs.Common.{List, ◌++◌, length, drop, ◌^◌, ◌≡◌, ℕ, zero, suc, ◌+◌, ◌<◌, Bool, true, false, cond, ◌&&◌, Option, Some, None, refl, sym, ap, ◌∙◌, inl, inr, ◌⊎◌, add-one, arith}
 use Rattle.std.proofs.lemmas.Bool.{false≢true, cases_lt}
 use Rattle.byteorder.specs.Numbers.{little_number-reads_back, length-bytes_low_first}
-use Rattle.link_base.specs.Bytes.{all_below, first_below, first_of, number_at, number_bytes}
+use Rattle.std.specs.Option.{option_or}
+use Rattle.link_base.specs.Bytes.{all_below, first_below, number_at, number_bytes}
 use Rattle.link_base.proofs.Bytes.{little_from-drop}
 
 -- ---- the least number that passes
@@ -22,7 +23,7 @@ first_below-found n (suc m) test lt none passes =
       | inr above ↦ let same : m ≡ n = omega arith in rw (same, none, passes) refl
     ]
 
-neither : (earlier : Option ℕ) (b : Bool) (n : ℕ) → first_of earlier (cond b (Some n) None) ≡ None → (earlier ≡ None) × (b ≡ false)
+neither : (earlier : Option ℕ) (b : Bool) (n : ℕ) → option_or earlier (cond b (Some n) None) ≡ None → (earlier ≡ None) × (b ≡ false)
 neither None false n e = (refl, refl)
 neither None true n e = absurd cc
 neither (Some k) b n e = absurd cc
@@ -48,7 +49,7 @@ first_below-all_fail (suc n) test fails =
 some_same : (k m : ℕ) → Some k ≡ Some m → k ≡ m
 some_same k m e = cc
 
-found_by : (earlier : Option ℕ) (b : Bool) (n k : ℕ) → first_of earlier (cond b (Some n) None) ≡ Some k → (earlier ≡ Some k) ⊎ ((earlier ≡ None) × ((b ≡ true) × (n ≡ k)))
+found_by : (earlier : Option ℕ) (b : Bool) (n k : ℕ) → option_or earlier (cond b (Some n) None) ≡ Some k → (earlier ≡ Some k) ⊎ ((earlier ≡ None) × ((b ≡ true) × (n ≡ k)))
 found_by (Some m) b n k e = inl e
 found_by None true n k e = inr (refl, (refl, some_same n k e))
 found_by None false n k e = absurd cc

@@ -1,3 +1,6 @@
 pub mod Bytes
-pub mod LineLemmas
+pub mod SectionNameLemmas
 pub mod CallerLemmas
+pub mod RangeLemmas
+pub mod TestLemmas
+pub mod RefusalLemmas

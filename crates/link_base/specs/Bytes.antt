@@ -1,6 +1,7 @@
 -- Numbers and texts in a list of bytes. The formats of a link hold numbers with the lowest byte first
 -- (PE Format, "COFF File Header (Object and Image)" and the tables after it).
-use Rattle.std.specs.Prelude.{ℕ, zero, suc, ◌+◌, Bool, true, ◌&&◌, ◌==◌, nat_le, if◌then◌else◌, List, length, take, drop, Option, Some, None, option_map, position}
+use Rattle.std.specs.Prelude.{ℕ, zero, suc, ◌+◌, Bool, true, ◌&&◌, not, ◌==◌, nat_le, if◌then◌else◌, List, length, take, drop, Option, Some, None, option_map, position, bit_and}
+use Rattle.std.specs.Option.{option_or}
 use Rattle.byteorder.specs.Endian.{little_from, little_bytes}
 
 -- the number in the `width` bytes from `offset` on, the lowest byte first
@@ -39,17 +40,16 @@ is_nul byte = byte == 0
 abbrev pub text_at : List ℕ → ℕ → Option (List ℕ)
 text_at bytes offset = option_map (λ len. take len (drop offset bytes)) (position is_nul (drop offset bytes))
 
+-- some bit of a mask is set
+abbrev pub has_flag : ℕ → ℕ → Bool
+has_flag flags mask = not (bit_and flags mask == 0)
+
 -- each number below n passes
 unfoldable pub all_below : ℕ → (ℕ → Bool) → Bool
 all_below zero test = true
 all_below (suc n) test = all_below n test && test n
 
--- the first of two that is there
-abbrev pub first_of : Option ℕ → Option ℕ → Option ℕ
-first_of None other = other
-first_of (Some k) other = Some k
-
 -- the least number below n that passes
 unfoldable pub first_below : ℕ → (ℕ → Bool) → Option ℕ
 first_below zero test = None
-first_below (suc n) test = first_of (first_below n test) (if test n then Some n else None)
+first_below (suc n) test = option_or (first_below n test) (if test n then Some n else None)

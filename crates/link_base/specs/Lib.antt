@@ -1,6 +1,8 @@
 pub mod Bytes
 pub mod Fields
+pub mod Decimal
 pub mod NameText
-pub mod LineText
-pub mod KindWord
-pub mod FaultLine
+pub mod SectionName
+pub mod PeFormat
+pub mod Limits
+pub mod Refusals

@@ -1,8 +1,17 @@
 -- Names as texts. A name that begins with the import prefix is that of an entry of the import address table
 -- (PE Format, "Import Library Format" and "The .idata Section").
 use Rattle.std.specs.Prelude.{ℕ, Bool, true, false, List, [], ◌∷◌, ◌++◌, take, drop, nat_eq, codes, if◌then◌else◌}
+use Rattle.std.specs.List.{starts_with}
 use lib.Pointwise.{pointwise}
 use Rattle.std.specs.Hash as fed
+
+-- two names are one text
+abbrev pub same_name : List ℕ → List ℕ → Bool
+same_name name other = pointwise nat_eq name other
+
+-- the bytes begin with these
+abbrev pub begins : List ℕ → List ℕ → Bool
+begins bytes start = starts_with nat_eq bytes start
 
 -- `__imp_`
 abbrev pub import_prefix : List ℕ
@@ -11,7 +20,7 @@ import_prefix = codes "__imp_"
 abbrev pub begins_import : List ℕ → Bool
 begins_import text = pointwise nat_eq (take 6 text) import_prefix
 
--- the text behind the prefix, or the whole text where it does not begin so
+-- the text after the prefix, or the whole text where it does not begin so
 abbrev pub behind_import : List ℕ → List ℕ
 behind_import text = if begins_import text then drop 6 text else text
 

@@ -1,18 +1,10 @@
-//! The diagnostics of a link: what is wrong with the words or the files, and the line that says so.
+//! The diagnostics of a link: what is wrong with the words or the files.
 
-ghost use Rattle.std.specs.Prelude.{◌≡◌, ◌++◌, IfOk, OnOk};
-ghost use Rattle.std.specs.Fmt.{decimal};
-ghost use Rattle.link_base.specs.LineText.{operand, escaped, file_text, module_text};
-ghost use Rattle.link_base.specs.FaultLine.{fault_head, fault_operands, fault_line_text};
-
-use crate::kind::{
-    ImpFault, Kind, LibFault, ObjFault, TargetFault, import_fault_word, kind_word,
-    library_fault_word, object_fault_word, target_fault_word,
+use crate::kinds::{
+    ExportFault, ImageKind, ImpFault, Kind, LibFault, ObjFault, PdbKind, RelocKind, ResFault,
+    ResName, TargetFault,
 };
-use crate::line::{push_escaped, push_number};
-use crate::memory::Memory;
 use crate::name::Name;
-use std::alloc::Global;
 
 /// A refusal of the input. Its number and name, and its operands in their order, stand in `docs/FAULTS.md`.
 /// A file operand is a file and, where the fault lies in a library, the member of it. A module operand is a
@@ -53,11 +45,23 @@ pub enum Fault<'a> {
         member: Option<Name<'a>>,
         kind: ImpFault,
     },
+    /// The directives of a module are malformed, at this offset of their section.
+    BadDirective {
+        file: Name<'a>,
+        member: Option<Name<'a>>,
+        at: usize,
+    },
     /// The file has a form that the linker does not take.
     Unsupported {
         file: Name<'a>,
         member: Option<Name<'a>>,
         kind: Kind,
+    },
+    /// Two directives give one key different values.
+    Mismatch {
+        key: Name<'a>,
+        first: Name<'a>,
+        second: Name<'a>,
     },
     /// Two modules define one name.
     Duplicate {
@@ -65,8 +69,19 @@ pub enum Fault<'a> {
         first: Option<u32>,
         second: Option<u32>,
     },
+    /// The COMDAT sections of a name contradict one another.
+    ComdatConflict {
+        name: Name<'a>,
+        first: Option<u32>,
+        second: Option<u32>,
+    },
     /// Nothing defines the name.
     Undefined {
+        name: Name<'a>,
+        module: Option<u32>,
+    },
+    /// What the name means leads back to a name on the way.
+    WeakCycle {
         name: Name<'a>,
         module: Option<u32>,
     },
@@ -77,7 +92,24 @@ pub enum Fault<'a> {
         section: u32,
         relocation: u32,
     },
-    /// A merge of section names contradicts another, or comes back to its start.
+    /// The relocation is malformed.
+    BadReloc {
+        kind: RelocKind,
+        module: Option<u32>,
+        section: u32,
+        relocation: u32,
+    },
+    /// A part of the exception table is no list of its rows.
+    BadPdata {
+        module: Option<u32>,
+        section: u32,
+    },
+    /// The export cannot be made.
+    BadExport {
+        kind: ExportFault,
+        name: Name<'a>,
+    },
+    /// A merge of section names contradicts another, leads in a circle, or names a section that is never merged.
     BadMerge {
         name: Name<'a>,
     },
@@ -89,162 +121,62 @@ pub enum Fault<'a> {
     ImageTooLarge {
         size: u64,
     },
-}
-
-/// The line that a diagnostic prints, with its newline.
-pub fn fault_line(alloc: Global, fault: &Fault<'_>) -> Result<Vec<u8>, Memory>
-    ensures { IfOk result (λ line. line.items ≡ fault_line_text fault.now) }
-{
-    let mut line = Vec::new(alloc);
-    line.extend_from_slice(head_of(fault))?;
-    push_operands(alloc, &mut line, fault)?;
-    line.push(b'\n')?;
-    Ok(line)
-}
-
-/// The word `fault`, the number and the name.
-fn head_of(fault: &Fault<'_>) -> &'static [u8]
-    ensures { result.now ≡ fault_head fault.now }
-{
-    match fault {
-        Fault::NotFound { .. } => b"fault 2 NotFound",
-        Fault::FileTooLarge { .. } => b"fault 3 FileTooLarge",
-        Fault::InputLimit { .. } => b"fault 4 InputLimit",
-        Fault::BadObject { .. } => b"fault 5 BadObject",
-        Fault::BadLibrary { .. } => b"fault 6 BadLibrary",
-        Fault::BadImport { .. } => b"fault 7 BadImport",
-        Fault::Unsupported { .. } => b"fault 9 Unsupported",
-        Fault::Duplicate { .. } => b"fault 11 Duplicate",
-        Fault::Undefined { .. } => b"fault 13 Undefined",
-        Fault::BadTarget { .. } => b"fault 15 BadTarget",
-        Fault::BadMerge { .. } => b"fault 19 BadMerge",
-        Fault::TooManySections { .. } => b"fault 20 TooManySections",
-        Fault::ImageTooLarge { .. } => b"fault 21 ImageTooLarge",
-    }
-}
-
-fn push_operands(alloc: Global, line: &mut Vec<u8>, fault: &Fault<'_>) -> Result<(), Memory>
-    ensures { OnOk result (line.new.items ≡ line.old.items ++ fault_operands fault.now) }
-{
-    match fault {
-        Fault::NotFound { file, member } => push_file(line, file, member),
-        Fault::FileTooLarge { file, member } => push_file(line, file, member),
-        Fault::InputLimit { sum } => push_count(alloc, line, *sum),
-        Fault::BadObject {
-            file,
-            member,
-            kind,
-            index,
-        } => {
-            push_file(line, file, member)?;
-            push_word(line, object_fault_word(*kind))?;
-            push_count(alloc, line, u64::from(*index))
-        }
-        Fault::BadLibrary {
-            file,
-            member,
-            kind,
-            at,
-        } => {
-            push_file(line, file, member)?;
-            push_word(line, library_fault_word(*kind))?;
-            push_count(alloc, line, u64::from(*at))
-        }
-        Fault::BadImport { file, member, kind } => {
-            push_file(line, file, member)?;
-            push_word(line, import_fault_word(*kind))
-        }
-        Fault::Unsupported { file, member, kind } => {
-            push_file(line, file, member)?;
-            push_word(line, kind_word(*kind))
-        }
-        Fault::Duplicate {
-            name,
-            first,
-            second,
-        } => {
-            push_name(line, name)?;
-            push_module(alloc, line, *first)?;
-            push_module(alloc, line, *second)
-        }
-        Fault::Undefined { name, module } => {
-            push_name(line, name)?;
-            push_module(alloc, line, *module)
-        }
-        Fault::BadTarget {
-            kind,
-            module,
-            section,
-            relocation,
-        } => {
-            push_word(line, target_fault_word(*kind))?;
-            push_place(alloc, line, *module, *section, *relocation)
-        }
-        Fault::BadMerge { name } => push_name(line, name),
-        Fault::TooManySections { count } => push_count(alloc, line, u64::from(*count)),
-        Fault::ImageTooLarge { size } => push_count(alloc, line, *size),
-    }
-}
-
-fn push_word(line: &mut Vec<u8>, word: &[u8]) -> Result<(), Memory>
-    ensures { OnOk result (line.new.items ≡ line.old.items ++ operand word.now) }
-{
-    line.push(b' ')?;
-    line.extend_from_slice(word)?;
-    Ok(())
-}
-
-fn push_name(line: &mut Vec<u8>, name: &Name<'_>) -> Result<(), Memory>
-    ensures { OnOk result (line.new.items ≡ line.old.items ++ operand (escaped name.now)) }
-{
-    line.push(b' ')?;
-    push_escaped(line, name)
-}
-
-fn push_file(line: &mut Vec<u8>, file: &Name<'_>, member: &Option<Name<'_>>) -> Result<(), Memory>
-    ensures { OnOk result (line.new.items ≡ line.old.items ++ operand (file_text file.now member.now)) }
-{
-    line.push(b' ')?;
-    push_escaped(line, file)?;
-    if let Some(member) = member {
-        line.push(b':')?;
-        push_escaped(line, member)?;
-    }
-    Ok(())
-}
-
-fn push_module(alloc: Global, line: &mut Vec<u8>, position: Option<u32>) -> Result<(), Memory>
-    ensures { OnOk result (line.new.items ≡ line.old.items ++ operand (module_text position)) }
-{
-    line.push(b' ')?;
-    match position {
-        None => {
-            line.push(b'-')?;
-            Ok(())
-        }
-        Some(position) => push_number(alloc, line, u64::from(position)),
-    }
-}
-
-fn push_count(alloc: Global, line: &mut Vec<u8>, count: u64) -> Result<(), Memory>
-    ensures { OnOk result (line.new.items ≡ line.old.items ++ operand (decimal count)) }
-{
-    line.push(b' ')?;
-    push_number(alloc, line, count)
-}
-
-/// A relocation, by its module, its section and its index in the section.
-fn push_place(
-    alloc: Global,
-    line: &mut Vec<u8>,
-    position: Option<u32>,
-    section: u32,
-    relocation: u32,
-) -> Result<(), Memory>
-    ensures { OnOk result (line.new.items ≡ line.old.items
-        ++ (operand (module_text position) ++ (operand (decimal section) ++ operand (decimal relocation)))) }
-{
-    push_module(alloc, line, position)?;
-    push_count(alloc, line, u64::from(section))?;
-    push_count(alloc, line, u64::from(relocation))
+    /// The image may not stand at the base that the command line gives.
+    BaseRange {
+        base: u64,
+    },
+    /// The value of a field leaves its range.
+    RelocRange {
+        module: Option<u32>,
+        section: u32,
+        relocation: u32,
+        value: i128,
+    },
+    /// The program database would be larger than the linker makes.
+    PdbTooLarge {
+        size: u64,
+    },
+    /// The resource file is malformed, at this offset.
+    BadResource {
+        file: Name<'a>,
+        member: Option<Name<'a>>,
+        kind: ResFault,
+        at: u32,
+    },
+    /// Two resources have one type, name and language.
+    DuplicateResource {
+        file: Name<'a>,
+        member: Option<Name<'a>>,
+        kind: ResName<'a>,
+        name: ResName<'a>,
+        language: u16,
+    },
+    /// There are more resources than the linker takes.
+    TooManyResources {
+        count: u32,
+    },
+    /// The import library would be larger than the linker makes.
+    ImplibTooLarge {
+        size: u64,
+    },
+    /// The image cannot be loaded.
+    BadImage {
+        kind: ImageKind,
+    },
+    /// The program database cannot be read.
+    BadPdb {
+        kind: PdbKind,
+    },
+    /// The image may not be loaded at the base.
+    BasePermit {
+        base: u64,
+    },
+    /// The program database has no public symbol of this name.
+    NoSymbol {
+        name: Name<'a>,
+    },
+    /// The bytes leave the image, whose end they pass at this RVA.
+    LengthRange {
+        end: u64,
+    },
 }

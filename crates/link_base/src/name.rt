@@ -1,6 +1,6 @@
 //! Names: of symbols, and of the files and members that a diagnostic prints.
 
-ghost use Rattle.std.specs.Prelude.{◌≡◌, ◌++◌, nat_eq, OnOk};
+ghost use Rattle.std.specs.Prelude.{◌≡◌, ◌==◌, ◌++◌, nat_eq, length, OnOk};
 ghost use Rattle.std.specs.Ordering.{nat_cmp};
 ghost use Rattle.std.specs.Cmp.Lexicographic.{slice_cmp};
 ghost use Rattle.link_base.specs.NameText.{import_prefix, import_prefix_of, begins_import, behind_import, name_hash_input};
@@ -72,7 +72,20 @@ impl<'a> Name<'a> {
         self.is_import
     }
 
-    /// The bytes behind the prefix, or all of the name where it has none.
+    /// How many bytes the name has.
+    pub fn len(&self) -> usize
+        ensures { result ≡ length self.now }
+    {
+        self.prefix().len() + self.rest.len()
+    }
+
+    pub fn is_empty(&self) -> bool
+        ensures { result ≡ (length self.now == 0) }
+    {
+        self.len() == 0
+    }
+
+    /// The bytes after the prefix, or all of the name where it has none.
     pub fn rest(&self) -> &'a [u8]
         ensures { result.now ≡ behind_import self.now }
     {
@@ -80,7 +93,7 @@ impl<'a> Name<'a> {
     }
 
     /// The prefix where the name begins with it, and else nothing.
-    pub(crate) fn prefix(&self) -> &'static [u8]
+    pub fn prefix(&self) -> &'static [u8]
         ensures { result.now ≡ import_prefix_of self.now }
     {
         if self.is_import { IMPORT_PREFIX } else { b"" }

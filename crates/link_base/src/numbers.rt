@@ -9,7 +9,7 @@ use byteorder::{LittleEndian, WriteBytesExt};
 
 /// A number and the width that a table gives it.
 #[derive(Clone, Copy)]
-pub enum Field {
+pub enum LeNumber {
     U8(u8),
     U16(u16),
     U32(u32),
@@ -17,7 +17,7 @@ pub enum Field {
 }
 
 /// Appends the fields of a table, one after the other.
-pub fn push_fields(out: &mut Vec<u8>, table: &[Field]) -> Result<(), Memory>
+pub fn push_fields(out: &mut Vec<u8>, table: &[LeNumber]) -> Result<(), Memory>
     ensures { OnOk result (out.new.items ≡ out.old.items ++ fields table.now) }
 {
     for field in table {
@@ -26,14 +26,14 @@ pub fn push_fields(out: &mut Vec<u8>, table: &[Field]) -> Result<(), Memory>
     Ok(())
 }
 
-fn push_field(out: &mut Vec<u8>, field: Field) -> Result<(), Memory>
+fn push_field(out: &mut Vec<u8>, field: LeNumber) -> Result<(), Memory>
     ensures { OnOk result (out.new.items ≡ out.old.items ++ field_bytes field) }
 {
     match field {
-        Field::U8(number) => push_u8(out, number),
-        Field::U16(number) => push_u16(out, number),
-        Field::U32(number) => push_u32(out, number),
-        Field::U64(number) => push_u64(out, number),
+        LeNumber::U8(number) => push_u8(out, number),
+        LeNumber::U16(number) => push_u16(out, number),
+        LeNumber::U32(number) => push_u32(out, number),
+        LeNumber::U64(number) => push_u64(out, number),
     }
 }
 

@@ -1,5 +1,4 @@
 use super::*;
-use std::test::Fail;
 
 fn name(text: &str) -> Name<'_> {
     Name::of(text.as_bytes())
@@ -31,93 +30,8 @@ fn fields_are_there_where_they_fit(rt: HostRuntime) {
 }
 
 #[test]
-fn diagnostics_print_their_lines(rt: HostRuntime) -> Result<(), Fail> {
-    let cases = [
-        (
-            Fault::NotFound {
-                file: name("x.obj"),
-                member: None,
-            },
-            "fault 2 NotFound x.obj\n",
-        ),
-        (
-            Fault::BadObject {
-                file: name("a.obj"),
-                member: None,
-                kind: ObjFault::RelocationRange,
-                index: 1,
-            },
-            "fault 5 BadObject a.obj RelocationRange 1\n",
-        ),
-        (
-            Fault::BadLibrary {
-                file: name("a.lib"),
-                member: None,
-                kind: LibFault::Header,
-                at: 8,
-            },
-            "fault 6 BadLibrary a.lib Header 8\n",
-        ),
-        (
-            Fault::BadImport {
-                file: name("g.imp"),
-                member: None,
-                kind: ImpFault::Length,
-            },
-            "fault 7 BadImport g.imp Length\n",
-        ),
-        (
-            Fault::Unsupported {
-                file: name("a b.lib"),
-                member: Some(name("m\\.obj")),
-                kind: Kind::LongName,
-            },
-            "fault 9 Unsupported a\\x20b.lib:m\\x5C.obj LongName\n",
-        ),
-        (
-            Fault::Duplicate {
-                name: name("main"),
-                first: Some(0),
-                second: Some(1),
-            },
-            "fault 11 Duplicate main 0 1\n",
-        ),
-        (
-            Fault::Undefined {
-                name: name("mainCRTStartup"),
-                module: None,
-            },
-            "fault 13 Undefined mainCRTStartup -\n",
-        ),
-        (
-            Fault::BadTarget {
-                kind: TargetFault::AbsRelative,
-                module: Some(0),
-                section: 1,
-                relocation: 0,
-            },
-            "fault 15 BadTarget AbsRelative 0 1 0\n",
-        ),
-        (
-            Fault::BadMerge { name: name(".a") },
-            "fault 19 BadMerge .a\n",
-        ),
-        (
-            Fault::TooManySections { count: 97 },
-            "fault 20 TooManySections 97\n",
-        ),
-        (
-            Fault::ImageTooLarge { size: 536_879_104 },
-            "fault 21 ImageTooLarge 536879104\n",
-        ),
-        (
-            Fault::InputLimit { sum: 65_535 },
-            "fault 4 InputLimit 65535\n",
-        ),
-    ];
-    for (fault, line) in &cases {
-        let printed = fault_line(rt.alloc(), fault)?;
-        assert_eq!(rt; printed.as_slice(), line.as_bytes());
-    }
-    Ok(())
+fn section_names_are_cut_at_the_first_dollar(rt: HostRuntime) {
+    assert!(rt; name(".text$a$b").base_and_suffix() == (name(".text"), name("a$b")));
+    assert!(rt; name(".rdata").base_and_suffix() == (name(".rdata"), name("")));
+    assert!(rt; name("__imp_x$y").base_name() == Name::import(b"x"));
 }

@@ -4,7 +4,7 @@
 
 use crate::build_error::BuildError;
 use crate::records::{count_u16, count_u32, push_relocations, push_section_header, push_symbol};
-use link_base::{Field, push_fields};
+use link_base::{LeNumber, push_fields};
 use std::alloc::Global;
 
 const FILE_MACHINE_AMD64: u16 = 0x8664;
@@ -148,7 +148,7 @@ pub fn object_file(
     file.extend_from_slice(&headers)?;
     file.extend_from_slice(&bodies)?;
     file.extend_from_slice(&records)?;
-    push_fields(&mut file, &[Field::U32(place_behind(4, &strings)?)])?;
+    push_fields(&mut file, &[LeNumber::U32(place_behind(4, &strings)?)])?;
     file.extend_from_slice(&strings)?;
     Ok(file)
 }
@@ -162,13 +162,13 @@ fn push_file_header(
     push_fields(
         file,
         &[
-            Field::U16(FILE_MACHINE_AMD64),
-            Field::U16(sections),
-            Field::U32(0),
-            Field::U32(records_place),
-            Field::U32(record_count),
-            Field::U16(0),
-            Field::U16(0),
+            LeNumber::U16(FILE_MACHINE_AMD64),
+            LeNumber::U16(sections),
+            LeNumber::U32(0),
+            LeNumber::U32(records_place),
+            LeNumber::U32(record_count),
+            LeNumber::U16(0),
+            LeNumber::U16(0),
         ],
     )?;
     Ok(())

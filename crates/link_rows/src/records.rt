@@ -5,7 +5,8 @@ ghost use Rattle.std.specs.Prelude.{◌≤◌, length};
 
 use crate::build_error::BuildError;
 use crate::object::{Aux, Contents, Places, Relocation, Section, Symbol};
-use link_base::{Field, push_fields, push_number};
+use diagnostics::{push_number};
+use link_base::{LeNumber, push_fields};
 use std::alloc::Global;
 
 /// The count in a section header that stands for a greater one, which the first relocation holds.
@@ -41,15 +42,15 @@ pub(crate) fn push_section_header(
     push_fields(
         headers,
         &[
-            Field::U32(0),
-            Field::U32(0),
-            Field::U32(size),
-            Field::U32(places.body),
-            Field::U32(places.relocations),
-            Field::U32(0),
-            Field::U16(count),
-            Field::U16(0),
-            Field::U32(section.flags | overflow),
+            LeNumber::U32(0),
+            LeNumber::U32(0),
+            LeNumber::U32(size),
+            LeNumber::U32(places.body),
+            LeNumber::U32(places.relocations),
+            LeNumber::U32(0),
+            LeNumber::U16(count),
+            LeNumber::U16(0),
+            LeNumber::U32(section.flags | overflow),
         ],
     )?;
     Ok(())
@@ -86,7 +87,7 @@ fn push_relocation(
 ) -> Result<(), BuildError> {
     push_fields(
         bodies,
-        &[Field::U32(offset), Field::U32(index), Field::U16(kind)],
+        &[LeNumber::U32(offset), LeNumber::U32(index), LeNumber::U16(kind)],
     )?;
     Ok(())
 }
@@ -116,11 +117,11 @@ pub(crate) fn push_symbol(
     push_fields(
         records,
         &[
-            Field::U32(symbol.value),
-            Field::U16(symbol.section),
-            Field::U16(symbol.kind),
-            Field::U8(symbol.class),
-            Field::U8(aux),
+            LeNumber::U32(symbol.value),
+            LeNumber::U16(symbol.section),
+            LeNumber::U16(symbol.kind),
+            LeNumber::U8(symbol.class),
+            LeNumber::U8(aux),
         ],
     )?;
     for record in symbol.aux {
@@ -137,7 +138,7 @@ fn push_aux(
     match aux {
         Aux::Weak { default, search } => {
             let index = record_of(symbols, default)?;
-            push_fields(records, &[Field::U32(index), Field::U32(*search)])?;
+            push_fields(records, &[LeNumber::U32(index), LeNumber::U32(*search)])?;
             records.extend_from_slice(&[0; 10])?;
         }
         Aux::Section {
@@ -145,8 +146,8 @@ fn push_aux(
             number,
             selection,
         } => {
-            push_fields(records, &[Field::U32(*len), Field::U32(0), Field::U32(0)])?;
-            push_fields(records, &[Field::U16(*number), Field::U8(*selection)])?;
+            push_fields(records, &[LeNumber::U32(*len), LeNumber::U32(0), LeNumber::U32(0)])?;
+            push_fields(records, &[LeNumber::U16(*number), LeNumber::U8(*selection)])?;
             records.extend_from_slice(&[0; 3])?;
         }
         Aux::Plain(bytes) => records.extend_from_slice(bytes)?,
@@ -186,7 +187,7 @@ fn push_symbol_name(
         return push_short(records, name.as_bytes());
     }
     let offset = push_string(strings, name)?;
-    push_fields(records, &[Field::U32(0), Field::U32(offset)])?;
+    push_fields(records, &[LeNumber::U32(0), LeNumber::U32(offset)])?;
     Ok(())
 }
 

@@ -10,7 +10,8 @@ use Rattle.std.proofs.lemmas.List.{append-nil, map-append}
 use Rattle.std.proofs.lemmas.List.Concat.{flat_map-append}
 use Rattle.std.proofs.lemmas.List.Elements.{All-nil, All-append, All-map, All-weaker, filter-append}
 use Rattle.std.specs.Prelude.{is_some, unwrap_or}
-use Rattle.link_base.specs.Bytes.{first_below, first_of}
+use Rattle.std.specs.Option.{option_or}
+use Rattle.link_base.specs.Bytes.{first_below}
 use Rattle.link_base.proofs.CallerLemmas.{first_below-none, first_below-found, first_below-some}
 use Rattle.coff_object.specs.ObjectFaults.{means_a_place, object_fault}
 use Rattle.coff_object.proofs.CallerLemmas.{symbol_section_inside, symbol_value_inside}
@@ -22,7 +23,7 @@ use Rattle.linker_program.specs.Placed.{same_name}
 use Rattle.std.proofs.lemmas.Slice.Eq.{bytes_eq-Decides}
 use Rattle.link_base.specs.declared.fault.Fault.TheVariants.{Duplicate}
 use Rattle.linker_program.specs.Pieces.{defines_in, is_named}
-use Rattle.section_group.proofs.RangeLemmas.{Passes, range_passes}
+use Rattle.link_base.proofs.RangeLemmas.{Passes, range_passes}
 
 -- ---- one more number of a range
 
@@ -251,11 +252,11 @@ noted_more definitions k name base old new is so_far absent after =
     here : same_name (definition_at definitions k).name name ≡ same_name base name
     here = ap (λ (b : List ℕ). same_name b name) (sym is)
 
-    first_of_none : (o : Option ℕ) → first_of o None ≡ o
+    first_of_none : (o : Option ℕ) → option_or o None ≡ o
     first_of_none None = refl
     first_of_none (Some n) = refl
 
-    go : (b : Bool) → same_name base name ≡ b → cond b (Some k) (old name) ≡ first_of (first_below k (named_by definitions name)) (cond (same_name (definition_at definitions k).name name) (Some k) None)
+    go : (b : Bool) → same_name base name ≡ b → cond b (Some k) (old name) ≡ option_or (first_below k (named_by definitions name)) (cond (same_name (definition_at definitions k).name name) (Some k) None)
     go true e =
         let same : base ≡ name = (bytes_eq-Decides base name).0 e in
         let none = sym (so_far name) ∙ ap old (sym same) ∙ absent in

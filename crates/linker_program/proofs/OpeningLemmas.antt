@@ -8,8 +8,8 @@ use Rattle.std.proofs.lemmas.Bool.Decides.{eqb_tells}
 use Rattle.std.proofs.lemmas.List.{drop_all, take_all, take-take, length-take-le}
 use Rattle.link_base.specs.Bytes.{first_below}
 use Rattle.link_base.proofs.CallerLemmas.{first_below-found, first_below-none}
-use Rattle.link_base.specs.declared.kind.Kind.{Kind}
-use Rattle.link_base.specs.declared.kind.Kind.TheVariants as form
+use Rattle.link_base.specs.declared.kinds.form.Kind.{Kind}
+use Rattle.link_base.specs.declared.kinds.form.Kind.TheVariants as form
 use Rattle.coff_object.specs.declared.error.ObjError.{ObjError}
 use Rattle.coff_object.specs.ObjectFaults.{object_fault}
 use Rattle.coff_object.proofs.CallerLemmas.{before_first-take}

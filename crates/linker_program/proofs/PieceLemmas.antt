@@ -13,7 +13,8 @@ use Rattle.std.proofs.Math.ListN.{get_or-map}
 use Rattle.std.proofs.Math.Seq.{take-append_seam}
 use Rattle.std.proofs.lemmas.Nat.{pow-add, pow_pos}
 use Rattle.std.proofs.Math.Nat.{mul-mod_left}
-use Rattle.link_base.specs.Bytes.{first_below, first_of, bytes_at}
+use Rattle.std.specs.Option.{option_or}
+use Rattle.link_base.specs.Bytes.{first_below, bytes_at}
 use Rattle.link_base.proofs.CallerLemmas.{first_below-some, first_below-found, first_below-none}
 use Rattle.coff_object.specs.ObjectFaults.{object_fault}
 use Rattle.coff_object.specs.ObjectFile.{section_total, flags_of, alignment_of, raw_size_of, raw_offset_of, is_uninitialised, record_total, starts_symbol, symbol_section_field}
@@ -21,7 +22,7 @@ use Rattle.coff_object.proofs.CallerLemmas.{symbol_section_inside, body_length, 
 use Rattle.section_group.specs.declared.piece.Piece.{Piece}
 use Rattle.section_group.specs.BarePieces.{bare}
 use Rattle.section_group.specs.SectionOrder.{no_piece}
-use Rattle.section_group.proofs.RangeLemmas.{range_has}
+use Rattle.link_base.proofs.RangeLemmas.{range_has}
 use Rattle.address_layout.specs.Layout.{IsAlignment}
 use Rattle.image_writer.specs.WrittenImage.{piece_contents, HasItsBytes}
 use Rattle.linker_program.specs.declared.definitions.Definition.{Definition}
@@ -65,7 +66,7 @@ marked named at field section defines is lt e =
 pub unmarked : (before defines here : Bool) → defines ≡ false → before ≡ (before || (defines && here))
 unmarked before defines here e = rw e (or_false before)
 
-some_of : (found : Option ℕ) (b : Bool) (n : ℕ) → is_some (first_of found (cond b (Some n) None)) ≡ (is_some found || b)
+some_of : (found : Option ℕ) (b : Bool) (n : ℕ) → is_some (option_or found (cond b (Some n) None)) ≡ (is_some found || b)
 some_of None true n = refl
 some_of None false n = refl
 some_of (Some k) b n = refl

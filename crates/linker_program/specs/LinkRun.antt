@@ -3,7 +3,7 @@
 use Rattle.std.specs.Prelude.{◌≡◌, ◌<◌, ℕ, List, length, take, Option, Some, None, ◌⊎◌}
 use Rattle.std.specs.Option.{ForSome}
 use Rattle.link_base.specs.declared.fault.Fault.{Fault}
-use Rattle.link_base.specs.FaultLine.{fault_line_text}
+use Rattle.diagnostics.specs.FaultLine.{fault_line_text}
 use Rattle.link_files.specs.Store.{Store, told_with_file}
 use Rattle.link_files.specs.Putting.{told_with_bytes}
 use Rattle.linker_program.specs.declared.status.Status.{Status}

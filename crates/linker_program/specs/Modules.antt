@@ -6,7 +6,7 @@ use Rattle.link_base.specs.Bytes.{first_below}
 use Rattle.link_base.specs.NameText.{begins_import}
 use Rattle.link_base.specs.declared.fault.Fault.{Fault}
 use Rattle.link_base.specs.declared.fault.Fault.TheVariants.{InputLimit}
-use Rattle.link_base.specs.declared.kind.Kind.TheVariants as form
+use Rattle.link_base.specs.declared.kinds.form.Kind.TheVariants as form
 use Rattle.coff_object.specs.Constants.{SCN_LNK_COMDAT, SYM_CLASS_EXTERNAL, SYM_CLASS_WEAK_EXTERNAL}
 use Rattle.coff_object.specs.ObjectFile.{section_total, section_name_of, raw_size_of, flags_of, has_flag, is_uninitialised, relocation_total, record_total, symbol_name_of, symbol_section_of, symbol_class_of}
 use Rattle.coff_object.specs.ObjectFaults.{of_symbol}

@@ -6,8 +6,8 @@ use lib.Pointwise.{pointwise}
 use Rattle.link_base.specs.Bytes.{u16_at, has_bytes, first_below}
 use Rattle.link_base.specs.declared.fault.Fault.{Fault}
 use Rattle.link_base.specs.declared.fault.Fault.TheVariants.{BadObject, Unsupported}
-use Rattle.link_base.specs.declared.kind.Kind.{Kind}
-use Rattle.link_base.specs.declared.kind.Kind.TheVariants as form
+use Rattle.link_base.specs.declared.kinds.form.Kind.{Kind}
+use Rattle.link_base.specs.declared.kinds.form.Kind.TheVariants as form
 use Rattle.coff_object.specs.declared.error.ObjError.{ObjError}
 use Rattle.coff_object.specs.ObjectFile.{section_total, section_name_of, record_total, symbol_name_of}
 use Rattle.coff_object.specs.ObjectFaults.{of_symbol, object_fault}

@@ -2,7 +2,7 @@
 -- it, and where none has, the plan is linked. The order of the stages is own.
 use Rattle.std.specs.Prelude.{◌≡◌, ◌≤◌, ◌+◌, ℕ, true, false, List, [], ◌∷◌, ◌++◌, length, replicate, slice_index, Option, Some, None, codes}
 use Rattle.std.specs.Fmt.{decimal}
-use Rattle.link_base.specs.LineText.{escaped}
+use Rattle.diagnostics.specs.LineText.{escaped}
 use Rattle.link_base.specs.declared.fault.Fault.{Fault}
 use Rattle.link_base.specs.declared.fault.Fault.TheVariants as fault
 use Rattle.link_files.specs.Store.{Store}

@@ -5,7 +5,7 @@ use Rattle.std.specs.List.{range_with_len, flat_map}
 use Rattle.link_base.specs.Bytes.{first_below}
 use Rattle.link_base.specs.declared.fault.Fault.{Fault}
 use Rattle.link_base.specs.declared.fault.Fault.TheVariants.{BadTarget}
-use Rattle.link_base.specs.declared.kind.TargetFault.TheVariants.{Unplaced}
+use Rattle.link_base.specs.declared.kinds.target.TargetFault.TheVariants.{Unplaced}
 use Rattle.coff_object.specs.ObjectFile.{section_total, section_name_of, raw_size_of, flags_of, alignment_of, is_uninitialised, body_of, record_total, symbol_section_field}
 use Rattle.section_group.specs.declared.piece.Piece.{Piece}
 use Rattle.section_group.specs.SectionOrder.{no_piece}

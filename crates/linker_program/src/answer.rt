@@ -5,7 +5,8 @@ ghost use Rattle.linker_program.specs.Steps.{Refuses, RefusesWords, TellsReadFai
 
 use crate::lines::{read_failure_line, usage_line};
 use crate::status::Status;
-use link_base::{Fault, Memory, fault_line};
+use diagnostics::fault_line;
+use link_base::{Fault, Memory};
 use std::alloc::Global;
 
 /// How the work of a run ended, and the line that says so.

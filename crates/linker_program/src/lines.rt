@@ -3,7 +3,8 @@
 ghost use Rattle.std.specs.Prelude.{◌≡◌, ◌++◌, OnOk, IfOk};
 ghost use Rattle.linker_program.specs.Outcome.{counted, usage_line, summary_line, read_failure_line, write_failure_line};
 
-use link_base::{Memory, Name, push_escaped, push_number};
+use diagnostics::{push_escaped, push_number};
+use link_base::{Memory, Name};
 use std::alloc::Global;
 
 /// The line for words that are refused: the index of the word and the kind of the refusal.

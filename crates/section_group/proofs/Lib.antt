@@ -9,7 +9,6 @@ pub mod GatherLemmas
 pub mod KeyLemmas
 pub mod ContentLemmas
 pub mod SectionLemmas
-pub mod RangeLemmas
 pub mod OrderedLemmas
 pub mod MemberLemmas
 pub mod GroupingLemmas

@@ -16,7 +16,7 @@ use Rattle.section_group.specs.Sections.{Gathers, home_at, pieces_at, same_home}
 use Rattle.section_group.proofs.ChainLemmas.{same_is, same_refl}
 use Rattle.section_group.proofs.PartLemmas.{used_within}
 use Rattle.section_group.proofs.SectionLemmas.{pieces_read, both_parts}
-use Rattle.section_group.proofs.RangeLemmas.{Passes, range_passes, range_has, range_distinct}
+use Rattle.link_base.proofs.RangeLemmas.{Passes, range_passes, range_has, range_distinct}
 
 there_within : (homes : List Home) (number : ℕ) (home : Home) → slice_get homes number ≡ Some home → number < length homes
 there_within homes number home e =

@@ -23,7 +23,7 @@ use Rattle.section_group.specs.Sections.{IsKey, AreKeys, OrdersSections, IsBuilt
 use Rattle.section_group.proofs.OrderLemmas.{ascends, then_level, level_numbers}
 use Rattle.section_group.proofs.KeyLemmas.{eqb_flip}
 use Rattle.section_group.proofs.GatherLemmas.{filter_more, append-nil}
-use Rattle.section_group.proofs.RangeLemmas.{range_has, range_distinct}
+use Rattle.link_base.proofs.RangeLemmas.{range_has, range_distinct}
 
 pub section_total : IsTotalOrder section_cmp
 section_total = search (comparing, rules) depth 9

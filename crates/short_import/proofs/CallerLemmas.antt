@@ -4,8 +4,8 @@ use Rattle.std.proofs.lemmas.Bool.{false≢true, eqb-true}
 use Rattle.std.proofs.lemmas.Bool.Decides.{eqb_tells}
 use Rattle.std.proofs.lemmas.List.{length-take-le, length-drop}
 use Rattle.link_base.specs.Bytes.{bytes_at, is_nul}
-use Rattle.link_base.specs.declared.kind.ImpFault.{ImpFault}
-use Rattle.link_base.specs.declared.kind.ImpFault.TheVariants as fault
+use Rattle.link_base.specs.declared.kinds.import.ImpFault.{ImpFault}
+use Rattle.link_base.specs.declared.kinds.import.ImpFault.TheVariants as fault
 use Rattle.short_import.specs.Constants.{FILE_MACHINE_AMD64, IMPORT_CONST, IMPORT_NAME_UNDECORATE}
 use Rattle.short_import.specs.ShortImport.{machine_of, data_size, import_type, name_type, import_data, symbol_of, dll_of}
 use Rattle.short_import.specs.ImportFaults.{is_cut, is_other_machine, has_other_type, has_other_name_type, lacks_text, row, first_row, header_fault, import_fault}

@@ -2,8 +2,8 @@
 use Rattle.std.proofs.Common.{◌≡◌, ℕ, ◌+◌, ◌≤◌, Bool, true, false, ◌||◌, ltb, List, length, Option, None, refl, sym, ◌∙◌, inl, inr, lt-ltb}
 use Rattle.std.proofs.lemmas.Bool.{false≢true, cases_lt}
 use Rattle.short_import.specs.ShortImport.{data_size}
-use Rattle.link_base.specs.declared.kind.ImpFault.{ImpFault}
-use Rattle.link_base.specs.declared.kind.ImpFault.TheVariants as fault
+use Rattle.link_base.specs.declared.kinds.import.ImpFault.{ImpFault}
+use Rattle.link_base.specs.declared.kinds.import.ImpFault.TheVariants as fault
 use Rattle.short_import.specs.ImportFaults.{is_cut, row, first_row, header_fault}
 
 pub or_left : (a b : Bool) → (a || b) ≡ false → a ≡ false

@@ -2,7 +2,7 @@
 use Rattle.std.proofs.Common.{◌≡◌, ℕ, List, [], ◌∷◌, ◌++◌, take, Some, None, refl}
 use Rattle.std.specs.Prelude.{codes}
 use Rattle.link_base.specs.Bytes.{number_at}
-use Rattle.link_base.specs.declared.kind.ImpFault.TheVariants as fault
+use Rattle.link_base.specs.declared.kinds.import.ImpFault.TheVariants as fault
 use Rattle.short_import.specs.declared.import.ImportKind.TheVariants as kind
 use Rattle.short_import.specs.declared.import.ImportBy.TheVariants as by
 use Rattle.short_import.specs.Decoration.{no_prefix, undecorated}

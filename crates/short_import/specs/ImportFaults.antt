@@ -1,8 +1,8 @@
 -- What is wrong with a short import, as a table of conditions: the first that stands counts. Own; the fields
 -- are those of the PE Format specification.
 use Rattle.std.specs.Prelude.{ℕ, ◌+◌, Bool, ◌||◌, not, ◌==◌, nat_lt, if◌then◌else◌, List, [], ◌∷◌, length, Option, Some, None}
-use Rattle.link_base.specs.declared.kind.ImpFault.{ImpFault}
-use Rattle.link_base.specs.declared.kind.ImpFault.TheVariants as fault
+use Rattle.link_base.specs.declared.kinds.import.ImpFault.{ImpFault}
+use Rattle.link_base.specs.declared.kinds.import.ImpFault.TheVariants as fault
 use Rattle.short_import.specs.Constants.{FILE_MACHINE_AMD64, IMPORT_CONST, IMPORT_NAME_UNDECORATE}
 use Rattle.short_import.specs.ShortImport.{machine_of, data_size, import_type, name_type, symbol_of, dll_of}
 

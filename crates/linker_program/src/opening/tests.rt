@@ -1,7 +1,8 @@
 //! Files that do not open as objects, by the lines of their faults.
 
 use super::open_object;
-use link_base::{Memory, Name, fault_line};
+use diagnostics::fault_line;
+use link_base::{Memory, Name};
 use std::alloc::Global;
 use std::test::Fail;
 

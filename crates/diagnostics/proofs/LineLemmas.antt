@@ -4,7 +4,7 @@ use Rattle.std.proofs.lemmas.List.{take-append-drop}
 use Rattle.std.proofs.lemmas.Grind.{flat_map-append}
 use Rattle.std.proofs.lemmas.Slice.Eq.{bytes_eq-Decides}
 use Rattle.link_base.specs.NameText.{import_prefix, begins_import, behind_import, import_prefix_of}
-use Rattle.link_base.specs.LineText.{escaped, escaped_byte}
+use Rattle.diagnostics.specs.LineText.{escaped, escaped_byte}
 
 split : (b : Bool) (text : List ℕ) → begins_import text ≡ b → escaped text ≡ cond b import_prefix [] ++ escaped (cond b (drop 6 text) text)
 split true text e =

@@ -1,6 +1,6 @@
 use Rattle.std.proofs.Common.{◌∙◌, ap, ◌++◌, List, ℕ}
-use Rattle.link_base.proofs.LineLemmas.{appends_parts}
-use Rattle.link_base.proofs.line.push_escaped.Goals as goal
+use Rattle.diagnostics.proofs.LineLemmas.{appends_parts}
+use Rattle.diagnostics.proofs.line.push_escaped.Goals as goal
 
 pub returns : goal.returns
 returns c =

@@ -1,0 +1,3 @@
+pub mod LineText
+pub mod KindWord
+pub mod FaultLine

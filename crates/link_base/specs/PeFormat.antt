@@ -1,0 +1,361 @@
+-- The numbers of the object and image formats, with the names of the PE Format specification less `IMAGE_`. The code has
+-- the same numbers in `pe_format`; that they agree is the law `numbers_of_the_format`.
+use Rattle.std.specs.Prelude.{ℕ, ℤ, pos, negsuc, List, [], ◌∷◌}
+
+-- ---- Machine Types
+
+abbrev pub FILE_MACHINE_UNKNOWN : ℕ
+FILE_MACHINE_UNKNOWN = 0
+
+abbrev pub FILE_MACHINE_AMD64 : ℕ
+FILE_MACHINE_AMD64 = 0x8664
+
+abbrev pub machine_types : List ℕ
+machine_types =
+    FILE_MACHINE_UNKNOWN ∷ FILE_MACHINE_AMD64 ∷ []
+
+-- ---- COFF File Header (Object and Image), Section Table (Section Headers), COFF Relocations, COFF Symbol Table; for big objects LLVM, `COFF::Symbol32Size` and `COFF::BigObjHeader`
+
+abbrev pub SIZEOF_FILE_HEADER : ℕ
+SIZEOF_FILE_HEADER = 20
+
+abbrev pub SIZEOF_SECTION_HEADER : ℕ
+SIZEOF_SECTION_HEADER = 40
+
+abbrev pub SIZEOF_RELOCATION : ℕ
+SIZEOF_RELOCATION = 10
+
+abbrev pub SIZEOF_SYMBOL : ℕ
+SIZEOF_SYMBOL = 18
+
+abbrev pub SIZEOF_SYMBOL_EX : ℕ
+SIZEOF_SYMBOL_EX = 20
+
+abbrev pub SIZEOF_BIG_OBJECT_HEADER : ℕ
+SIZEOF_BIG_OBJECT_HEADER = 56
+
+abbrev pub sizes : List ℕ
+sizes =
+    SIZEOF_FILE_HEADER ∷ SIZEOF_SECTION_HEADER ∷ SIZEOF_RELOCATION ∷ SIZEOF_SYMBOL ∷ SIZEOF_SYMBOL_EX ∷
+    SIZEOF_BIG_OBJECT_HEADER ∷ []
+
+-- ---- Section Flags
+
+abbrev pub SCN_TYPE_NO_PAD : ℕ
+SCN_TYPE_NO_PAD = 0x8
+
+abbrev pub SCN_CNT_CODE : ℕ
+SCN_CNT_CODE = 0x20
+
+abbrev pub SCN_CNT_INITIALIZED_DATA : ℕ
+SCN_CNT_INITIALIZED_DATA = 0x40
+
+abbrev pub SCN_CNT_UNINITIALIZED_DATA : ℕ
+SCN_CNT_UNINITIALIZED_DATA = 0x80
+
+abbrev pub SCN_LNK_INFO : ℕ
+SCN_LNK_INFO = 0x200
+
+abbrev pub SCN_LNK_REMOVE : ℕ
+SCN_LNK_REMOVE = 0x800
+
+abbrev pub SCN_LNK_COMDAT : ℕ
+SCN_LNK_COMDAT = 0x1000
+
+abbrev pub SCN_LNK_NRELOC_OVFL : ℕ
+SCN_LNK_NRELOC_OVFL = 0x0100_0000
+
+abbrev pub SCN_MEM_DISCARDABLE : ℕ
+SCN_MEM_DISCARDABLE = 0x0200_0000
+
+abbrev pub SCN_MEM_NOT_CACHED : ℕ
+SCN_MEM_NOT_CACHED = 0x0400_0000
+
+abbrev pub SCN_MEM_NOT_PAGED : ℕ
+SCN_MEM_NOT_PAGED = 0x0800_0000
+
+abbrev pub SCN_MEM_SHARED : ℕ
+SCN_MEM_SHARED = 0x1000_0000
+
+abbrev pub SCN_MEM_EXECUTE : ℕ
+SCN_MEM_EXECUTE = 0x2000_0000
+
+abbrev pub SCN_MEM_READ : ℕ
+SCN_MEM_READ = 0x4000_0000
+
+abbrev pub SCN_MEM_WRITE : ℕ
+SCN_MEM_WRITE = 0x8000_0000
+
+-- the flags of a section that say how its pages are used: SCN_MEM_DISCARDABLE and those above it
+abbrev pub SCN_MEM_ATTRIBUTES : ℕ
+SCN_MEM_ATTRIBUTES = 0xFE00_0000
+
+abbrev pub section_flags : List ℕ
+section_flags =
+    SCN_TYPE_NO_PAD ∷ SCN_CNT_CODE ∷ SCN_CNT_INITIALIZED_DATA ∷ SCN_CNT_UNINITIALIZED_DATA ∷ SCN_LNK_INFO ∷
+    SCN_LNK_REMOVE ∷ SCN_LNK_COMDAT ∷ SCN_LNK_NRELOC_OVFL ∷ SCN_MEM_DISCARDABLE ∷ SCN_MEM_NOT_CACHED ∷
+    SCN_MEM_NOT_PAGED ∷ SCN_MEM_SHARED ∷ SCN_MEM_EXECUTE ∷ SCN_MEM_READ ∷ SCN_MEM_WRITE ∷ SCN_MEM_ATTRIBUTES ∷ []
+
+-- ---- Storage Class
+
+abbrev pub SYM_CLASS_EXTERNAL : ℕ
+SYM_CLASS_EXTERNAL = 2
+
+abbrev pub SYM_CLASS_STATIC : ℕ
+SYM_CLASS_STATIC = 3
+
+abbrev pub SYM_CLASS_LABEL : ℕ
+SYM_CLASS_LABEL = 6
+
+abbrev pub SYM_CLASS_FUNCTION : ℕ
+SYM_CLASS_FUNCTION = 101
+
+abbrev pub SYM_CLASS_FILE : ℕ
+SYM_CLASS_FILE = 103
+
+abbrev pub SYM_CLASS_SECTION : ℕ
+SYM_CLASS_SECTION = 104
+
+abbrev pub SYM_CLASS_WEAK_EXTERNAL : ℕ
+SYM_CLASS_WEAK_EXTERNAL = 105
+
+abbrev pub storage_classes : List ℕ
+storage_classes =
+    SYM_CLASS_EXTERNAL ∷ SYM_CLASS_STATIC ∷ SYM_CLASS_LABEL ∷ SYM_CLASS_FUNCTION ∷ SYM_CLASS_FILE ∷
+    SYM_CLASS_SECTION ∷ SYM_CLASS_WEAK_EXTERNAL ∷ []
+
+-- ---- Auxiliary Format 3: Weak Externals
+
+abbrev pub WEAK_EXTERN_SEARCH_NOLIBRARY : ℕ
+WEAK_EXTERN_SEARCH_NOLIBRARY = 1
+
+abbrev pub WEAK_EXTERN_SEARCH_LIBRARY : ℕ
+WEAK_EXTERN_SEARCH_LIBRARY = 2
+
+abbrev pub WEAK_EXTERN_SEARCH_ALIAS : ℕ
+WEAK_EXTERN_SEARCH_ALIAS = 3
+
+abbrev pub weak_characteristics : List ℕ
+weak_characteristics =
+    WEAK_EXTERN_SEARCH_NOLIBRARY ∷ WEAK_EXTERN_SEARCH_LIBRARY ∷ WEAK_EXTERN_SEARCH_ALIAS ∷ []
+
+-- ---- COMDAT Sections (Object Only)
+
+abbrev pub COMDAT_SELECT_NODUPLICATES : ℕ
+COMDAT_SELECT_NODUPLICATES = 1
+
+abbrev pub COMDAT_SELECT_ANY : ℕ
+COMDAT_SELECT_ANY = 2
+
+abbrev pub COMDAT_SELECT_SAME_SIZE : ℕ
+COMDAT_SELECT_SAME_SIZE = 3
+
+abbrev pub COMDAT_SELECT_EXACT_MATCH : ℕ
+COMDAT_SELECT_EXACT_MATCH = 4
+
+abbrev pub COMDAT_SELECT_ASSOCIATIVE : ℕ
+COMDAT_SELECT_ASSOCIATIVE = 5
+
+abbrev pub COMDAT_SELECT_LARGEST : ℕ
+COMDAT_SELECT_LARGEST = 6
+
+abbrev pub comdat_selections : List ℕ
+comdat_selections =
+    COMDAT_SELECT_NODUPLICATES ∷ COMDAT_SELECT_ANY ∷ COMDAT_SELECT_SAME_SIZE ∷ COMDAT_SELECT_EXACT_MATCH ∷
+    COMDAT_SELECT_ASSOCIATIVE ∷ COMDAT_SELECT_LARGEST ∷ []
+
+-- ---- Type Indicators, x64 Processors
+
+abbrev pub REL_AMD64_ABSOLUTE : ℕ
+REL_AMD64_ABSOLUTE = 0
+
+abbrev pub REL_AMD64_ADDR64 : ℕ
+REL_AMD64_ADDR64 = 1
+
+abbrev pub REL_AMD64_ADDR32 : ℕ
+REL_AMD64_ADDR32 = 2
+
+abbrev pub REL_AMD64_ADDR32NB : ℕ
+REL_AMD64_ADDR32NB = 3
+
+abbrev pub REL_AMD64_REL32 : ℕ
+REL_AMD64_REL32 = 4
+
+abbrev pub REL_AMD64_REL32_1 : ℕ
+REL_AMD64_REL32_1 = 5
+
+abbrev pub REL_AMD64_REL32_2 : ℕ
+REL_AMD64_REL32_2 = 6
+
+abbrev pub REL_AMD64_REL32_3 : ℕ
+REL_AMD64_REL32_3 = 7
+
+abbrev pub REL_AMD64_REL32_4 : ℕ
+REL_AMD64_REL32_4 = 8
+
+abbrev pub REL_AMD64_REL32_5 : ℕ
+REL_AMD64_REL32_5 = 9
+
+abbrev pub REL_AMD64_SECTION : ℕ
+REL_AMD64_SECTION = 10
+
+abbrev pub REL_AMD64_SECREL : ℕ
+REL_AMD64_SECREL = 11
+
+abbrev pub relocation_types : List ℕ
+relocation_types =
+    REL_AMD64_ABSOLUTE ∷ REL_AMD64_ADDR64 ∷ REL_AMD64_ADDR32 ∷ REL_AMD64_ADDR32NB ∷ REL_AMD64_REL32 ∷
+    REL_AMD64_REL32_1 ∷ REL_AMD64_REL32_2 ∷ REL_AMD64_REL32_3 ∷ REL_AMD64_REL32_4 ∷ REL_AMD64_REL32_5 ∷
+    REL_AMD64_SECTION ∷ REL_AMD64_SECREL ∷ []
+
+-- ---- Base Relocation Types
+
+abbrev pub REL_BASED_ABSOLUTE : ℕ
+REL_BASED_ABSOLUTE = 0
+
+abbrev pub REL_BASED_HIGHLOW : ℕ
+REL_BASED_HIGHLOW = 3
+
+abbrev pub REL_BASED_DIR64 : ℕ
+REL_BASED_DIR64 = 10
+
+abbrev pub base_relocation_types : List ℕ
+base_relocation_types =
+    REL_BASED_ABSOLUTE ∷ REL_BASED_HIGHLOW ∷ REL_BASED_DIR64 ∷ []
+
+-- ---- Optional Header (Image Only), and the signatures before it
+
+abbrev pub DOS_SIGNATURE : ℕ
+DOS_SIGNATURE = 0x5A4D
+
+abbrev pub NT_SIGNATURE : ℕ
+NT_SIGNATURE = 0x4550
+
+abbrev pub NT_OPTIONAL_HDR64_MAGIC : ℕ
+NT_OPTIONAL_HDR64_MAGIC = 0x20B
+
+abbrev pub image_signatures : List ℕ
+image_signatures =
+    DOS_SIGNATURE ∷ NT_SIGNATURE ∷ NT_OPTIONAL_HDR64_MAGIC ∷ []
+
+-- ---- Optional Header Windows-Specific Fields (Image Only); that the PE header follows a DOS header of 64 bytes is own
+
+abbrev pub PAGE_SIZE : ℕ
+PAGE_SIZE = 4096
+
+abbrev pub FILE_ALIGNMENT : ℕ
+FILE_ALIGNMENT = 512
+
+abbrev pub PE_HEADER_OFFSET : ℕ
+PE_HEADER_OFFSET = 64
+
+abbrev pub SIZEOF_OPTIONAL_HEADER : ℕ
+SIZEOF_OPTIONAL_HEADER = 240
+
+abbrev pub SECTION_HEADERS_OFFSET : ℕ
+SECTION_HEADERS_OFFSET = 328
+
+abbrev pub NUMBEROF_DIRECTORY_ENTRIES : ℕ
+NUMBEROF_DIRECTORY_ENTRIES = 16
+
+abbrev pub image_numbers : List ℕ
+image_numbers =
+    PAGE_SIZE ∷ FILE_ALIGNMENT ∷ PE_HEADER_OFFSET ∷ SIZEOF_OPTIONAL_HEADER ∷ SECTION_HEADERS_OFFSET ∷
+    NUMBEROF_DIRECTORY_ENTRIES ∷ []
+
+-- ---- Characteristics
+
+abbrev pub FILE_RELOCS_STRIPPED : ℕ
+FILE_RELOCS_STRIPPED = 0x1
+
+abbrev pub FILE_EXECUTABLE_IMAGE : ℕ
+FILE_EXECUTABLE_IMAGE = 0x2
+
+abbrev pub FILE_LARGE_ADDRESS_AWARE : ℕ
+FILE_LARGE_ADDRESS_AWARE = 0x20
+
+abbrev pub FILE_DLL : ℕ
+FILE_DLL = 0x2000
+
+abbrev pub file_characteristics : List ℕ
+file_characteristics =
+    FILE_RELOCS_STRIPPED ∷ FILE_EXECUTABLE_IMAGE ∷ FILE_LARGE_ADDRESS_AWARE ∷ FILE_DLL ∷ []
+
+-- ---- DLL Characteristics
+
+abbrev pub DLLCHARACTERISTICS_HIGH_ENTROPY_VA : ℕ
+DLLCHARACTERISTICS_HIGH_ENTROPY_VA = 0x20
+
+abbrev pub DLLCHARACTERISTICS_DYNAMIC_BASE : ℕ
+DLLCHARACTERISTICS_DYNAMIC_BASE = 0x40
+
+abbrev pub DLLCHARACTERISTICS_NX_COMPAT : ℕ
+DLLCHARACTERISTICS_NX_COMPAT = 0x100
+
+abbrev pub dll_characteristics : List ℕ
+dll_characteristics =
+    DLLCHARACTERISTICS_HIGH_ENTROPY_VA ∷ DLLCHARACTERISTICS_DYNAMIC_BASE ∷ DLLCHARACTERISTICS_NX_COMPAT ∷ []
+
+-- ---- Windows Subsystem
+
+abbrev pub SUBSYSTEM_NATIVE : ℕ
+SUBSYSTEM_NATIVE = 1
+
+abbrev pub SUBSYSTEM_WINDOWS_GUI : ℕ
+SUBSYSTEM_WINDOWS_GUI = 2
+
+abbrev pub SUBSYSTEM_WINDOWS_CUI : ℕ
+SUBSYSTEM_WINDOWS_CUI = 3
+
+abbrev pub subsystems : List ℕ
+subsystems =
+    SUBSYSTEM_NATIVE ∷ SUBSYSTEM_WINDOWS_GUI ∷ SUBSYSTEM_WINDOWS_CUI ∷ []
+
+-- ---- Optional Header Data Directories (Image Only)
+
+abbrev pub DIRECTORY_ENTRY_EXPORT : ℕ
+DIRECTORY_ENTRY_EXPORT = 0
+
+abbrev pub DIRECTORY_ENTRY_IMPORT : ℕ
+DIRECTORY_ENTRY_IMPORT = 1
+
+abbrev pub DIRECTORY_ENTRY_RESOURCE : ℕ
+DIRECTORY_ENTRY_RESOURCE = 2
+
+abbrev pub DIRECTORY_ENTRY_EXCEPTION : ℕ
+DIRECTORY_ENTRY_EXCEPTION = 3
+
+abbrev pub DIRECTORY_ENTRY_BASERELOC : ℕ
+DIRECTORY_ENTRY_BASERELOC = 5
+
+abbrev pub DIRECTORY_ENTRY_DEBUG : ℕ
+DIRECTORY_ENTRY_DEBUG = 6
+
+abbrev pub DIRECTORY_ENTRY_TLS : ℕ
+DIRECTORY_ENTRY_TLS = 9
+
+abbrev pub DIRECTORY_ENTRY_LOAD_CONFIG : ℕ
+DIRECTORY_ENTRY_LOAD_CONFIG = 10
+
+abbrev pub DIRECTORY_ENTRY_IAT : ℕ
+DIRECTORY_ENTRY_IAT = 12
+
+abbrev pub directory_entries : List ℕ
+directory_entries =
+    DIRECTORY_ENTRY_EXPORT ∷ DIRECTORY_ENTRY_IMPORT ∷ DIRECTORY_ENTRY_RESOURCE ∷ DIRECTORY_ENTRY_EXCEPTION ∷
+    DIRECTORY_ENTRY_BASERELOC ∷ DIRECTORY_ENTRY_DEBUG ∷ DIRECTORY_ENTRY_TLS ∷ DIRECTORY_ENTRY_LOAD_CONFIG ∷
+    DIRECTORY_ENTRY_IAT ∷ []
+
+-- ---- Section Number Values
+
+abbrev pub SYM_UNDEFINED : ℤ
+SYM_UNDEFINED = pos 0
+
+abbrev pub SYM_ABSOLUTE : ℤ
+SYM_ABSOLUTE = negsuc 0
+
+abbrev pub SYM_DEBUG : ℤ
+SYM_DEBUG = negsuc 1
+
+abbrev pub section_number_values : List ℤ
+section_number_values = SYM_UNDEFINED ∷ SYM_ABSOLUTE ∷ SYM_DEBUG ∷ []
