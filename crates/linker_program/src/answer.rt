@@ -6,7 +6,7 @@ ghost use Rattle.linker_program.specs.Steps.{Refuses, RefusesWords, TellsReadFai
 use crate::lines::{read_failure_line, usage_line};
 use crate::status::Status;
 use diagnostics::fault_line;
-use link_base::{Fault, Memory};
+use link_base::{Fault, Memory, Name};
 use std::alloc::Global;
 
 /// How the work of a run ended, and the line that says so.
@@ -27,11 +27,11 @@ pub(crate) fn refused(alloc: Global, fault: &Fault<'_>) -> Result<Answer, Memory
     })
 }
 
-/// The answer that refuses the words: they have no form that is read so far.
-pub(crate) fn words_refused(alloc: Global) -> Result<Answer, Memory>
-    ensures { IfOk result (λ answer. RefusesWords answer) }
+/// The answer that refuses the words, for a kind of refusal at the word with this index.
+pub(crate) fn words_refused(alloc: Global, index: usize, kind: &[u8]) -> Result<Answer, Memory>
+    ensures { IfOk result (λ answer. RefusesWords answer index kind.now) }
 {
-    let line = usage_line(alloc, 0, b"NotBuilt")?;
+    let line = usage_line(alloc, index as u64, kind)?;
     Ok(Answer {
         status: Status::Usage,
         line,
@@ -39,7 +39,7 @@ pub(crate) fn words_refused(alloc: Global) -> Result<Answer, Memory>
 }
 
 /// The answer for a file whose read failed.
-pub(crate) fn read_failed(alloc: Global, name: &str) -> Result<Answer, Memory>
+pub(crate) fn read_failed(alloc: Global, name: &Name<'_>) -> Result<Answer, Memory>
     ensures { IfOk result (λ answer. TellsReadFailure answer name.now) }
 {
     let line = read_failure_line(alloc, name)?;

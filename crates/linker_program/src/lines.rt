@@ -1,7 +1,7 @@
 //! The lines that a run prints, other than those of diagnostics.
 
 ghost use Rattle.std.specs.Prelude.{◌≡◌, ◌++◌, OnOk, IfOk};
-ghost use Rattle.linker_program.specs.Outcome.{counted, usage_line, summary_line, read_failure_line, write_failure_line};
+ghost use Rattle.linker_program.specs.RunLines.{counted, usage_line, summary_line, read_failure_line, write_failure_line};
 
 use diagnostics::{push_escaped, push_number};
 use link_base::{Memory, Name};
@@ -49,12 +49,12 @@ fn push_counted(alloc: Global, line: &mut Vec<u8>, number: u64, things: &[u8]) -
 }
 
 /// The line for a file whose read failed.
-pub(crate) fn read_failure_line(alloc: Global, name: &str) -> Result<Vec<u8>, Memory>
+pub(crate) fn read_failure_line(alloc: Global, name: &Name<'_>) -> Result<Vec<u8>, Memory>
     ensures { IfOk result (λ line. line.items ≡ read_failure_line name.now) }
 {
     let mut line = Vec::new(alloc);
     line.extend_from_slice(b"read fault ")?;
-    push_escaped(&mut line, &Name::of(name.as_bytes()))?;
+    push_escaped(&mut line, name)?;
     line.push(b'\n')?;
     Ok(line)
 }

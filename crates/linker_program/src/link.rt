@@ -1,45 +1,101 @@
-//! One link, from the bytes of its inputs to the image written.
+//! One link: its inputs are read, linked, and the outputs written.
 
-ghost use Rattle.std.specs.Prelude.{◌≡◌, ◌≤◌, ◌<◌, ◌-◌, ◌^◌, List, ℕ, length, IfOk, OnErr};
-ghost use Rattle.std.specs.List.{All};
-ghost use Rattle.linker_program.specs.LinkRun.{Answers, LeftByMemory};
-ghost use Rattle.linker_program.specs.Loading.{file_limit};
-ghost use Rattle.linker_program.specs.PlanSteps.{file_bytes};
-ghost use Rattle.linker_program.specs.RequestView.{request_view};
-ghost use Rattle.linker_program.specs.Steps.{files_of, IsLoaded};
+ghost use Rattle.std.specs.Prelude.{◌≡◌, ◌≤◌, ◌<◌, ◌-◌, ◌^◌, length, All, IfOk, IfErr, OnErr};
+ghost use Rattle.link_base.specs.Limits.{FILE_LIMIT as most_bytes};
+ghost use Rattle.link_files.specs.Outside.{files_of};
+ghost use Rattle.link_words.specs.Outcome.{options_said};
+ghost use Rattle.linker_program.specs.Outcome.{LinkOutcome};
+ghost use Rattle.linker_program.specs.LinkRun.{LinkAnswers, LeftByMemory};
+ghost use Rattle.linker_program.specs.ReadingSteps.{file_bytes};
+ghost use Rattle.linker_program.specs.Steps.{InputsHave, IsLinked, RefusesInputs};
 
-use crate::answer::{Answer, refused};
-use crate::plan::plan_of;
-use crate::refusal::Refusal;
-use crate::words::Request;
-use crate::write::write_image;
-use link_base::Memory;
+use crate::answer::{Answer, read_failed, refused};
+use crate::opening::open_modules;
+use crate::reading::read_inputs;
+use crate::write::write_linked;
+use link_base::{Memory, Refusal, Stop};
 use link_files::Files;
+use link_image::build;
+use link_plan::plan_of;
+use link_words::Options;
 use std::alloc::Global;
 
-/// Links the inputs with these bytes: plans the image and writes it.
-pub(crate) fn link_inputs<F: Files>(
+/// What a link made, before it is written.
+#[derive(Drop)]
+pub struct Linked {
+    /// How many modules were linked.
+    pub modules: usize,
+    /// How many sections the image has.
+    pub sections: u32,
+    /// The file of the image.
+    pub image: Vec<u8>,
+}
+
+/// Reads the inputs that the options name, and links them.
+pub(crate) fn link<F: Files>(
     alloc: Global,
     files: &mut F,
-    request: &Request<'_>,
+    options: &Options<'_>,
+) -> Result<Answer, Memory>
+    requires reads_below { F.read_faults files.old < 2 ^ 64 - 1 }
+    requires writes_below { F.write_faults files.old < 2 ^ 64 - 1 }
+    ensures answered { IfOk result (λ answer. LinkAnswers (LinkOutcome (options_said options.now)) (options_said options.now).inputs
+        (files_of F.store F.read_faults F.write_faults files.old)
+        (files_of F.store F.read_faults F.write_faults files.new) answer.status answer.line.items) }
+    ensures memory { OnErr result (LeftByMemory (LinkOutcome (options_said options.now))
+        (files_of F.store F.read_faults F.write_faults files.old)
+        (files_of F.store F.read_faults F.write_faults files.new)) }
+{
+    match read_inputs(alloc, files, &options.inputs) {
+        Ok(inputs) => link_inputs(alloc, files, options, &inputs),
+        Err(Stop::Fault(fault)) => refused(alloc, &fault),
+        Err(Stop::Read(name)) => read_failed(alloc, &name),
+        Err(Stop::Memory) => Err(Memory),
+    }
+}
+
+/// Links inputs that were read, and writes what comes of them.
+fn link_inputs<F: Files>(
+    alloc: Global,
+    files: &mut F,
+    options: &Options<'_>,
     inputs: &[Vec<u8>],
 ) -> Result<Answer, Memory>
     requires reads_below { F.read_faults files.old < 2 ^ 64 - 1 }
     requires writes_below { F.write_faults files.old < 2 ^ 64 - 1 }
-    requires same { length request.now.inputs.now ≡ length inputs.now }
-    requires small { All (λ file. length file.items ≤ file_limit) inputs.now }
-    ensures answered { IfOk result (λ answer. (words : List (List ℕ))
-        → IsLoaded words (files_of F.store F.read_faults F.write_faults files.old) (request_view request.now) (file_bytes inputs.now)
-        → Answers words (files_of F.store F.read_faults F.write_faults files.old)
+    requires same { length options.now.inputs.items ≡ length inputs.now }
+    requires small { All (λ file. length file.items ≤ most_bytes) inputs.now }
+    ensures answered { IfOk result (λ answer. LinkAnswers (InputsHave (options_said options.now) (file_bytes inputs.now)) (options_said options.now).inputs
+        (files_of F.store F.read_faults F.write_faults files.old)
         (files_of F.store F.read_faults F.write_faults files.new) answer.status answer.line.items) }
-    ensures memory { OnErr result ((words : List (List ℕ))
-        → IsLoaded words (files_of F.store F.read_faults F.write_faults files.old) (request_view request.now) (file_bytes inputs.now)
-        → LeftByMemory words (files_of F.store F.read_faults F.write_faults files.old)
+    ensures memory { OnErr result (LeftByMemory (InputsHave (options_said options.now) (file_bytes inputs.now))
+        (files_of F.store F.read_faults F.write_faults files.old)
         (files_of F.store F.read_faults F.write_faults files.new)) }
 {
-    match plan_of(alloc, request, inputs) {
-        Ok(plan) => write_image(alloc, files, request.output, &plan),
+    match make(alloc, options, inputs) {
+        Ok(linked) => write_linked(alloc, files, options, linked),
         Err(Refusal::Fault(fault)) => refused(alloc, &fault),
         Err(Refusal::Memory) => Err(Memory),
     }
+}
+
+/// Makes the image of inputs that were read.
+fn make<'a>(
+    alloc: Global,
+    options: &Options<'a>,
+    inputs: &'a [Vec<u8>],
+) -> Result<Linked, Refusal<'a>>
+    requires same { length options.now.inputs.items ≡ length inputs.now }
+    requires small { All (λ file. length file.items ≤ most_bytes) inputs.now }
+    ensures linked { IfOk result (IsLinked (options_said options.now) (file_bytes inputs.now)) }
+    ensures refused { IfErr result (RefusesInputs (options_said options.now) (file_bytes inputs.now)) }
+{
+    let modules = open_modules(alloc, &options.inputs, inputs)?;
+    let plan = plan_of(alloc, modules, options)?;
+    let built = build(alloc, &plan, options)?;
+    Ok(Linked {
+        modules: plan.modules.len(),
+        sections: built.sections,
+        image: built.image,
+    })
 }

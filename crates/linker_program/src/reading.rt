@@ -1,37 +1,31 @@
 //! The inputs of a link, read in the order of the words.
 
-ghost use Rattle.std.specs.Prelude.{None, ◌≡◌, ◌<◌, ◌≤◌, ◌-◌, ◌^◌, map, string_bytes};
-ghost use Rattle.linker_program.specs.Loading.{input_limit};
-ghost use Rattle.linker_program.specs.Steps.{files_of};
+ghost use Rattle.std.specs.Prelude.{◌≡◌, ◌<◌, ◌≤◌, ◌-◌, ◌^◌, None};
+ghost use Rattle.link_base.specs.Limits.{INPUT_LIMIT as most};
+ghost use Rattle.link_files.specs.Outside.{files_of};
+ghost use Rattle.link_words.specs.SettingsView.{texts_of};
 ghost use Rattle.linker_program.specs.ReadingSteps.{ReadsInput, ReadsInputs};
 
-use crate::refusal::Stop;
-use link_base::{Fault, Name};
+use link_base::{FILE_LIMIT, Fault, INPUT_LIMIT, Name, Stop};
 use link_files::{FileError, Files};
 use std::alloc::Global;
-
-/// The greatest length of a file that a link reads.
-const FILE_LIMIT: u64 = 268_435_456;
-
-/// The greatest length of all inputs together.
-const INPUT_LIMIT: u64 = 1_073_741_824;
 
 /// Reads the files with these names, in their order, and stops at the first that has a fault or whose read fails.
 pub(crate) fn read_inputs<'w, F: Files>(
     alloc: Global,
     files: &mut F,
-    names: &'w [String],
+    names: &[&'w str],
 ) -> Result<Vec<Vec<u8>>, Stop<'w>>
     requires reads_below { F.read_faults files.old < 2 ^ 64 - 1 }
     requires writes_below { F.write_faults files.old < 2 ^ 64 - 1 }
-    ensures { ReadsInputs (map string_bytes names.now)
+    ensures { ReadsInputs (texts_of names.now)
         (files_of F.store F.read_faults F.write_faults files.old)
         (files_of F.store F.read_faults F.write_faults files.new) result }
 {
     let mut contents = Vec::new(alloc);
     let mut total = 0;
-    for name in names {
-        let bytes = read_one(alloc, files, name.as_str(), total)?;
+    for index in 0..names.len() {
+        let bytes = read_one(alloc, files, names[index], total)?;
         total += bytes.len() as u64;
         let Ok(()) = contents.push(bytes) else {
             return Err(Stop::Memory);
@@ -40,7 +34,7 @@ pub(crate) fn read_inputs<'w, F: Files>(
     Ok(contents)
 }
 
-/// Reads one file, behind inputs of so many bytes together.
+/// Reads one file. `total` is the length of the inputs that were read before it.
 fn read_one<'w, F: Files>(
     alloc: Global,
     files: &mut F,
@@ -49,7 +43,7 @@ fn read_one<'w, F: Files>(
 ) -> Result<Vec<u8>, Stop<'w>>
     requires reads_below { F.read_faults files.old < 2 ^ 64 - 1 }
     requires writes_below { F.write_faults files.old < 2 ^ 64 - 1 }
-    requires total { total ≤ input_limit }
+    requires total { total ≤ most }
     ensures { ReadsInput name.now total
         (files_of F.store F.read_faults F.write_faults files.old)
         (files_of F.store F.read_faults F.write_faults files.new) result }
@@ -64,7 +58,7 @@ fn read_one<'w, F: Files>(
         }
         Err(FileError::NotFound) => Err(Stop::Fault(not_found(name))),
         Err(FileError::TooLarge) => Err(Stop::Fault(too_large(name))),
-        Err(FileError::Fault) => Err(Stop::Read(name)),
+        Err(FileError::Fault) => Err(Stop::Read(Name::of(name.as_bytes()))),
         Err(FileError::Memory) => Err(Stop::Memory),
     }
 }

@@ -1,66 +1,64 @@
-//! The last step of a link: the image is made and written.
+//! The last step of a link: its outputs are written.
 
-ghost use Rattle.std.specs.Prelude.{◌≡◌, ◌≤◌, ◌<◌, ◌-◌, ◌^◌, length, IfOk, OnErr};
-ghost use Rattle.image_writer.specs.ExpectedImage.{image_file};
-ghost use Rattle.image_writer.specs.WrittenImage.{IsLaidOut, HasContents};
-ghost use Rattle.linker_program.specs.PlanSteps.{plan_image};
-ghost use Rattle.linker_program.specs.Steps.{files_of, AnswersWrite, LeftByWrite};
+ghost use Rattle.std.specs.Prelude.{◌≡◌, ◌<◌, ◌-◌, ◌^◌, IfOk, OnErr, string_bytes};
+ghost use Rattle.link_files.specs.Outside.{files_of};
+ghost use Rattle.linker_program.specs.Steps.{AnswersWrite, LeftByWrites};
+ghost use Rattle.linker_program.specs.WriteSteps.{linked_outputs, linked_summary};
 
 use crate::answer::Answer;
 use crate::lines::{summary_line, write_failure_line};
-use crate::plan::LinkPlan;
+use crate::link::Linked;
 use crate::status::Status;
-use image_writer::image;
 use link_base::Memory;
-use link_files::{Files, WriteError};
+use link_files::{Files, Output, OutputError, write_outputs};
+use link_words::Options;
 use std::alloc::Global;
 
-/// Makes the planned image and its summary line, and then writes the image.
-pub(crate) fn write_image<F: Files>(
+/// Writes what a link made, after its summary line is made.
+pub(crate) fn write_linked<F: Files>(
     alloc: Global,
     files: &mut F,
-    output: &str,
-    plan: &LinkPlan<'_>,
+    options: &Options<'_>,
+    linked: Linked,
 ) -> Result<Answer, Memory>
     requires reads_below { F.read_faults files.old < 2 ^ 64 - 1 }
     requires writes_below { F.write_faults files.old < 2 ^ 64 - 1 }
-    requires laid_out { IsLaidOut plan.now.pieces.items plan.now.sections.items plan.now.layout }
-    requires contents { HasContents plan.now.pieces.items plan.now.sections.items }
     ensures written { IfOk result (λ answer. AnswersWrite
         (files_of F.store F.read_faults F.write_faults files.old)
         (files_of F.store F.read_faults F.write_faults files.new)
-        output.now plan.now.modules (length plan.now.sections.items) (image_file (plan_image plan.now)) answer.status answer.line.items) }
-    ensures memory { OnErr result (LeftByWrite
+        (linked_outputs (string_bytes options.now.out) linked) (linked_summary (string_bytes options.now.out) linked)
+        answer.status answer.line.items) }
+    ensures memory { OnErr result (LeftByWrites
         (files_of F.store F.read_faults F.write_faults files.old)
         (files_of F.store F.read_faults F.write_faults files.new)
-        output.now (image_file (plan_image plan.now))) }
+        (linked_outputs (string_bytes options.now.out) linked)) }
 {
-    let image = image(
-        alloc,
-        &plan.headers,
-        &plan.layout,
-        &plan.sections,
-        &plan.pieces,
-    )?;
     let line = summary_line(
         alloc,
-        output,
-        plan.modules as u64,
-        plan.sections.len() as u64,
-        image.len() as u64,
+        options.out.as_str(),
+        linked.modules as u64,
+        u64::from(linked.sections),
+        linked.image.len() as u64,
     )?;
-    match files.write(output, &image) {
+    let mut outputs = Vec::new(alloc);
+    let Ok(()) = outputs.push(Output {
+        name: options.out.as_str(),
+        bytes: linked.image,
+    }) else {
+        return Err(Memory);
+    };
+    match write_outputs(files, &outputs) {
         Ok(()) => Ok(Answer {
             status: Status::Done,
             line,
         }),
-        Err(WriteError::Fault) => {
-            let line = write_failure_line(alloc, output)?;
+        Err(OutputError::Fault(index)) => {
+            let line = write_failure_line(alloc, outputs[index].name)?;
             Ok(Answer {
                 status: Status::WriteFailed,
                 line,
             })
         }
-        Err(WriteError::Memory) => Err(Memory),
+        Err(OutputError::Memory) => Err(Memory),
     }
 }

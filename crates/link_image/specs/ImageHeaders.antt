@@ -1,0 +1,35 @@
+-- The headers of an image, by the options of the link (PE Format, "Optional Header (Image Only)" and "DLL
+-- Characteristics"; MSVC linker reference, "/BASE", "/DYNAMICBASE", "/FIXED", "/HEAP", "/HIGHENTROPYVA", "/NXCOMPAT",
+-- "/STACK", "/SUBSYSTEM", "/VERSION"; the time is own).
+use Rattle.std.specs.Prelude.{ℕ, ◌+◌, Bool, ◌&&◌, not, if◌then◌else◌, replicate}
+use Rattle.link_base.specs.PeFormat.{DLLCHARACTERISTICS_HIGH_ENTROPY_VA, DLLCHARACTERISTICS_DYNAMIC_BASE, DLLCHARACTERISTICS_NX_COMPAT, NUMBEROF_DIRECTORY_ENTRIES}
+use Rattle.image_writer.specs.declared.headers.Headers.{Headers}
+use Rattle.link_words.specs.Outcome.{LinkOptions}
+
+-- it may be loaded at another base
+abbrev pub can_move : LinkOptions → Bool
+can_move options = options.dynamic && not options.fixed
+
+-- high entropy is for an image that may stand above 2 GiB and can move
+abbrev pub dll_characteristics : LinkOptions → ℕ
+dll_characteristics options =
+    (if can_move options && options.entropy && options.large then DLLCHARACTERISTICS_HIGH_ENTROPY_VA else 0)
+    + (if can_move options then DLLCHARACTERISTICS_DYNAMIC_BASE else 0)
+    + (if options.nx then DLLCHARACTERISTICS_NX_COMPAT else 0)
+
+-- the headers of an image that begins at an RVA
+abbrev pub headers_of : LinkOptions → ℕ → Headers
+headers_of options entry = record {
+  base = options.base;
+  entry = entry;
+  dll = options.dll;
+  fixed = options.fixed;
+  large = options.large;
+  flags = dll_characteristics options;
+  subsystem = options.subsystem;
+  version = options.version;
+  time = options.time;
+  stack = options.stack;
+  heap = options.heap;
+  directories = replicate NUMBEROF_DIRECTORY_ENTRIES (0, 0);
+}

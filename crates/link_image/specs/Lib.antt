@@ -1,0 +1,3 @@
+pub mod ImageHeaders
+pub mod LinkedImage
+pub mod BuildFaults

@@ -1,0 +1,47 @@
+//! From the plan of a link to the bytes of its image.
+
+ghost use Rattle.std.specs.Prelude.{◌≡◌, IfOk, IfErr};
+ghost use Rattle.link_words.specs.Outcome.{options_said};
+ghost use Rattle.link_plan.specs.Plan.{IsPlanOf};
+ghost use Rattle.link_image.specs.LinkedImage.{IsBuilt};
+ghost use Rattle.link_image.specs.BuildFaults.{RefusesBuild};
+
+use crate::headers::headers_of;
+use crate::sections::{check_own_base, entry_rva, group_pieces, place_pieces};
+use image_writer::image;
+use link_base::Refusal;
+use link_plan::LinkPlan;
+use link_words::Options;
+use std::alloc::Global;
+
+/// What a link makes.
+#[derive(Drop)]
+pub struct Built {
+    /// The file of the image.
+    pub image: Vec<u8>,
+    /// How many sections it has.
+    pub sections: u32,
+}
+
+/// The image of a plan. The input is refused for the first of: a bad merge (`BadMerge`), too many sections
+/// (`TooManySections`), an image that is too large (`ImageTooLarge`), and a base at which it may not stand
+/// (`BaseRange`).
+pub fn build<'a>(
+    alloc: Global,
+    plan: &LinkPlan<'a>,
+    options: &Options<'a>,
+) -> Result<Built, Refusal<'a>>
+    requires { IsPlanOf (options_said options.now) plan.now.modules.items plan.now }
+    ensures built { IfOk result (IsBuilt (options_said options.now) plan.now.modules.items) }
+    ensures refused { IfErr result (RefusesBuild (options_said options.now) plan.now.modules.items) }
+{
+    let sections = group_pieces(alloc, plan, options)?;
+    let layout = place_pieces(alloc, plan, options, &sections)?;
+    check_own_base(plan, options, &sections, &layout)?;
+    let headers = headers_of(options, entry_rva(plan, options, &sections, &layout));
+    let image = image(alloc, &headers, &layout, &sections, &plan.pieces)?;
+    Ok(Built {
+        image,
+        sections: sections.len() as u32,
+    })
+}

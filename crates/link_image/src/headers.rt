@@ -1,0 +1,55 @@
+//! The headers of an image, by the options.
+
+ghost use Rattle.std.specs.Prelude.{◌≡◌};
+ghost use Rattle.link_words.specs.Outcome.{options_said};
+ghost use Rattle.link_image.specs.ImageHeaders.{headers_of, dll_characteristics};
+
+use image_writer::Headers;
+use link_base::pe_format::{
+    DLLCHARACTERISTICS_DYNAMIC_BASE, DLLCHARACTERISTICS_HIGH_ENTROPY_VA,
+    DLLCHARACTERISTICS_NX_COMPAT,
+};
+use link_words::Options;
+
+/// The headers of an image that begins at an RVA. It has no directories.
+pub(crate) fn headers_of(options: &Options<'_>, entry: u32) -> Headers
+    ensures { result ≡ headers_of (options_said options.now) entry }
+{
+    Headers {
+        base: options.base,
+        entry,
+        dll: options.dll,
+        fixed: options.fixed,
+        large: options.large,
+        flags: dll_characteristics(options),
+        subsystem: options.subsystem,
+        version: options.version,
+        time: options.time,
+        stack: options.stack,
+        heap: options.heap,
+        directories: [(0, 0); 16],
+    }
+}
+
+/// How the image may be loaded.
+fn dll_characteristics(options: &Options<'_>) -> u16
+    ensures { result ≡ dll_characteristics (options_said options.now) }
+{
+    let moves = options.dynamic && !options.fixed;
+    let high = if moves && options.entropy && options.large {
+        DLLCHARACTERISTICS_HIGH_ENTROPY_VA
+    } else {
+        0
+    };
+    let dynamic = if moves {
+        DLLCHARACTERISTICS_DYNAMIC_BASE
+    } else {
+        0
+    };
+    let nx = if options.nx {
+        DLLCHARACTERISTICS_NX_COMPAT
+    } else {
+        0
+    };
+    high + dynamic + nx
+}

@@ -1,0 +1,65 @@
+-- The entry of an image: what its name means, and where that stands (MSVC linker reference, "/ENTRY"; the refusals are
+-- own).
+use Rattle.std.specs.Prelude.{ℕ, List, Option, Some, None, Result, Ok, Err}
+use Rattle.link_base.specs.declared.fault.Fault.{Fault}
+use Rattle.link_base.specs.declared.fault.Fault.TheVariants as faults
+use Rattle.link_base.specs.declared.kinds.target.TargetFault.{TargetFault}
+use Rattle.link_base.specs.declared.kinds.target.TargetFault.TheVariants.{Unplaced, NoSection}
+use Rattle.module_view.specs.Module.{ModuleView}
+use Rattle.symbol_table.specs.declared.meaning.Meaning.{Meaning}
+use Rattle.symbol_table.specs.declared.meaning.Meaning.TheVariants.{Section}
+use Rattle.symbol_table.specs.declared.meaning.NoMeaning.{NoMeaning}
+use Rattle.symbol_table.specs.declared.meaning.NoMeaning.TheVariants.{Undefined, WeakCycle}
+use Rattle.symbol_table.specs.Resolution.{meaning_of}
+use Rattle.link_pieces.specs.Pieces.{piece_index}
+use Rattle.link_plan.specs.declared.entry.EntryPlace.{EntryPlace}
+
+-- ---- what it means
+
+abbrev pub meant : Result Meaning NoMeaning → Option Meaning
+meant (Ok meaning) = Some meaning
+meant (Err none) = None
+
+-- what an entry means, where there is one and it means something
+abbrev pub entry_meant : List ModuleView → Option (List ℕ) → Option Meaning
+entry_meant modules None = None
+entry_meant modules (Some name) = meant (meaning_of modules name)
+
+abbrev pub no_meaning_fault : List ℕ → Result Meaning NoMeaning → Option Fault
+no_meaning_fault name (Ok meaning) = None
+no_meaning_fault name (Err Undefined) = Some (faults.Undefined name None)
+no_meaning_fault name (Err WeakCycle) = Some (faults.WeakCycle name None)
+
+-- the entry means nothing
+abbrev pub meaning_fault : List ModuleView → Option (List ℕ) → Option Fault
+meaning_fault modules None = None
+meaning_fault modules (Some name) = no_meaning_fault name (meaning_of modules name)
+
+-- ---- where it stands
+
+abbrev pub place_in : ℕ → Option ℕ → Option EntryPlace
+place_in value None = None
+place_in value (Some piece) = Some (record { piece = piece; value = value })
+
+-- the place of a meaning: an offset in the piece of its section
+abbrev pub meant_place : List ModuleView → Option Meaning → Option EntryPlace
+meant_place modules (Some (Section position section value)) = place_in value (piece_index modules position section)
+meant_place modules other = None
+
+-- before all modules: no section and no relocation is named
+abbrev pub bad_entry : TargetFault → Fault
+bad_entry kind = faults.BadTarget kind None 0 0
+
+abbrev pub unplaced_fault : Option ℕ → Option Fault
+unplaced_fault None = Some (bad_entry Unplaced)
+unplaced_fault (Some piece) = None
+
+-- the section of the entry does not come into the image, or the entry stands in no section
+abbrev pub meant_fault : List ModuleView → Option Meaning → Option Fault
+meant_fault modules None = None
+meant_fault modules (Some (Section position section value)) = unplaced_fault (piece_index modules position section)
+meant_fault modules (Some other) = Some (bad_entry NoSection)
+
+-- where the entry stands
+abbrev pub entry_place : List ModuleView → Option (List ℕ) → Option EntryPlace
+entry_place modules entry = meant_place modules (entry_meant modules entry)

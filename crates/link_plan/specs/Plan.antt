@@ -1,0 +1,35 @@
+-- What a plan says of the modules that it was made for.
+use Rattle.std.specs.Prelude.{◌≡◌, ◌<◌, ◌≤◌, ℕ, ◌^◌, true, List, length, map, slice_index_or, None}
+use Rattle.std.specs.List.{All}
+use Rattle.std.specs.Option.{ForSome}
+use Rattle.section_group.specs.declared.piece.Piece.{Piece}
+use Rattle.section_group.specs.SectionOrder.{no_piece}
+use Rattle.section_group.specs.BarePieces.{bare}
+use Rattle.address_layout.specs.Layout.{IsAlignment}
+use Rattle.image_writer.specs.WrittenImage.{piece_contents, HasItsBytes}
+use Rattle.module_view.specs.Module.{ModuleView}
+use Rattle.link_pieces.specs.Pieces.{link_pieces, link_contents}
+use Rattle.link_words.specs.Outcome.{LinkOptions}
+use Rattle.link_plan.specs.declared.entry.EntryPlace.{EntryPlace}
+use Rattle.link_plan.specs.declared.plan.LinkPlan.{LinkPlan}
+use Rattle.link_plan.specs.Entry.{entry_place}
+use Rattle.link_plan.specs.PlanFaults.{plan_fault}
+
+-- a place in a piece that stands in a section even where it has no bytes
+pub record StandsNamed (pieces : List Piece) (place : EntryPlace) : Type 0 where
+  pub within : place.piece < length pieces
+  pub named : (slice_index_or pieces place.piece no_piece).named ≡ true
+  pub inside : place.value ≤ (slice_index_or pieces place.piece no_piece).size
+
+-- a plan holds what the definitions give for the modules and the options, which have no fault up to it
+pub record IsPlanOf (options : LinkOptions) (modules : List ModuleView) (plan : LinkPlan) : Type 0 where
+  pub modules_are : plan.modules.items ≡ modules
+  pub table_is : plan.table ≡ modules
+  pub pieces_are : map bare plan.pieces.items ≡ link_pieces modules
+  pub contents_are : map piece_contents plan.pieces.items ≡ link_contents modules
+  pub aligned : All (λ piece. IsAlignment piece.align) plan.pieces.items
+  pub bodies : (k : ℕ) → k < length plan.pieces.items → HasItsBytes plan.pieces.items k
+  pub few : length plan.pieces.items < 2 ^ 31
+  pub entry_is : plan.entry ≡ entry_place modules options.entry_name
+  pub stands : ForSome plan.entry (StandsNamed plan.pieces.items)
+  pub no_fault : plan_fault options modules ≡ None

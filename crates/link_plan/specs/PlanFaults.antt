@@ -1,0 +1,28 @@
+-- Why modules are not linked, before anything is laid out: the faults of the stages from choice to fields, in their order.
+-- The order is own.
+use Rattle.std.specs.Prelude.{ℕ, List, Option, Some, None, option_map}
+use Rattle.std.specs.Option.{option_or}
+use Rattle.link_base.specs.declared.fault.Fault.{Fault}
+use Rattle.link_base.specs.declared.fault.Fault.TheVariants as faults
+use Rattle.module_view.specs.Module.{ModuleView}
+use Rattle.symbol_table.specs.declared.table.Clash.{Clash}
+use Rattle.symbol_table.specs.Clash.{clash_of}
+use Rattle.link_words.specs.Outcome.{LinkOptions}
+use Rattle.link_plan.specs.Entry.{entry_meant, meaning_fault, meant_fault}
+
+abbrev pub duplicate : Clash → Fault
+duplicate clash = faults.Duplicate clash.name (Some clash.first) (Some clash.second)
+
+-- choice: two modules define one name
+abbrev pub choice_fault : List ModuleView → Option Fault
+choice_fault modules = option_map duplicate (clash_of modules)
+
+-- fields: the entry has no place in the image
+abbrev pub fields_fault : List ModuleView → Option (List ℕ) → Option Fault
+fields_fault modules entry = meant_fault modules (entry_meant modules entry)
+
+-- the first of the stages that has a fault
+unfoldable pub plan_fault : LinkOptions → List ModuleView → Option Fault
+plan_fault options modules =
+    option_or (choice_fault modules)
+    (option_or (meaning_fault modules options.entry_name) (fields_fault modules options.entry_name))

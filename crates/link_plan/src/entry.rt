@@ -1,0 +1,79 @@
+//! The entry of an image.
+
+ghost use Rattle.std.specs.Prelude.{◌≡◌, None, Some, IfOk, OnOk, IfErr};
+ghost use Rattle.link_pieces.specs.Pieces.{IsPieceIndex};
+ghost use Rattle.link_plan.specs.Entry.{entry_meant, meaning_fault, meant_place, meant_fault};
+
+use link_base::{Fault, Name, TargetFault};
+use link_pieces::PieceIndex;
+use symbol_table::{Meaning, NoMeaning, SymbolTable};
+
+/// Where an entry stands: its piece, and the offset in it.
+#[derive(Clone, Copy, Debug, PartialEq, Eq)]
+pub struct EntryPlace {
+    pub piece: u32,
+    pub value: u32,
+}
+
+/// What the entry means, where there is one.
+pub(crate) fn entry_meaning<'a>(
+    table: &SymbolTable<'a>,
+    entry: &Option<Name<'a>>,
+) -> Result<Option<Meaning<'a>>, Fault<'a>>
+    ensures meant { IfOk result (λ meaning. meaning ≡ entry_meant table.now entry.now) }
+    ensures accepted { OnOk result (meaning_fault table.now entry.now ≡ None) }
+    ensures refused { IfErr result (λ fault. meaning_fault table.now entry.now ≡ Some fault) }
+{
+    let Some(name) = entry else { return Ok(None) };
+    match table.resolve(name.again()) {
+        Ok(meaning) => Ok(Some(meaning)),
+        Err(NoMeaning::Undefined) => Err(Fault::Undefined {
+            name: name.again(),
+            module: None,
+        }),
+        Err(NoMeaning::WeakCycle) => Err(Fault::WeakCycle {
+            name: name.again(),
+            module: None,
+        }),
+    }
+}
+
+/// Where the entry stands, by what it means.
+pub(crate) fn entry_place<'a>(
+    index: &PieceIndex,
+    meaning: &Option<Meaning<'a>>,
+) -> Result<Option<EntryPlace>, Fault<'a>>
+    ghost modules: { List ModuleView }
+    requires { IsPieceIndex modules index.now }
+    ensures placed { IfOk result (λ place. place ≡ meant_place modules meaning.now) }
+    ensures accepted { OnOk result (meant_fault modules meaning.now ≡ None) }
+    ensures refused { IfErr result (λ fault. meant_fault modules meaning.now ≡ Some fault) }
+{
+    match meaning {
+        None => Ok(None),
+        Some(Meaning::Section {
+            module,
+            section,
+            value,
+        }) => match index.of(*module, *section) {
+            Some(piece) => Ok(Some(EntryPlace {
+                piece,
+                value: *value,
+            })),
+            None => Err(bad_entry(TargetFault::Unplaced)),
+        },
+        Some(_) => Err(bad_entry(TargetFault::NoSection)),
+    }
+}
+
+/// The fault of an entry whose target has no address that it can use.
+fn bad_entry<'a>(kind: TargetFault) -> Fault<'a>
+    ensures { result ≡ Fault.BadTarget kind None 0 0 }
+{
+    Fault::BadTarget {
+        kind,
+        module: None,
+        section: 0,
+        relocation: 0,
+    }
+}

@@ -1,0 +1,11 @@
+//! What a link will hold, decided before a byte of the image is made: the modules, what their names mean, the pieces of
+//! the image, and the place of the entry. It takes the modules that were opened and the options, and gives the plan to
+//! `link_image`. Its contract promises the plan that the definitions give, or the first fault of the stages from choice
+//! to fields. Places and bytes are left to `link_image`.
+#![tactic(auto)]
+
+mod entry;
+mod plan;
+
+pub use entry::EntryPlace;
+pub use plan::{LinkPlan, plan_of};

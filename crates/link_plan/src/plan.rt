@@ -1,0 +1,82 @@
+//! The plan of a link.
+
+ghost use Rattle.std.specs.Prelude.{◌≡◌, ◌≤◌, length, None, Some, IfOk, IfErr, OnOk};
+ghost use Rattle.link_base.specs.Limits.{MODULE_LIMIT};
+ghost use Rattle.link_base.specs.Refusals.{RefusesFor};
+ghost use Rattle.link_words.specs.Outcome.{options_said};
+ghost use Rattle.link_plan.specs.PlanFaults.{choice_fault, plan_fault};
+ghost use Rattle.link_plan.specs.Plan.{IsPlanOf};
+
+use crate::entry::{EntryPlace, entry_meaning, entry_place};
+use link_base::{Fault, Memory, Refusal};
+use link_pieces::{PieceIndex, pieces_of};
+use link_words::Options;
+use module_view::Module;
+use section_group::Piece;
+use std::alloc::Global;
+use symbol_table::SymbolTable;
+
+/// What a link will hold.
+#[derive(Drop)]
+pub struct LinkPlan<'a> {
+    /// The modules, in the order of joining.
+    pub modules: Vec<Module<'a>>,
+    /// What the names of the modules mean.
+    pub table: SymbolTable<'a>,
+    /// The pieces of the image, in the order of the modules and of their sections.
+    pub pieces: Vec<Piece<'a>>,
+    /// Where the image begins, where it begins at all.
+    pub entry: Option<EntryPlace>,
+}
+
+/// The plan of a link of these modules. The input is refused for the first of: two definitions of one name (`Duplicate`),
+/// an entry that no module defines (`Undefined`), and one that has no place in the image (`BadTarget`).
+pub fn plan_of<'a>(
+    alloc: Global,
+    modules: Vec<Module<'a>>,
+    options: &Options<'a>,
+) -> Result<LinkPlan<'a>, Refusal<'a>>
+    requires few { length modules.entry.items ≤ MODULE_LIMIT }
+    ensures planned { IfOk result (IsPlanOf (options_said options.now) modules.entry.items) }
+    ensures refused { IfErr result (RefusesFor (plan_fault (options_said options.now) modules.entry.items)) }
+{
+    let table = table_of(alloc, &modules)?;
+    check_choice(&table)?;
+    let meaning = entry_meaning(&table, &options.entry)?;
+    let pieces = pieces_of(alloc, &modules)?;
+    let index = PieceIndex::new(alloc, &modules, &pieces)?;
+    let entry = entry_place(&index, &meaning)?;
+    Ok(LinkPlan {
+        modules,
+        table,
+        pieces,
+        entry,
+    })
+}
+
+/// The table of the names of all modules.
+fn table_of<'a>(alloc: Global, modules: &[Module<'a>]) -> Result<SymbolTable<'a>, Memory>
+    requires { length modules.now ≤ MODULE_LIMIT }
+    ensures { IfOk result (λ table. table ≡ modules.now) }
+{
+    let mut table = SymbolTable::new(alloc);
+    for module in modules {
+        table.add_module(module)?;
+    }
+    Ok(table)
+}
+
+/// That no name is defined twice.
+fn check_choice<'a>(table: &SymbolTable<'a>) -> Result<(), Fault<'a>>
+    ensures accepted { OnOk result (choice_fault table.now ≡ None) }
+    ensures refused { IfErr result (λ fault. choice_fault table.now ≡ Some fault) }
+{
+    match table.clash() {
+        None => Ok(()),
+        Some(clash) => Err(Fault::Duplicate {
+            name: clash.name,
+            first: Some(clash.first),
+            second: Some(clash.second),
+        }),
+    }
+}
