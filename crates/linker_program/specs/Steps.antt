@@ -10,7 +10,7 @@ use Rattle.link_files.specs.Outputs.{NamedBytes, output_at, FirstWritten, NextTo
 use Rattle.image_writer.specs.ExpectedImage.{MeansPlan}
 use Rattle.link_words.specs.Outcome.{LinkOptions}
 use Rattle.linker_program.specs.declared.answer.Answer.{Answer}
-use Rattle.linker_program.specs.declared.link.Linked.{Linked as LinkedBytes}
+use Rattle.linker_program.specs.declared.linked.Linked.{Linked as LinkedBytes}
 use Rattle.linker_program.specs.declared.status.Status.{Status}
 use Rattle.linker_program.specs.declared.status.Status.TheVariants as status
 use Rattle.linker_program.specs.Outcome.{Outcome, Refused, Linked, Plan, InputsOutcome}

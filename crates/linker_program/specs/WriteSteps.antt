@@ -1,7 +1,7 @@
 -- The outputs of a link, and the line that says that they are written.
 use Rattle.std.specs.Prelude.{ℕ, List, [], ◌∷◌, length}
 use Rattle.link_files.specs.Outputs.{NamedBytes}
-use Rattle.linker_program.specs.declared.link.Linked.{Linked}
+use Rattle.linker_program.specs.declared.linked.Linked.{Linked}
 use Rattle.linker_program.specs.RunLines.{summary_line}
 
 abbrev pub linked_outputs : List ℕ → Linked → List NamedBytes

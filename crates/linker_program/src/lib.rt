@@ -8,6 +8,7 @@ mod answer;
 mod laws;
 mod lines;
 mod link;
+mod linked;
 mod linker;
 mod opening;
 mod reading;

@@ -10,6 +10,7 @@ ghost use Rattle.linker_program.specs.ReadingSteps.{file_bytes};
 ghost use Rattle.linker_program.specs.Steps.{InputsHave, IsLinked, RefusesInputs};
 
 use crate::answer::{Answer, read_failed, refused};
+use crate::linked::Linked;
 use crate::opening::open_modules;
 use crate::reading::read_inputs;
 use crate::write::write_linked;
@@ -19,17 +20,6 @@ use link_image::build;
 use link_plan::plan_of;
 use link_words::Options;
 use std::alloc::Global;
-
-/// What a link made, before it is written.
-#[derive(Drop)]
-pub struct Linked {
-    /// How many modules were linked.
-    pub modules: usize,
-    /// How many sections the image has.
-    pub sections: u32,
-    /// The file of the image.
-    pub image: Vec<u8>,
-}
 
 /// Reads the inputs that the options name, and links them.
 pub(crate) fn link<F: Files>(

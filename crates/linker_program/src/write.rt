@@ -7,7 +7,7 @@ ghost use Rattle.linker_program.specs.WriteSteps.{linked_outputs, linked_summary
 
 use crate::answer::Answer;
 use crate::lines::{summary_line, write_failure_line};
-use crate::link::Linked;
+use crate::linked::Linked;
 use crate::status::Status;
 use link_base::Memory;
 use link_files::{Files, Output, OutputError, write_outputs};

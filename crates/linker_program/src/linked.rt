@@ -1,0 +1,12 @@
+//! What a link made.
+
+/// What a link made, before it is written.
+#[derive(Drop)]
+pub struct Linked {
+    /// How many modules were linked.
+    pub modules: usize,
+    /// How many sections the image has.
+    pub sections: u32,
+    /// The file of the image.
+    pub image: Vec<u8>,
+}
