@@ -1,4 +1,4 @@
--- The first fault below an end, in a loop that counts up; why one input is not read; and what is read so far.
+-- Why one input is not read, and what is read so far.
 use Rattle.std.proofs.Common.{◌≡◌, ℕ, zero, suc, ◌+◌, ◌<◌, ◌≤◌, List, [], ◌∷◌, ◌++◌, length, get_or, map, take, Option, Some, None, Err, Vec, refl, sym, ap, ◌∙◌, inl, inr, add-one, arith, le-ltb}
 use Rattle.std.specs.Prelude.{All, unwrap_or}
 use Rattle.std.specs.Option.{ForSome}
@@ -7,69 +7,55 @@ use Rattle.std.proofs.lemmas.List.{length-map, map-append, take_more, length_pus
 use Rattle.std.proofs.lemmas.List.Elements.{All-nil, All-same, All-push}
 use Rattle.link_base.specs.declared.fault.Fault.{Fault}
 use Rattle.link_files.specs.Store.{Store, file_of}
-use Rattle.linker_program.specs.declared.refusal.Stop.{Stop}
-use Rattle.linker_program.specs.declared.refusal.Stop.TheVariants as stop
-use Rattle.linker_program.specs.LinkRun.{Files, AreUntouched}
-use Rattle.linker_program.specs.Loading.{file_limit, input_limit, first_fault_below, bytes_in, contents_of, total_before, read_fault, read_fault_at}
+use Rattle.link_base.specs.declared.stop.Stop.{Stop}
+use Rattle.link_base.specs.declared.stop.Stop.TheVariants as stop
+use Rattle.link_files.specs.Outside.{FilesView, AreUntouched}
+use Rattle.link_base.specs.Limits.{FILE_LIMIT, INPUT_LIMIT}
+use Rattle.link_base.specs.Refusals.{first_refusal_below}
+use Rattle.link_base.proofs.RefusalLemmas.{first_refusal_below-more, first_refusal_below-found}
+use Rattle.linker_program.specs.Loading.{bytes_in, contents_of, total_before, read_fault, read_fault_at}
 use Rattle.linker_program.specs.ReadingSteps.{GivesInput, ReadsInput, ReadsInputs}
-
--- ---- the first fault below an end
-
--- none has one below n, and n has none either
-pub first_fault_below-more : (n : ℕ) (fault_at : ℕ → Option Fault) → first_fault_below n fault_at ≡ None → fault_at n ≡ None → first_fault_below (n + 1) fault_at ≡ None
-unfolding first_fault_below
-first_fault_below-more n fault_at none here = rw (add-one, none, here) refl
-
--- none has one below n, and n has one: it is the first below any greater end
-pub first_fault_below-found : (n m : ℕ) (fault_at : ℕ → Option Fault) (fault : Fault) → n < m → first_fault_below n fault_at ≡ None → fault_at n ≡ Some fault → first_fault_below m fault_at ≡ Some fault
-unfolding first_fault_below
-first_fault_below-found n zero fault_at fault lt none here = absurd (omega arith)
-first_fault_below-found n (suc m) fault_at fault lt none here =
-    elim (cases_lt n m) [
-      | inl below ↦ rw (first_fault_below-found n m fault_at fault below none here) refl
-      | inr above ↦ let same : m ≡ n = omega arith in rw (same, none, here) refl
-    ]
 
 -- ---- one input
 
 -- it is there and keeps the limits
-kept_no_fault : (name : List ℕ) (total : ℕ) (bytes : List ℕ) (file : Option (List ℕ)) → file ≡ Some bytes → length bytes ≤ file_limit → total + length bytes ≤ input_limit → read_fault name total file ≡ None
+kept_no_fault : (name : List ℕ) (total : ℕ) (bytes : List ℕ) (file : Option (List ℕ)) → file ≡ Some bytes → length bytes ≤ FILE_LIMIT → total + length bytes ≤ INPUT_LIMIT → read_fault name total file ≡ None
 kept_no_fault name total bytes file is within together =
     ap (read_fault name total) is
-    ∙ rw (le-ltb file_limit (length bytes) within, le-ltb input_limit (total + length bytes) together) refl
+    ∙ rw (le-ltb FILE_LIMIT (length bytes) within, le-ltb INPUT_LIMIT (total + length bytes) together) refl
 
 -- ---- what is read so far
 
 -- the first inputs were read
-pub record ReadSoFar (names : List (List ℕ)) (index : ℕ) (before after : Files) (contents : List (List ℕ)) (total : ℕ) : Type 0 where
+pub record ReadSoFar (names : List (List ℕ)) (index : ℕ) (before after : FilesView) (contents : List (List ℕ)) (total : ℕ) : Type 0 where
   pub files : AreUntouched before after
   pub count : length contents ≡ index
-  pub within : All (λ bytes. length bytes ≤ file_limit) contents
-  pub together : total ≤ input_limit
-  pub no_fault : ForSome before.store (λ store. first_fault_below index (read_fault_at store names) ≡ None)
+  pub within : All (λ bytes. length bytes ≤ FILE_LIMIT) contents
+  pub together : total ≤ INPUT_LIMIT
+  pub no_fault : ForSome before.store (λ store. first_refusal_below index (read_fault_at store names) ≡ None)
   pub told : ForSome before.store (λ store. contents ≡ map (contents_of store) (take index names))
   pub sum : ForSome before.store (λ store. total ≡ total_before store names index)
 
-pub nothing_read : (names : List (List ℕ)) (files : Files) (contents : List (List ℕ)) → contents ≡ [] → ReadSoFar names 0 files files contents 0
-unfolding first_fault_below total_before
+pub nothing_read : (names : List (List ℕ)) (files : FilesView) (contents : List (List ℕ)) → contents ≡ [] → ReadSoFar names 0 files files contents 0
+unfolding first_refusal_below total_before
 nothing_read names files contents empty = record {
   files = record { store = refl; reads = refl; writes = refl };
   count = ap length empty;
-  within = All-same (λ (bytes : List ℕ). length bytes ≤ file_limit) contents [] empty (All-nil (λ (bytes : List ℕ). length bytes ≤ file_limit));
+  within = All-same (λ (bytes : List ℕ). length bytes ≤ FILE_LIMIT) contents [] empty (All-nil (λ (bytes : List ℕ). length bytes ≤ FILE_LIMIT));
   together = omega arith;
   no_fault = λ store is. refl;
   told = λ store is. empty;
   sum = λ store is. refl;
 }
 
-untouched_further : (before after later : Files) → AreUntouched before after → AreUntouched after later → AreUntouched before later
+untouched_further : (before after later : FilesView) → AreUntouched before after → AreUntouched after later → AreUntouched before later
 untouched_further before after later first second = record {
   store = second.store ∙ first.store;
   reads = second.reads ∙ first.reads;
   writes = second.writes ∙ first.writes;
 }
 
--- the fault of an input, behind as many bytes as those before it have
+-- the fault of an input, after as many bytes as those before it have
 fault_here : (names : List (List ℕ)) (index : ℕ) (store : Store) (name : List ℕ) (total : ℕ) → name ≡ bytes_in names index → total ≡ total_before store names index → read_fault_at store names index ≡ read_fault name total (file_of store name)
 fault_here names index store name total named sum =
     sym (ap (λ (n : List ℕ). read_fault n total (file_of store n)) named
@@ -94,17 +80,17 @@ total_more names index store total bytes so_far here =
     ∙ sym (ap (total_before store names) (add-one index))
 
 -- the next input was read too
-pub read_more : (names : List (List ℕ)) (index : ℕ) (before after later : Files) (contents : List (List ℕ)) (total : ℕ) (name bytes : List ℕ) → index < length names → name ≡ bytes_in names index → ReadSoFar names index before after contents total → GivesInput name total after later bytes → ReadSoFar names (index + 1) before later (contents ++ bytes ∷ []) (total + length bytes)
+pub read_more : (names : List (List ℕ)) (index : ℕ) (before after later : FilesView) (contents : List (List ℕ)) (total : ℕ) (name bytes : List ℕ) → index < length names → name ≡ bytes_in names index → ReadSoFar names index before after contents total → GivesInput name total after later bytes → ReadSoFar names (index + 1) before later (contents ++ bytes ∷ []) (total + length bytes)
 read_more names index before after later contents total name bytes lt named so_far gives =
     let file = λ (store : Store) (is : before.store ≡ Some store). gives.told store (so_far.files.store ∙ is) in
     let here = λ (store : Store) (is : before.store ≡ Some store). contents_here names index store name bytes named (file store is) in
     record {
       files = untouched_further before after later so_far.files gives.files;
       count = length_push contents bytes ∙ ap (λ (n : ℕ). n + 1) so_far.count;
-      within = All-push (λ (b : List ℕ). length b ≤ file_limit) contents bytes so_far.within gives.within;
+      within = All-push (λ (b : List ℕ). length b ≤ FILE_LIMIT) contents bytes so_far.within gives.within;
       together = gives.together;
       no_fault = λ store is.
-          first_fault_below-more index (read_fault_at store names) (so_far.no_fault store is)
+          first_refusal_below-more index (read_fault_at store names) (so_far.no_fault store is)
           (fault_here names index store name total named (so_far.sum store is)
           ∙ kept_no_fault name total bytes (file_of store name) (file store is) gives.within gives.together);
       told = λ store is. contents_more names index store contents bytes lt (so_far.told store is) (here store is);
@@ -112,11 +98,11 @@ read_more names index before after later contents total name bytes lt named so_f
     }
 
 -- the next input stops the reading
-pub reading_stops : (A B : Type 0) (names : List (List ℕ)) (index : ℕ) (before after later : Files) (contents : List (List ℕ)) (total : ℕ) (name : List ℕ) (error : Stop) → index < length names → name ≡ bytes_in names index → ReadSoFar names index before after contents total → ReadsInput {A = A} name total after later (Err error) → ReadsInputs {A = A} {B = B} names before later (Err error)
+pub reading_stops : (A B : Type 0) (names : List (List ℕ)) (index : ℕ) (before after later : FilesView) (contents : List (List ℕ)) (total : ℕ) (name : List ℕ) (error : Stop) → index < length names → name ≡ bytes_in names index → ReadSoFar names index before after contents total → ReadsInput {A = A} name total after later (Err error) → ReadsInputs {A = A} {B = B} names before later (Err error)
 reading_stops A B names index before after later contents total name (stop.Fault fault) lt named so_far faults = record {
   files = untouched_further before after later so_far.files faults.files;
   told = λ store is.
-      first_fault_below-found index (length names) (read_fault_at store names) fault lt (so_far.no_fault store is)
+      first_refusal_below-found index (length names) (read_fault_at store names) fault lt (so_far.no_fault store is)
       (fault_here names index store name total named (so_far.sum store is) ∙ faults.told store (so_far.files.store ∙ is));
 }
 reading_stops A B names index before after later contents total name (stop.Read failed) lt named so_far fails = record {
@@ -137,8 +123,8 @@ reading_stops A B names index before after later contents total name stop.Memory
 pub within_names : {X : Type 0} (bytes_of : X → List ℕ) (names : List X) (index : ℕ) → index < length names → index < length (map bytes_of names)
 within_names bytes_of names index lt = omega (arith, length-map names bytes_of)
 
-pub name_at : {X : Type 0} (bytes_of : X → List ℕ) (names : List X) (index : ℕ) (name : X) → index < length names → name ≡ get_or names index name → bytes_of name ≡ bytes_in (map bytes_of names) index
-name_at bytes_of names index name lt is = ap bytes_of is ∙ sym (get_or-map bytes_of names index name [] lt)
+pub item_at : {X : Type 0} (bytes_of : X → List ℕ) (names : List X) (index : ℕ) (default : X) → index < length names → bytes_of (get_or names index default) ≡ bytes_in (map bytes_of names) index
+item_at bytes_of names index default lt = sym (get_or-map bytes_of names index default [] lt)
 
 pub items_none : {A : Type 0} (contents : List (Vec ℕ A)) → contents ≡ [] → map (λ (bytes : Vec ℕ A). bytes.items) contents ≡ []
 items_none {A} contents empty = ap (map (λ (bytes : Vec ℕ A). bytes.items)) empty

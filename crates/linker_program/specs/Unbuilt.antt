@@ -15,10 +15,10 @@ linker_names =
 abbrev pub is_linker_name : List ℕ → Bool
 is_linker_name name = list_any (same_name name) linker_names
 
--- an entry that the linker gives a meaning itself, or that is the slot of an import
+-- an entry that is the slot of an import, or that the linker gives a meaning itself
 abbrev pub is_unbuilt_entry : Option (List ℕ) → Bool
 is_unbuilt_entry None = false
-is_unbuilt_entry (Some name) = is_linker_name name || begins_import name
+is_unbuilt_entry (Some name) = begins_import name || is_linker_name name
 
 abbrev pub is_some_text : {A : Type 0} → List A → Bool
 is_some_text texts = not (length texts == 0)

@@ -72,18 +72,19 @@ fn drops_sections(refs: Option<bool>) -> bool
     }
 }
 
-/// An entry that the linker gives a meaning itself, or that is the slot of an import.
+/// An entry that is the slot of an import, or that the linker gives a meaning itself.
 fn is_unbuilt_entry(entry: &Option<Name<'_>>) -> bool
     ensures { result ≡ is_unbuilt_entry entry.now }
 {
     match entry {
-        Some(name) => is_linker_name(name) || name.is_import(),
+        Some(name) => name.is_import() || is_linker_name(name.rest()),
         None => false,
     }
 }
 
-fn is_linker_name(name: &Name<'_>) -> bool
+/// Whether the linker gives the name a meaning itself.
+fn is_linker_name(name: &[u8]) -> bool
     ensures { result ≡ is_linker_name name.now }
 {
-    !name.is_import() && LINKER_NAMES.iter().any(|known| name.rest() == *known)
+    LINKER_NAMES.iter().any(|known| name == *known)
 }
