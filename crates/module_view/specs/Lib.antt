@@ -1,0 +1,6 @@
+pub mod Module
+pub mod Opening
+pub mod PlacedSection
+pub mod SymbolLists
+pub mod Unbuilt
+pub mod ModuleParts

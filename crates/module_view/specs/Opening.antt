@@ -1,0 +1,123 @@
+-- Which bytes do not open as a module, and why: the forms that the first bytes show, then the faults of the object, then
+-- the forms that its names show, then those that are not linked yet. The order is own.
+use Rattle.std.specs.Prelude.{◌≡◌, ℕ, Bool, ◌||◌, ◌&&◌, not, ◌==◌, nat_lt, List, [], ◌∷◌, length, drop, Option, Some, None, option_map, codes}
+use Rattle.std.specs.List.{list_any}
+use Rattle.std.specs.Option.{option_or}
+use Rattle.link_base.specs.Bytes.{u16_at, has_bytes}
+use Rattle.link_base.specs.Limits.{NAME_LIMIT}
+use Rattle.link_base.specs.NameText.{same_name, begins}
+use Rattle.link_base.specs.Refusals.{shown, first_standing}
+use Rattle.link_base.specs.SectionName.{base_name}
+use Rattle.link_base.specs.declared.kinds.form.Kind.{Kind}
+use Rattle.link_base.specs.declared.kinds.form.Kind.TheVariants as form
+use Rattle.coff_object.specs.ObjectFile.{section_name_of, symbol_name_of}
+use Rattle.coff_object.specs.ObjectFaults.{object_fault}
+use Rattle.module_view.specs.declared.error.ModuleError.{ModuleError}
+use Rattle.module_view.specs.declared.error.ModuleError.TheVariants as error
+use Rattle.module_view.specs.Module.{ModuleView}
+use Rattle.module_view.specs.SymbolLists.{symbols_in}
+use Rattle.module_view.specs.Unbuilt.{is_unread_form, sections_in, has_unbuilt_section, has_unbuilt_symbol}
+
+-- ---- the first bytes
+
+-- an archive that names its members and does not hold them (LLVM, "llvm-ar", thin archives)
+abbrev pub thin_library_start : List ℕ
+thin_library_start = codes "!<thin>"
+
+-- LLVM, "LLVM Bitcode File Format", "Magic Numbers"
+abbrev pub bitcode_start : List ℕ
+bitcode_start = 0x42 ∷ 0x43 ∷ 0xC0 ∷ 0xDE ∷ []
+
+-- PE Format, "MS-DOS Stub (Image Only)"
+abbrev pub image_start : List ℕ
+image_start = codes "MZ"
+
+-- the empty entry that a resource file begins with (Windows, "Resource File Formats"): its data size, its
+-- header's size, and the numbers 0 as its type and its name
+unfoldable pub resource_start : List ℕ
+resource_start =
+    0 ∷ 0 ∷ 0 ∷ 0 ∷ 0x20 ∷ 0 ∷ 0 ∷ 0 ∷ 0xFF ∷ 0xFF ∷ 0 ∷ 0 ∷ 0xFF ∷ 0xFF ∷ 0 ∷ 0 ∷ []
+
+-- no machine, and 0xFFFF in the place of the count of sections (PE Format, "Import Header")
+abbrev pub anonymous_start : List ℕ
+anonymous_start = 0 ∷ 0 ∷ 0xFF ∷ 0xFF ∷ []
+
+-- the same with the version of big objects
+abbrev pub big_object_start : List ℕ
+big_object_start = 0 ∷ 0 ∷ 0xFF ∷ 0xFF ∷ 2 ∷ 0 ∷ []
+
+-- the class identifier of big objects (LLVM, `COFF::BigObjMagic`)
+unfoldable pub big_object_class : List ℕ
+big_object_class =
+    0xC7 ∷ 0xA1 ∷ 0xBA ∷ 0xD1 ∷ 0xEE ∷ 0xBA ∷ 0xA9 ∷ 0x4B ∷ 0xAF ∷ 0x20 ∷ 0xFA ∷ 0xF6 ∷ 0x6A ∷ 0xA4 ∷ 0xDC ∷ 0xB8 ∷ []
+
+abbrev pub is_big_object : List ℕ → Bool
+is_big_object bytes = begins bytes big_object_start && begins (drop 12 bytes) big_object_class
+
+-- a version follows, and is not 0, which is that of a short import; the object is not a big one
+abbrev pub is_anonymous : List ℕ → Bool
+is_anonymous bytes =
+    begins bytes anonymous_start && (has_bytes bytes 4 2 && (not (u16_at bytes 4 == 0) && not (is_big_object bytes)))
+
+abbrev pub unsupported : Bool → Kind → Option ModuleError
+unsupported stands kind = shown stands (error.Unsupported kind)
+
+-- the first form that the first bytes show: one that has no reader yet, or is never read
+unfoldable pub form_error : List ℕ → Option ModuleError
+form_error bytes =
+    first_standing
+    (unsupported (is_unread_form bytes) form.NotBuilt
+    ∷ unsupported (begins bytes thin_library_start) form.ThinLibrary
+    ∷ unsupported (begins bytes bitcode_start) form.Bitcode
+    ∷ unsupported (begins bytes image_start) form.Image
+    ∷ unsupported (begins bytes resource_start) form.Resource
+    ∷ unsupported (is_anonymous bytes) form.Anonymous
+    ∷ [])
+
+-- ---- the object
+
+abbrev pub object_error : List ℕ → Option ModuleError
+object_error bytes = option_map error.Object (object_fault bytes)
+
+-- ---- its names, and what is not linked yet
+
+-- a section that the linker makes itself: a part of the import tables, or the base relocations (PE Format, "The
+-- .idata Section" and "The .reloc Section (Image Only)"); that it is refused is own
+unfoldable pub is_linker_section : List ℕ → Bool
+is_linker_section name = begins name (codes ".idata$") || same_name (base_name name) (codes ".reloc")
+
+abbrev pub is_long : List ℕ → Bool
+is_long name = nat_lt NAME_LIMIT (length name)
+
+abbrev pub has_linker_section : List ℕ → Bool
+has_linker_section bytes = list_any (λ section. is_linker_section (section_name_of bytes section)) (sections_in bytes)
+
+abbrev pub has_long_section_name : List ℕ → Bool
+has_long_section_name bytes = list_any (λ section. is_long (section_name_of bytes section)) (sections_in bytes)
+
+abbrev pub has_long_symbol_name : List ℕ → Bool
+has_long_symbol_name bytes = list_any (λ symbol. is_long (symbol_name_of bytes symbol)) (symbols_in bytes)
+
+-- of a well formed object
+unfoldable pub content_error : List ℕ → Option ModuleError
+content_error bytes =
+    first_standing
+    (unsupported (has_linker_section bytes) form.LinkerSection
+    ∷ unsupported (has_long_section_name bytes || has_long_symbol_name bytes) form.LongName
+    ∷ unsupported (has_unbuilt_section bytes || has_unbuilt_symbol bytes) form.NotBuilt
+    ∷ [])
+
+-- ---- the error
+
+-- why these bytes do not open as a module: none where they do
+unfoldable pub opening_error : List ℕ → Option ModuleError
+opening_error bytes = first_standing (form_error bytes ∷ object_error bytes ∷ content_error bytes ∷ [])
+
+abbrev pub IsOpened : ModuleView → Type 0
+IsOpened view = opening_error view.bytes ≡ None
+
+-- of want of memory nothing is said; any other error is the one that stands
+abbrev pub RefusesToOpen : Option ModuleError → ModuleError → Type 0
+RefusesToOpen standing (error.Object fault) = standing ≡ Some (error.Object fault)
+RefusesToOpen standing (error.Unsupported kind) = standing ≡ Some (error.Unsupported kind)
+RefusesToOpen standing error.Memory = Unit {0}

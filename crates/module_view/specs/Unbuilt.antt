@@ -1,0 +1,89 @@
+-- Forms of files that are not linked yet. Own.
+use Rattle.std.specs.Prelude.{ℕ, ℤ, Bool, ◌&&◌, ◌||◌, not, ◌==◌, nat_lt, List, [], ◌∷◌, ◌++◌, codes}
+use Rattle.std.specs.List.{list_any, range_with_len}
+use Rattle.std.specs.Ordering.{int_eq}
+use Rattle.link_base.specs.Bytes.{has_flag}
+use Rattle.link_base.specs.NameText.{same_name, begins, begins_import}
+use Rattle.link_base.specs.SectionName.{base_name}
+use Rattle.link_base.specs.PeFormat.{SCN_LNK_COMDAT, SYM_CLASS_EXTERNAL, SYM_CLASS_WEAK_EXTERNAL, SYM_UNDEFINED, SYM_ABSOLUTE}
+use Rattle.coff_object.specs.ObjectFile.{section_total, section_name_of, raw_size_of, flags_of, is_uninitialised, relocation_total, symbol_name_of, symbol_section_of, symbol_class_of}
+use Rattle.module_view.specs.PlacedSection.{is_placed}
+use Rattle.module_view.specs.SymbolLists.{symbols_in}
+
+-- ---- files that have no reader yet
+
+-- a library (PE Format, "Archive (Library) File Signature")
+abbrev pub library_start : List ℕ
+library_start = codes "!<arch>" ++ 10 ∷ []
+
+-- a short import: no machine, 0xFFFF, and version 0 (PE Format, "Import Header")
+abbrev pub short_import_start : List ℕ
+short_import_start = 0 ∷ 0 ∷ 0xFF ∷ 0xFF ∷ 0 ∷ 0 ∷ []
+
+abbrev pub is_unread_form : List ℕ → Bool
+is_unread_form bytes = begins bytes library_start || begins bytes short_import_start
+
+-- ---- sections
+
+-- directives for the linker, of at least one byte
+abbrev pub holds_directives : List ℕ → ℕ → Bool
+holds_directives bytes section =
+    same_name (section_name_of bytes section) (codes ".drectve")
+    && (not (is_uninitialised bytes section) && nat_lt 0 (raw_size_of bytes section))
+
+-- the exception table, or resources
+abbrev pub is_special_section : List ℕ → ℕ → Bool
+is_special_section bytes section =
+    (same_name (base_name (section_name_of bytes section)) (codes ".pdata") && is_placed bytes section)
+    || same_name (base_name (section_name_of bytes section)) (codes ".rsrc")
+
+-- a section that needs more than a place: one with relocations, a COMDAT, directives, or a table that the linker reads
+unfoldable pub is_unbuilt_section : List ℕ → ℕ → Bool
+is_unbuilt_section bytes section =
+    not (relocation_total bytes section == 0)
+    || (has_flag (flags_of bytes section) SCN_LNK_COMDAT || (holds_directives bytes section || is_special_section bytes section))
+
+-- ---- symbols
+
+-- an external name: defined, undefined or weak
+abbrev pub is_external_name : List ℕ → ℕ → Bool
+is_external_name bytes symbol =
+    (symbol_class_of bytes symbol == SYM_CLASS_EXTERNAL) || (symbol_class_of bytes symbol == SYM_CLASS_WEAK_EXTERNAL)
+
+abbrev pub has_section_number : List ℕ → ℕ → ℤ → Bool
+has_section_number bytes symbol number = int_eq (symbol_section_of bytes symbol) number
+
+-- an external symbol that is undefined, a common or absolute
+abbrev pub is_outside_sections : List ℕ → ℕ → Bool
+is_outside_sections bytes symbol =
+    (symbol_class_of bytes symbol == SYM_CLASS_EXTERNAL)
+    && (has_section_number bytes symbol SYM_UNDEFINED || has_section_number bytes symbol SYM_ABSOLUTE)
+
+-- an undefined symbol that names an entry of the import address table
+abbrev pub is_import_reference : List ℕ → ℕ → Bool
+is_import_reference bytes symbol =
+    has_section_number bytes symbol SYM_UNDEFINED && begins_import (symbol_name_of bytes symbol)
+
+-- a name that the loader of a program looks for (PE Format, "The .tls Section", "The Load Configuration Structure")
+abbrev pub is_loader_name : List ℕ → Bool
+is_loader_name name = same_name name (codes "_tls_used") || same_name name (codes "_load_config_used")
+
+-- a symbol that needs more than an address in its section
+unfoldable pub is_unbuilt_symbol : List ℕ → ℕ → Bool
+is_unbuilt_symbol bytes symbol =
+    (symbol_class_of bytes symbol == SYM_CLASS_WEAK_EXTERNAL)
+    || (is_outside_sections bytes symbol
+    || (is_import_reference bytes symbol
+    || (is_external_name bytes symbol && is_loader_name (symbol_name_of bytes symbol))))
+
+-- ---- objects
+
+-- the sections by their numbers, from 1
+abbrev pub sections_in : List ℕ → List ℕ
+sections_in bytes = range_with_len 1 (section_total bytes)
+
+abbrev pub has_unbuilt_section : List ℕ → Bool
+has_unbuilt_section bytes = list_any (is_unbuilt_section bytes) (sections_in bytes)
+
+abbrev pub has_unbuilt_symbol : List ℕ → Bool
+has_unbuilt_symbol bytes = list_any (is_unbuilt_symbol bytes) (symbols_in bytes)

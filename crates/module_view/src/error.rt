@@ -1,0 +1,28 @@
+//! Why bytes do not open as a module.
+
+use coff_object::ObjError;
+use link_base::Kind;
+use std::alloc::AllocError;
+
+/// Why bytes do not open as a module.
+#[derive(Drop)]
+pub enum ModuleError {
+    /// They are a malformed object.
+    Object(ObjError),
+    /// They have a form that is not linked: one that the first bytes show, or one that the names or the contents of a well
+    /// formed object show.
+    Unsupported(Kind),
+    /// Want of memory.
+    Memory,
+}
+
+impl From<AllocError> for ModuleError {
+    ghost use Rattle.std.specs.Prelude.{◌≡◌};
+    ghost use Rattle.module_view.specs.declared.error.ModuleError.TheVariants.{Memory};
+
+    ghost from_gives = { λ _ e. e ≡ Memory };
+
+    fn from(_error: AllocError) -> ModuleError {
+        ModuleError::Memory
+    }
+}

@@ -1,0 +1,92 @@
+//! The forms of files that their first bytes show.
+
+ghost use Rattle.std.specs.Prelude.{◌≡◌, ◌&&◌, ◌==◌, not, drop, option_map, Some, None};
+ghost use Rattle.link_base.specs.Bytes.{u16_at, has_bytes};
+ghost use Rattle.module_view.specs.declared.error.ModuleError.TheVariants.{Unsupported};
+ghost use Rattle.module_view.specs.Opening.{form_error, resource_start, is_anonymous, is_big_object, big_object_class};
+ghost use Rattle.link_base.specs.NameText.{begins};
+ghost use Rattle.module_view.specs.Unbuilt.{is_unread_form};
+
+use link_base::{Kind, field_u16};
+
+/// The first form that the first bytes show, of those that are not read as an object.
+#[tactic(auto, unfolding(crate::specs::Opening::form_error))]
+pub(crate) fn form_shown(bytes: &[u8]) -> Option<Kind>
+    ensures { option_map Unsupported result ≡ form_error bytes.now }
+{
+    if is_unread_form(bytes) {
+        return Some(Kind::NotBuilt);
+    }
+    if bytes.starts_with(b"!<thin>") {
+        return Some(Kind::ThinLibrary);
+    }
+    if bytes.starts_with(b"\x42\x43\xc0\xde") {
+        return Some(Kind::Bitcode);
+    }
+    if bytes.starts_with(b"MZ") {
+        return Some(Kind::Image);
+    }
+    if bytes.starts_with(resource_start()) {
+        return Some(Kind::Resource);
+    }
+    if is_anonymous(bytes) {
+        return Some(Kind::Anonymous);
+    }
+    None
+}
+
+/// Whether the first bytes are those of a library or of a short import.
+fn is_unread_form(bytes: &[u8]) -> bool
+    ensures { result ≡ is_unread_form bytes.now }
+{
+    bytes.starts_with(b"!<arch>\n") || bytes.starts_with(b"\x00\x00\xff\xff\x00\x00")
+}
+
+/// The empty entry that a compiled resource file begins with.
+#[tactic(auto, unfolding(crate::specs::Opening::resource_start))]
+fn resource_start() -> &'static [u8]
+    ensures { result.now ≡ resource_start }
+{
+    b"\x00\x00\x00\x00\x20\x00\x00\x00\xff\xff\x00\x00\xff\xff\x00\x00"
+}
+
+/// Whether the bytes begin as those of an anonymous object that is no big one: with a version, which a short import has
+/// not.
+fn is_anonymous(bytes: &[u8]) -> bool
+    ensures { result ≡ is_anonymous bytes.now }
+{
+    if !bytes.starts_with(b"\x00\x00\xff\xff") {
+        return false;
+    }
+    match field_u16(bytes, 4) {
+        Some(version) => version != 0 && !is_big_object(bytes),
+        None => false,
+    }
+}
+
+/// The class identifier of big objects.
+#[tactic(auto, unfolding(crate::specs::Opening::big_object_class))]
+fn big_object_class() -> &'static [u8]
+    ensures { result.now ≡ big_object_class }
+{
+    b"\xc7\xa1\xba\xd1\xee\xba\xa9\x4b\xaf\x20\xfa\xf6\x6a\xa4\xdc\xb8"
+}
+
+/// Whether the bytes begin as those of a big object.
+fn is_big_object(bytes: &[u8]) -> bool
+    ensures { result ≡ is_big_object bytes.now }
+{
+    bytes.starts_with(b"\x00\x00\xff\xff\x02\x00") && has_big_object_class(bytes)
+}
+
+/// Whether the class identifier of big objects stands in its place.
+#[tactic(auto, using(crate::proofs::OpeningLemmas::no_class))]
+fn has_big_object_class(bytes: &[u8]) -> bool
+    ensures { result ≡ begins (drop 12 bytes.now) big_object_class }
+{
+    if bytes.len() < 12 {
+        return false;
+    }
+    let (_, rest) = bytes.split_at(12);
+    rest.starts_with(big_object_class())
+}

@@ -1,0 +1,24 @@
+//! A module of a link: an object file that was opened, and the lists that a link reads of it. It takes the bytes of a file,
+//! which `coff_object` reads, and gives modules to symbol resolution and to layout. Its contracts promise that a file is
+//! refused exactly for the first error of a table, and that each list holds what the format says, in order. What names
+//! mean across modules is left to others.
+#![tactic(auto)]
+
+mod definition;
+mod error;
+mod first_bytes;
+mod laws;
+mod input_module;
+
+mod placed_section;
+
+
+
+
+pub use definition::{Definition, Place};
+pub use error::ModuleError;
+pub use laws::modules_are_shared;
+pub use input_module::{Module, Origin};
+
+pub use placed_section::comes_in;
+

@@ -1,0 +1,43 @@
+//! What a name can mean.
+
+use link_base::Name;
+
+/// What a name means.
+#[derive(Drop)]
+pub enum Meaning<'a> {
+    /// A place in a section of a module, by the module's position, the section's number and an offset.
+    Section {
+        module: u32,
+        section: u32,
+        value: u32,
+    },
+    /// Zeroed memory that modules share, by the module and the symbol of the greatest size.
+    Common { module: u32, symbol: u32 },
+    /// The entry of the import address table of an import, by its module.
+    Slot { module: u32 },
+    /// The code that jumps through it.
+    Thunk { module: u32 },
+    /// A pointer to a name that is not imported.
+    LocalSlot(Name<'a>),
+    /// A number.
+    Absolute(u32),
+    /// The address that the image is loaded at.
+    ImageBase,
+}
+
+/// Why a name means nothing.
+#[derive(Clone, Copy, Debug, PartialEq, Eq)]
+pub enum NoMeaning {
+    /// Nothing defines it.
+    Undefined,
+    /// Its default leads back to it.
+    WeakCycle,
+}
+
+/// Two definitions of one name, by the positions of their modules.
+#[derive(Drop)]
+pub struct Clash<'a> {
+    pub name: Name<'a>,
+    pub first: u32,
+    pub second: u32,
+}
