@@ -11,7 +11,7 @@ use Rattle.symbol_table.specs.declared.meaning.Meaning.TheVariants.{Section}
 use Rattle.symbol_table.specs.declared.meaning.NoMeaning.{NoMeaning}
 use Rattle.symbol_table.specs.declared.meaning.NoMeaning.TheVariants.{Undefined, WeakCycle}
 use Rattle.symbol_table.specs.Resolution.{meaning_of}
-use Rattle.link_pieces.specs.Pieces.{piece_index}
+use Rattle.link_pieces.specs.PieceIndex.{piece_index}
 use Rattle.link_plan.specs.declared.entry.EntryPlace.{EntryPlace}
 
 -- ---- what it means

@@ -5,7 +5,7 @@ use Rattle.std.specs.Option.{option_or}
 use Rattle.link_base.specs.declared.fault.Fault.{Fault}
 use Rattle.link_base.specs.declared.fault.Fault.TheVariants as faults
 use Rattle.module_view.specs.Module.{ModuleView}
-use Rattle.symbol_table.specs.declared.table.Clash.{Clash}
+use Rattle.symbol_table.specs.declared.meaning.Clash.{Clash}
 use Rattle.symbol_table.specs.Clash.{clash_of}
 use Rattle.link_words.specs.Outcome.{LinkOptions}
 use Rattle.link_plan.specs.Entry.{entry_meant, meaning_fault, meant_fault}

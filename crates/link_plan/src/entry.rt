@@ -1,7 +1,8 @@
 //! The entry of an image.
 
-ghost use Rattle.std.specs.Prelude.{◌≡◌, None, Some, IfOk, OnOk, IfErr};
-ghost use Rattle.link_pieces.specs.Pieces.{IsPieceIndex};
+ghost use Rattle.std.specs.Prelude.{◌≡◌, List, None, Some, IfOk, OnOk, IfErr};
+ghost use Rattle.module_view.specs.Module.{ModuleView};
+ghost use Rattle.link_pieces.specs.PieceIndex.{IsPieceIndex};
 ghost use Rattle.link_plan.specs.Entry.{entry_meant, meaning_fault, meant_place, meant_fault};
 
 use link_base::{Fault, Name, TargetFault};
@@ -43,11 +44,12 @@ pub(crate) fn entry_place<'a>(
     index: &PieceIndex,
     meaning: &Option<Meaning<'a>>,
 ) -> Result<Option<EntryPlace>, Fault<'a>>
-    ghost modules: { List ModuleView }
-    requires { IsPieceIndex modules index.now }
-    ensures placed { IfOk result (λ place. place ≡ meant_place modules meaning.now) }
-    ensures accepted { OnOk result (meant_fault modules meaning.now ≡ None) }
-    ensures refused { IfErr result (λ fault. meant_fault modules meaning.now ≡ Some fault) }
+    ensures placed { IfOk result (λ place. (modules : List ModuleView) → IsPieceIndex modules index.now
+        → place ≡ meant_place modules meaning.now) }
+    ensures accepted { OnOk result ((modules : List ModuleView) → IsPieceIndex modules index.now
+        → meant_fault modules meaning.now ≡ None) }
+    ensures refused { IfErr result (λ fault. (modules : List ModuleView) → IsPieceIndex modules index.now
+        → meant_fault modules meaning.now ≡ Some fault) }
 {
     match meaning {
         None => Ok(None),

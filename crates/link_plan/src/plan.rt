@@ -36,7 +36,7 @@ pub fn plan_of<'a>(
     modules: Vec<Module<'a>>,
     options: &Options<'a>,
 ) -> Result<LinkPlan<'a>, Refusal<'a>>
-    requires few { length modules.entry.items ≤ MODULE_LIMIT }
+    requires few { length modules.items ≤ MODULE_LIMIT }
     ensures planned { IfOk result (IsPlanOf (options_said options.now) modules.entry.items) }
     ensures refused { IfErr result (RefusesFor (plan_fault (options_said options.now) modules.entry.items)) }
 {

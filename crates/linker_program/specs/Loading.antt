@@ -69,10 +69,10 @@ joining_fault_at names files k = joining_fault (bytes_in names k) (bytes_in file
 abbrev pub opening_fault : List (List ℕ) → List (List ℕ) → Option Fault
 opening_fault names files = first_refusal_below (length files) (joining_fault_at names files)
 
--- the file at a position, as a module
-abbrev pub module_at : List (List ℕ) → List (List ℕ) → ℕ → ModuleView
-module_at names files k = record { file = bytes_in names k; member = None; bytes = bytes_in files k }
+-- the input at a position, as a module
+abbrev pub input_module : List (List ℕ) → List (List ℕ) → ℕ → ModuleView
+input_module names files k = record { file = bytes_in names k; member = None; bytes = bytes_in files k }
 
 -- the modules, in the order of the words
 abbrev pub joined : List (List ℕ) → List (List ℕ) → List ModuleView
-joined names files = map (module_at names files) (range_with_len 0 (length files))
+joined names files = map (input_module names files) (range_with_len 0 (length files))

@@ -1,0 +1,59 @@
+use Rattle.std.proofs.Common.{◌≡◌, List, Option, None, Some, refl, sym, ap, ◌∙◌, subst}
+use Rattle.std.proofs.lemmas.Result.{err_from_is_err_and}
+use Rattle.module_view.specs.Module.{ModuleView}
+use Rattle.link_words.specs.Outcome.{options_said}
+use Rattle.link_plan.specs.Entry.{entry_meant, meaning_fault, meant_fault, meant_place}
+use Rattle.link_plan.specs.PlanFaults.{choice_fault}
+use Rattle.link_plan.proofs.StageLemmas.{choice_stage, meaning_stage, fields_stage}
+use Rattle.link_plan.proofs.plan.plan_of.Goals as goal
+
+pub returns-in_err-check_choice-clause-refused : goal.returns-in_err-check_choice-clause-refused
+returns-in_err-check_choice-clause-refused c =
+    let options = options_said c.args.options.now in
+    let table_is = c.in_ok-table.ensures ∙ c.deref.ensures.value in
+    let given = err_from_is_err_and c.from_residual-in_err-check_choice.result c.from_residual-in_err-check_choice.ensures.1 in
+    rw (given.1, given.2)
+    (choice_stage options c.args.modules.items c.in_err-check_choice.field-0.0 (ap choice_fault (sym table_is) ∙ c.in_err-check_choice.ensures.refused))
+
+pub returns-in_err-meaning-clause-refused : goal.returns-in_err-meaning-clause-refused
+returns-in_err-meaning-clause-refused c =
+    let options = options_said c.args.options.now in
+    let table_is = c.in_ok-table.ensures ∙ c.deref.ensures.value in
+    let given = err_from_is_err_and c.from_residual-in_err-meaning.result c.from_residual-in_err-meaning.ensures.1 in
+    rw (given.1, given.2)
+    (meaning_stage options c.args.modules.items c.in_err-meaning.field-0.0
+    (ap choice_fault (sym table_is) ∙ c.in_ok-check_choice.ensures.accepted)
+    (ap (λ (ms : List ModuleView). meaning_fault ms options.entry_name) (sym table_is) ∙ c.in_err-meaning.ensures.refused))
+
+pub returns-in_err-entry-clause-refused : goal.returns-in_err-entry-clause-refused
+returns-in_err-entry-clause-refused c =
+    let options = options_said c.args.options.now in
+    let modules = c.args.modules.items in
+    let table_is = c.in_ok-table.ensures ∙ c.deref.ensures.value in
+    let given = err_from_is_err_and c.from_residual-in_err-entry.result c.from_residual-in_err-entry.ensures.1 in
+    let meant = c.in_ok-meaning.ensures.meant ∙ ap (λ (ms : List ModuleView). entry_meant ms options.entry_name) table_is in
+    let refused = c.in_err-entry.ensures.refused c.deref-3.result.now c.in_ok-index.ensures in
+    rw (given.1, given.2)
+    (fields_stage options modules (Some c.in_err-entry.field-0.0)
+    (ap choice_fault (sym table_is) ∙ c.in_ok-check_choice.ensures.accepted)
+    (ap (λ (ms : List ModuleView). meaning_fault ms options.entry_name) (sym table_is) ∙ c.in_ok-meaning.ensures.accepted)
+    (ap (meant_fault modules) (sym meant) ∙ ap (λ (ms : List ModuleView). meant_fault ms c.in_ok-meaning.meaning) (sym c.deref-3.ensures.value) ∙ refused))
+
+pub returns-clause-planned : goal.returns-clause-planned
+returns-clause-planned c =
+    let options = options_said c.args.options.now in
+    let modules = c.args.modules.items in
+    let table_is = c.in_ok-table.ensures ∙ c.deref.ensures.value in
+    let meant = c.in_ok-meaning.ensures.meant ∙ ap (λ (ms : List ModuleView). entry_meant ms options.entry_name) table_is in
+    record {
+      modules_are = refl;
+      table_is = table_is;
+      pieces_are = ?;
+      contents_are = ?;
+      aligned = c.in_ok-pieces.ensures.aligned;
+      bodies = c.in_ok-pieces.ensures.bodies;
+      few = c.in_ok-pieces.ensures.count;
+      entry_is = ?;
+      stands = ?;
+      no_fault = ?;
+    }
