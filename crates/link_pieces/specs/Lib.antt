@@ -1,3 +1,4 @@
 pub mod Pieces
 pub mod PieceIndex
 pub mod Steps
+pub mod Rows

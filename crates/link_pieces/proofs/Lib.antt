@@ -1,0 +1,4 @@
+pub mod NamedLemmas
+pub mod PieceLemmas
+pub mod CallerLemmas
+pub mod IndexLemmas

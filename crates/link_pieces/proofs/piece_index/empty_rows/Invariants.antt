@@ -1,0 +1,13 @@
+use Rattle.std.proofs.Common.{◌≡◌, ◌<◌, ◌+◌, ℕ, [], None, length, get_or}
+use Rattle.coff_object.specs.ObjectFile.{section_total}
+use Rattle.module_view.specs.Module.{module_at}
+use Rattle.link_pieces.specs.PieceIndex.{indexed}
+use Rattle.link_pieces.specs.Rows.{items_of}
+use Rattle.link_pieces.proofs.piece_index.empty_rows.Given as goal
+
+abbrev pub invariant-loop-module : goal.invariant-loop-module
+invariant-loop-module l = record {
+  for_each : length (items_of l.rows.items) ≡ l.module-index;
+  long : (m : ℕ) → m < l.module-index → length (get_or (items_of l.rows.items) m []) ≡ section_total (module_at l.modules m).bytes + 1;
+  empty : (m s : ℕ) → indexed (items_of l.rows.items) m s ≡ None;
+}
