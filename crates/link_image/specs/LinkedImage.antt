@@ -6,7 +6,6 @@ use Rattle.section_group.specs.declared.piece.OutSection.{OutSection}
 use Rattle.section_group.specs.SectionOrder.{Input, input_from}
 use Rattle.section_group.specs.Merging.{HasNoBadMerge}
 use Rattle.section_group.specs.Placement.{IsGrouping}
-use Rattle.section_group.specs.Uniqueness.{rows_of}
 use Rattle.address_layout.specs.declared.base.BaseRule.{BaseRule}
 use Rattle.address_layout.specs.declared.layout.Layout.{Layout}
 use Rattle.address_layout.specs.PermittedBase.{is_permitted}
@@ -14,13 +13,13 @@ use Rattle.address_layout.specs.Places.{section_count}
 use Rattle.address_layout.specs.Layout.{IsLayout}
 use Rattle.address_layout.specs.Growth.{CanGrow}
 use Rattle.image_writer.specs.ExpectedImage.{ImagePlan, MeansPlan, image_file}
-use Rattle.image_writer.specs.WrittenImage.{written_plan}
+use Rattle.image_writer.specs.WrittenImage.{layout_plan, at_each_base}
 use Rattle.module_view.specs.Module.{ModuleView}
 use Rattle.link_pieces.specs.Pieces.{link_pieces, link_contents}
 use Rattle.link_words.specs.Outcome.{LinkOptions}
 use Rattle.link_plan.specs.declared.entry.EntryPlace.{EntryPlace}
 use Rattle.link_plan.specs.Entry.{entry_place}
-use Rattle.link_image.specs.declared.build.Built.{Built}
+use Rattle.link_image.specs.declared.make.Built.{Built}
 use Rattle.link_image.specs.ImageHeaders.{headers_of}
 
 -- ---- sections
@@ -60,7 +59,7 @@ pub record IsImageOf (options : LinkOptions) (modules : List ModuleView) (image 
   pub layout : Layout
   pub placed : ArePlaced (link_pieces modules) sections layout
   pub permitted : is_permitted (base_rule options) layout.image options.base ≡ true
-  pub is : image ≡ written_plan (headers_of options (entry_rva layout.pieces.items (entry_place modules options.entry_name))) (rows_of sections) layout.sections.items layout.pieces.items layout.image (link_contents modules)
+  pub is : image ≡ layout_plan (headers_of options (entry_rva layout.pieces.items (entry_place modules options.entry_name))) sections layout (at_each_base (link_contents modules))
 
 -- what was made is the file of the image of the modules, which loads as planned at every permitted base
 pub record IsBuilt (options : LinkOptions) (modules : List ModuleView) (built : Built) : Type 0 where

@@ -4,8 +4,8 @@
 //! first fault of the stages from tables to layout. Reading, and the meaning of names, are left to the crates below.
 #![tactic(auto)]
 
-mod build;
 mod headers;
+mod make;
 mod sections;
 
-pub use build::{Built, build};
+pub use make::{Built, build};

@@ -1,6 +1,6 @@
 //! Where the pieces of a plan stand.
 
-ghost use Rattle.std.specs.Prelude.{◌≡◌, ◌≤◌, ◌<◌, ◌^◌, true, [], length, IfOk, IfErr, OnOk};
+ghost use Rattle.std.specs.Prelude.{◌≡◌, ◌<◌, ◌+◌, ◌^◌, true, IfOk, IfErr, OnOk};
 ghost use Rattle.address_layout.specs.PermittedBase.{is_permitted};
 ghost use Rattle.link_words.specs.Outcome.{options_said};
 ghost use Rattle.link_plan.specs.Plan.{IsPlanOf};
@@ -93,6 +93,14 @@ pub(crate) fn entry_rva<'a>(
 {
     match &plan.entry {
         None => 0,
-        Some(place) => layout.pieces[place.piece as usize] + place.value,
+        Some(place) => rva_in(layout.pieces[place.piece as usize], place.value),
     }
+}
+
+/// The RVA of an offset in a piece, whose RVA is given.
+fn rva_in(rva: u32, offset: u32) -> u32
+    requires { rva < 2 ^ 32 → rva + offset < 2 ^ 32 }
+    ensures { result ≡ rva + offset }
+{
+    rva + offset
 }

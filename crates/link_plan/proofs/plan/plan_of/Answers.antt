@@ -1,9 +1,13 @@
 use Rattle.std.proofs.Common.{◌≡◌, List, Option, None, Some, refl, sym, ap, ◌∙◌, subst}
 use Rattle.std.proofs.lemmas.Result.{err_from_is_err_and}
+use Rattle.std.specs.List.{All}
 use Rattle.module_view.specs.Module.{ModuleView}
+use Rattle.module_view.specs.Opening.{IsOpened}
+use Rattle.link_pieces.specs.Pieces.{link_pieces, link_contents}
 use Rattle.link_words.specs.Outcome.{options_said}
 use Rattle.link_plan.specs.Entry.{entry_meant, meaning_fault, meant_fault, meant_place}
 use Rattle.link_plan.specs.PlanFaults.{choice_fault}
+use Rattle.link_plan.proofs.EntryLemmas.{entry_stands}
 use Rattle.link_plan.proofs.StageLemmas.{choice_stage, meaning_stage, fields_stage}
 use Rattle.link_plan.proofs.plan.plan_of.Goals as goal
 
@@ -45,15 +49,24 @@ returns-clause-planned c =
     let modules = c.args.modules.items in
     let table_is = c.in_ok-table.ensures ∙ c.deref.ensures.value in
     let meant = c.in_ok-meaning.ensures.meant ∙ ap (λ (ms : List ModuleView). entry_meant ms options.entry_name) table_is in
+    let placed = c.in_ok-entry.ensures.placed c.deref-3.result.now c.in_ok-index.ensures ∙ ap (λ (ms : List ModuleView). meant_place ms c.in_ok-meaning.meaning) c.deref-3.ensures.value in
+    let accepted = c.in_ok-entry.ensures.accepted c.deref-3.result.now c.in_ok-index.ensures in
+    let pieces_are = c.in_ok-pieces.ensures.pieces ∙ ap link_pieces c.deref-2.ensures.value in
+    let opened = subst (All IsOpened) c.deref-2.ensures.value c.in_ok-pieces.ensures.opened in
+    let entry_is = placed ∙ ap (meant_place modules) meant in
     record {
       modules_are = refl;
       table_is = table_is;
-      pieces_are = ?;
-      contents_are = ?;
+      pieces_are = pieces_are;
+      contents_are = c.in_ok-pieces.ensures.contents ∙ ap link_contents c.deref-2.ensures.value;
       aligned = c.in_ok-pieces.ensures.aligned;
       bodies = c.in_ok-pieces.ensures.bodies;
       few = c.in_ok-pieces.ensures.count;
-      entry_is = ?;
-      stands = ?;
-      no_fault = ?;
+      entry_is = entry_is;
+      stands = rw entry_is (entry_stands modules c.in_ok-pieces.pieces.items options.entry_name pieces_are opened);
+      no_fault =
+          fields_stage options modules None
+          (ap choice_fault (sym table_is) ∙ c.in_ok-check_choice.ensures.accepted)
+          (ap (λ (ms : List ModuleView). meaning_fault ms options.entry_name) (sym table_is) ∙ c.in_ok-meaning.ensures.accepted)
+          (ap (meant_fault modules) (sym meant) ∙ ap (λ (ms : List ModuleView). meant_fault ms c.in_ok-meaning.meaning) (sym c.deref-3.ensures.value) ∙ accepted);
     }

@@ -37,11 +37,12 @@ pub fn build<'a>(
 {
     let sections = group_pieces(alloc, plan, options)?;
     let layout = place_pieces(alloc, plan, options, &sections)?;
+    let count = sections.len() as u32;
     check_own_base(plan, options, &sections, &layout)?;
     let headers = headers_of(options, entry_rva(plan, options, &sections, &layout));
     let image = image(alloc, &headers, &layout, &sections, &plan.pieces)?;
     Ok(Built {
         image,
-        sections: sections.len() as u32,
+        sections: count,
     })
 }
