@@ -1,9 +1,1 @@
-pub mod NameLemmas
-pub mod TextLemmas
-pub mod TextStartLemmas
-pub mod WholeLemmas
-pub mod LoopLemmas
-pub mod RowLemmas
-pub mod Readable
-pub mod CallerLemmas
-mod WorkedObject
+pub mod HeaderLemmas

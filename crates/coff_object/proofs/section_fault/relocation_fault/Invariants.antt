@@ -1,7 +1,0 @@
-use Rattle.std.proofs.Common.{◌≡◌, None}
-use Rattle.link_base.specs.Bytes.{first_below}
-use Rattle.coff_object.specs.ObjectFaults.{of_section, relocations_leave}
-use Rattle.coff_object.proofs.section_fault.relocation_fault.Given as goal
-
-abbrev pub invariant-loop-section : goal.invariant-loop-section
-invariant-loop-section l = first_below l.section (of_section (relocations_leave l.bytes)) ≡ None
