@@ -1,1 +1,5 @@
 pub mod HeaderLemmas
+pub mod NameLemmas
+pub mod TextLemmas
+pub mod TextStartLemmas
+pub mod WholeLemmas

@@ -7,3 +7,4 @@ pub mod SymbolRecord
 pub mod ObjectFile
 pub mod ObjectFaults
 pub mod OpenObject
+pub mod TextEnd

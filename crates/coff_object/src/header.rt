@@ -61,7 +61,7 @@ pub(crate) struct Header {
     pub(crate) is_big: bool,
     pub(crate) machine: u16,
     pub(crate) section_count: u32,
-    pub(crate) section_headers: usize,
+    pub(crate) section_headers: u32,
     pub(crate) symbols: u32,
     pub(crate) record_count: u32,
 }
@@ -102,8 +102,8 @@ fn plain_header(bytes: &[u8]) -> Header
         is_big: false,
         machine: u16_in(bytes, FILE_MACHINE),
         section_count: u32::from(u16_in(bytes, FILE_NUMBER_OF_SECTIONS)),
-        section_headers: SIZEOF_FILE_HEADER
-            + usize::from(u16_in(bytes, FILE_SIZE_OF_OPTIONAL_HEADER)),
+        section_headers: SIZEOF_FILE_HEADER as u32
+            + u32::from(u16_in(bytes, FILE_SIZE_OF_OPTIONAL_HEADER)),
         symbols,
         record_count: counted(symbols, u32_in(bytes, FILE_NUMBER_OF_SYMBOLS)),
     }
@@ -119,7 +119,7 @@ fn big_header(bytes: &[u8]) -> Header
         is_big: true,
         machine: u16_in(bytes, BIG_MACHINE),
         section_count: u32_in(bytes, BIG_NUMBER_OF_SECTIONS),
-        section_headers: SIZEOF_BIG_OBJECT_HEADER,
+        section_headers: SIZEOF_BIG_OBJECT_HEADER as u32,
         symbols,
         record_count: counted(symbols, u32_in(bytes, BIG_NUMBER_OF_SYMBOLS)),
     }
