@@ -3,3 +3,5 @@ pub mod NameLemmas
 pub mod TextLemmas
 pub mod TextStartLemmas
 pub mod WholeLemmas
+pub mod SymbolsLemmas
+pub mod RelocationLemmas

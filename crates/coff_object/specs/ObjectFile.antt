@@ -34,10 +34,12 @@ abbrev pub is_uninitialised : List ℕ → ℕ → Bool
 is_uninitialised file section = is_uninitialised_in (section_at file section)
 
 -- the data, which an uninitialised section does not have
+abbrev pub data_in : List ℕ → List ℕ → Option (List ℕ)
+data_in file header =
+    if is_uninitialised_in header then None else Some (bytes_at file (data_offset_in header) (size_in header))
+
 abbrev pub body_of : List ℕ → ℕ → Option (List ℕ)
-body_of file section =
-    if is_uninitialised file section then None
-    else Some (bytes_at file (raw_offset_of file section) (raw_size_of file section))
+body_of file section = data_in file (section_at file section)
 
 -- ---- relocations
 

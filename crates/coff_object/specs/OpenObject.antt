@@ -19,8 +19,12 @@ pub record ReadsHeader (file : List ℕ) (header : Header) : Type 0 where
 pub record HasRecords (file : List ℕ) : Type 0 where
   pub whole : (index : ℕ) → index < record_total file → record_offset file index + symbol_size file ≤ length file
 
--- the numbers and the string table are the file's, and no kind of fault stands
-pub record IsOpen (file : List ℕ) (header : Header) (strings : List ℕ) : Type 0 where
-  pub numbers : ReadsHeader file header
+-- a file whose symbols are walked: its records are there, and the string table is its own
+pub record IsWalked (file strings : List ℕ) : Type 0 where
+  pub records : HasRecords file
+  pub table : strings ≡ string_table file
+
+-- the string table is the file's, and no kind of fault stands, and no kind of fault stands
+pub record IsOpen (file strings : List ℕ) : Type 0 where
   pub table : strings ≡ string_table file
   pub well_formed : object_fault file ≡ None

@@ -1,5 +1,5 @@
 -- The relocations of a section, 10 bytes each (PE Format, "COFF Relocations").
-use Rattle.std.specs.Prelude.{ℕ, ◌+◌, ◌-◌, ◌*◌, if◌then◌else◌, List, map}
+use Rattle.std.specs.Prelude.{ℕ, ◌+◌, ◌-◌, ◌*◌, ◌^◌, ◌<◌, ◌≤◌, if◌then◌else◌, List, length, map}
 use Rattle.std.specs.List.{range_with_len}
 use Rattle.link_base.specs.Bytes.{u16_at, u32_at}
 use Rattle.link_base.specs.PeFormat.{SIZEOF_RELOCATION}
@@ -30,3 +30,8 @@ relocation_at file place =
 unfoldable pub relocations_from : List ℕ → ℕ → ℕ → ℕ → List Relocation
 relocations_from file place index count =
     map (λ k. relocation_at file (place + SIZEOF_RELOCATION * k)) (range_with_len index count)
+
+-- those that are still to be read are in the file: an invariant of the code
+pub record HasRelocations (file : List ℕ) (place index left : ℕ) : Type 0 where
+  pub whole : place + SIZEOF_RELOCATION * (index + left) ≤ length file
+  pub counted : index + left < 2 ^ 32

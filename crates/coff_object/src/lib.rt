@@ -7,11 +7,17 @@ mod header;
 mod offsets;
 mod ranges;
 mod relocation;
+mod section;
 mod section_header;
 mod strings;
+mod symbol;
 mod symbol_record;
+mod symbols;
 
 pub use error::ObjError;
 pub use header::is_big_object;
-pub use relocation::Relocation;
+pub use relocation::{Relocation, Relocations};
+pub use section::Section;
+pub use symbol::Symbol;
 pub use symbol_record::SymbolRecord;
+pub use symbols::Symbols;
