@@ -27,11 +27,11 @@ at_start fails = if fails then Some 0 else None
 
 -- sections have numbers from 1, and are judged by their headers
 abbrev pub of_section : List ℕ → (List ℕ → Bool) → ℕ → Bool
-of_section file fails section = nat_lt 0 section && fails (section_at file section)
+of_section file fails index = fails (section_at file (index + 1))
 
 -- the least section that fails
 unfoldable pub first_section : List ℕ → (List ℕ → Bool) → Option ℕ
-first_section file fails = first_below (section_total file + 1) (of_section file fails)
+first_section file fails = option_map (λ index. index + 1) (first_below (section_total file) (of_section file fails))
 
 -- the first number of a list that fails
 unfoldable pub first_of : (ℕ → Bool) → List ℕ → Option ℕ

@@ -8,6 +8,7 @@ mod offsets;
 mod ranges;
 mod relocation;
 mod section;
+mod section_fault;
 mod section_header;
 mod strings;
 mod symbol;

@@ -6,6 +6,7 @@ ghost use Rattle.coff_object.specs.SectionHeader.{relocations_offset_in, has_ove
 ghost use Rattle.coff_object.specs.Relocations.{relocations_place, relocation_count_in, relocation_at, relocations_from};
 ghost use Rattle.coff_object.specs.ObjectFaults.{relocations_leave, counted_leave};
 
+use crate::file::File;
 use crate::offsets::{RELOCATION_SYMBOL_TABLE_INDEX, RELOCATION_TYPE};
 use crate::ranges::leaves_file;
 use crate::section_header::SectionHeader;
@@ -52,9 +53,10 @@ pub(crate) fn relocations_place(header: &SectionHeader<'_>) -> usize
 
 /// Whether a section's relocations leave the file, or the record that counts them counts none.
 #[tactic(auto, unfolding(crate::specs::ObjectFaults::relocations_leave))]
-pub(crate) fn relocations_leave(bytes: &[u8], header: &SectionHeader<'_>) -> bool
-    ensures { result ≡ relocations_leave bytes.now header.now }
+pub(crate) fn relocations_leave(file: &File<'_>, header: &SectionHeader<'_>) -> bool
+    ensures { result ≡ relocations_leave file.now header.now }
 {
+    let bytes = file.bytes();
     let start = header.relocations_offset() as usize;
     if header.has_overflow_count() {
         counted_leave(bytes, start)

@@ -7,6 +7,7 @@ ghost use Rattle.coff_object.specs.ObjectFile.{data_in};
 ghost use Rattle.coff_object.specs.ObjectFaults.{body_leaves, lacks_section_name, has_no_alignment};
 ghost use Rattle.coff_object.specs.TextEnd.{EndsTexts};
 
+use crate::file::File;
 use crate::ranges::{first_bytes, leaves_file, range_in};
 use crate::section_header::SectionHeader;
 use crate::strings::{has_long_name, long_name_start, long_section_name, names_an_offset};
@@ -40,12 +41,12 @@ fn alignment(flags: u32) -> u32
 
 /// Whether the data of an initialised section leave the file.
 #[tactic(auto, unfolding(crate::specs::ObjectFaults::body_leaves))]
-pub(crate) fn body_leaves(bytes: &[u8], header: &SectionHeader<'_>) -> bool
-    ensures { result ≡ body_leaves bytes.now header.now }
+pub(crate) fn body_leaves(file: &File<'_>, header: &SectionHeader<'_>) -> bool
+    ensures { result ≡ body_leaves file.now header.now }
 {
     let start = header.data_offset() as usize;
     let size = header.size() as usize;
-    !header.is_uninitialised() && leaves_file(bytes, start, size)
+    !header.is_uninitialised() && leaves_file(file.bytes(), start, size)
 }
 
 /// Whether the alignment is the one value that the format leaves free.

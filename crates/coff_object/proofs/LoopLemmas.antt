@@ -1,0 +1,50 @@
+-- The least section, or the first symbol, that fails: steps of a loop.
+use Rattle.std.proofs.Common.{◌≡◌, ℕ, ◌+◌, ◌-◌, ◌<◌, ◌≤◌, Bool, true, false, cond, List, [], ◌∷◌, map, Option, Some, None, refl, sym, ap, ◌∙◌, arith}
+use Rattle.std.specs.Prelude.{option_map}
+use Rattle.std.proofs.lemmas.Bool.{false≢true}
+use Rattle.link_base.specs.Bytes.{first_below}
+use Rattle.link_base.proofs.CallerLemmas.{first_below-more, first_below-found, first_below-none}
+use Rattle.coff_object.specs.ObjectHeader.{section_total}
+use Rattle.coff_object.specs.SymbolRecord.{SymbolView}
+use Rattle.coff_object.specs.ObjectFile.{section_at, symbol_at, symbol_entry}
+use Rattle.coff_object.specs.ObjectFaults.{of_section, first_section, of_symbol, first_of}
+
+-- ---- sections
+
+-- none is below the first
+pub section_start : (file : List ℕ) (fails : List ℕ → Bool) → first_below 0 (of_section file fails) ≡ None
+unfolding first_below
+section_start file fails = refl
+
+pub section_more : (file header : List ℕ) (fails : List ℕ → Bool) (index : ℕ) (answer : Bool) → first_below index (of_section file fails) ≡ None → header ≡ section_at file (index + 1) → answer ≡ fails header → answer ≡ false → first_below (index + 1) (of_section file fails) ≡ None
+section_more file header fails index answer none is said passes =
+    first_below-more index (of_section file fails) none (ap fails (sym is) ∙ sym said ∙ passes)
+
+pub section_found : (file header : List ℕ) (fails : List ℕ → Bool) (index : ℕ) (answer : Bool) → index < section_total file → first_below index (of_section file fails) ≡ None → header ≡ section_at file (index + 1) → answer ≡ fails header → answer ≡ true → first_section file fails ≡ Some (index + 1)
+unfolding first_section
+section_found file header fails index answer lt none is said here =
+    ap (option_map (λ (i : ℕ). i + 1)) (first_below-found index (section_total file) (of_section file fails) lt none (ap fails (sym is) ∙ sym said ∙ here))
+
+pub section_none : (file : List ℕ) (fails : List ℕ → Bool) (index : ℕ) → section_total file ≡ index → first_below index (of_section file fails) ≡ None → first_section file fails ≡ None
+unfolding first_section
+section_none file fails index same none =
+    ap (λ (k : ℕ). option_map (λ (i : ℕ). i + 1) (first_below k (of_section file fails))) same ∙ ap (option_map (λ (i : ℕ). i + 1)) none
+
+mapped_none : (place : Option ℕ) → option_map (λ (i : ℕ). i + 1) place ≡ None → place ≡ None
+mapped_none None e = refl
+mapped_none (Some i) e = absurd cc
+
+-- no section fails: each passes
+pub section_passes : (file : List ℕ) (fails : List ℕ → Bool) (section : ℕ) → 1 ≤ section → section ≤ section_total file → first_section file fails ≡ None → fails (section_at file section) ≡ false
+unfolding first_section
+section_passes file fails section first last none =
+    let place : section - 1 + 1 ≡ section = omega arith in
+    ap (λ (i : ℕ). fails (section_at file i)) (sym place)
+    ∙ first_below-none (section_total file) (of_section file fails) (mapped_none _ none) (section - 1) (omega arith)
+
+-- ---- symbols that are still to be walked over
+
+-- the index of the first of some symbols that fails
+pub first_entry : (SymbolView → Bool) → List (ℕ × SymbolView) → Option ℕ
+first_entry fails [] = None
+first_entry fails (entry ∷ rest) = cond (fails entry.1) (Some entry.0) (first_entry fails rest)
