@@ -5,4 +5,6 @@ pub mod TextStartLemmas
 pub mod WholeLemmas
 pub mod LoopLemmas
 pub mod SymbolsLemmas
+pub mod NumberLemmas
+pub mod RecordLemmas
 pub mod RelocationLemmas

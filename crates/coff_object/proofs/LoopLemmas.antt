@@ -6,8 +6,8 @@ use Rattle.link_base.specs.Bytes.{first_below}
 use Rattle.link_base.proofs.CallerLemmas.{first_below-more, first_below-found, first_below-none}
 use Rattle.coff_object.specs.ObjectHeader.{section_total}
 use Rattle.coff_object.specs.SymbolRecord.{SymbolView}
-use Rattle.coff_object.specs.ObjectFile.{section_at, symbol_at, symbol_entry}
-use Rattle.coff_object.specs.ObjectFaults.{of_section, first_section, of_symbol, first_of}
+use Rattle.coff_object.specs.ObjectFile.{section_at, SymbolEntry}
+use Rattle.coff_object.specs.ObjectFaults.{of_section, first_section, first_of}
 
 -- ---- sections
 
@@ -42,9 +42,35 @@ section_passes file fails section first last none =
     ap (λ (i : ℕ). fails (section_at file i)) (sym place)
     ∙ first_below-none (section_total file) (of_section file fails) (mapped_none _ none) (section - 1) (omega arith)
 
--- ---- symbols that are still to be walked over
+-- ---- symbols
 
--- the index of the first of some symbols that fails
-pub first_entry : (SymbolView → Bool) → List (ℕ × SymbolView) → Option ℕ
-first_entry fails [] = None
-first_entry fails (entry ∷ rest) = cond (fails entry.1) (Some entry.0) (first_entry fails rest)
+-- the first of those that are left fails, and is the first of all
+pub symbol_found : (fails : SymbolEntry → Bool) (all : Option ℕ) (before after : List SymbolEntry) (index : ℕ) (symbol : SymbolView) (answer : Bool) → all ≡ first_of fails before → before ≡ (index, symbol) ∷ after → answer ≡ fails (index, symbol) → answer ≡ true → all ≡ Some index
+unfolding first_of
+symbol_found fails all before after index symbol answer same is said here = same ∙ rw is (rw (sym said ∙ here) refl)
+
+-- it passes: the first that fails is among the others
+pub symbol_more : (fails : SymbolEntry → Bool) (all : Option ℕ) (before after : List SymbolEntry) (index : ℕ) (symbol : SymbolView) (answer : Bool) → all ≡ first_of fails before → before ≡ (index, symbol) ∷ after → answer ≡ fails (index, symbol) → answer ≡ false → all ≡ first_of fails after
+unfolding first_of
+symbol_more fails all before after index symbol answer same is said passes = same ∙ rw is (rw (sym said ∙ passes) refl)
+
+pub symbol_none : (fails : SymbolEntry → Bool) (all : Option ℕ) (before : List SymbolEntry) → all ≡ first_of fails before → before ≡ [] → all ≡ None
+unfolding first_of
+symbol_none fails all before same is = same ∙ rw is refl
+
+-- none of those that are left fails: the first passes, and none of the others fails
+pub symbol_passes : (fails : SymbolEntry → Bool) (before after : List SymbolEntry) (entry : SymbolEntry) → before ≡ entry ∷ after → first_of fails before ≡ None → (fails entry ≡ false) × (first_of fails after ≡ None)
+unfolding first_of
+symbol_passes fails before after entry is none = split (fails entry) refl (sym (rw is refl) ∙ none)
+  where
+    split : (b : Bool) → fails entry ≡ b → cond b (Some entry.0) (first_of fails after) ≡ None → (fails entry ≡ false) × (first_of fails after ≡ None)
+    split true e h = absurd cc
+    split false e h = (e, h)
+
+-- what none fails, none fails that is failed by less
+pub first_of-weaker : (fails more : SymbolEntry → Bool) (entries : List SymbolEntry) → ((entry : SymbolEntry) → more entry ≡ false → fails entry ≡ false) → first_of more entries ≡ None → first_of fails entries ≡ None
+unfolding first_of
+first_of-weaker fails more [] weaker none = refl
+first_of-weaker fails more (entry ∷ rest) weaker none =
+    let both = symbol_passes more (entry ∷ rest) rest entry refl none in
+    rw (weaker entry both.0) (first_of-weaker fails more rest weaker both.1)

@@ -1,9 +1,11 @@
 -- Which records start a symbol: the steps of a walk, and what a walk of a list of symbols keeps.
-use Rattle.std.proofs.Common.{◌≡◌, ℕ, zero, suc, ◌+◌, ◌-◌, ◌<◌, ◌≤◌, Bool, true, false, cond, ltb, List, [], ◌∷◌, length, map, Option, Some, None, refl, sym, ap, ◌∙◌, ◌⊎◌, inl, inr, lt-ltb, le-ltb, arith}
-use Rattle.std.proofs.lemmas.Bool.{cases_lt}
+use Rattle.std.proofs.Common.{◌≡◌, ℕ, zero, suc, ◌+◌, ◌-◌, ◌<◌, ◌≤◌, Bool, true, false, cond, ◌||◌, ltb, List, [], ◌∷◌, ◌++◌, length, map, eqb, append_assoc, Option, Some, None, refl, sym, ap, ◌∙◌, ◌⊎◌, inl, inr, lt-ltb, le-ltb, arith}
+use Rattle.std.specs.List.{list_any}
+use Rattle.std.proofs.lemmas.Bool.{cases_lt, eq-eqb}
 use Rattle.coff_object.specs.ObjectHeader.{record_total}
+use Rattle.coff_object.specs.StringTable.{string_table}
 use Rattle.coff_object.specs.SymbolRecord.{SymbolView}
-use Rattle.coff_object.specs.ObjectFile.{symbol_at, aux_total_of, starts_within, starts_from, symbol_entry}
+use Rattle.coff_object.specs.ObjectFile.{symbol_at, aux_total_of, starts_within, starts_from, symbols_of, starts_symbol, SymbolEntry, symbol_entry, symbol_entries}
 
 -- ---- the steps of a walk
 
@@ -50,3 +52,68 @@ entries_step file index next aux symbol lt is auxes there beyond =
 -- and one less is left
 pub one_less : {X : Type 0} (x : X) (before after : List X) → before ≡ x ∷ after → length after < length before
 one_less x before after is = rw is (omega arith)
+
+-- ---- a loop over the symbols of a file
+
+-- what is left to a walk: the symbols that start from a record on, after those that it passed
+pub record SymbolsLeft (file : List ℕ) (rest : List SymbolEntry) : Type 0 where
+  pub passed : List ℕ
+  pub next : ℕ
+  pub all : symbols_of file ≡ passed ++ starts_from file next
+  pub is : rest ≡ map (symbol_entry file) (starts_from file next)
+
+-- the symbol that a step gives, and what is left after it
+pub record SymbolStep (file : List ℕ) (index : ℕ) (symbol : SymbolView) (rest : List SymbolEntry) : Type 0 where
+  pub is : symbol ≡ symbol_at file index
+  pub below : index < record_total file
+  pub starts : starts_symbol file index ≡ true
+  pub left : SymbolsLeft file rest
+
+-- at the start all are left
+pub symbols_left-all : (file : List ℕ) (rest : List SymbolEntry) → rest ≡ symbol_entries file → SymbolsLeft file rest
+symbols_left-all file rest is = record { passed = []; next = 0; all = refl; is = is }
+
+any_here : (passed rest : List ℕ) (index : ℕ) → list_any (λ start. eqb start index) (passed ++ index ∷ rest) ≡ true
+any_here [] rest index = rw (eq-eqb index index refl) refl
+any_here (start ∷ passed) rest index = rw (any_here passed rest index) (or_true (eqb start index))
+  where
+    or_true : (b : Bool) → (b || true) ≡ true
+    or_true true = refl
+    or_true false = refl
+
+starts_here : (file passed rest : List ℕ) (index : ℕ) → symbols_of file ≡ passed ++ index ∷ rest → starts_symbol file index ≡ true
+unfolding starts_symbol
+starts_here file passed rest index is = ap (list_any (λ start. eqb start index)) is ∙ any_here passed rest index
+
+first_same : {X : Type 0} (x y : X) (xs ys : List X) → x ∷ xs ≡ y ∷ ys → (x ≡ y) × (xs ≡ ys)
+first_same x y xs ys e = (let same : x ≡ y = cc in same, let same : xs ≡ ys = cc in same)
+
+-- a step of a loop, by what the iterator gave
+pub symbols_left-step : (file : List ℕ) (before after : List SymbolEntry) (index : ℕ) (symbol : SymbolView) → SymbolsLeft file before → before ≡ (index, symbol) ∷ after → SymbolStep file index symbol after
+symbols_left-step file before after index symbol left gave =
+    elim (cases_lt left.next (record_total file)) [
+      | inr le ↦ absurd (let none : (index, symbol) ∷ after ≡ [] = sym gave ∙ left.is ∙ entries_end file left.next le in cc)
+      | inl lt ↦ go lt (first_same (index, symbol) (symbol_entry file left.next) after _ (sym gave ∙ left.is ∙ ap (map (symbol_entry file)) (starts_from-step file left.next lt)))
+    ]
+  where
+    go : left.next < record_total file → ((index, symbol) ≡ symbol_entry file left.next) × (after ≡ map (symbol_entry file) (starts_from file (left.next + 1 + aux_total_of file left.next))) → SymbolStep file index symbol after
+    go lt same =
+        let place : index ≡ left.next = ap (λ (entry : SymbolEntry). entry.0) same.0 in
+        let view : symbol ≡ symbol_at file left.next = ap (λ (entry : SymbolEntry). entry.1) same.0 in
+        let all : symbols_of file ≡ left.passed ++ left.next ∷ starts_from file (left.next + 1 + aux_total_of file left.next) =
+        left.all ∙ ap (λ (rest : List ℕ). left.passed ++ rest) (starts_from-step file left.next lt) in
+        record {
+          is = view ∙ ap (symbol_at file) (sym place);
+          below = omega arith;
+          starts = ap (starts_symbol file) place ∙ starts_here file left.passed _ left.next all;
+          left = record {
+            passed = left.passed ++ left.next ∷ [];
+            next = left.next + 1 + aux_total_of file left.next;
+            all = all ∙ sym (append_assoc left.passed (left.next ∷ []) _);
+            is = same.1;
+          };
+        }
+
+pub symbol_strings : (file : List ℕ) (index : ℕ) (symbol : SymbolView) → symbol ≡ symbol_at file index → symbol.strings ≡ string_table file
+unfolding symbol_at
+symbol_strings file index symbol is = ap (λ (view : SymbolView). view.strings) is

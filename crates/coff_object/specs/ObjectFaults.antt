@@ -14,7 +14,7 @@ use Rattle.coff_object.specs.ObjectHeader.{header_size, machine_of, section_tota
 use Rattle.coff_object.specs.StringTable.{string_table_offset, string_table_size, string_table, text_in}
 use Rattle.coff_object.specs.SectionHeader.{size_in, data_offset_in, relocations_offset_in, relocation_field_in, flags_in, short_name_in, names_an_offset, long_section_name, alignment_value, is_uninitialised_in, has_overflow_count_in}
 use Rattle.coff_object.specs.SymbolRecord.{SymbolView, long_name_offset_in, value_in, section_number_in, section_of_number, class_in, aux_count_in}
-use Rattle.coff_object.specs.ObjectFile.{section_at, record_offset, symbol_at, symbols_of}
+use Rattle.coff_object.specs.ObjectFile.{section_at, record_offset, SymbolEntry, symbol_entries}
 
 -- ---- places
 
@@ -33,17 +33,17 @@ of_section file fails index = fails (section_at file (index + 1))
 unfoldable pub first_section : List ℕ → (List ℕ → Bool) → Option ℕ
 first_section file fails = option_map (λ index. index + 1) (first_below (section_total file) (of_section file fails))
 
--- the first number of a list that fails
-unfoldable pub first_of : (ℕ → Bool) → List ℕ → Option ℕ
+-- the index of the first of some symbols that fails
+unfoldable pub first_of : (SymbolEntry → Bool) → List SymbolEntry → Option ℕ
 first_of fails [] = None
-first_of fails (index ∷ rest) = if fails index then Some index else first_of fails rest
+first_of fails (entry ∷ rest) = if fails entry then Some entry.0 else first_of fails rest
 
--- the least record at which a symbol starts that fails, judged as a symbol
-abbrev pub of_symbol : List ℕ → (SymbolView → Bool) → ℕ → Bool
-of_symbol file fails index = fails (symbol_at file index)
+abbrev pub of_symbol : (SymbolView → Bool) → SymbolEntry → Bool
+of_symbol fails entry = fails entry.1
 
+-- the least record at which a symbol starts that fails
 abbrev pub first_symbol : List ℕ → (SymbolView → Bool) → Option ℕ
-first_symbol file fails = first_of (of_symbol file fails) (symbols_of file)
+first_symbol file fails = first_of (of_symbol fails) (symbol_entries file)
 
 -- ---- 1 Truncated
 
@@ -91,18 +91,18 @@ unfoldable pub first_torn_record : List ℕ → Option ℕ
 first_torn_record file = first_below (record_total file) (record_leaves file)
 
 -- the auxiliary records of a symbol leave the table
-abbrev pub aux_leave : List ℕ → ℕ → Bool
-aux_leave file index = nat_lt (record_total file) (index + 1 + aux_count_in (symbol_at file index))
+abbrev pub aux_leave : List ℕ → SymbolEntry → Bool
+aux_leave file entry = nat_lt (record_total file) (entry.0 + 1 + aux_count_in entry.1)
 
 -- the lesser of two places, where there are two
 abbrev pub least_place : Option ℕ → Option ℕ → Option ℕ
 least_place None other = other
 least_place (Some place) None = Some place
-least_place (Some place) (Some other) = if nat_le place other then Some place else Some other
+least_place (Some place) (Some other) = if nat_lt other place then Some other else Some place
 
 -- the first record that is not whole, or the first symbol whose auxiliary records leave the table: the lesser counts
 unfoldable pub symbol_range_fault : List ℕ → Option ℕ
-symbol_range_fault file = least_place (first_torn_record file) (first_of (aux_leave file) (symbols_of file))
+symbol_range_fault file = least_place (first_torn_record file) (first_of (aux_leave file) (symbol_entries file))
 
 -- ---- 6 StringTable
 

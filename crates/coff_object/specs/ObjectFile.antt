@@ -113,9 +113,12 @@ unfoldable pub starts_symbol : List ℕ → ℕ → Bool
 starts_symbol file index = list_any (λ start. start == index) (symbols_of file)
 
 -- a symbol with its record's index
-abbrev pub symbol_entry : List ℕ → ℕ → ℕ × SymbolView
+abbrev pub SymbolEntry : Type 0
+SymbolEntry = ℕ × SymbolView
+
+abbrev pub symbol_entry : List ℕ → ℕ → SymbolEntry
 symbol_entry file index = (index, symbol_at file index)
 
 -- all symbols with their indexes, in the order of their records
-abbrev pub symbol_entries : List ℕ → List (ℕ × SymbolView)
+abbrev pub symbol_entries : List ℕ → List SymbolEntry
 symbol_entries file = map (symbol_entry file) (symbols_of file)

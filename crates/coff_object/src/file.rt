@@ -3,7 +3,7 @@
 ghost use Rattle.std.specs.Prelude.{◌≡◌, ◌≤◌, ◌<◌, ◌+◌, ◌*◌, ◌^◌, length, false};
 ghost use Rattle.coff_object.specs.ObjectHeader.{header_size, symbol_size, machine_of, section_total, section_headers_offset, symbols_offset, record_total};
 ghost use Rattle.coff_object.specs.StringTable.{string_table};
-ghost use Rattle.coff_object.specs.ObjectFile.{section_at, record_offset, record_at, symbol_at};
+ghost use Rattle.coff_object.specs.ObjectFile.{section_at, record_offset, record_at, symbol_at, aux_total_of};
 ghost use Rattle.coff_object.specs.ObjectFaults.{is_truncated};
 
 use crate::header::Header;
@@ -126,6 +126,14 @@ impl<'a> File<'a> {
         ensures len { length result.now ≡ symbol_size self.now }
     {
         slice_in(self.bytes, self.record_offset(index), self.symbol_size())
+    }
+
+    /// How many auxiliary records follow the symbol in a record.
+    pub(crate) fn aux_count(&self, index: u32) -> u8
+        requires { record_offset self.now index + symbol_size self.now ≤ length self.now }
+        ensures { result ≡ aux_total_of self.now index }
+    {
+        SymbolRecord::of(self.header.is_big, self.record(index), &[]).aux()
     }
 
     /// A record read as a symbol, with the file's string table.

@@ -12,6 +12,7 @@ mod section_fault;
 mod section_header;
 mod strings;
 mod symbol;
+mod symbol_fault;
 mod symbol_record;
 mod symbols;
 

@@ -2,6 +2,8 @@
 
 ghost use Rattle.std.specs.Prelude.{◌≡◌, ◌<◌, ◌≤◌, length, pos, ◌-ℤ◌, nat_le, if◌then◌else◌};
 ghost use Rattle.coff_object.specs.SymbolRecord.{record_size, short_symbol_name, signed_field, long_name_offset_in, name_in, value_in, section_number_in, kind_in, class_in, aux_count_in};
+ghost use Rattle.coff_object.specs.ObjectFaults.{lacks_symbol_name};
+ghost use Rattle.coff_object.specs.TextEnd.{EndsTexts};
 
 use crate::offsets::{
     BIG_SYMBOL_NUMBER_OF_AUX_SYMBOLS, BIG_SYMBOL_STORAGE_CLASS, BIG_SYMBOL_TYPE, SIZEOF_SHORT_NAME,
@@ -9,7 +11,7 @@ use crate::offsets::{
     SYMBOL_TYPE, SYMBOL_VALUE,
 };
 use crate::ranges::before_nul;
-use crate::strings::text_in;
+use crate::strings::{has_text, text_in};
 use link_base::{Name, slice_in, u16_in, u32_in};
 use std::marker::Model;
 
@@ -70,6 +72,18 @@ impl<'a> SymbolRecord<'a> {
             return None;
         }
         Some(u32_in(self.bytes, SYMBOL_NAME_OFFSET))
+    }
+
+    /// Whether the symbol's name refers to a text that is not in the string table, by the place where its texts end.
+    #[tactic(auto, unfolding(crate::specs::ObjectFaults::lacks_symbol_name))]
+    pub(crate) fn lacks_name(&self, texts_end: usize) -> bool
+        requires { EndsTexts self.now.strings texts_end }
+        ensures { result ≡ lacks_symbol_name self.now }
+    {
+        match self.long_name_offset() {
+            Some(offset) => !has_text(self.strings, offset as usize, texts_end),
+            None => false,
+        }
     }
 
     /// The symbol's value, mostly an offset in its section.
