@@ -8,3 +8,4 @@ pub mod SymbolsLemmas
 pub mod NumberLemmas
 pub mod RecordLemmas
 pub mod RelocationLemmas
+pub mod WellFormedLemmas

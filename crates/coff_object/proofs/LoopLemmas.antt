@@ -3,7 +3,7 @@ use Rattle.std.proofs.Common.{◌≡◌, ℕ, ◌+◌, ◌-◌, ◌<◌, ◌≤�
 use Rattle.std.specs.Prelude.{option_map}
 use Rattle.std.proofs.lemmas.Bool.{false≢true}
 use Rattle.link_base.specs.Bytes.{first_below}
-use Rattle.link_base.proofs.CallerLemmas.{first_below-more, first_below-found, first_below-none}
+use Rattle.link_base.proofs.CallerLemmas.{first_below-more, first_below-found, first_below-none, first_below-all_fail}
 use Rattle.coff_object.specs.ObjectHeader.{section_total}
 use Rattle.coff_object.specs.SymbolRecord.{SymbolView}
 use Rattle.coff_object.specs.ObjectFile.{section_at, SymbolEntry}
@@ -41,6 +41,12 @@ section_passes file fails section first last none =
     let place : section - 1 + 1 ≡ section = omega arith in
     ap (λ (i : ℕ). fails (section_at file i)) (sym place)
     ∙ first_below-none (section_total file) (of_section file fails) (mapped_none _ none) (section - 1) (omega arith)
+
+-- what none fails, none fails that is failed by less
+pub section_weaker : (file : List ℕ) (fails more : List ℕ → Bool) → ((header : List ℕ) → more header ≡ false → fails header ≡ false) → first_section file more ≡ None → first_section file fails ≡ None
+section_weaker file fails more weaker none =
+    section_none file fails (section_total file) refl
+    (first_below-all_fail (section_total file) (of_section file fails) (λ index lt. weaker (section_at file (index + 1)) (section_passes file more (index + 1) (omega arith) (omega arith) none)))
 
 -- ---- symbols
 

@@ -6,6 +6,7 @@ use Rattle.coff_object.specs.ObjectHeader.{is_big_object, symbols_offset, symbol
 use Rattle.coff_object.specs.SymbolRecord.{SymbolView, aux_count_in}
 use Rattle.coff_object.specs.ObjectFile.{record_offset, record_at, symbol_at, aux_total_of, starts_within, starts_from, SymbolEntry, symbol_entry, symbol_entries}
 use Rattle.coff_object.specs.ObjectFaults.{record_leaves, first_torn_record, aux_leave, first_of, least_place, symbol_range_fault}
+use Rattle.coff_object.specs.OpenObject.{HasRecords}
 use Rattle.coff_object.proofs.LoopLemmas.{symbol_found, symbol_more}
 use Rattle.coff_object.proofs.SymbolsLemmas.{starts_from-end, starts_from-step, entries_step}
 
@@ -43,6 +44,22 @@ room_ends file le = torn (length file) (symbols_offset file) (symbol_size file) 
 pub beyond_file : (file : List ℕ) → length file < symbols_offset file → length file < record_offset file 0 + symbol_size file
 unfolding record_offset
 beyond_file file lt = omega arith
+
+-- no more records than the file holds
+fit : (total start size len : ℕ) → (size ≡ 18) ⊎ (size ≡ 20) → (0 < total → start + size * (total - 1) + size ≤ len) → 18 * total ≤ len
+fit total start size len sizes last =
+    elim (cases_lt 0 total) [
+      | inr none ↦ omega arith
+      | inl some ↦ elim sizes [
+        | inl plain ↦ let whole = rw plain at (last some) in omega (arith, whole)
+        | inr big ↦ let whole = rw big at (last some) in omega (arith, whole)
+      ]
+    ]
+
+pub records_fit-whole : (file : List ℕ) → HasRecords file → 18 * record_total file ≤ length file
+unfolding record_offset
+records_fit-whole file records =
+    fit (record_total file) (symbols_offset file) (symbol_size file) (length file) (size_cases file) (λ some. records.whole (record_total file - 1) (omega arith))
 
 -- ---- the first record that is torn
 

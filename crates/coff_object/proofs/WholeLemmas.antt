@@ -1,6 +1,6 @@
 -- What is whole in a file, by the kinds that do not stand.
 use Rattle.std.proofs.Common.{◌≡◌, ℕ, suc, ◌+◌, ◌-◌, ◌*◌, ◌<◌, ◌≤◌, Bool, true, false, cond, ◌&&◌, ◌||◌, ltb, List, length, None, refl, sym, ap, ◌∙◌, inl, inr, lt-ltb, arith}
-use Rattle.std.proofs.lemmas.Bool.{false≢true}
+use Rattle.std.proofs.lemmas.Bool.{cases_lt}
 use Rattle.link_base.proofs.CallerLemmas.{first_below-none}
 use Rattle.link_base.proofs.TestLemmas.{or_left, or_right, and_second, ltb_false}
 use Rattle.coff_object.specs.ObjectHeader.{header_size, section_total, section_headers_offset, record_total, symbol_size}
@@ -24,6 +24,13 @@ unfolding is_truncated
 header_whole file section e some le =
     let whole = range_whole file (section_headers_offset file) (40 * section_total file) (or_right (ltb (length file) (header_size file)) _ e) (omega arith) in
     omega (arith, whole)
+
+pub sections_fit : (file : List ℕ) → is_truncated file ≡ false → 40 * section_total file ≤ length file
+sections_fit file e =
+    elim (cases_lt 0 (section_total file)) [
+      | inl some ↦ omega (arith, header_whole file (section_total file) e some (omega arith))
+      | inr none ↦ omega arith
+    ]
 
 -- ---- records
 

@@ -8,3 +8,4 @@ pub mod ObjectFile
 pub mod ObjectFaults
 pub mod OpenObject
 pub mod TextEnd
+pub mod AnyFault

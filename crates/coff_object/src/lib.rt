@@ -2,6 +2,7 @@
 #![tactic(auto)]
 
 mod error;
+mod fault;
 mod file;
 mod header;
 mod offsets;
@@ -15,6 +16,7 @@ mod symbol;
 mod symbol_fault;
 mod symbol_record;
 mod symbols;
+mod well_formed;
 
 pub use error::ObjError;
 pub use header::is_big_object;
