@@ -9,3 +9,5 @@ pub mod NumberLemmas
 pub mod RecordLemmas
 pub mod RelocationLemmas
 pub mod WellFormedLemmas
+pub mod StartLemmas
+pub mod Readable

@@ -33,5 +33,5 @@ relocations_from file place index count =
 
 -- those that are still to be read are in the file: an invariant of the code
 pub record HasRelocations (file : List ℕ) (place index left : ℕ) : Type 0 where
-  pub whole : place + SIZEOF_RELOCATION * (index + left) ≤ length file
+  pub whole : (k : ℕ) → k < index + left → place + SIZEOF_RELOCATION * k + SIZEOF_RELOCATION ≤ length file
   pub counted : index + left < 2 ^ 32

@@ -5,6 +5,7 @@ mod error;
 mod fault;
 mod file;
 mod header;
+mod object;
 mod offsets;
 mod ranges;
 mod relocation;
@@ -20,6 +21,7 @@ mod well_formed;
 
 pub use error::ObjError;
 pub use header::is_big_object;
+pub use object::Object;
 pub use relocation::{Relocation, Relocations};
 pub use section::Section;
 pub use symbol::Symbol;

@@ -1,6 +1,6 @@
 //! Relocations (PE Format, "COFF Relocations").
 
-ghost use Rattle.std.specs.Prelude.{◌≡◌, ◌≤◌, ◌<◌, ◌+◌, ◌*◌, ◌^◌, length, true};
+ghost use Rattle.std.specs.Prelude.{◌≡◌, ◌≤◌, ◌<◌, ◌+◌, ◌*◌, ◌^◌, ℕ, length, true};
 ghost use Rattle.std.specs.Iterator.{YieldsFirst, item_count};
 ghost use Rattle.coff_object.specs.SectionHeader.{relocations_offset_in, has_overflow_count_in};
 ghost use Rattle.coff_object.specs.Relocations.{relocations_place, relocation_count_in, relocation_at, relocations_from};
@@ -115,7 +115,7 @@ impl<'a> Model for Relocations<'a> {
 impl<'a> Relocations<'a> {
     /// The relocations that stand one after the other from a place on.
     pub(crate) fn from_place(bytes: &'a [u8], place: usize, count: u32) -> Relocations<'a>
-        requires { place + SIZEOF_RELOCATION * count ≤ length bytes.now }
+        requires { (k : ℕ) → k < count → place + SIZEOF_RELOCATION * k + SIZEOF_RELOCATION ≤ length bytes.now }
         ensures { result ≡ relocations_from bytes.now place 0 count }
     {
         Relocations {
