@@ -11,3 +11,4 @@ pub mod RelocationLemmas
 pub mod WellFormedLemmas
 pub mod StartLemmas
 pub mod Readable
+pub mod CallerLemmas
