@@ -12,3 +12,4 @@ pub mod WellFormedLemmas
 pub mod StartLemmas
 pub mod Readable
 pub mod CallerLemmas
+mod WorkedObjects
