@@ -1,0 +1,224 @@
+-- Where long texts begin, by the NULs around them.
+use Rattle.std.proofs.Common.{◌≡◌, ℕ, zero, suc, ◌+◌, ◌-◌, ◌*◌, ◌/◌, ◌<◌, ◌≤◌, Bool, true, false, cond, ◌&&◌, leb, ltb, List, [], ◌∷◌, ◌++◌, take, drop, length, get_or, slice_index, max, Option, Some, None, refl, sym, ap, ◌∙◌, ◌⊎◌, inl, inr, le-ltb, lt-ltb, le-leb, arith}
+use Rattle.std.specs.Prelude.{unwrap_or}
+use Rattle.std.specs.List.{position_or_len}
+use Rattle.std.proofs.lemmas.Bool.{cases_lt, false≢true, lt-leb}
+use Rattle.std.proofs.lemmas.List.{length-take-le, length-drop, get_or-drop, get_or-take, get_or_push, get_or_append_left}
+use Rattle.std.proofs.lemmas.List.Sums.{passes_at_first, fails_before_first}
+use Rattle.link_base.specs.Bytes.{is_nul, text_at, bytes_at}
+use Rattle.memchr.specs.Find.{IsFirstByte, IsLastByte}
+use Rattle.coff_object.specs.declared.long_texts.LongSpan.{LongSpan}
+use Rattle.coff_object.specs.StringTable.{text_in, is_long_text}
+use Rattle.coff_object.specs.LongText.{IsNextNul, IsAfterLastNul, IsLongSpan, HoldsSpans}
+use Rattle.coff_object.proofs.TextLemmas.{first_is_near}
+
+-- ---- one text
+
+-- a text is as long as the bytes before its NUL, where it has one
+text_length : (table : List ℕ) (offset p : ℕ) → p ≡ position_or_len is_nul (drop offset table) → length (unwrap_or (text_at table offset) []) ≡ cond (ltb p (length (drop offset table))) p 0
+text_length table offset p is =
+    rw is (elim (cases_lt (position_or_len is_nul (drop offset table)) (length (drop offset table))) [
+      | inl lt ↦ rw (lt-ltb _ _ lt) (length-take-le _ _ (omega arith))
+      | inr le ↦ rw (le-ltb _ _ le) refl
+    ])
+
+long_by : (table : List ℕ) (offset len : ℕ) → 4 ≤ offset → length (unwrap_or (text_at table offset) []) ≡ len → is_long_text table offset ≡ ltb 32000 len
+unfolding is_long_text text_in
+long_by table offset len le is = rw (le-leb 4 offset le) (ap (λ (n : ℕ). ltb 32000 n) is)
+
+early : (table : List ℕ) (offset : ℕ) → offset < 4 → is_long_text table offset ≡ false
+unfolding is_long_text text_in
+early table offset lt = rw (lt-leb 4 offset lt) refl
+
+-- the byte there, from the offset on
+there : (table : List ℕ) (offset k : ℕ) → offset ≤ k → is_nul (slice_index table k) ≡ is_nul (slice_index (drop offset table) (k - offset))
+there table offset k le =
+    let place : offset + (k - offset) ≡ k = omega arith in
+    ap is_nul (sym (get_or-drop offset table (k - offset) 0 ∙ ap (λ (m : ℕ). slice_index table m) place))
+
+-- a NUL that is near ends it soon
+near_is_short : (table : List ℕ) (offset k : ℕ) → offset ≤ k → k ≤ offset + 32000 → is_nul (slice_index table k) ≡ true → is_long_text table offset ≡ false
+near_is_short table offset k le near nul =
+    elim (cases_lt offset 4) [
+      | inl lt ↦ early table offset lt
+      | inr from ↦
+          let p = position_or_len is_nul (drop offset table) in
+          let close = first_is_near (drop offset table) (k - offset) (sym (there table offset k le) ∙ nul) in
+          long_by table offset _ from (text_length table offset (position_or_len is_nul (drop offset table)) refl)
+          ∙ small (ltb (position_or_len is_nul (drop offset table)) (length (drop offset table))) (position_or_len is_nul (drop offset table)) (omega (arith, close))
+    ]
+  where
+    small : (b : Bool) (p : ℕ) → p ≤ 32000 → ltb 32000 (cond b p 0) ≡ false
+    small true p le = le-ltb 32000 p le
+    small false p le = refl
+
+-- up to the next NUL it is as long as that is away; without one it is none
+next_tells : (table : List ℕ) (offset nul : ℕ) → 4 ≤ offset → offset ≤ nul → nul ≤ length table → ((k : ℕ) → offset ≤ k → k < nul → is_nul (slice_index table k) ≡ true → ⊥) → (nul < length table → is_nul (slice_index table nul) ≡ true) → is_long_text table offset ≡ cond (ltb nul (length table)) (ltb 32000 (nul - offset)) false
+next_tells table offset nul from le within none here =
+    elim (cases_lt nul (length table)) [
+      | inl lt ↦
+          let close = first_is_near (drop offset table) (nul - offset) (sym (there table offset nul le) ∙ here lt) in
+          let some : position_or_len is_nul (drop offset table) < length (drop offset table) = omega (arith, close, length-drop offset table) in
+          let far = far_off some in
+          let same : position_or_len is_nul (drop offset table) ≡ nul - offset = omega (arith, close, far) in
+          long_by table offset _ from (text_length table offset (position_or_len is_nul (drop offset table)) refl)
+          ∙ rw (lt-ltb _ _ some, lt-ltb _ _ lt) (ap (λ (n : ℕ). ltb 32000 n) same)
+      | inr past ↦
+          let all : length (drop offset table) ≤ position_or_len is_nul (drop offset table) = nothing past (cases_lt (position_or_len is_nul (drop offset table)) (length (drop offset table))) in
+          long_by table offset _ from (text_length table offset (position_or_len is_nul (drop offset table)) refl)
+          ∙ rw (le-ltb _ _ all, le-ltb _ _ past) refl
+    ]
+  where
+    p : ℕ
+    p = position_or_len is_nul (drop offset table)
+
+    here_nul : position_or_len is_nul (drop offset table) < length (drop offset table) → is_nul (slice_index table (offset + position_or_len is_nul (drop offset table))) ≡ true
+    here_nul lt =
+        ap is_nul (sym (get_or-drop offset table (position_or_len is_nul (drop offset table)) 0)) ∙ passes_at_first is_nul (drop offset table) 0 lt
+
+    far_off : position_or_len is_nul (drop offset table) < length (drop offset table) → nul ≤ offset + position_or_len is_nul (drop offset table)
+    far_off some = elim (cases_lt (offset + position_or_len is_nul (drop offset table)) nul) [
+      | inl lt ↦ absurd (none (offset + position_or_len is_nul (drop offset table)) (omega arith) lt (here_nul some))
+      | inr far ↦ far
+    ]
+
+    nothing : length table ≤ nul → (position_or_len is_nul (drop offset table) < length (drop offset table)) ⊎ (length (drop offset table) ≤ position_or_len is_nul (drop offset table)) → length (drop offset table) ≤ position_or_len is_nul (drop offset table)
+    nothing past (inl lt) =
+        absurd (none (offset + position_or_len is_nul (drop offset table)) (omega arith) (omega (arith, past, lt, length-drop offset table)) (here_nul lt))
+    nothing past (inr le) = le
+
+-- a text that begins beyond the table is none
+pub beyond_table : (table : List ℕ) (offset : ℕ) → length table ≤ offset → is_long_text table offset ≡ false
+beyond_table table offset le =
+    elim (cases_lt offset 4) [
+      | inl lt ↦ early table offset lt
+      | inr from ↦
+          let none : length (drop offset table) ≡ 0 = omega (arith, length-drop offset table) in
+          long_by table offset _ from (text_length table offset (position_or_len is_nul (drop offset table)) refl)
+          ∙ rw (le-ltb (position_or_len is_nul (drop offset table)) (length (drop offset table)) (omega (arith, none))) refl
+    ]
+
+-- ---- the span of a block
+
+pub span_is : (table : List ℕ) (start end after nul : ℕ) (span : LongSpan) → end ≤ start + 32000 → end ≤ length table → (end < start + 32000 → end ≡ length table) → IsAfterLastNul table start end after → IsNextNul table end nul → span.from ≡ max after 4 → span.until ≡ cond (ltb nul (length table)) (nul - 32000) 0 → IsLongSpan table start span
+span_is table start end after nul span short within reaches last next from until =
+    record { holds = λ offset low high. each offset low high (cases_lt offset (length table)) (cases_lt offset after) (cases_lt offset 4) }
+  where
+    none_after : (offset : ℕ) → after ≤ offset → (k : ℕ) → offset ≤ k → k < nul → is_nul (slice_index table k) ≡ true → ⊥
+    none_after offset le k low high e = elim (cases_lt k end) [
+      | inl lt ↦ last.none k (omega arith) lt e
+      | inr ge ↦ next.none k ge high e
+    ]
+
+    tells : (offset : ℕ) → ltb nul (length table) ≡ ltb nul (length table) → cond (ltb nul (length table)) (ltb 32000 (nul - offset)) false ≡ ltb offset (cond (ltb nul (length table)) (nul - 32000) 0)
+    tells offset same = go (ltb nul (length table))
+      where
+        go : (b : Bool) → cond b (ltb 32000 (nul - offset)) false ≡ ltb offset (cond b (nul - 32000) 0)
+        go true = elim (cases_lt 32000 (nul - offset)) [
+          | inl far ↦ lt-ltb _ _ far ∙ sym (lt-ltb offset (nul - 32000) (omega arith))
+          | inr near ↦ le-ltb _ _ near ∙ sym (le-ltb offset (nul - 32000) (omega arith))
+        ]
+        go false = sym (le-ltb offset 0 (omega arith))
+
+    out : (offset : ℕ) → offset < span.from → (leb span.from offset && ltb offset span.until) ≡ false
+    out offset lt = rw (lt-leb span.from offset lt) refl
+
+    each : (offset : ℕ) → start ≤ offset → offset < start + 32000 → (offset < length table) ⊎ (length table ≤ offset) → (offset < after) ⊎ (after ≤ offset) → (offset < 4) ⊎ (4 ≤ offset) → is_long_text table offset ≡ (leb span.from offset && ltb offset span.until)
+    each offset low high inside (inl before) early_or_not =
+        near_is_short table offset (after - 1) (omega arith) (omega (arith, last.high)) (last.here (omega arith)) ∙ sym (out offset (omega (arith, from)))
+    each offset low high inside (inr le) (inl small) = early table offset small ∙ sym (out offset (omega (arith, from)))
+    each offset low high (inr past) (inr le) (inr large) =
+        beyond_table table offset past ∙ sym (rw (until) (past_all (leb span.from offset) (ltb nul (length table)) past))
+      where
+        past_all : (a b : Bool) → length table ≤ offset → (a && ltb offset (cond b (nul - 32000) 0)) ≡ false
+        past_all true true h = le-ltb offset (nul - 32000) (omega (arith, next.within))
+        past_all true false h = le-ltb offset 0 (omega arith)
+        past_all false b h = refl
+    each offset low high (inl lt) (inr le) (inr large) =
+        next_tells table offset nul large (omega (arith, next.low within, at_end (cases_lt end (start + 32000)))) next.within (none_after offset le) next.here
+        ∙ tells offset refl
+        ∙ sym (rw (le-leb span.from offset (omega (arith, from)), until) refl)
+      where
+        at_end : (end < start + 32000) ⊎ (start + 32000 ≤ end) → offset < end
+        at_end (inl less) = omega (arith, reaches less)
+        at_end (inr full) = omega arith
+
+-- ---- NULs of a part of the table
+
+byte : (table part : List ℕ) (at count i : ℕ) → part ≡ bytes_at table at count → i < count → is_nul (slice_index part i) ≡ is_nul (slice_index table (at + i))
+byte table part at count i is lt =
+    ap (λ (xs : List ℕ). is_nul (slice_index xs i)) is ∙ ap is_nul (get_or-take count (drop at table) i 0 lt ∙ get_or-drop at table i 0)
+
+byte_at : (table part : List ℕ) (at count k : ℕ) → part ≡ bytes_at table at count → at ≤ k → k < at + count → is_nul (slice_index part (k - at)) ≡ is_nul (slice_index table k)
+byte_at table part at count k is low high =
+    let place : at + (k - at) ≡ k = omega arith in
+    byte table part at count (k - at) is (omega arith) ∙ ap (λ (m : ℕ). is_nul (slice_index table m)) place
+
+pub next_found : (table part : List ℕ) (at place : ℕ) → at ≤ length table → part ≡ bytes_at table at (length table - at) → length part ≡ length table - at → IsFirstByte is_nul part (Some place) → IsNextNul table at (at + place)
+next_found table part at place le is len found = record {
+  low = λ _. omega arith;
+  within = omega (arith, found.0.high, len);
+  none = λ k low high nul. found.0.before (k - at) (omega arith) (omega arith) (byte_at table part at (length table - at) k is low (omega (arith, high, found.0.high, len)) ∙ nul);
+  here = λ _. sym (byte table part at (length table - at) place is (omega (arith, found.0.high, len))) ∙ found.1;
+}
+
+pub next_missing : (table part : List ℕ) (at : ℕ) → at ≤ length table → part ≡ bytes_at table at (length table - at) → length part ≡ length table - at → IsFirstByte is_nul part None → IsNextNul table at (length table)
+next_missing table part at le is len none = record {
+  low = λ le. le;
+  within = omega arith;
+  none = λ k low high nul. none (k - at) (omega arith) (omega (arith, high, len)) (byte_at table part at (length table - at) k is low (omega (arith, high)) ∙ nul);
+  here = λ lt. absurd (omega arith);
+}
+
+pub last_found : (table part : List ℕ) (start end last : ℕ) → start ≤ end → part ≡ bytes_at table start (end - start) → length part ≡ end - start → IsLastByte is_nul part (Some last) → IsAfterLastNul table start end (start + last + 1)
+last_found table part start end last le is len found = record {
+  low = omega arith;
+  high = omega (arith, found.0.high, len);
+  none = λ k low high nul. found.0.after (k - start) (omega arith) (omega (arith, high, low, len)) (byte_at table part start (end - start) k is (omega arith) (omega (arith, high, le)) ∙ nul);
+  here = λ _. let place : start + last + 1 - 1 ≡ start + last = omega arith in
+      ap (λ (m : ℕ). is_nul (slice_index table m)) place ∙ sym (byte table part start (end - start) last is (omega (arith, found.0.high, len))) ∙ found.1;
+}
+
+pub last_missing : (table part : List ℕ) (start end : ℕ) → start ≤ end → part ≡ bytes_at table start (end - start) → length part ≡ end - start → IsLastByte is_nul part None → IsAfterLastNul table start end start
+last_missing table part start end le is len none = record {
+  low = omega arith;
+  high = le;
+  none = λ k low high nul. none (k - start) (omega arith) (omega (arith, high, low, len)) (byte_at table part start (end - start) k is low (omega (arith, high, le)) ∙ nul);
+  here = λ lt. absurd (omega arith);
+}
+
+-- ---- from block to block
+
+pub next_block : (table : List ℕ) (index start end nul : ℕ) → start ≡ 32000 * index → end ≤ start + 32000 → (end < start + 32000 → end ≡ length table) → IsNextNul table end nul → IsNextNul table (32000 * (index + 1)) nul
+next_block table index start end nul is short reaches next = record {
+  low = λ le. elim (cases_lt end (start + 32000)) [
+    | inl less ↦ absurd (omega (arith, reaches less, le, is))
+    | inr full ↦ let same : 32000 * (index + 1) ≡ end = omega (arith, full, short, is) in omega (arith, next.low (omega (arith, le, same)), same)
+  ];
+  within = next.within;
+  none = λ k low high nul. next.none k (omega (arith, low, short, is)) high nul;
+  here = next.here;
+}
+
+-- no text of a block is long whose span is empty
+pub empty_span : (table : List ℕ) (start offset : ℕ) (span : LongSpan) → IsLongSpan table start span → span.until ≤ span.from → start ≤ offset → offset < start + 32000 → is_long_text table offset ≡ false
+empty_span table start offset span is none low high =
+    is.holds offset low high
+    ∙ elim (cases_lt offset span.from) [
+      | inl lt ↦ rw (lt-leb span.from offset lt) refl
+      | inr le ↦ rw (le-ltb offset span.until (omega arith)) (and_false (leb span.from offset))
+    ]
+  where
+    and_false : (b : Bool) → (b && false) ≡ false
+    and_false true = refl
+    and_false false = refl
+
+-- one more span
+pub span_pushed : (table : List ℕ) (spans after : List LongSpan) (span : LongSpan) (index : ℕ) → length spans ≡ index → after ≡ spans ++ span ∷ [] → IsLongSpan table (32000 * index) span → ((i : ℕ) (d : LongSpan) → i < length spans → IsLongSpan table (32000 * i) (get_or spans i d)) → (i : ℕ) (d : LongSpan) → i < index + 1 → IsLongSpan table (32000 * i) (get_or after i d)
+span_pushed table spans after span index len is here each i d lt =
+    rw is (elim (cases_lt i index) [
+      | inl below ↦ rw (get_or_append_left spans (span ∷ []) d i (omega arith)) (each i d (omega arith))
+      | inr level ↦
+          let same : i ≡ index = omega arith in
+          rw (get_or_push spans span d i (omega arith)) (rw same here)
+    ])
