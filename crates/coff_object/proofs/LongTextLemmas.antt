@@ -1,15 +1,18 @@
 -- Where long texts begin, by the NULs around them.
-use Rattle.std.proofs.Common.{◌≡◌, ℕ, zero, suc, ◌+◌, ◌-◌, ◌*◌, ◌/◌, ◌<◌, ◌≤◌, Bool, true, false, cond, ◌&&◌, leb, ltb, List, [], ◌∷◌, ◌++◌, take, drop, length, get_or, slice_index, max, Option, Some, None, refl, sym, ap, ◌∙◌, ◌⊎◌, inl, inr, le-ltb, lt-ltb, le-leb, arith}
-use Rattle.std.specs.Prelude.{unwrap_or}
-use Rattle.std.specs.List.{position_or_len}
-use Rattle.std.proofs.lemmas.Bool.{cases_lt, false≢true, lt-leb}
-use Rattle.std.proofs.lemmas.List.{length-take-le, length-drop, get_or-drop, get_or-take, get_or_push, get_or_append_left}
-use Rattle.std.proofs.lemmas.List.Sums.{passes_at_first, fails_before_first}
-use Rattle.link_base.specs.Bytes.{is_nul, text_at, bytes_at}
+use Rattle.std.proofs.Common.{◌≡◌, ℕ, ◌+◌, ◌-◌, ◌<◌, ◌≤◌, Bool, true, false, cond, ◌&&◌, eqb, leb, ltb, List, [], drop, length, slice_index, max, Option, Some, None, refl, sym, ap, ◌∙◌, ◌⊎◌, inl, inr, le-ltb, lt-ltb, le-leb, arith}
+use Rattle.std.specs.Prelude.{unwrap_or, option_and_then}
+use Rattle.std.specs.List.{position_or_len, before_first}
+use Rattle.std.proofs.lemmas.Bool.{cases_lt, lt-leb}
+use Rattle.std.proofs.lemmas.List.{length-take, length-take-le, length-drop, get_or-drop, get_or-take}
+use Rattle.std.proofs.lemmas.List.Sums.{passes_at_first}
+use Rattle.link_base.specs.Bytes.{u32_at, is_nul, text_at, bytes_at}
+use Rattle.link_base.specs.Decimal.{decimal_number}
 use Rattle.memchr.specs.Find.{IsFirstByte, IsLastByte}
 use Rattle.coff_object.specs.declared.long_texts.LongSpan.{LongSpan}
 use Rattle.coff_object.specs.StringTable.{text_in, is_long_text}
-use Rattle.coff_object.specs.LongText.{IsNextNul, IsAfterLastNul, IsLongSpan, HoldsSpans}
+use Rattle.coff_object.specs.SectionHeader.{short_name_in, names_an_offset, name_offset, long_section_name, section_name_in}
+use Rattle.coff_object.specs.SymbolRecord.{SymbolView, name_in, long_name_offset_in}
+use Rattle.coff_object.specs.LongText.{is_long_at, IsNextNul, IsAfterLastNul, IsLongSpan}
 use Rattle.coff_object.proofs.TextLemmas.{first_is_near}
 
 -- ---- one text
@@ -187,38 +190,32 @@ last_missing table part start end le is len none = record {
   here = λ lt. absurd (omega arith);
 }
 
--- ---- from block to block
+-- ---- names
 
-pub next_block : (table : List ℕ) (index start end nul : ℕ) → start ≡ 32000 * index → end ≤ start + 32000 → (end < start + 32000 → end ≡ length table) → IsNextNul table end nul → IsNextNul table (32000 * (index + 1)) nul
-next_block table index start end nul is short reaches next = record {
-  low = λ le. elim (cases_lt end (start + 32000)) [
-    | inl less ↦ absurd (omega (arith, reaches less, le, is))
-    | inr full ↦ let same : 32000 * (index + 1) ≡ end = omega (arith, full, short, is) in omega (arith, next.low (omega (arith, le, same)), same)
-  ];
-  within = next.within;
-  none = λ k low high nul. next.none k (omega (arith, low, short, is)) high nul;
-  here = next.here;
-}
+short_len : (bytes : List ℕ) → length (before_first is_nul (bytes_at bytes 0 8)) ≤ 8
+short_len bytes =
+    omega (arith, length-take (position_or_len is_nul (bytes_at bytes 0 8)) (bytes_at bytes 0 8), length-take 8 (drop 0 bytes))
 
--- no text of a block is long whose span is empty
-pub empty_span : (table : List ℕ) (start offset : ℕ) (span : LongSpan) → IsLongSpan table start span → span.until ≤ span.from → start ≤ offset → offset < start + 32000 → is_long_text table offset ≡ false
-empty_span table start offset span is none low high =
-    is.holds offset low high
-    ∙ elim (cases_lt offset span.from) [
-      | inl lt ↦ rw (lt-leb span.from offset lt) refl
-      | inr le ↦ rw (le-ltb offset span.until (omega arith)) (and_false (leb span.from offset))
-    ]
+header_len : (header : List ℕ) → length (short_name_in header) ≤ 8
+unfolding short_name_in
+header_len header = short_len header
+
+-- a symbol's name is long where the text is that it refers to
+pub symbol_long : (symbol : SymbolView) → ltb 32000 (length (name_in symbol)) ≡ is_long_at symbol.strings (long_name_offset_in symbol)
+unfolding name_in long_name_offset_in is_long_text
+symbol_long symbol = go (eqb (u32_at symbol.bytes 0) 0)
   where
-    and_false : (b : Bool) → (b && false) ≡ false
-    and_false true = refl
-    and_false false = refl
+    go : (b : Bool) → ltb 32000 (length (cond b (unwrap_or (text_in symbol.strings (u32_at symbol.bytes 4)) []) (before_first is_nul (bytes_at symbol.bytes 0 8)))) ≡ is_long_at symbol.strings (cond b (Some (u32_at symbol.bytes 4)) None)
+    go true = refl
+    go false = le-ltb 32000 _ (omega (arith, short_len symbol.bytes))
 
--- one more span
-pub span_pushed : (table : List ℕ) (spans after : List LongSpan) (span : LongSpan) (index : ℕ) → length spans ≡ index → after ≡ spans ++ span ∷ [] → IsLongSpan table (32000 * index) span → ((i : ℕ) (d : LongSpan) → i < length spans → IsLongSpan table (32000 * i) (get_or spans i d)) → (i : ℕ) (d : LongSpan) → i < index + 1 → IsLongSpan table (32000 * i) (get_or after i d)
-span_pushed table spans after span index len is here each i d lt =
-    rw is (elim (cases_lt i index) [
-      | inl below ↦ rw (get_or_append_left spans (span ∷ []) d i (omega arith)) (each i d (omega arith))
-      | inr level ↦
-          let same : i ≡ index = omega arith in
-          rw (get_or_push spans span d i (omega arith)) (rw same here)
-    ])
+-- and so is a section's
+pub section_long : (strings header : List ℕ) → ltb 32000 (length (section_name_in strings header)) ≡ is_long_at strings (name_offset (short_name_in header))
+unfolding section_name_in long_section_name name_offset is_long_text
+section_long strings header =
+    go (names_an_offset (short_name_in header)) (decimal_number (drop 1 (short_name_in header))) (short_name_in header) (header_len header)
+  where
+    go : (b : Bool) (d : Option ℕ) (text : List ℕ) → length text ≤ 8 → ltb 32000 (length (cond b (unwrap_or (option_and_then (text_in strings) (cond b d None)) []) text)) ≡ is_long_at strings (cond b d None)
+    go true None text le = refl
+    go true (Some offset) text le = refl
+    go false d text le = le-ltb 32000 (length text) (omega arith)

@@ -1,9 +1,13 @@
 //! Which texts of a string table are longer than a name may be.
 
-ghost use Rattle.std.specs.Prelude.{◌≡◌, ◌<◌, ◌≤◌, ◌+◌, ℕ, length, false, IfOk};
+ghost use Rattle.std.specs.Prelude.{◌≡◌, ◌<◌, ◌≤◌, ◌+◌, ℕ, length, false, nat_lt, IfOk};
 ghost use Rattle.coff_object.specs.StringTable.{is_long_text};
+ghost use Rattle.coff_object.specs.SymbolRecord.{name_in};
+ghost use Rattle.coff_object.specs.ObjectFile.{section_total, section_name_of, string_table};
 ghost use Rattle.coff_object.specs.LongText.{IsNextNul, IsAfterLastNul, IsLongSpan};
 
+use crate::object::Object;
+use crate::symbol_record::SymbolRecord;
 use link_base::{Memory, NAME_LIMIT, slice_in};
 use memchr::{memchr, memrchr};
 use std::alloc::Global;
@@ -69,6 +73,32 @@ impl<'a> LongTexts<'a> {
     {
         match self.spans.get(offset / NAME_LIMIT) {
             Some(span) => span.from <= offset && offset < span.until,
+            None => false,
+        }
+    }
+
+    /// Whether a symbol's name is longer than a name may be, where this is its string table. The name is not looked at.
+    #[tactic(auto, using(crate::proofs::LongTextLemmas::symbol_long))]
+    pub fn is_long_symbol(&self, symbol: &SymbolRecord<'_>) -> bool
+        requires { symbol.now.strings ≡ self.now }
+        ensures { result ≡ nat_lt NAME_LIMIT (length (name_in symbol.now)) }
+    {
+        match symbol.long_name_offset() {
+            Some(offset) => self.is_long_at(offset as usize),
+            None => false,
+        }
+    }
+
+    /// The same of a section of the object that has this string table.
+    #[tactic(auto, using(crate::proofs::LongTextLemmas::section_long))]
+    pub fn is_long_section(&self, object: &Object<'_>, i: u32) -> bool
+        requires table { self.now ≡ string_table object.now }
+        requires first { 1 ≤ i }
+        requires last { i ≤ section_total object.now }
+        ensures { result ≡ nat_lt NAME_LIMIT (length (section_name_of object.now i)) }
+    {
+        match object.section_name_offset(i) {
+            Some(offset) => self.is_long_at(offset),
             None => false,
         }
     }

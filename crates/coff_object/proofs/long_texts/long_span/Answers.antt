@@ -1,4 +1,4 @@
-use Rattle.std.proofs.Common.{ℕ, length, ltb, cond, refl, sym, ◌∙◌, le-ltb, lt-ltb, arith}
+use Rattle.std.proofs.Common.{length, refl, le-ltb, lt-ltb, arith}
 use Rattle.coff_object.proofs.LongTextLemmas.{span_is}
 use Rattle.coff_object.proofs.long_texts.long_span.Goals as goal
 
