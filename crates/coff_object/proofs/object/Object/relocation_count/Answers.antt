@@ -1,10 +1,10 @@
-use Rattle.coff_object.proofs.Readable.{section_of}
+use Rattle.coff_object.proofs.WellFormedLemmas.{no_fault}
+use Rattle.coff_object.proofs.Readable.{section_of, count_of}
 use Rattle.coff_object.proofs.object.Object.relocation_count.Goals as goal
 
-pub relocation_total-requires-clause-header : goal.relocation_total-requires-clause-header
-relocation_total-requires-clause-header c =
-    (section_of _ _ c.args.i c.self.view_is c.self.invariant c.requires.first c.requires.last).header
+pub section_header-header-requires-clause-headers : goal.section_header-header-requires-clause-headers
+section_header-header-requires-clause-headers c = (no_fault _ c.self.invariant.well_formed).headers
 
-pub relocation_total-requires-clause-counted : goal.relocation_total-requires-clause-counted
-relocation_total-requires-clause-counted c =
-    (section_of _ _ c.args.i c.self.view_is c.self.invariant c.requires.first c.requires.last).counted
+pub relocation_count-requires : goal.relocation_count-requires
+relocation_count-requires c =
+    count_of _ c.bytes.result.now c.section_header-header.result c.args.i c.bytes.ensures c.section_header-header.ensures (section_of _ _ c.args.i c.self.view_is c.self.invariant.well_formed c.requires.first c.requires.last)
