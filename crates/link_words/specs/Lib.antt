@@ -9,6 +9,7 @@ pub mod LinkWords
 pub mod Extension
 pub mod Outcome
 pub mod Finish
+pub mod UsageWord
 pub mod Answers
 pub mod Commands
 pub use Rattle.directives.specs.Said

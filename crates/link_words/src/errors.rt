@@ -1,5 +1,8 @@
 //! Why a command line is refused.
 
+ghost use Rattle.std.specs.Prelude.{◌≡◌};
+ghost use Rattle.link_words.specs.UsageWord.{usage_word};
+
 use link_base::Memory;
 use std::alloc::{AllocError, AllocFailed};
 
@@ -19,6 +22,20 @@ pub enum UsageKind {
     NoInput,
     /// A link without an entry is no DLL, or two files that it writes have one name.
     Conflict,
+}
+
+/// The word that names what is wrong with a command line, in ASCII.
+pub fn usage_word(kind: UsageKind) -> &'static [u8]
+    ensures { result.now ≡ usage_word kind }
+{
+    match kind {
+        UsageKind::Command => b"Command",
+        UsageKind::Unknown => b"Unknown",
+        UsageKind::MissingValue => b"MissingValue",
+        UsageKind::BadValue => b"BadValue",
+        UsageKind::NoInput => b"NoInput",
+        UsageKind::Conflict => b"Conflict",
+    }
 }
 
 /// Why `read_words` gives no command.

@@ -21,5 +21,5 @@ mod values;
 mod words;
 
 pub use commands::read_words;
-pub use errors::{UsageKind, WordsError};
+pub use errors::{UsageKind, WordsError, usage_word};
 pub use options::{Command, Options};
