@@ -1,5 +1,5 @@
 -- Attributes one after another: what is taken in the end is what may stand together.
-use Rattle.std.proofs.Common.{◌≡◌, ℕ, ◌+◌, ◌<◌, ◌≤◌, Bool, true, false, ◌&&◌, ◌||◌, leb, cond, List, [], ◌∷◌, map, length, take, drop, get_or, fold, Option, Some, None, is_some, option_map, refl, sym, ap, ◌∙◌, zero-add, arith}
+use Rattle.std.proofs.Common.{◌≡◌, ℕ, ◌+◌, ◌<◌, Bool, true, false, ◌&&◌, ◌||◌, leb, cond, List, [], ◌∷◌, map, length, take, drop, get_or, fold, Option, Some, None, is_some, option_map, refl, sym, ap, ◌∙◌, zero-add, arith}
 use Rattle.std.proofs.Math.ListN.{get_or-map, length-map}
 use Rattle.std.specs.List.{take-map, count_by, list_all, list_any, filter_map, last_or, slice_split}
 use Rattle.std.proofs.lemmas.Bool.{lt-leb}
@@ -8,7 +8,7 @@ use Rattle.std.proofs.lemmas.List.Sums.{fold-append, fold_more, sum_by-cons}
 use Rattle.directives.specs.Text.{is_comma}
 use Rattle.directives.specs.Attribute as rule
 use Rattle.directives.specs.Attribute.{attribute_of, is_noname, is_data, is_constant, is_private, is_ordinal, ordinal_in, stand_together, say_together, attributes_of}
-use Rattle.directives.specs.Taken.{attributes_said, none_taken, also, with_attribute}
+use Rattle.directives.specs.Taken.{attributes_said, none_taken, also}
 use Rattle.directives.specs.declared.attributes.Attribute.{Attribute}
 use Rattle.directives.specs.declared.attributes.Attribute.TheVariants.{NoName, DataItem, Constant, PrivateItem, Ordinal}
 use Rattle.directives.specs.declared.attributes.Attributes.{Attributes}

@@ -1,5 +1,5 @@
 -- Attributes one after another, as the code takes them. This decides nothing: `Attribute` says which may stand together.
-use Rattle.std.specs.Prelude.{ℕ, Bool, true, false, not, if◌then◌else◌, Option, Some, None, is_none, option_and_then}
+use Rattle.std.specs.Prelude.{Bool, true, false, not, if◌then◌else◌, Option, Some, None, is_none, option_and_then}
 use Rattle.directives.specs.Attribute as rule
 use Rattle.directives.specs.declared.attributes.Attribute.{Attribute}
 use Rattle.directives.specs.declared.attributes.Attribute.TheVariants.{NoName, DataItem, Constant, PrivateItem, Ordinal}

@@ -1,7 +1,7 @@
 //! One field of the settings: set to what a value was read as, or with an item more.
 
-ghost use Rattle.std.specs.Prelude.{◌≡◌, ◌++◌, ◌∷◌, [], OnOk, IfErr, IsSome, Some, None};
-ghost use Rattle.link_words.specs.SettingsView.{texts_of};
+ghost use Rattle.std.specs.Prelude.{◌≡◌, ◌++◌, ◌∷◌, [], OnOk, IfErr, IsSome, Some, None, true, false};
+ghost use Rattle.link_words.specs.Outcome.{texts_of};
 
 use crate::errors::{Refusal, UsageKind};
 
@@ -30,6 +30,18 @@ pub(crate) fn set_some<T: Drop>(field: &mut Option<T>, read: Option<T>) -> Resul
             Ok(())
         }
         None => Err(Refusal::Usage(UsageKind::BadValue)),
+    }
+}
+
+/// Takes a value that changes nothing, where it has its form.
+pub(crate) fn taken(has_its_form: bool) -> Result<(), Refusal>
+    ensures ok { OnOk result (has_its_form ≡ true) }
+    ensures err { IfErr result (λ refusal. (refusal ≡ Refusal.Usage UsageKind.BadValue) × (has_its_form ≡ false)) }
+{
+    if has_its_form {
+        Ok(())
+    } else {
+        Err(Refusal::Usage(UsageKind::BadValue))
     }
 }
 

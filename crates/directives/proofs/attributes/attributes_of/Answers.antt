@@ -1,4 +1,4 @@
-use Rattle.std.proofs.Common.{◌≡◌, ◌∙◌, length, sym, ap, rules, tests, option_map, option_and_then, Some, None}
+use Rattle.std.proofs.Common.{◌∙◌, length, sym, ap, rules, tests, option_map, option_and_then}
 use Rattle.std.proofs.lemmas.Iterator.Consumers.{YieldsList-turn, YieldsList-end, YieldsList-so_far}
 use Rattle.std.proofs.lemmas.Iterator.Splits.{YieldsList-from_slice_split}
 use Rattle.directives.specs.Text.{is_comma}
