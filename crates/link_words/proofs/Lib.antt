@@ -3,3 +3,4 @@ pub mod ExtensionLemmas
 pub mod SettingLemmas
 pub mod WordLemmas
 pub mod LinkLemmas
+mod WorkedWords
