@@ -7,7 +7,7 @@ ghost use Rattle.link_words.specs.Answers.{Answers};
 ghost use Rattle.link_words.specs.Steps.{link_steps};
 ghost use Rattle.link_words.specs.Commands.{text_word, number_word, at_says, show_says, gen_says, words_say, same};
 
-use crate::errors::{UsageKind, WordsError};
+use crate::errors::{UsageKind, WordsError, usage};
 use crate::finish::finish;
 use crate::options::Command;
 use crate::words::given_by;
@@ -25,7 +25,7 @@ pub fn read_words<'w>(alloc: Global, words: &'w [String]) -> Result<Command<'w>,
     ensures { Answers command_said (words_say (map string_bytes words.now)) result }
 {
     let Some((command, rest)) = words.split_first() else {
-        return Err(wrong_command());
+        return Err(usage(0, UsageKind::Command));
     };
     if command.as_str() == "link" {
         return link(alloc, rest);
@@ -39,16 +39,7 @@ pub fn read_words<'w>(alloc: Global, words: &'w [String]) -> Result<Command<'w>,
     if command.as_str() == "gen" && rest.len() == 1 {
         return generate(words);
     }
-    Err(wrong_command())
-}
-
-fn wrong_command() -> WordsError
-    ensures { result ≡ WordsError.Usage 0 UsageKind.Command }
-{
-    WordsError::Usage {
-        index: 0,
-        kind: UsageKind::Command,
-    }
+    Err(usage(0, UsageKind::Command))
 }
 
 /// `link WORDS`.
@@ -117,10 +108,7 @@ fn text_word(words: &[String], index: usize) -> Result<&str, WordsError>
 {
     let word = words[index].as_str();
     if !is_text(word.as_bytes()) {
-        return Err(WordsError::Usage {
-            index,
-            kind: UsageKind::BadValue,
-        });
+        return Err(usage(index, UsageKind::BadValue));
     }
     Ok(word)
 }
@@ -134,9 +122,6 @@ fn number_word(words: &[String], index: usize, low: u64, high: u64) -> Result<u6
 {
     match number_up_to(words[index].as_bytes(), high) {
         Some(number) if number >= low => Ok(number),
-        _ => Err(WordsError::Usage {
-            index,
-            kind: UsageKind::BadValue,
-        }),
+        _ => Err(usage(index, UsageKind::BadValue)),
     }
 }

@@ -7,7 +7,7 @@ ghost use Rattle.link_words.specs.Setting.{bare_says, value_says, shared, Refs};
 ghost use Rattle.link_words.specs.Steps.{so_far, with_said, Gives};
 
 use crate::errors::{Refusal, UsageKind};
-use crate::field::{push, push_text, set, set_some, taken};
+use crate::field::{push, push_text, set, taken};
 use crate::given::Given;
 use crate::known::Known;
 use crate::values::{negated, number_32, number_64, opts, sizes, subsystem, version};
@@ -54,15 +54,15 @@ pub(crate) fn with_value<'w>(
         Known::NxCompat => set(&mut given.options.nx, negated(text)),
         Known::LargeAddressAware => set(&mut given.options.large, negated(text)),
         Known::Fixed => set(&mut given.options.fixed, negated(text)),
-        Known::Base => set_some(&mut given.base, number_64(text)),
-        Known::Entry => set_some(&mut given.entry, Some(Name::of(text))),
+        Known::Base => set(&mut given.base, number_64(text).map(Some)),
+        Known::Entry => set(&mut given.entry, Some(Some(Name::of(text)))),
         Known::Heap => set(&mut given.options.heap, sizes(text)),
         Known::Stack => set(&mut given.options.stack, sizes(text)),
-        Known::Map => set_some(&mut given.map, Some(Some(value))),
+        Known::Map => set(&mut given.map, Some(Some(Some(value)))),
         Known::Opt => set_refs(given, opts(text)),
-        Known::Out => set_some(&mut given.out, Some(value)),
-        Known::Pdb => set_some(&mut given.pdb, Some(value)),
-        Known::Subsystem => set_some(&mut given.subsystem, subsystem(text)),
+        Known::Out => set(&mut given.out, Some(Some(value))),
+        Known::Pdb => set(&mut given.pdb, Some(Some(value))),
+        Known::Subsystem => set(&mut given.subsystem, subsystem(text).map(Some)),
         Known::TimeStamp => set(&mut given.options.time, number_32(text)),
         Known::Version => set(&mut given.options.version, version(text)),
         Known::Machine => taken(is_word(text, b"X64")),

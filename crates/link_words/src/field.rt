@@ -19,20 +19,6 @@ pub(crate) fn set<T: Drop>(field: &mut T, read: Option<T>) -> Result<(), Refusal
     }
 }
 
-/// The same for a field that is empty as long as no word says otherwise.
-pub(crate) fn set_some<T: Drop>(field: &mut Option<T>, read: Option<T>) -> Result<(), Refusal>
-    ensures ok { OnOk result ((read ≡ field.new) × IsSome field.new) }
-    ensures err { IfErr result (λ refusal. (refusal ≡ Refusal.Usage UsageKind.BadValue) × (read ≡ None)) }
-{
-    match read {
-        Some(value) => {
-            *field = Some(value);
-            Ok(())
-        }
-        None => Err(Refusal::Usage(UsageKind::BadValue)),
-    }
-}
-
 /// Takes a value that changes nothing, where it has its form.
 pub(crate) fn taken(has_its_form: bool) -> Result<(), Refusal>
     ensures ok { OnOk result (has_its_form ≡ true) }

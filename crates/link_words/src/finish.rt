@@ -9,7 +9,7 @@ ghost use Rattle.link_words.specs.Options.{default_base, default_subsystem, defa
 ghost use Rattle.link_words.specs.Answers.{Answers};
 ghost use Rattle.link_words.specs.Steps.{so_far, final_options, finished};
 
-use crate::errors::{UsageKind, WordsError};
+use crate::errors::{UsageKind, WordsError, usage};
 use crate::extension::with_extension;
 use crate::given::Given;
 use crate::options::Options;
@@ -25,18 +25,12 @@ pub(crate) fn finish<'w>(alloc: Global, given: Given<'w>) -> Result<Options<'w>,
 {
     let options = final_options(alloc, given)?;
     if options.inputs.is_empty() {
-        return Err(of_the_line(UsageKind::NoInput));
+        return Err(usage(0, UsageKind::NoInput));
     }
     if (options.noentry && !options.dll) || outputs_clash(&options) {
-        return Err(of_the_line(UsageKind::Conflict));
+        return Err(usage(0, UsageKind::Conflict));
     }
     Ok(options)
-}
-
-fn of_the_line(kind: UsageKind) -> WordsError
-    ensures { result ≡ WordsError.Usage 0 kind }
-{
-    WordsError::Usage { index: 0, kind }
 }
 
 /// The options, with the defaults that depend on other words.
@@ -75,11 +69,9 @@ fn entry_name<'w>(noentry: bool, named: Option<Name<'w>>, default: Name<'w>) -> 
     ensures { result ≡ (if noentry then None else Some (unwrap_or named.entry default.entry)) }
 {
     if noentry {
-        return None;
-    }
-    match named {
-        Some(name) => Some(name),
-        None => Some(default),
+        None
+    } else {
+        named.or(Some(default))
     }
 }
 

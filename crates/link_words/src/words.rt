@@ -11,7 +11,7 @@ ghost use Rattle.link_words.specs.Answers.{Answers};
 ghost use Rattle.link_words.specs.Steps.{so_far, with_said, words_give, refused_at, Gives};
 
 use crate::effect::{bare, with_value};
-use crate::errors::{Refusal, UsageKind, WordsError};
+use crate::errors::{Refusal, UsageKind, WordsError, usage};
 use crate::field::push_text;
 use crate::given::{Given, none_given};
 use crate::known::option_named;
@@ -36,7 +36,7 @@ fn refused_at(index: usize, refusal: Refusal) -> WordsError
     ensures { result ≡ refused_at index refusal }
 {
     match refusal {
-        Refusal::Usage(kind) => WordsError::Usage { index, kind },
+        Refusal::Usage(kind) => usage(index, kind),
         Refusal::Memory => WordsError::Memory,
     }
 }
