@@ -18,4 +18,6 @@ pub mod ImageTheorems
 pub mod PlaceLemmas
 pub mod FileEndLemmas
 pub mod AppendedLemmas
+pub mod PlanBytes
+pub mod LoadableLemmas
 pub mod CallerLemmas
