@@ -3,6 +3,7 @@ pub mod Known
 pub mod Values
 pub mod Setting
 pub mod Extension
+pub mod SettingsView
 pub mod Outcome
 pub mod Options
 pub mod LinkWords

@@ -1,8 +1,8 @@
 -- A command as plain data: what a borrowed one says.
-use Rattle.std.specs.Prelude.{ℕ, Bool, List, Option, map, option_map}
+use Rattle.std.specs.Prelude.{ℕ, Bool, List, Option, option_map}
 use Rattle.std.specs.String.{string_bytes}
-use Rattle.std.specs.Borrow.{Bor}
 use Rattle.directives.specs.declared.item.Export.{Export}
+use Rattle.link_words.specs.SettingsView.{texts_of}
 use Rattle.link_words.specs.declared.errors.UsageKind.{UsageKind}
 use Rattle.link_words.specs.declared.options.Options.{Options}
 use Rattle.link_words.specs.declared.options.Command.{Command}
@@ -37,12 +37,6 @@ pub record LinkOptions : Type 0 where
   pub subsystem : ℕ
   pub time : ℕ
   pub version : ℕ × ℕ
-
-abbrev pub text_of : Bor (List ℕ) → List ℕ
-text_of text = text.now
-
-abbrev pub texts_of : List (Bor (List ℕ)) → List (List ℕ)
-texts_of texts = map text_of texts
 
 -- what borrowed options say
 abbrev pub options_said : Options → LinkOptions

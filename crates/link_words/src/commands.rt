@@ -2,7 +2,8 @@
 
 ghost use Rattle.std.specs.Prelude.{◌≡◌, ◌<◌, ◌≤◌, length, map, IfOk};
 ghost use Rattle.std.specs.String.{string_bytes};
-ghost use Rattle.link_words.specs.Outcome.{command_said, text_of};
+ghost use Rattle.link_words.specs.Outcome.{command_said};
+ghost use Rattle.link_words.specs.SettingsView.{text_of};
 ghost use Rattle.link_words.specs.Answers.{Answers};
 ghost use Rattle.link_words.specs.Steps.{link_steps};
 ghost use Rattle.link_words.specs.Commands.{text_word, number_word, at_says, show_says, gen_says, words_say, same};

@@ -1,7 +1,7 @@
 //! One field of the settings: set to what a value was read as, or with an item more.
 
 ghost use Rattle.std.specs.Prelude.{◌≡◌, ◌++◌, ◌∷◌, [], OnOk, IfErr, IsSome, Some, None, true, false};
-ghost use Rattle.link_words.specs.Outcome.{texts_of};
+ghost use Rattle.link_words.specs.SettingsView.{texts_of};
 
 use crate::errors::{Refusal, UsageKind};
 

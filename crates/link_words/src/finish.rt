@@ -4,7 +4,8 @@ ghost use Rattle.std.specs.Prelude.{◌≡◌, IfOk, Some, None, if◌then◌els
 ghost use Rattle.std.specs.Option.{option_copied};
 ghost use Rattle.std.specs.String.{string_bytes};
 ghost use Rattle.link_words.specs.Extension.{with_extension};
-ghost use Rattle.link_words.specs.Outcome.{options_said, texts_of};
+ghost use Rattle.link_words.specs.Outcome.{options_said};
+ghost use Rattle.link_words.specs.SettingsView.{texts_of};
 ghost use Rattle.link_words.specs.Options.{default_base, default_subsystem, default_entry, image_extension, first_text, map_name, is_named, outputs_clash};
 ghost use Rattle.link_words.specs.Answers.{Answers};
 ghost use Rattle.link_words.specs.Steps.{so_far, final_options, finished};
