@@ -5,3 +5,4 @@ pub mod AttributeLemmas
 pub mod TextLemmas
 pub mod WordLemmas
 pub mod WalkLemmas
+mod WorkedDirectives

@@ -52,14 +52,14 @@ says_word start b rest e =
     let short : length (drop len (b ∷ rest)) ≤ length rest = omega (arith, word_len-positive b rest e, length-drop len (b ∷ rest)) in
     rw e (ap (λ (w : List Word). says_before (word_says (word_at start (b ∷ rest))) (words_say w)) (words_enough (length rest) (length (drop len (b ∷ rest))) (start + len) (drop len (b ∷ rest)) short (omega arith)))
 
--- at a blank the text goes on behind it
+-- at a blank the text goes on after it
 pub blank_step : (text rest : List ℕ) (at : ℕ) → rest ≡ drop at text → at < length text → is_blank (get_or rest 0 0) ≡ true → text_says at (drop at text) ≡ text_says (at + 1) (drop (at + 1) text)
 blank_step text rest at e lt blank =
     let here : drop at text ≡ get_or text at 0 ∷ drop (suc at) text = drop-cons text at 0 lt in
     let first : get_or rest 0 0 ≡ get_or text at 0 = ap (λ (t : List ℕ). get_or t 0 0) (e ∙ here) in
     ap (text_says at) here ∙ says_blank at (get_or text at 0) (drop (suc at) text) (sym (ap is_blank first) ∙ blank) ∙ ap (λ (k : ℕ). text_says (at + 1) (drop k text)) (sym (add-one at))
 
--- at another byte stands a word, and the text goes on behind it
+-- at another byte stands a word, and the text goes on after it
 pub word_step : (text rest word : List ℕ) (at len : ℕ) → rest ≡ drop at text → at < length text → is_blank (get_or rest 0 0) ≡ false → len ≡ word_len rest → word ≡ take len rest → text_says at (drop at text) ≡ says_before (word_says (record { start = at; text = word })) (text_says (at + len) (drop (at + len) text))
 word_step text rest word at len e lt blank is part =
     let here : drop at text ≡ get_or text at 0 ∷ drop (suc at) text = drop-cons text at 0 lt in

@@ -7,14 +7,14 @@ use Rattle.std.specs.Bool.{then_some}
 use Rattle.std.proofs.Math.Seq.{take-length}
 use Rattle.link_base.specs.Bytes.{first_below}
 use Rattle.link_base.proofs.CallerLemmas.{first_below-more, first_below-found}
-use Rattle.directives.specs.Form.{is_quote}
-use Rattle.directives.specs.Words.{is_blank, leaves_open, turned, ends_word, word_len, last_quote, open_quote}
+use Rattle.directives.specs.Text.{is_quote}
+use Rattle.directives.specs.Words.{is_blank, leaves_open, ends_word, word_len, last_quote, open_quote}
 
 odd_more : (n : ℕ) → eqb ((n + 1) % 2) 1 ≡ not (eqb (n % 2) 1)
 odd_more n = grind (arith, nat_tests)
 
 -- a byte more
-pub leaves_open-more : (text : List ℕ) (k : ℕ) (open_before : Bool) → k < length text → open_before ≡ leaves_open (take k text) → turned open_before (get_or text k 0) ≡ leaves_open (take (k + 1) text)
+pub leaves_open-more : (text : List ℕ) (k : ℕ) (open_before : Bool) → k < length text → open_before ≡ leaves_open (take k text) → cond (is_quote (get_or text k 0)) (not open_before) open_before ≡ leaves_open (take (k + 1) text)
 unfolding leaves_open
 leaves_open-more text k open_before lt is = by_cases (is_quote (get_or text k 0)) refl
   where

@@ -1,73 +1,71 @@
--- What may stand behind the name of an export, between commas, in any order and each once (MSVC linker reference, "/EXPORT").
-use Rattle.std.specs.Prelude.{ℕ, Bool, true, false, ◌&&◌, ◌||◌, not, ◌==◌, if◌then◌else◌, List, [], ◌∷◌, slice_index, drop, fold, Option, Some, None, is_none, option_map, option_and_then, codes}
-use Rattle.std.specs.List.{before_first, slice_split, position_or_len}
+-- What may stand after the name of an export, between commas (MSVC linker reference, "/EXPORT").
+use Rattle.std.specs.Prelude.{ℕ, Bool, true, false, ◌&&◌, ◌==◌, nat_le, if◌then◌else◌, List, [], ◌∷◌, slice_index, drop, map, Option, Some, None, is_some, option_map, codes, count_by}
+use Rattle.std.specs.List.{slice_split, list_all, list_any, filter_map, last_or}
 use Rattle.std.specs.Str.{byte}
-use Rattle.directives.specs.Form.{is_comma, is_equals, is_name, form}
-use Rattle.directives.specs.Names.{is_word}
+use Rattle.directives.specs.Text.{is_comma}
+use Rattle.directives.specs.Names.{lookup}
 use Rattle.directives.specs.Number.{decimal_up_to}
-use Rattle.directives.specs.declared.exports.Attributes.{Attributes}
-use Rattle.directives.specs.declared.item.Export.{Export}
+use Rattle.directives.specs.declared.attributes.Attribute.{Attribute}
+use Rattle.directives.specs.declared.attributes.Attribute.TheVariants.{NoName, DataItem, Constant, PrivateItem, Ordinal}
 
-abbrev pub no_attributes : Attributes
-no_attributes = record { ordinal = None; noname = false; data_item = false; constant = false; private_item = false }
+abbrev pub attribute_names : List (List ℕ × Attribute)
+attribute_names = (codes "NONAME", NoName) ∷ (codes "DATA", DataItem) ∷ (codes "CONSTANT", Constant) ∷ (codes "PRIVATE", PrivateItem) ∷ []
 
-abbrev pub with_ordinal : Attributes → ℕ → Attributes
-with_ordinal so_far n = record so_far { ordinal = Some n }
+-- a word of the table, or an ordinal of 16 bits after `@`
+unfoldable pub attribute_of : List ℕ → Option Attribute
+attribute_of text =
+    if slice_index text 0 == byte "@" then option_map Ordinal (decimal_up_to 65535 (drop 1 text))
+    else lookup attribute_names text
 
--- the ordinal behind `@`
-unfoldable pub with_ordinal_text : Attributes → List ℕ → Option Attributes
-with_ordinal_text so_far text =
-    if slice_index text 0 == byte "@" && is_none so_far.ordinal
-    then option_map (with_ordinal so_far) (decimal_up_to 65535 (drop 1 text)) else None
+-- the kinds of attributes
+abbrev pub is_noname : Option Attribute → Bool
+is_noname (Some NoName) = true
+is_noname _ = false
 
--- one attribute more, none twice
-unfoldable pub with_attribute : Attributes → List ℕ → Option Attributes
-with_attribute so_far text =
-    if is_word text (codes "NONAME") then (if so_far.noname then None else Some (record so_far { noname = true })) else
-    (if is_word text (codes "DATA") then (if so_far.data_item then None else Some (record so_far { data_item = true })) else
-    (if is_word text (codes "CONSTANT") then (if so_far.constant then None else Some (record so_far { constant = true })) else
-    (if is_word text (codes "PRIVATE") then (if so_far.private_item then None else Some (record so_far { private_item = true })) else
-    (with_ordinal_text so_far text))))
+abbrev pub is_data : Option Attribute → Bool
+is_data (Some DataItem) = true
+is_data _ = false
 
-abbrev pub also : Option Attributes → List ℕ → Option Attributes
-also so_far text = option_and_then (λ attributes. with_attribute attributes text) so_far
+abbrev pub is_constant : Option Attribute → Bool
+is_constant (Some Constant) = true
+is_constant _ = false
 
--- the attributes of a list with commas between
+abbrev pub is_private : Option Attribute → Bool
+is_private (Some PrivateItem) = true
+is_private _ = false
+
+abbrev pub ordinal_in : Option Attribute → Option ℕ
+ordinal_in (Some (Ordinal n)) = Some n
+ordinal_in _ = None
+
+abbrev pub is_ordinal : Option Attribute → Bool
+is_ordinal part = is_some (ordinal_in part)
+
+-- no two of the parts are of this kind
+abbrev pub once : (Option Attribute → Bool) → List (Option Attribute) → Bool
+once kind parts = nat_le (count_by kind parts) 1
+
+-- each part is an attribute, and no two are of one kind
+unfoldable pub stand_together : List (Option Attribute) → Bool
+stand_together parts =
+    list_all is_some parts
+    && (once is_noname parts && (once is_data parts && (once is_constant parts && (once is_private parts && once is_ordinal parts))))
+
+-- what the attributes say of an export: the ordinal, where one has one, and whether it has no name
+pub record Attributes : Type 0 where
+  pub ordinal : Option ℕ
+  pub noname : Bool
+
+unfoldable pub say_together : List (Option Attribute) → Attributes
+say_together parts = record { ordinal = last_or None (filter_map ordinal_in parts); noname = list_any is_noname parts }
+
+-- the attributes of a text with commas between
 unfoldable pub attributes_of : List ℕ → Option Attributes
-attributes_of text = fold also (Some no_attributes) (slice_split is_comma text)
+attributes_of text =
+    let parts = map attribute_of (slice_split is_comma text) in
+    if stand_together parts then Some (say_together parts) else None
 
--- those behind the first comma, or none
-abbrev pub attributes_behind : List ℕ → Option Attributes
-attributes_behind [] = Some no_attributes
-attributes_behind (b ∷ text) = attributes_of text
-
--- a name, an internal name where one stands behind `=`, and the attributes; an export without a name needs its ordinal
-abbrev pub export_row : List ℕ → Option (List ℕ) → Attributes → Option Export
-export_row name internal found =
-    if found.noname && is_none found.ordinal then None
-    else Some (record { name = name; internal = internal; ordinal = found.ordinal; noname = found.noname })
-
--- the name ends at the first comma or `=`, or with its quotes
-abbrev pub ends_name : ℕ → Bool
-ends_name b = is_comma b || is_equals b
-
-abbrev pub export_parts : List ℕ × Option (List ℕ) → List ℕ × List ℕ
-export_parts (text, None) = (before_first ends_name text, drop (position_or_len ends_name text) text)
-export_parts (first, Some behind) = (first, behind)
-
--- the internal name runs to the first comma
-unfoldable pub export_internal : List ℕ → List ℕ → Option Export
-export_internal name text =
-    if is_name (before_first is_comma text)
-    then option_and_then (export_row name (Some (before_first is_comma text))) (attributes_behind (drop (position_or_len is_comma text) text))
-    else None
-
--- behind the name stands `=` and the internal name, or the attributes
-unfoldable pub export_of : List ℕ × List ℕ → Option Export
-export_of (name, behind) =
-    if not (is_name name) then None else
-    (if is_equals (slice_index behind 0) then export_internal name (drop 1 behind)
-    else option_and_then (export_row name None) (attributes_behind behind))
-
-unfoldable pub export_value : List ℕ → Option Export
-export_value value = option_and_then (λ opened. export_of (export_parts opened)) (form value)
+-- those after the first comma, or none
+abbrev pub attributes_after : List ℕ → Option Attributes
+attributes_after [] = Some (record { ordinal = None; noname = false })
+attributes_after (b ∷ text) = attributes_of text

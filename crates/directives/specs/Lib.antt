@@ -1,9 +1,12 @@
+pub mod Text
 pub mod Form
 pub mod FormView
 pub mod Number
 pub mod Names
 pub mod Said
 pub mod Attribute
+pub mod Taken
+pub mod ExportValue
 pub mod Value
 pub mod Words
 pub mod Left

@@ -1,10 +1,9 @@
 -- A text of directives, as words and as what they say (PE Format, "The .drectve Section (Object Only)").
 use Rattle.std.specs.Prelude.{ℕ, zero, suc, ◌+◌, ◌%◌, Bool, ◌&&◌, ◌||◌, not, ◌==◌, nat_eq, if◌then◌else◌, List, [], ◌∷◌, length, slice_index, take, drop, count_by, Option, Some, None, option_map, option_and_then, unwrap_or, Result, Ok, Err}
 use Rattle.std.specs.List.{before_first, after_first, starts_with}
-use Rattle.std.specs.Str.{byte}
 use Rattle.link_base.specs.Bytes.{first_below}
 use Rattle.directives.specs.Said.{Said}
-use Rattle.directives.specs.Form.{is_quote, split_at_first}
+use Rattle.directives.specs.Text.{is_quote, is_colon, begins_option, split_at_first}
 use Rattle.directives.specs.Names.{listed}
 use Rattle.directives.specs.Value.{listed_said}
 use Rattle.directives.specs.declared.item.BadDirective.{BadDirective}
@@ -16,10 +15,6 @@ is_blank b = b == 32 || b == 9 || b == 10 || b == 13 || b == 0
 -- an odd number of quotes stands in the text, so the last of them is open
 unfoldable pub leaves_open : List ℕ → Bool
 leaves_open text = count_by is_quote text % 2 == 1
-
--- a quote opens or closes
-abbrev pub turned : Bool → ℕ → Bool
-turned is_open b = if is_quote b then not is_open else is_open
 
 -- a word ends at a blank that no open quote stands before
 unfoldable pub ends_word : List ℕ → ℕ → Bool
@@ -58,7 +53,7 @@ open_quote text = if leaves_open text then Some (last_quote (length text) text) 
 -- a word quoted as a whole is what stands between its quotes: the second quote is its last byte
 abbrev pub between : List ℕ × List ℕ → Option (List ℕ)
 between (inner, []) = Some inner
-between (inner, b ∷ behind) = None
+between (inner, b ∷ after) = None
 
 unfoldable pub quoted_contents : List ℕ → Option (List ℕ)
 quoted_contents text =
@@ -66,13 +61,6 @@ quoted_contents text =
 
 unfoldable pub contents : List ℕ → List ℕ
 contents text = unwrap_or (quoted_contents text) text
-
-abbrev pub is_colon : ℕ → Bool
-is_colon b = b == byte ":"
-
--- a word is an option where it begins so
-abbrev pub begins_option : List ℕ → Bool
-begins_option text = slice_index text 0 == byte "/" || slice_index text 0 == byte "-"
 
 -- a directive, or a malformed one by where its word begins
 abbrev pub directive_or_bad : ℕ → Option Said → Result Said BadDirective

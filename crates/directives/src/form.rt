@@ -1,15 +1,17 @@
 //! How a value stands: its quotes and its parts.
 
-ghost use Rattle.std.specs.Prelude.{◌≡◌, ◌==◌, ℕ, option_map, position};
+ghost use Rattle.std.specs.Prelude.{◌≡◌, ◌==◌, option_map};
 ghost use Rattle.std.specs.Option.{option_copied};
-ghost use Rattle.directives.specs.Form.{form, quoted_form, is_name, is_text, has, whole, pair, may_follow_quotes, split_at_first, left_behind, two_behind};
+ghost use Rattle.directives.specs.Form.{form, quoted_form, whole, pair, may_follow_quotes, some_text, two_after};
 ghost use Rattle.directives.specs.FormView.{form_lists, two_lists};
 
-/// A value's first part, and what stands behind the quotes of a quoted one, where something does.
+use crate::text::{has_byte, split_at_byte};
+
+/// A value's first part, and what stands after the quotes of a quoted one, where something does.
 #[derive(Clone, Copy)]
 pub(crate) struct Form<'a> {
     pub(crate) first: &'a [u8],
-    pub(crate) behind: Option<&'a [u8]>,
+    pub(crate) after: Option<&'a [u8]>,
 }
 
 /// The form of a value: text without quotes, one quoted text, or a quoted first part followed by a comma or
@@ -27,26 +29,26 @@ pub(crate) fn form_of(value: &[u8]) -> Option<Form<'_>>
     }
     Some(Form {
         first: value,
-        behind: None,
+        after: None,
     })
 }
 
-/// The form of a value, from behind the quote that it begins with.
+/// The form of a value, from after the quote that it begins with.
 #[tactic(auto, unfolding(crate::specs::Form::quoted_form))]
 fn quoted_form(text: &[u8]) -> Option<Form<'_>>
     ensures { option_map form_lists result ≡ quoted_form text.now }
 {
-    let (first, behind) = split_at_byte(text, b'"')?;
-    if !may_follow_quotes(behind) {
+    let (first, after) = split_at_byte(text, b'"')?;
+    if !may_follow_quotes(after) {
         return None;
     }
     Some(Form {
         first,
-        behind: left_behind(behind),
+        after: some_text(after),
     })
 }
 
-/// Whether the text may stand behind a quoted first part.
+/// Whether the text may stand after a quoted first part.
 fn may_follow_quotes(text: &[u8]) -> bool
     ensures { result ≡ may_follow_quotes text.now }
 {
@@ -56,53 +58,10 @@ fn may_follow_quotes(text: &[u8]) -> bool
     }
 }
 
-fn left_behind(text: &[u8]) -> Option<&[u8]>
-    ensures { option_copied result ≡ left_behind text.now }
+fn some_text(text: &[u8]) -> Option<&[u8]>
+    ensures { option_copied result ≡ some_text text.now }
 {
     if text.is_empty() { None } else { Some(text) }
-}
-
-/// What stands before the first such byte, and what stands after it.
-pub(crate) fn split_at_byte(text: &[u8], byte: u8) -> Option<(&[u8], &[u8])>
-    ensures { option_map two_lists result ≡ split_at_first (λ b. b == byte) text.now }
-{
-    match place_of(text, byte) {
-        Some(at) => {
-            let (before, _) = text.split_at(at);
-            let (_, after) = text.split_at(at + 1);
-            Some((before, after))
-        }
-        None => None,
-    }
-}
-
-/// Where such a byte stands first.
-pub(crate) fn place_of(text: &[u8], byte: u8) -> Option<usize>
-    ensures { result ≡ position (λ b. b == byte) text.now }
-{
-    text.iter().position(|b| *b == byte)
-}
-
-pub(crate) fn has_byte(text: &[u8], byte: u8) -> bool
-    ensures { result ≡ has (λ b. b == byte) text.now }
-{
-    place_of(text, byte).is_some()
-}
-
-/// Whether the text can be a name: it has a byte, at most 32,000, and no NUL.
-#[tactic(auto, unfolding(crate::specs::Form::is_name))]
-pub(crate) fn is_name(text: &[u8]) -> bool
-    ensures { result ≡ is_name text.now }
-{
-    !text.is_empty() && is_text(text)
-}
-
-/// Whether the text can be a part of a value that may be empty.
-#[tactic(auto, unfolding(crate::specs::Form::is_text))]
-pub(crate) fn is_text(text: &[u8]) -> bool
-    ensures { result ≡ is_text text.now }
-{
-    text.len() <= 32_000 && !has_byte(text, 0)
 }
 
 /// A value of one part.
@@ -111,32 +70,32 @@ pub(crate) fn whole(value: &[u8]) -> Option<&[u8]>
     ensures { option_copied result ≡ whole value.now }
 {
     let form = form_of(value)?;
-    match form.behind {
+    match form.after {
         None => Some(form.first),
         Some(_) => None,
     }
 }
 
-/// A value of two parts, split at the first separator, or right behind the quotes of the first part.
+/// A value of two parts, split at the first separator, or right after the quotes of the first part.
 #[tactic(auto, unfolding(crate::specs::Form::pair))]
 pub(crate) fn pair(value: &[u8], separator: u8) -> Option<(&[u8], &[u8])>
     ensures { option_map two_lists result ≡ pair (λ b. b == separator) value.now }
 {
     let form = form_of(value)?;
-    match form.behind {
+    match form.after {
         None => split_at_byte(form.first, separator),
-        Some(behind) => behind_separator(form.first, behind, separator),
+        Some(after) => after_separator(form.first, after, separator),
     }
 }
 
-fn behind_separator<'a>(
+fn after_separator<'a>(
     first: &'a [u8],
-    behind: &'a [u8],
+    after: &'a [u8],
     separator: u8,
 ) -> Option<(&'a [u8], &'a [u8])>
-    ensures { option_map two_lists result ≡ two_behind (λ b. b == separator) first.now behind.now }
+    ensures { option_map two_lists result ≡ two_after (λ b. b == separator) first.now after.now }
 {
-    match behind {
+    match after {
         [] => None,
         [b, second @ ..] => (*b == separator).then_some((first, second)),
     }

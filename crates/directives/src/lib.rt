@@ -4,6 +4,7 @@
 //! by the grammar in `specs/`. What a directive does to a link is left to the crates above.
 #![tactic(auto)]
 
+mod attributes;
 mod exports;
 mod form;
 mod item;
@@ -12,11 +13,13 @@ mod number;
 mod reader;
 #[cfg(test)]
 mod tests;
+mod text;
 mod values;
 mod words;
 
 pub use item::{BadDirective, Directive, Export};
-pub use names::is_word;
-pub use number::decimal_up_to;
+pub use names::{is_word, lookup};
+pub use number::{decimal_up_to, number_up_to};
 pub use reader::Directives;
+pub use text::{begins_option, is_text, split_at_byte};
 pub use values::value_of;

@@ -1,7 +1,8 @@
-//! The names of the directives that a linker acts on.
+//! Names in either case, and the directives that a linker acts on.
 
 ghost use Rattle.std.specs.Prelude.{◌≡◌};
-ghost use Rattle.directives.specs.Names.{is_word, listed};
+ghost use Rattle.directives.specs.Names.{is_word, lookup, listed};
+ghost use Rattle.directives.specs.FormView.{rows};
 
 /// A directive of the table, by its name.
 #[derive(Clone, Copy)]
@@ -15,31 +16,33 @@ pub(crate) enum Listed {
     Merge,
 }
 
-/// The directive of this name, in either case.
+const DIRECTIVES: [(&[u8], Listed); 7] = [
+    (b"ALIGNCOMM", Listed::AlignComm),
+    (b"ALTERNATENAME", Listed::AlternateName),
+    (b"DEFAULTLIB", Listed::DefaultLib),
+    (b"EXPORT", Listed::Exports),
+    (b"FAILIFMISMATCH", Listed::FailIfMismatch),
+    (b"INCLUDE", Listed::Include),
+    (b"MERGE", Listed::Merge),
+];
+
+/// The directive of this name.
 #[tactic(auto, unfolding(crate::specs::Names::listed))]
 pub(crate) fn directive_named(name: &[u8]) -> Option<Listed>
     ensures { result ≡ listed name.now }
 {
-    if is_word(name, b"ALIGNCOMM") {
-        return Some(Listed::AlignComm);
-    }
-    if is_word(name, b"ALTERNATENAME") {
-        return Some(Listed::AlternateName);
-    }
-    if is_word(name, b"DEFAULTLIB") {
-        return Some(Listed::DefaultLib);
-    }
-    if is_word(name, b"EXPORT") {
-        return Some(Listed::Exports);
-    }
-    if is_word(name, b"FAILIFMISMATCH") {
-        return Some(Listed::FailIfMismatch);
-    }
-    if is_word(name, b"INCLUDE") {
-        return Some(Listed::Include);
-    }
-    if is_word(name, b"MERGE") {
-        return Some(Listed::Merge);
+    lookup(&DIRECTIVES, name)
+}
+
+/// What the first row of this name says, in either case of ASCII letters.
+pub fn lookup<T: Copy>(mut table: &[(&[u8], T)], name: &[u8]) -> Option<T>
+    ensures { result ≡ lookup (rows table.entry.now) name.now }
+{
+    while let [row, rest @ ..] = table {
+        if is_word(name, row.0) {
+            return Some(row.1);
+        }
+        table = rest;
     }
     None
 }

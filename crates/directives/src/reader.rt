@@ -12,7 +12,7 @@ const BYTE_ORDER_MARK: &[u8] = b"\xef\xbb\xbf";
 ///
 /// The text holds words between blanks (blank, tabulator, line feed, carriage return, NUL), with quotes round
 /// what holds blanks itself. A word that begins with `/` or `-` is an option: a name in either case, and a
-/// value behind a colon. Other words, and options that the linker does not know, are passed over.
+/// value after a colon. Other words, and options that the linker does not know, are passed over.
 #[derive(Drop)]
 pub struct Directives<'a> {
     text: &'a [u8],

@@ -1,32 +1,32 @@
 //! The value of each directive.
 
-ghost use Rattle.std.specs.Prelude.{◌≡◌, option_map};
-ghost use Rattle.directives.specs.Form.{is_comma, is_equals, whole, pair};
-ghost use Rattle.std.specs.Prelude.{option_and_then};
+ghost use Rattle.std.specs.Prelude.{◌≡◌, option_map, option_and_then};
 ghost use Rattle.std.specs.Option.{option_copied};
 ghost use Rattle.directives.specs.Said.{said};
 ghost use Rattle.directives.specs.Said as says;
-ghost use Rattle.directives.specs.Attribute.{export_value};
-ghost use Rattle.directives.specs.Value.{align_said, alternate_said, library_said, utf8_text, mismatch_said, include_said, merge_said, listed_said, value_said};
+ghost use Rattle.directives.specs.Text.{is_comma, is_equals};
+ghost use Rattle.directives.specs.Form.{pair};
+ghost use Rattle.directives.specs.FormView.{two_lists};
+ghost use Rattle.directives.specs.ExportValue.{export_value};
+ghost use Rattle.directives.specs.Value.{align_said, utf8_text, mismatch_said, name_of, names_of, listed_said, value_said};
 
 use crate::exports::export_of;
-use crate::form::{is_name, is_text, pair, whole};
+use crate::form::{pair, whole};
 use crate::item::Directive;
 use crate::names::{Listed, directive_named};
 use crate::number::decimal_up_to;
+use crate::text::{is_name, is_text};
 use link_base::Name;
 use std::str;
 
-/// The directive of this name, in either case, with this value. None where the linker knows no such
-/// directive, or the value has not the form that it takes.
+/// The directive of this name, in either case, with this value. None where the linker knows no such directive, or the
+/// value has not the form that the directive takes.
 #[tactic(auto, unfolding(crate::specs::Value::value_said))]
 pub fn value_of<'a>(name: &[u8], value: &'a [u8]) -> Option<Directive<'a>>
     ensures { option_map said result ≡ value_said name.now value.now }
 {
-    match directive_named(name) {
-        Some(listed) => listed_value(listed, value),
-        None => None,
-    }
+    let listed = directive_named(name)?;
+    listed_value(listed, value)
 }
 
 /// A directive of the table with this value, where it has the form that it takes.
@@ -42,6 +42,24 @@ pub(crate) fn listed_value(listed: Listed, value: &[u8]) -> Option<Directive<'_>
         Listed::Include => include(value),
         Listed::Merge => merge(value),
     }
+}
+
+/// A value that is one name.
+#[tactic(auto, unfolding(crate::specs::Value::name_of))]
+fn name_of(value: &[u8]) -> Option<&[u8]>
+    ensures { option_copied result ≡ name_of value.now }
+{
+    let text = whole(value)?;
+    is_name(text).then_some(text)
+}
+
+/// A value that is two names, with `=` between.
+#[tactic(auto, unfolding(crate::specs::Value::names_of))]
+fn names_of(value: &[u8]) -> Option<(&[u8], &[u8])>
+    ensures { option_map two_lists result ≡ names_of value.now }
+{
+    let (left, right) = pair(value, b'=')?;
+    (is_name(left) && is_name(right)).then_some((left, right))
 }
 
 /// A common's name, and the power of two that it is aligned to, at most 13.
@@ -60,12 +78,9 @@ fn align_comm(value: &[u8]) -> Option<Directive<'_>>
 }
 
 fn alternate_name(value: &[u8]) -> Option<Directive<'_>>
-    ensures { option_map said result ≡ option_and_then alternate_said (pair is_equals value.now) }
+    ensures { option_map said result ≡ option_map (λ two. says.AlternateName two.0 two.1) (names_of value.now) }
 {
-    let (left, right) = pair(value, b'=')?;
-    if !(is_name(left) && is_name(right)) {
-        return None;
-    }
+    let (left, right) = names_of(value)?;
     Some(Directive::AlternateName {
         left: Name::of(left),
         right: Name::of(right),
@@ -73,35 +88,24 @@ fn alternate_name(value: &[u8]) -> Option<Directive<'_>>
 }
 
 fn default_lib(value: &[u8]) -> Option<Directive<'_>>
-    ensures { option_map said result ≡ option_and_then library_said (whole value.now) }
+    ensures { option_map said result ≡ option_map says.DefaultLib (option_and_then utf8_text (name_of value.now)) }
 {
-    let text = whole(value)?;
-    if !is_name(text) {
-        return None;
-    }
-    match utf8_text(text) {
-        Some(text) => Some(Directive::DefaultLib(text)),
-        None => None,
-    }
+    let text = utf8_text(name_of(value)?)?;
+    Some(Directive::DefaultLib(text))
 }
 
 #[tactic(auto, using(crate::proofs::TextLemmas::utf8_there, crate::proofs::TextLemmas::utf8_missing))]
 fn utf8_text(bytes: &[u8]) -> Option<&str>
     ensures { option_copied result ≡ utf8_text bytes.now }
 {
-    match str::from_utf8(bytes) {
-        Ok(text) => Some(text),
-        Err(_) => None,
-    }
+    str::from_utf8(bytes).ok()
 }
 
 fn export(value: &[u8]) -> Option<Directive<'_>>
     ensures { option_map said result ≡ option_map says.Exports (export_value value.now) }
 {
-    match export_of(value) {
-        Some(row) => Some(Directive::Export(row)),
-        None => None,
-    }
+    let row = export_of(value)?;
+    Some(Directive::Export(row))
 }
 
 /// A key, and its value, which may be empty.
@@ -119,22 +123,16 @@ fn fail_if_mismatch(value: &[u8]) -> Option<Directive<'_>>
 }
 
 fn include(value: &[u8]) -> Option<Directive<'_>>
-    ensures { option_map said result ≡ option_and_then include_said (whole value.now) }
+    ensures { option_map said result ≡ option_map says.Include (name_of value.now) }
 {
-    let name = whole(value)?;
-    if !is_name(name) {
-        return None;
-    }
+    let name = name_of(value)?;
     Some(Directive::Include(Name::of(name)))
 }
 
 fn merge(value: &[u8]) -> Option<Directive<'_>>
-    ensures { option_map said result ≡ option_and_then merge_said (pair is_equals value.now) }
+    ensures { option_map said result ≡ option_map (λ two. says.Merge two.0 two.1) (names_of value.now) }
 {
-    let (left, right) = pair(value, b'=')?;
-    if !(is_name(left) && is_name(right)) {
-        return None;
-    }
+    let (left, right) = names_of(value)?;
     Some(Directive::Merge {
         left: Name::of(left),
         right: Name::of(right),

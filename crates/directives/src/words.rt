@@ -2,15 +2,15 @@
 
 ghost use Rattle.std.specs.Prelude.{◌≡◌, ◌≤◌, ◌<◌, ◌+◌, ◌^◌, length, option_map, IsTrue, IfSome};
 ghost use Rattle.std.specs.Prelude.{◌&&◌, not, if◌then◌else◌};
-ghost use Rattle.directives.specs.Form.{is_quote};
+ghost use Rattle.directives.specs.Text.{is_quote, is_colon};
 ghost use Rattle.directives.specs.Said.{said, item_said};
-ghost use Rattle.directives.specs.Words.{is_blank, turned, word_len, leaves_open, last_quote, quoted_contents, contents, begins_option, option_says, contents_say, word_says, open_quote, directive_or_bad, is_colon};
+ghost use Rattle.directives.specs.Words.{is_blank, word_len, leaves_open, last_quote, quoted_contents, contents, option_says, contents_say, word_says, open_quote, directive_or_bad};
 ghost use Rattle.std.specs.Option.{option_copied};
 ghost use Rattle.std.specs.List.{before_first, after_first};
 
-use crate::form::split_at_byte;
 use crate::item::{BadDirective, Directive};
 use crate::names::directive_named;
+use crate::text::{begins_option, split_at_byte};
 use crate::values::listed_value;
 
 /// A byte that stands between words.
@@ -20,9 +20,9 @@ pub(crate) fn is_blank(b: u8) -> bool
     matches!(b, b' ' | b'\t' | b'\n' | b'\r' | 0)
 }
 
-/// Whether a quote is open behind the byte, where one is or is not before it.
+/// Whether a quote is open after the byte, where one is or is not before it.
 fn turned(is_open: bool, b: u8) -> bool
-    ensures { result ≡ turned is_open b }
+    ensures { result ≡ (if is_quote b then not is_open else is_open) }
 {
     if b == b'"' { !is_open } else { is_open }
 }
@@ -87,8 +87,8 @@ fn quoted_contents(word: &[u8]) -> Option<&[u8]>
         return None;
     }
     let (_, text) = word.split_at(1);
-    let (inner, behind) = split_at_byte(text, b'"')?;
-    if !behind.is_empty() {
+    let (inner, after) = split_at_byte(text, b'"')?;
+    if !after.is_empty() {
         return None;
     }
     Some(inner)
@@ -118,13 +118,6 @@ fn contents_say(start: usize, text: &[u8]) -> Option<Result<Directive<'_>, BadDi
     option_says(start, option)
 }
 
-fn begins_option(text: &[u8]) -> bool
-    ensures is { result ≡ begins_option text.now }
-    ensures not_empty { IsTrue result → 0 < length text.now }
-{
-    !text.is_empty() && (text[0] == b'/' || text[0] == b'-')
-}
-
 /// What an option says: nothing where its name, which runs to the first colon, is no directive's.
 #[tactic(auto, unfolding(crate::specs::Words::option_says))]
 fn option_says(start: usize, option: &[u8]) -> Option<Result<Directive<'_>, BadDirective>>
@@ -149,7 +142,7 @@ fn directive_or_bad(
     }
 }
 
-/// The name of an option, and what stands behind its colon.
+/// The name of an option, and what stands after its colon.
 #[tactic(auto, using(crate::proofs::PlaceLemmas::before_none, crate::proofs::PlaceLemmas::after_none))]
 fn name_and_value(option: &[u8]) -> (&[u8], &[u8])
     ensures name { result.0.now ≡ before_first is_colon option.now }

@@ -1,5 +1,6 @@
-pub mod NumberLemmas
 pub mod OptLemmas
 pub mod ExtensionLemmas
+pub mod SettingLemmas
 pub mod WordLemmas
 pub mod LinkLemmas
+mod WorkedWords

@@ -3,6 +3,7 @@ use Rattle.std.specs.Prelude.{ℕ, Bool, List, Option, option_map}
 use Rattle.std.specs.String.{string_bytes}
 use Rattle.directives.specs.declared.item.Export.{Export}
 use Rattle.link_words.specs.SettingsView.{texts_of}
+use Rattle.link_words.specs.declared.errors.UsageKind.{UsageKind}
 use Rattle.link_words.specs.declared.options.Options.{Options}
 use Rattle.link_words.specs.declared.options.Command.{Command}
 use Rattle.link_words.specs.declared.options.Command.TheVariants as command
@@ -82,3 +83,11 @@ command_said (command.Link options) = Link (options_said options)
 command_said (command.At image base rva len) = At image.now base rva len
 command_said (command.Show image pdb base symbol len) = Show image.now pdb.now base symbol.now len
 command_said (command.Gen n) = Gen n
+
+-- a refused word, by its index, with the first kind that holds of it
+pub record Refused : Type 0 where
+  pub index : ℕ
+  pub kind : UsageKind
+
+abbrev pub refuse : ℕ → UsageKind → Refused
+refuse index kind = record { index = index; kind = kind }

@@ -1,63 +1,54 @@
 //! Which command a line of words is, and with what.
 
-ghost use Rattle.std.specs.Prelude.{◌≡◌, ◌&&◌, ◌==◌, ◌<◌, ◌≤◌, length, map, IfOk, IfSome};
-ghost use Rattle.std.specs.Str.{bytes_eq};
+ghost use Rattle.std.specs.Prelude.{◌≡◌, ◌<◌, ◌≤◌, length, map, IfOk};
 ghost use Rattle.std.specs.String.{string_bytes};
-ghost use Rattle.link_words.specs.SettingsView.{text_of};
 ghost use Rattle.link_words.specs.Outcome.{command_said};
+ghost use Rattle.link_words.specs.SettingsView.{text_of};
 ghost use Rattle.link_words.specs.Answers.{Answers};
-ghost use Rattle.link_words.specs.Commands.{number_within, text_word, number_word, at_says, show_says, gen_says, link_says, words_say, same, word_at};
+ghost use Rattle.link_words.specs.Steps.{link_steps};
+ghost use Rattle.link_words.specs.Commands.{text_word, number_word, at_says, show_says, gen_says, words_say, same};
 
-use crate::errors::{UsageKind, WordsError};
+use crate::errors::{UsageKind, WordsError, usage};
 use crate::finish::finish;
-use crate::number::number_up_to;
 use crate::options::Command;
-use crate::words::{fits, given_by};
+use crate::words::given_by;
+use directives::{is_text, number_up_to};
 use std::alloc::Global;
 
-/// The command of a line of words, of which the first is the command's name. A refusal names the least word
-/// that is refused, by its index, and the first kind that holds of it; it has index 0 where the whole line is
-/// at fault. An option of a link begins with `/` or `-`, has a name in either case and a value behind a colon;
-/// any other word is an input file. The last of an option's values counts, or all of them are gathered.
+/// The command of a line of words. An option of a link begins with `/` or `-`, has a name in either case and a value
+/// after a colon; any other word is an input file. The last of an option's values counts, or all of them are gathered.
+///
+/// # Errors
+/// `Usage` names the least word that is refused, by its index, and the first kind that holds of it; the index is 0
+/// where the whole line is at fault. `Memory` comes for want of memory alone.
 #[tactic(auto, unfolding(crate::specs::Commands::words_say))]
 pub fn read_words<'w>(alloc: Global, words: &'w [String]) -> Result<Command<'w>, WordsError>
     ensures { Answers command_said (words_say (map string_bytes words.now)) result }
 {
-    if is_command(words, "link") {
-        return link(alloc, words);
+    let Some((command, rest)) = words.split_first() else {
+        return Err(usage(0, UsageKind::Command));
+    };
+    if command.as_str() == "link" {
+        return link(alloc, rest);
     }
-    if is_command(words, "at") && words.len() == 5 {
+    if command.as_str() == "at" && rest.len() == 4 {
         return at(words);
     }
-    if is_command(words, "show") && words.len() == 6 {
+    if command.as_str() == "show" && rest.len() == 5 {
         return show(words);
     }
-    if is_command(words, "gen") && words.len() == 2 {
+    if command.as_str() == "gen" && rest.len() == 1 {
         return generate(words);
     }
-    Err(WordsError::Usage {
-        index: 0,
-        kind: UsageKind::Command,
-    })
-}
-
-fn is_command(words: &[String], name: &str) -> bool
-    ensures { result ≡ bytes_eq (word_at (map string_bytes words.now) 0) name.now }
-{
-    match words {
-        [] => name.is_empty(),
-        [word, ..] => word.as_str() == name,
-    }
+    Err(usage(0, UsageKind::Command))
 }
 
 /// `link WORDS`.
-#[tactic(auto, unfolding(crate::specs::Commands::link_says))]
+#[tactic(auto, unfolding(crate::specs::Steps::link_steps))]
 fn link<'w>(alloc: Global, words: &'w [String]) -> Result<Command<'w>, WordsError>
-    requires { 0 < length words.now }
-    ensures { Answers command_said (link_says (map string_bytes words.now)) result }
+    ensures { Answers command_said (link_steps (map string_bytes words.now)) result }
 {
-    let (_, rest) = words.split_at(1);
-    let given = given_by(alloc, rest)?;
+    let given = given_by(alloc, words)?;
     let options = finish(alloc, given)?;
     Ok(Command::Link(options))
 }
@@ -117,11 +108,8 @@ fn text_word(words: &[String], index: usize) -> Result<&str, WordsError>
     ensures { Answers text_of (text_word (map string_bytes words.now) index) result }
 {
     let word = words[index].as_str();
-    if !fits(word.as_bytes()) {
-        return Err(WordsError::Usage {
-            index,
-            kind: UsageKind::BadValue,
-        });
+    if !is_text(word.as_bytes()) {
+        return Err(usage(index, UsageKind::BadValue));
     }
     Ok(word)
 }
@@ -133,22 +121,8 @@ fn number_word(words: &[String], index: usize, low: u64, high: u64) -> Result<u6
     ensures is { Answers same (number_word (map string_bytes words.now) index low high) result }
     ensures within { IfOk result (λ number. number ≤ high) }
 {
-    match number_within(words[index].as_bytes(), low, high) {
-        Some(number) => Ok(number),
-        None => Err(WordsError::Usage {
-            index,
-            kind: UsageKind::BadValue,
-        }),
+    match number_up_to(words[index].as_bytes(), high) {
+        Some(number) if number >= low => Ok(number),
+        _ => Err(usage(index, UsageKind::BadValue)),
     }
-}
-
-fn number_within(text: &[u8], low: u64, high: u64) -> Option<u64>
-    ensures is { result ≡ number_within low high text.now }
-    ensures within { IfSome result (λ number. number ≤ high) }
-{
-    let number = number_up_to(text, high)?;
-    if number < low {
-        return None;
-    }
-    Some(number)
 }

@@ -3,35 +3,32 @@
 ghost use Rattle.std.specs.Prelude.{◌≡◌, option_map, option_and_then};
 ghost use Rattle.std.specs.Option.{ok_or};
 ghost use Rattle.directives.specs.Said.{said};
-ghost use Rattle.directives.specs.Value.{value_said};
-ghost use Rattle.link_words.specs.SettingsView.{settings_of};
-ghost use Rattle.link_words.specs.Effect.{bare, with_value, gathered, only};
-ghost use Rattle.link_words.specs.Gives.{Gives};
-ghost use Rattle.link_words.specs.Settings.{Settings};
+ghost use Rattle.link_words.specs.Setting.{bare_says, value_says, shared, Refs};
+ghost use Rattle.link_words.specs.Steps.{so_far, with_said, Gives};
 
 use crate::errors::{Refusal, UsageKind};
-use crate::field::{push, push_text, set, set_some};
+use crate::field::{push, push_text, set, taken};
 use crate::given::Given;
 use crate::known::Known;
-use crate::values::{number_32, number_64, off, opts, sizes, subsystem, version};
+use crate::values::{negated, number_32, number_64, opts, sizes, subsystem, version};
 use directives::{Directive, is_word, value_of};
 use link_base::Name;
 
 /// The option without a value.
 pub(crate) fn bare(given: &mut Given<'_>, option: Known) -> Result<(), Refusal>
-    ensures { Gives result (ok_or (bare (settings_of given.old) option) UsageKind.MissingValue) (settings_of given.new) }
+    ensures { Gives result (with_said (so_far given.old) (ok_or (bare_says option) UsageKind.MissingValue)) (so_far given.new) }
 {
     match option {
-        Known::Debug => given.debug = true,
-        Known::Dll => given.dll = true,
-        Known::NoEntry => given.noentry = true,
-        Known::DynamicBase => given.dynamic = true,
-        Known::HighEntropyVa => given.entropy = true,
-        Known::NxCompat => given.nx = true,
-        Known::LargeAddressAware => given.large = true,
-        Known::Fixed => given.fixed = true,
-        Known::Map => given.map_file = Some(None),
-        Known::NoDefaultLib => given.no_default_all = true,
+        Known::Debug => given.options.debug = true,
+        Known::Dll => given.options.dll = true,
+        Known::NoEntry => given.options.noentry = true,
+        Known::DynamicBase => given.options.dynamic = true,
+        Known::HighEntropyVa => given.options.entropy = true,
+        Known::NxCompat => given.options.nx = true,
+        Known::LargeAddressAware => given.options.large = true,
+        Known::Fixed => given.options.fixed = true,
+        Known::Map => given.map = Some(None),
+        Known::NoDefaultLib => given.options.no_default_all = true,
         Known::NoLogo => {}
         _ => return Err(Refusal::Usage(UsageKind::MissingValue)),
     }
@@ -45,64 +42,63 @@ pub(crate) fn with_value<'w>(
     value: &'w str,
     option: Known,
 ) -> Result<(), Refusal>
-    ensures { Gives result (ok_or (with_value (settings_of given.old) name.now value.now option) UsageKind.BadValue) (settings_of given.new) }
+    ensures { Gives result (with_said (so_far given.old) (ok_or (value_says option name.now value.now) UsageKind.BadValue)) (so_far given.new) }
 {
     let text = value.as_bytes();
     match option {
         Known::Shared => gather(given, value_of(name, text)),
-        Known::LibPath => push_text(&mut given.lib_paths, value),
-        Known::NoDefaultLib => push_text(&mut given.no_default, value),
-        Known::DynamicBase => set(&mut given.dynamic, off(text)),
-        Known::HighEntropyVa => set(&mut given.entropy, off(text)),
-        Known::NxCompat => set(&mut given.nx, off(text)),
-        Known::LargeAddressAware => set(&mut given.large, off(text)),
-        Known::Fixed => set(&mut given.fixed, off(text)),
-        Known::Base => set_some(&mut given.base, number_64(text)),
-        Known::Entry => set_some(&mut given.entry_name, Some(Name::of(text))),
-        Known::Heap => set(&mut given.heap, sizes(text)),
-        Known::Stack => set(&mut given.stack, sizes(text)),
-        Known::Map => set_some(&mut given.map_file, Some(Some(value))),
-        Known::Opt => {
-            let refs = opts(given.refs, text);
-            set(&mut given.refs, refs)
-        }
-        Known::Out => set_some(&mut given.out, Some(value)),
-        Known::Pdb => set_some(&mut given.pdb, Some(value)),
-        Known::Subsystem => set_some(&mut given.subsystem, subsystem(text)),
-        Known::TimeStamp => set(&mut given.time, number_32(text)),
-        Known::Version => set(&mut given.version, version(text)),
-        Known::Machine => only(b"X64", text),
-        Known::Ignored => only(b"NO", text),
+        Known::LibPath => push_text(&mut given.options.lib_paths, value),
+        Known::NoDefaultLib => push_text(&mut given.options.no_default, value),
+        Known::DynamicBase => set(&mut given.options.dynamic, negated(text)),
+        Known::HighEntropyVa => set(&mut given.options.entropy, negated(text)),
+        Known::NxCompat => set(&mut given.options.nx, negated(text)),
+        Known::LargeAddressAware => set(&mut given.options.large, negated(text)),
+        Known::Fixed => set(&mut given.options.fixed, negated(text)),
+        Known::Base => set(&mut given.base, number_64(text).map(Some)),
+        Known::Entry => set(&mut given.entry, Some(Some(Name::of(text)))),
+        Known::Heap => set(&mut given.options.heap, sizes(text)),
+        Known::Stack => set(&mut given.options.stack, sizes(text)),
+        Known::Map => set(&mut given.map, Some(Some(Some(value)))),
+        Known::Opt => set_refs(given, opts(text)),
+        Known::Out => set(&mut given.out, Some(Some(value))),
+        Known::Pdb => set(&mut given.pdb, Some(Some(value))),
+        Known::Subsystem => set(&mut given.subsystem, subsystem(text).map(Some)),
+        Known::TimeStamp => set(&mut given.options.time, number_32(text)),
+        Known::Version => set(&mut given.options.version, version(text)),
+        Known::Machine => taken(is_word(text, b"X64")),
+        Known::Ignored => taken(is_word(text, b"NO")),
         Known::Debug | Known::Dll | Known::NoEntry | Known::NoLogo => {
             Err(Refusal::Usage(UsageKind::BadValue))
         }
     }
 }
 
-/// A value that has to be this word.
-fn only(word: &[u8], value: &[u8]) -> Result<(), Refusal>
-    ensures { (settings : Settings) → Gives result (ok_or (only word.now value.now settings) UsageKind.BadValue) settings }
+/// Whether unreferenced sections are dropped, where a list says so or says not.
+fn set_refs(given: &mut Given<'_>, read: Option<Option<bool>>) -> Result<(), Refusal>
+    ensures { Gives result (with_said (so_far given.old) (ok_or (option_map Refs read) UsageKind.BadValue)) (so_far given.new) }
 {
-    if is_word(value, word) {
-        Ok(())
-    } else {
-        Err(Refusal::Usage(UsageKind::BadValue))
+    match read {
+        Some(refs) => {
+            given.options.refs = refs.or(given.options.refs);
+            Ok(())
+        }
+        None => Err(Refusal::Usage(UsageKind::BadValue)),
     }
 }
 
 /// A value of the kind that directives have too, where it has its form.
 fn gather<'w>(given: &mut Given<'w>, read: Option<Directive<'w>>) -> Result<(), Refusal>
-    ensures { Gives result (ok_or (option_and_then (gathered (settings_of given.old)) (option_map said read.entry)) UsageKind.BadValue) (settings_of given.new) }
+    ensures { Gives result (with_said (so_far given.old) (ok_or (option_and_then shared (option_map said read.entry)) UsageKind.BadValue)) (so_far given.new) }
 {
     match read {
         Some(Directive::AlternateName { left, right }) => push(
-            &mut given.alternates,
+            &mut given.options.alternates,
             (left, right),
         ),
-        Some(Directive::DefaultLib(text)) => push_text(&mut given.default_libs, text),
-        Some(Directive::Export(export)) => push(&mut given.exports, export),
-        Some(Directive::Include(name)) => push(&mut given.includes, name),
-        Some(Directive::Merge { left, right }) => push(&mut given.merges, (left, right)),
+        Some(Directive::DefaultLib(text)) => push_text(&mut given.options.default_libs, text),
+        Some(Directive::Export(export)) => push(&mut given.options.exports, export),
+        Some(Directive::Include(name)) => push(&mut given.options.includes, name),
+        Some(Directive::Merge { left, right }) => push(&mut given.options.merges, (left, right)),
         _ => Err(Refusal::Usage(UsageKind::BadValue)),
     }
 }

@@ -1,6 +1,8 @@
 //! Why a command line is refused.
 
-use link_base::Memory;
+ghost use Rattle.std.specs.Prelude.{◌≡◌};
+ghost use Rattle.link_words.specs.UsageWord.{usage_word};
+
 use std::alloc::{AllocError, AllocFailed};
 
 /// What is wrong with a command line, in the order of the tests.
@@ -8,17 +10,31 @@ use std::alloc::{AllocError, AllocFailed};
 pub enum UsageKind {
     /// There are no words, the command is unknown, or it has a wrong number of words.
     Command,
-    /// The option is not in the table.
+    /// No option has this name.
     Unknown,
-    /// The option needs a value, or nothing stands behind its colon.
+    /// The option has no colon and needs a value, or nothing follows its first colon.
     MissingValue,
-    /// The value has not the option's form, the option takes none, a word has more than 32,000 bytes or a
-    /// NUL, or a number is out of its bounds.
+    /// The value has not the form that the option takes, the option takes none, the word has more than 32,000
+    /// bytes or a NUL, or a number is out of its bounds.
     BadValue,
-    /// A link has no input file.
+    /// No word is refused, and a link has no input file.
     NoInput,
-    /// A link without an entry is no DLL, or two files that it writes have one name.
+    /// No word is refused, and a link without an entry is no DLL, or two files that it writes have one name.
     Conflict,
+}
+
+/// The word that names what is wrong with a command line, in ASCII.
+pub fn usage_word(kind: UsageKind) -> &'static [u8]
+    ensures { result.now ≡ usage_word kind }
+{
+    match kind {
+        UsageKind::Command => b"Command",
+        UsageKind::Unknown => b"Unknown",
+        UsageKind::MissingValue => b"MissingValue",
+        UsageKind::BadValue => b"BadValue",
+        UsageKind::NoInput => b"NoInput",
+        UsageKind::Conflict => b"Conflict",
+    }
 }
 
 /// Why `read_words` gives no command.
@@ -30,22 +46,17 @@ pub enum WordsError {
     Memory,
 }
 
+pub(crate) fn usage(index: usize, kind: UsageKind) -> WordsError
+    ensures { result ≡ WordsError.Usage index kind }
+{
+    WordsError::Usage { index, kind }
+}
+
 /// Why one word is refused.
 #[derive(Clone, Copy)]
 pub(crate) enum Refusal {
     Usage(UsageKind),
     Memory,
-}
-
-impl From<Memory> for WordsError {
-    ghost use Rattle.std.specs.Prelude.{◌≡◌};
-    ghost use Rattle.link_words.specs.declared.errors.WordsError.TheVariants.{Memory};
-
-    ghost from_gives = { λ _ error. error ≡ Memory };
-
-    fn from(_error: Memory) -> WordsError {
-        WordsError::Memory
-    }
 }
 
 impl From<AllocError> for WordsError {

@@ -1,13 +1,14 @@
 //! File names with another extension.
 
-ghost use Rattle.std.specs.Prelude.{◌≡◌, ◌≤◌, ◌<◌, length, IfOk, IfSome, slice_index, unwrap_or};
+ghost use Rattle.std.specs.Prelude.{◌≡◌, ◌<◌, ◌≤◌, length, take, slice_index, IfOk};
 ghost use Rattle.std.specs.String.{string_bytes};
-ghost use Rattle.link_words.specs.Extension.{with_extension, extension_in, behind_byte};
+ghost use Rattle.link_words.specs.Extension.{stem, with_extension};
 
+use memchr::{memrchr, memrchr2};
 use std::alloc::{AllocError, Global};
 
 /// The name with this extension, dot included, in place of its own. An extension runs from the last dot
-/// behind the last slash.
+/// after the last slash.
 #[tactic(auto, unfolding(crate::specs::Extension::with_extension))]
 pub(crate) fn with_extension(
     alloc: Global,
@@ -25,34 +26,17 @@ pub(crate) fn with_extension(
 
 /// How long the name is without its extension.
 fn stem_len(name: &[u8]) -> usize
-    ensures is { result ≡ unwrap_or (extension_in (length name.now) name.now) (length name.now) }
+    ensures is { take result name.now ≡ stem name.now }
     ensures within { result ≤ length name.now }
     ensures dot { result < length name.now → slice_index name.now result ≡ 46 }
 {
-    match extension_in(name) {
-        Some(at) => at,
+    let start = match memrchr2(b'/', b'\\', name) {
+        Some(slash) => slash + 1,
+        None => 0,
+    };
+    let (_, file) = name.split_at(start);
+    match memrchr(b'.', file) {
+        Some(dot) => start + dot,
         None => name.len(),
-    }
-}
-
-/// Where the extension begins, where there is one.
-fn extension_in(name: &[u8]) -> Option<usize>
-    ensures is { result ≡ extension_in (length name.now) name.now }
-    ensures dot { IfSome result (λ at. (at < length name.now) × (slice_index name.now at ≡ 46)) }
-{
-    let mut found = None;
-    for (k, b) in name.iter().enumerate() {
-        found = behind_byte(found, k, *b);
-    }
-    found
-}
-
-fn behind_byte(found: Option<usize>, k: usize, b: u8) -> Option<usize>
-    ensures { result ≡ behind_byte found k b }
-{
-    match b {
-        b'.' => Some(k),
-        b'/' | b'\\' => None,
-        _ => found,
     }
 }

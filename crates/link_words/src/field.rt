@@ -1,6 +1,6 @@
 //! One field of the settings: set to what a value was read as, or with an item more.
 
-ghost use Rattle.std.specs.Prelude.{◌≡◌, ◌++◌, ◌∷◌, [], OnOk, IfErr, IsSome, Some, None};
+ghost use Rattle.std.specs.Prelude.{◌≡◌, ◌++◌, ◌∷◌, [], OnOk, IfErr, IsSome, Some, None, true, false};
 ghost use Rattle.link_words.specs.SettingsView.{texts_of};
 
 use crate::errors::{Refusal, UsageKind};
@@ -19,17 +19,15 @@ pub(crate) fn set<T: Drop>(field: &mut T, read: Option<T>) -> Result<(), Refusal
     }
 }
 
-/// The same for a field that is empty as long as no word says otherwise.
-pub(crate) fn set_some<T: Drop>(field: &mut Option<T>, read: Option<T>) -> Result<(), Refusal>
-    ensures ok { OnOk result ((read ≡ field.new) × IsSome field.new) }
-    ensures err { IfErr result (λ refusal. (refusal ≡ Refusal.Usage UsageKind.BadValue) × (read ≡ None)) }
+/// Takes a value that changes nothing, where it has its form.
+pub(crate) fn taken(has_its_form: bool) -> Result<(), Refusal>
+    ensures ok { OnOk result (has_its_form ≡ true) }
+    ensures err { IfErr result (λ refusal. (refusal ≡ Refusal.Usage UsageKind.BadValue) × (has_its_form ≡ false)) }
 {
-    match read {
-        Some(value) => {
-            *field = Some(value);
-            Ok(())
-        }
-        None => Err(Refusal::Usage(UsageKind::BadValue)),
+    if has_its_form {
+        Ok(())
+    } else {
+        Err(Refusal::Usage(UsageKind::BadValue))
     }
 }
 

@@ -1,90 +1,67 @@
 //! The options of a link, once all of its words are read.
 
-ghost use Rattle.std.specs.Prelude.{◌≡◌, ◌&&◌, ◌||◌, not, Ok, Err, IfOk, Some, None, if◌then◌else◌, option_map, unwrap_or};
+ghost use Rattle.std.specs.Prelude.{◌≡◌, IfOk, Some, None, if◌then◌else◌, option_map, unwrap_or};
 ghost use Rattle.std.specs.Option.{option_copied};
-ghost use Rattle.std.specs.Str.{bytes_eq};
 ghost use Rattle.std.specs.String.{string_bytes};
-ghost use Rattle.link_words.specs.SettingsView.{settings_of};
-ghost use Rattle.link_words.specs.Outcome.{options_said};
 ghost use Rattle.link_words.specs.Extension.{with_extension};
+ghost use Rattle.link_words.specs.Outcome.{options_said};
+ghost use Rattle.link_words.specs.SettingsView.{texts_of};
+ghost use Rattle.link_words.specs.Options.{default_base, default_subsystem, default_entry, image_extension, first_text, map_name, is_named, outputs_clash};
 ghost use Rattle.link_words.specs.Answers.{Answers};
-ghost use Rattle.link_words.specs.LinkWords.{refuse};
-ghost use Rattle.link_words.specs.Finish.{subsystem_of, options_of, default_base, default_subsystem, default_entry, image_extension, map_name, is_named, outputs_clash, finished};
+ghost use Rattle.link_words.specs.Steps.{so_far, final_options, finished};
 
-use crate::errors::{UsageKind, WordsError};
+use crate::errors::{UsageKind, WordsError, usage};
 use crate::extension::with_extension;
 use crate::given::Given;
 use crate::options::Options;
 use link_base::Name;
+use link_base::pe_format::{SUBSYSTEM_WINDOWS_CUI, SUBSYSTEM_WINDOWS_GUI};
 use std::alloc::{AllocError, Global};
 
-/// The options that the settings give. A link has an input, a link without an entry is a DLL, and the files
-/// that it writes have names of their own.
-#[tactic(auto, unfolding(crate::specs::Finish::finished))]
+/// The options that the words give. A link has an input, a link without an entry is a DLL, and the files that it
+/// writes have names of their own.
+#[tactic(auto, unfolding(crate::specs::Steps::finished, crate::specs::LinkWords::line_refusal))]
 pub(crate) fn finish<'w>(alloc: Global, given: Given<'w>) -> Result<Options<'w>, WordsError>
-    ensures { Answers options_said (finished (settings_of given.entry)) result }
+    ensures { Answers options_said (finished (so_far given.entry)) result }
 {
-    let Some(first) = given.inputs.first() else {
-        return Err(WordsError::Usage {
-            index: 0,
-            kind: UsageKind::NoInput,
-        });
-    };
-    let out = named_or(alloc, given.out, first, image_extension(given.dll))?;
-    let pdb = named_or(alloc, given.pdb, out.as_str(), ".pdb")?;
-    let map = map_file(alloc, given.map_file, out.as_str())?;
-    if (given.noentry && !given.dll)
-        || outputs_clash(given.debug, out.as_str(), pdb.as_str(), &map)
-    {
-        return Err(WordsError::Usage {
-            index: 0,
-            kind: UsageKind::Conflict,
-        });
+    let options = final_options(alloc, given)?;
+    if options.inputs.is_empty() {
+        return Err(usage(0, UsageKind::NoInput));
     }
-    Ok(options(given, out, pdb, map))
+    if (options.noentry && !options.dll) || outputs_clash(&options) {
+        return Err(usage(0, UsageKind::Conflict));
+    }
+    Ok(options)
 }
 
-/// The options, with the names of the files that are written.
-#[tactic(auto, unfolding(crate::specs::Finish::options_of))]
-fn options<'w>(given: Given<'w>, out: String, pdb: String, map: Option<String>) -> Options<'w>
-    ensures { options_said result ≡ options_of (settings_of given.entry) (subsystem_of (settings_of given.entry)) (string_bytes out) (string_bytes pdb) (option_map string_bytes map) }
+/// The options, with the defaults that depend on other words.
+#[tactic(auto, unfolding(crate::specs::Steps::final_options))]
+fn final_options<'w>(alloc: Global, given: Given<'w>) -> Result<Options<'w>, AllocError>
+    ensures { IfOk result (λ options. options_said options ≡ final_options (so_far given.entry)) }
 {
-    let subsystem = given.subsystem.unwrap_or(default_subsystem(given.dll));
-    let base = given.base.unwrap_or(default_base(given.large, given.dll));
-    let entry = entry_name(
-        given.noentry,
-        given.entry_name,
-        default_entry(given.dll, subsystem),
+    let mut options = given.options;
+    let first = first_text(&options.inputs);
+    options.out = named_or(alloc, given.out, first, image_extension(options.dll))?;
+    options.pdb = named_or(alloc, given.pdb, options.out.as_str(), ".pdb")?;
+    options.map = map_file(alloc, given.map, options.out.as_str())?;
+    options.subsystem = given.subsystem.unwrap_or(default_subsystem(options.dll));
+    options.base = given
+        .base
+        .unwrap_or(default_base(options.large, options.dll));
+    options.entry = entry_name(
+        options.noentry,
+        given.entry,
+        default_entry(options.dll, options.subsystem),
     );
-    Options {
-        inputs: given.inputs,
-        alternates: given.alternates,
-        merges: given.merges,
-        default_libs: given.default_libs,
-        exports: given.exports,
-        includes: given.includes,
-        base,
-        debug: given.debug,
-        dll: given.dll,
-        noentry: given.noentry,
-        dynamic: given.dynamic,
-        entropy: given.entropy,
-        nx: given.nx,
-        large: given.large,
-        entry,
-        fixed: given.fixed,
-        heap: given.heap,
-        stack: given.stack,
-        lib_paths: given.lib_paths,
-        map,
-        no_default: given.no_default,
-        no_default_all: given.no_default_all,
-        refs: given.refs,
-        out,
-        pdb,
-        subsystem,
-        time: given.time,
-        version: given.version,
+    Ok(options)
+}
+
+fn first_text<'w>(texts: &[&'w str]) -> &'w str
+    ensures { result.now ≡ first_text (texts_of texts.now) }
+{
+    match texts {
+        [] => "",
+        [first, ..] => first,
     }
 }
 
@@ -93,11 +70,9 @@ fn entry_name<'w>(noentry: bool, named: Option<Name<'w>>, default: Name<'w>) -> 
     ensures { result ≡ (if noentry then None else Some (unwrap_or named.entry default.entry)) }
 {
     if noentry {
-        return None;
-    }
-    match named {
-        Some(name) => Some(name),
-        None => Some(default),
+        None
+    } else {
+        named.or(Some(default))
     }
 }
 
@@ -140,11 +115,13 @@ fn image_extension(dll: bool) -> &'static str
 }
 
 /// Whether two of the files that are written have one name.
-#[tactic(auto, unfolding(crate::specs::Finish::outputs_clash))]
-fn outputs_clash(debug: bool, out: &str, pdb: &str, map: &Option<String>) -> bool
-    ensures { result ≡ outputs_clash debug out.now pdb.now (option_map string_bytes map.now) }
+#[tactic(auto, unfolding(crate::specs::Options::outputs_clash))]
+fn outputs_clash(options: &Options<'_>) -> bool
+    ensures { result ≡ outputs_clash (options_said options.now) }
 {
-    (debug && pdb == out) || (is_named(out, map) || (debug && is_named(pdb, map)))
+    (options.debug && options.pdb == options.out)
+        || (is_named(options.out.as_str(), &options.map)
+            || (options.debug && is_named(options.pdb.as_str(), &options.map)))
 }
 
 fn is_named(name: &str, file: &Option<String>) -> bool
@@ -172,18 +149,22 @@ fn default_base(large: bool, dll: bool) -> u64
 fn default_subsystem(dll: bool) -> u16
     ensures { result ≡ default_subsystem dll }
 {
-    if dll { 2 } else { 3 }
+    if dll {
+        SUBSYSTEM_WINDOWS_GUI
+    } else {
+        SUBSYSTEM_WINDOWS_CUI
+    }
 }
 
 /// Where a program or a DLL begins.
-#[tactic(auto, unfolding(crate::specs::Finish::default_entry))]
+#[tactic(auto, unfolding(crate::specs::Options::default_entry))]
 fn default_entry<'w>(dll: bool, subsystem: u16) -> Name<'w>
     ensures { result ≡ default_entry dll subsystem }
 {
     if dll {
         return Name::of(b"_DllMainCRTStartup");
     }
-    if subsystem == 2 {
+    if subsystem == SUBSYSTEM_WINDOWS_GUI {
         return Name::of(b"WinMainCRTStartup");
     }
     Name::of(b"mainCRTStartup")

@@ -1,5 +1,5 @@
 use Rattle.std.proofs.Common.{◌∙◌, ap, sym, cond, arith, get_or, ℕ}
-use Rattle.directives.specs.Form.{is_quote}
+use Rattle.directives.specs.Text.{is_quote}
 use Rattle.directives.proofs.WordLemmas.{leaves_open-more, none_open, last_quote-none, last_quote-more, open_quote_is, later_within}
 use Rattle.directives.proofs.words.open_quote.Goals as goal
 
