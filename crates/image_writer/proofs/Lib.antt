@@ -20,4 +20,5 @@ pub mod FileEndLemmas
 pub mod AppendedLemmas
 pub mod PlanBytes
 pub mod LoadableLemmas
+pub mod RewrittenLemmas
 pub mod CallerLemmas
