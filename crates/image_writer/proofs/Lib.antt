@@ -21,4 +21,5 @@ pub mod AppendedLemmas
 pub mod PlanBytes
 pub mod LoadableLemmas
 pub mod RewrittenLemmas
+pub mod PieceLemmas
 pub mod CallerLemmas
