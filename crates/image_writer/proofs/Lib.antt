@@ -22,4 +22,6 @@ pub mod PlanBytes
 pub mod LoadableLemmas
 pub mod RewrittenLemmas
 pub mod PieceLemmas
+pub mod PatchLemmas
+pub mod PieceInFileLemmas
 pub mod CallerLemmas

@@ -1,19 +1,21 @@
 //! Laws of the definitions, each the contract of a function that does nothing.
 
-ghost use Rattle.std.specs.Prelude.{◌≡◌, ◌≤◌, ℕ, true, false, List, [], ◌∷◌, ◌++◌, length, map, slice_get, Some};
+ghost use Rattle.std.specs.Prelude.{◌≡◌, ◌≤◌, ℕ, true, false, List, [], ◌∷◌, ◌++◌, ◌<◌, length, map, slice_get, slice_index_or, Some};
 ghost use Rattle.std.specs.List.{All};
+ghost use Rattle.link_base.specs.Bytes.{bytes_at};
 ghost use Rattle.link_base.specs.PeFormat.{NUMBEROF_DIRECTORY_ENTRIES, DIRECTORY_ENTRY_BASERELOC};
 ghost use Rattle.link_base.specs.Limits.{SECTION_LIMIT, IMAGE_LIMIT};
 ghost use Rattle.section_group.specs.declared.piece.Piece.{Piece};
 ghost use Rattle.section_group.specs.declared.piece.OutSection.{OutSection};
 ghost use Rattle.address_layout.specs.declared.layout.Layout.{Layout};
-ghost use Rattle.address_layout.specs.Places.{section_count};
+ghost use Rattle.address_layout.specs.Places.{section_count, row_at};
 ghost use Rattle.address_layout.specs.Layout.{IsAlignment, StandOnce, HoldsArrangement, IsRewritten};
 ghost use Rattle.address_layout.specs.Growth.{CanGrow, Appends};
 ghost use Rattle.image_writer.specs.declared.headers.Headers.{Headers};
 ghost use Rattle.image_writer.specs.ExpectedImage.{ImagePlan, MeansPlan, permits, image_file};
 ghost use Rattle.image_writer.specs.LoadablePlan.{IsLoadable};
-ghost use Rattle.image_writer.specs.WrittenImage.{piece_contents, at_each_base, layout_plan, IsLaidOut, HasContents};
+ghost use Rattle.image_writer.specs.WrittenImage.{piece_contents, at_each_base, layout_plan, HaveRoom, IsLaidOut, HasContents};
+ghost use Rattle.image_writer.specs.PieceInFile.{piece_at, piece_place, patched, DiffersAt};
 
 /// The file of a loadable plan loads as the plan says: at each permitted base and at no other, with the fields of its base
 /// relocations raised, and with no byte besides.
@@ -44,4 +46,19 @@ pub fn written_file_loads_as_planned()
         → permits (layout_plan headers sections layout (at_each_base (map piece_contents pieces))) headers.base ≡ true
         → MeansPlan (layout_plan headers sections layout (at_each_base (map piece_contents pieces)))
             (image_file (layout_plan headers sections layout (at_each_base (map piece_contents pieces)))) }
+{}
+
+/// In the file of what is laid out the bytes of piece `j` of section `i` stand at its place, and other bytes of the same
+/// length there give the file of the plan with these bytes.
+pub fn pieces_stand_in_the_file()
+    ensures stands { (headers : Headers) (pieces : List Piece) (sections : List OutSection) (layout : Layout) (contents : ℕ → List (List ℕ)) (i j : ℕ)
+        → IsLaidOut pieces sections layout → HaveRoom pieces sections (contents headers.base) → length headers.directories ≡ NUMBEROF_DIRECTORY_ENTRIES
+        → i < length sections → j < length (row_at sections i).1
+        → let bytes = slice_index_or (contents headers.base) (piece_at sections i j) [] in
+            bytes_at (image_file (layout_plan headers sections layout contents)) (piece_place layout i (piece_at sections i j)) (length bytes) ≡ bytes }
+    ensures replaced { (headers : Headers) (pieces : List Piece) (sections : List OutSection) (layout : Layout) (old new : ℕ → List (List ℕ)) (i j : ℕ)
+        → IsLaidOut pieces sections layout → HaveRoom pieces sections (old headers.base) → length headers.directories ≡ NUMBEROF_DIRECTORY_ENTRIES
+        → i < length sections → j < length (row_at sections i).1 → DiffersAt (piece_at sections i j) (old headers.base) (new headers.base)
+        → patched (piece_place layout i (piece_at sections i j)) (slice_index_or (new headers.base) (piece_at sections i j) []) (image_file (layout_plan headers sections layout old))
+            ≡ image_file (layout_plan headers sections layout new) }
 {}
