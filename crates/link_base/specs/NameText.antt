@@ -7,7 +7,7 @@ use Rattle.std.specs.Hash as fed
 
 -- two names are one text
 abbrev pub same_name : List ℕ → List ℕ → Bool
-same_name name other = pointwise nat_eq name other
+same_name = pointwise nat_eq
 
 -- the bytes begin with these
 abbrev pub begins : List ℕ → List ℕ → Bool

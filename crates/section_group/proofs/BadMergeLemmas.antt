@@ -8,7 +8,8 @@ use Rattle.std.proofs.Math.Nat.{mul-le-mul_left}
 use Rattle.std.proofs.lemmas.List.Sums.{passes_at_first}
 use Rattle.std.proofs.lemmas.Map.Entries.{length-keys_of}
 use Rattle.section_group.specs.Merging.{target, led, next_name, all_merges, preset_merges, same_name, merge_at, final_name, names_reserved, ComesBack, HasOtherTarget, IsBadMerge, HasNoBadMerge}
-use Rattle.section_group.specs.Chains.{target_among, or_else, leads_elsewhere, goes_on, fails}
+use Rattle.section_group.specs.Chains.{target_among, leads_elsewhere, goes_on, fails}
+use Rattle.std.specs.Option.{option_or}
 use Rattle.section_group.proofs.ChainLemmas.{target_among-append, same_is, same_refl, led-add}
 use Rattle.section_group.proofs.PigeonLemmas.{pigeon}
 
@@ -145,7 +146,7 @@ first_of_name (m ∷ ms) (suc k) lt = go (same_name (get_or ms k ([], [])).0 m.0
 given_first : (given : List (List ℕ × List ℕ)) (name x : List ℕ) → target_among given name ≡ Some x → target given name ≡ Some x
 unfolding target
 given_first given name x e =
-    target_among-append given preset_merges name ∙ ap (λ (o : Option (List ℕ)). or_else o (target_among preset_merges name)) e
+    target_among-append given preset_merges name ∙ ap (λ (o : Option (List ℕ)). option_or o (target_among preset_merges name)) e
 
 target_of : (given : List (List ℕ × List ℕ)) (k : ℕ) (lt : k < length given) → target given (merge_at given k).0 ≡ Some (merge_at given (first_of_name given k lt).at).1
 target_of given k lt = given_first given (merge_at given k).0 _ (first_of_name given k lt).leads
@@ -269,7 +270,7 @@ end_of (m ∷ ms) name y ends e = go (same_name name m.0) e (end_of ms name y en
     go true h rest = ap (λ (x : List ℕ). is_some (target_among preset_merges x)) (sym (same_some h)) ∙ ends.0
     go false h rest = rest h
 
-target_is : (given : List (List ℕ × List ℕ)) (name : List ℕ) → target given name ≡ or_else (target_among given name) (target_among preset_merges name)
+target_is : (given : List (List ℕ × List ℕ)) (name : List ℕ) → target given name ≡ option_or (target_among given name) (target_among preset_merges name)
 unfolding target
 target_is given name = target_among-append given preset_merges name
 
@@ -279,7 +280,7 @@ given_back given name good back e =
     let found = given_at given name e in
     good found.0 found.1 (inr (inl (subst (ComesBack given) (sym found.2) back)))
 
-goes_on_now : (given : List (List ℕ × List ℕ)) (name : List ℕ) → ComesBack given name → is_some (or_else (target_among given name) (target_among preset_merges name)) ≡ true
+goes_on_now : (given : List (List ℕ × List ℕ)) (name : List ℕ) → ComesBack given name → is_some (option_or (target_among given name) (target_among preset_merges name)) ≡ true
 unfolding led
 goes_on_now given name back = ap is_some (sym (target_is given name)) ∙ endless given name back 0
 
@@ -288,7 +289,7 @@ by_preset given name y good back leads preset =
     let there = subst (ComesBack given) (ap (λ (o : Option (List ℕ)). unwrap_or o name) leads) (next_back given name back) in
     given_back given y good there (second (target_among given y) (target_among preset_merges y) (end_of preset_merges name y presets_end preset) (goes_on_now given y there))
   where
-    second : (o p : Option (List ℕ)) → is_some p ≡ false → is_some (or_else o p) ≡ true → is_some o ≡ true
+    second : (o p : Option (List ℕ)) → is_some p ≡ false → is_some (option_or o p) ≡ true → is_some o ≡ true
     second None p e h = absurd (false≢true (sym e ∙ h))
     second (Some x) p e h = refl
 
@@ -296,10 +297,10 @@ pub no_back : (given : List (List ℕ × List ℕ)) (name : List ℕ) → HasNoB
 no_back given name good back =
     go (target_among given name) (target_among preset_merges name) refl refl (goes_on_now given name back)
   where
-    go : (o p : Option (List ℕ)) → target_among given name ≡ o → target_among preset_merges name ≡ p → is_some (or_else o p) ≡ true → ⊥
+    go : (o p : Option (List ℕ)) → target_among given name ≡ o → target_among preset_merges name ≡ p → is_some (option_or o p) ≡ true → ⊥
     go (Some x) p e f h = given_back given name good back (ap is_some e)
     go None None e f h = false≢true h
-    go None (Some y) e f h = by_preset given name y good back (target_is given name ∙ ap (λ (q : Option (List ℕ)). or_else q (target_among preset_merges name)) e ∙ f) f
+    go None (Some y) e f h = by_preset given name y good back (target_is given name ∙ ap (λ (q : Option (List ℕ)). option_or q (target_among preset_merges name)) e ∙ f) f
 
 -- so the name that is far along a chain is the end
 pub far_is_final : (given : List (List ℕ × List ℕ)) (steps : ℕ) (name : List ℕ) → length (all_merges given) ≤ steps → HasNoBadMerge given → led given steps name ≡ final_name given name

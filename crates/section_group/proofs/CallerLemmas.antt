@@ -8,14 +8,14 @@ use Rattle.std.proofs.lemmas.List.{length-map}
 use Rattle.std.proofs.Math.ListN.{get_or-map}
 use Rattle.std.proofs.Math.Path.{fun_ext}
 use Rattle.link_base.specs.Bytes.{all_below, first_below}
-use Rattle.section_group.specs.declared.flags.TheConstants.{SCN_CNT_CODE, SCN_CNT_INITIALIZED_DATA, SCN_CNT_UNINITIALIZED_DATA, SCN_MEM_ATTRIBUTES}
+use Rattle.link_base.specs.PeFormat.{SCN_CNT_CODE, SCN_CNT_INITIALIZED_DATA, SCN_CNT_UNINITIALIZED_DATA, SCN_MEM_ATTRIBUTES}
 use Rattle.section_group.specs.declared.piece.OutSection.{OutSection}
 use Rattle.section_group.specs.declared.piece.Piece.{Piece}
 use Rattle.section_group.specs.BarePieces.{bare}
 use Rattle.section_group.specs.Merging.{same_name, final_name}
 use Rattle.section_group.specs.Placement.{is_owner, first_owner, follows_owner, deciding_piece, section_attributes, goes_to, needs_place, has_initialised, content_flags, IsSection, IsGrouping}
 use Rattle.section_group.specs.SectionOrder.{Input, no_piece, piece_at, is_used, base_name, suffix, section_name, is_merged, merged_name, place_cmp, inside_cmp, rank_of, IsFirstPiece, ComesBefore}
-use Rattle.section_group.specs.Steps.{input_from}
+use Rattle.section_group.specs.SectionOrder.{input_from}
 
 module _ (pieces : List Piece) (used : List Bool) (merges : List (List ℕ × List ℕ)) where
   abbrev whole : Input

@@ -9,24 +9,26 @@ use Rattle.std.proofs.lemmas.Bool.Decides.{same_from_decides}
 use Rattle.std.proofs.lemmas.Slice.Eq.{bytes_eq-Decides}
 use Rattle.std.specs.Map.{lookup, keys_of, values_of}
 use Rattle.section_group.specs.Merging.{led, next_name, same_name}
-use Rattle.section_group.specs.Chains.{same_text, target_among, or_else, led_by, AreTargets, Leads}
+use Rattle.section_group.specs.Merging.{same_name}
+use Rattle.section_group.specs.Chains.{target_among, led_by, AreTargets, Leads}
+use Rattle.std.specs.Option.{option_or}
 
-pub or_else_none : (o : Option (List ℕ)) → or_else o None ≡ o
+pub or_else_none : (o : Option (List ℕ)) → option_or o None ≡ o
 or_else_none None = refl
 or_else_none (Some x) = refl
 
-or_else_cond : (b : Bool) (x : List ℕ) (o p : Option (List ℕ)) → or_else (cond b (Some x) o) p ≡ cond b (Some x) (or_else o p)
+or_else_cond : (b : Bool) (x : List ℕ) (o p : Option (List ℕ)) → option_or (cond b (Some x) o) p ≡ cond b (Some x) (option_or o p)
 or_else_cond true x o p = refl
 or_else_cond false x o p = refl
 
 -- the first merge of the first list, or else of the second
-pub target_among-append : (xs ys : List (List ℕ × List ℕ)) (q : List ℕ) → target_among (xs ++ ys) q ≡ or_else (target_among xs q) (target_among ys q)
+pub target_among-append : (xs ys : List (List ℕ × List ℕ)) (q : List ℕ) → target_among (xs ++ ys) q ≡ option_or (target_among xs q) (target_among ys q)
 target_among-append [] ys q = refl
 target_among-append (x ∷ xs) ys q =
     ap (cond (same_name q x.0) (Some x.1)) (target_among-append xs ys q)
     ∙ sym (or_else_cond (same_name q x.0) x.1 (target_among xs q) (target_among ys q))
 
-pub or_else_assoc : (a b c : Option (List ℕ)) → or_else (or_else a b) c ≡ or_else a (or_else b c)
+pub or_else_assoc : (a b c : Option (List ℕ)) → option_or (option_or a b) c ≡ option_or a (option_or b c)
 or_else_assoc None b c = refl
 or_else_assoc (Some x) b c = refl
 
@@ -44,37 +46,37 @@ same_flip a b =
 
 -- ---- one more merge
 
-more_targets : (merges : List (List ℕ × List ℕ)) (i : ℕ) (item : List ℕ × List ℕ) (q : List ℕ) → i < length merges → item ≡ get_or merges i item → target_among (take (i + 1) merges) q ≡ or_else (target_among (take i merges) q) (cond (same_name q item.0) (Some item.1) None)
+more_targets : (merges : List (List ℕ × List ℕ)) (i : ℕ) (item : List ℕ × List ℕ) (q : List ℕ) → i < length merges → item ≡ get_or merges i item → target_among (take (i + 1) merges) q ≡ option_or (target_among (take i merges) q) (cond (same_name q item.0) (Some item.1) None)
 more_targets merges i item q lt is =
     ap (λ (t : List (List ℕ × List ℕ)). target_among t q) (take_more merges i item lt ∙ ap (λ (x : List ℕ × List ℕ). take i merges ++ x ∷ []) (sym is))
     ∙ target_among-append (take i merges) (item ∷ []) q
 
-first_add : (o : Option (List ℕ)) (b : Bool) (right : List ℕ) → (b ≡ true → is_some o ≡ false) → cond b (Some right) o ≡ or_else o (cond b (Some right) None)
+first_add : (o : Option (List ℕ)) (b : Bool) (right : List ℕ) → (b ≡ true → is_some o ≡ false) → cond b (Some right) o ≡ option_or o (cond b (Some right) None)
 first_add None b right absent = refl
 first_add (Some x) true right absent = absurd (true≢false (absent refl))
 first_add (Some x) false right absent = refl
 
-later_add : (o : Option (List ℕ)) (b : Bool) (right : List ℕ) → (b ≡ true → is_some o ≡ true) → o ≡ or_else o (cond b (Some right) None)
+later_add : (o : Option (List ℕ)) (b : Bool) (right : List ℕ) → (b ≡ true → is_some o ≡ true) → o ≡ option_or o (cond b (Some right) None)
 later_add None true right there = absurd (false≢true (there refl))
 later_add None false right there = refl
 later_add (Some x) b right there = refl
 
 -- the map after a step, at a name: it had what the merges up to i give over what it had at first
-pub adds : (merges : List (List ℕ × List ℕ)) (i : ℕ) (item : List ℕ × List ℕ) (first old new : List ℕ → Option (List ℕ)) → i < length merges → item ≡ get_or merges i item → ((q : List ℕ) → old q ≡ or_else (first q) (target_among (take i merges) q)) → is_some (old item.0) ≡ false → ((q : List ℕ) → new q ≡ cond (same_text item.0 q) (Some item.1) (old q)) → (q : List ℕ) → new q ≡ or_else (first q) (target_among (take (i + 1) merges) q)
+pub adds : (merges : List (List ℕ × List ℕ)) (i : ℕ) (item : List ℕ × List ℕ) (first old new : List ℕ → Option (List ℕ)) → i < length merges → item ≡ get_or merges i item → ((q : List ℕ) → old q ≡ option_or (first q) (target_among (take i merges) q)) → is_some (old item.0) ≡ false → ((q : List ℕ) → new q ≡ cond (same_name item.0 q) (Some item.1) (old q)) → (q : List ℕ) → new q ≡ option_or (first q) (target_among (take (i + 1) merges) q)
 adds merges i item first old new lt is before absent after q =
     let flip = same_flip item.0 q in
     after q ∙ ap (λ (b : Bool). cond b (Some item.1) (old q)) flip
     ∙ first_add (old q) (same_name q item.0) item.1 (λ e. ap (λ (x : List ℕ). is_some (old x)) (same_is q item.0 e) ∙ absent)
-    ∙ ap (λ (o : Option (List ℕ)). or_else o (cond (same_name q item.0) (Some item.1) None)) (before q)
+    ∙ ap (λ (o : Option (List ℕ)). option_or o (cond (same_name q item.0) (Some item.1) None)) (before q)
     ∙ or_else_assoc (first q) (target_among (take i merges) q) (cond (same_name q item.0) (Some item.1) None)
-    ∙ ap (or_else (first q)) (sym (more_targets merges i item q lt is))
+    ∙ ap (option_or (first q)) (sym (more_targets merges i item q lt is))
 
-pub stays : (merges : List (List ℕ × List ℕ)) (i : ℕ) (item : List ℕ × List ℕ) (first old : List ℕ → Option (List ℕ)) → i < length merges → item ≡ get_or merges i item → ((q : List ℕ) → old q ≡ or_else (first q) (target_among (take i merges) q)) → is_some (old item.0) ≡ true → (q : List ℕ) → old q ≡ or_else (first q) (target_among (take (i + 1) merges) q)
+pub stays : (merges : List (List ℕ × List ℕ)) (i : ℕ) (item : List ℕ × List ℕ) (first old : List ℕ → Option (List ℕ)) → i < length merges → item ≡ get_or merges i item → ((q : List ℕ) → old q ≡ option_or (first q) (target_among (take i merges) q)) → is_some (old item.0) ≡ true → (q : List ℕ) → old q ≡ option_or (first q) (target_among (take (i + 1) merges) q)
 stays merges i item first old lt is before there q =
     later_add (old q) (same_name q item.0) item.1 (λ e. ap (λ (x : List ℕ). is_some (old x)) (same_is q item.0 e) ∙ there)
-    ∙ ap (λ (o : Option (List ℕ)). or_else o (cond (same_name q item.0) (Some item.1) None)) (before q)
+    ∙ ap (λ (o : Option (List ℕ)). option_or o (cond (same_name q item.0) (Some item.1) None)) (before q)
     ∙ or_else_assoc (first q) (target_among (take i merges) q) (cond (same_name q item.0) (Some item.1) None)
-    ∙ ap (or_else (first q)) (sym (more_targets merges i item q lt is))
+    ∙ ap (option_or (first q)) (sym (more_targets merges i item q lt is))
 
 -- ---- what a name leads to
 
@@ -101,17 +103,17 @@ no_place n m e =
     not_some : (a : ℕ) → None ≡ Some a → ⊥
     not_some a h = cc
 
-pub led_at : (keys ends : List (List ℕ)) (name x : List ℕ) (k : ℕ) → Some k ≡ position (same_text name) keys → length ends ≡ length keys → x ≡ get_or ends k x → x ≡ led_by keys ends name
+pub led_at : (keys ends : List (List ℕ)) (name x : List ℕ) (k : ℕ) → Some k ≡ position (same_name name) keys → length ends ≡ length keys → x ≡ get_or ends k x → x ≡ led_by keys ends name
 unfolding led_by
 led_at keys ends name x k found same is =
-    let p = position_or_len (same_text name) keys in
+    let p = position_or_len (same_name name) keys in
     let at = found_place p (length keys) k found in
     is ∙ get_or_default ends k x name (omega (arith, at.0, at.1)) ∙ ap (λ (j : ℕ). get_or ends j name) at.0
 
-pub led_none : (keys ends : List (List ℕ)) (name : List ℕ) → None ≡ position (same_text name) keys → length ends ≡ length keys → name ≡ led_by keys ends name
+pub led_none : (keys ends : List (List ℕ)) (name : List ℕ) → None ≡ position (same_name name) keys → length ends ≡ length keys → name ≡ led_by keys ends name
 unfolding led_by
 led_none keys ends name none same =
-    let p = position_or_len (same_text name) keys in
+    let p = position_or_len (same_name name) keys in
     sym (get_or_past ends p name (omega (arith, no_place p (length keys) none)))
 
 -- a name is led to the value of its entry
@@ -126,7 +128,7 @@ by_lookup t (e ∷ es) d = go (t e.0) (by_lookup t es d)
 pub leads_one : (given entries : List (List ℕ × List ℕ)) → AreTargets given entries → Leads given 1 (keys_of entries) (values_of entries)
 unfolding led_by led
 leads_one given entries targets name =
-    by_lookup (same_text name) entries name ∙ ap (λ (o : Option (List ℕ)). unwrap_or o name) (targets name)
+    by_lookup (same_name name) entries name ∙ ap (λ (o : Option (List ℕ)). unwrap_or o name) (targets name)
 
 -- twice as far
 pub led-add : (given : List (List ℕ × List ℕ)) (a b : ℕ) (name : List ℕ) → led given (a + b) name ≡ led given b (led given a name)
@@ -139,8 +141,8 @@ led-add given a (suc b) name =
 twice : (keys ends : List (List ℕ)) (name : List ℕ) → led_by keys (map (led_by keys ends) ends) name ≡ led_by keys ends (led_by keys ends name)
 unfolding led_by
 twice keys ends name =
-    let p = position_or_len (same_text name) keys in
-    let f = λ (x : List ℕ). get_or ends (position_or_len (same_text x) keys) x in
+    let p = position_or_len (same_name name) keys in
+    let f = λ (x : List ℕ). get_or ends (position_or_len (same_name x) keys) x in
     elim (cases_lt p (length ends)) [
       | inl lt ↦
           let in' : p < length (map f ends) = omega (arith, length-map ends f) in

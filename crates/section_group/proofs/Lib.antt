@@ -1,4 +1,3 @@
-pub mod NameLemmas
 pub mod ChainLemmas
 pub mod PigeonLemmas
 pub mod BadMergeLemmas

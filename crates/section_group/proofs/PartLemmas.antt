@@ -7,7 +7,8 @@ use Rattle.section_group.specs.declared.piece.Piece.{Piece}
 use Rattle.section_group.specs.declared.cut.Cut.{Cut}
 use Rattle.section_group.specs.Merging.{final_name}
 use Rattle.section_group.specs.SectionOrder.{Input, no_piece, piece_at, is_used, base_name}
-use Rattle.section_group.specs.Steps.{cut_of, no_cut, cut_at, AreCuts, input_from}
+use Rattle.section_group.specs.Steps.{cut_of, no_cut, cut_at, AreCuts}
+use Rattle.section_group.specs.SectionOrder.{input_from}
 
 cut_is : (lead : List ℕ → List ℕ) (pieces : List Piece) (k : ℕ) → k < length pieces → get_or (map (cut_of lead) pieces) k no_cut ≡ cut_of lead (get_or pieces k no_piece)
 cut_is lead pieces k lt =

@@ -1,32 +1,21 @@
 -- What the steps of following merges say of one another.
-use Rattle.std.specs.Prelude.{◌≡◌, ℕ, ◌≤◌, List, length, slice_index_or, Option, Some, None, nat_eq, Bool, false, not, ◌||◌, is_some}
+use Rattle.std.specs.Prelude.{◌≡◌, ℕ, ◌≤◌, List, length, slice_index_or, Option, Bool, false, not, ◌||◌, is_some}
 use Rattle.std.specs.List.{position_or_len}
 use Rattle.std.specs.Option.{option_map_or}
 use Rattle.std.specs.Map.{lookup, keys_of}
-use lib.Pointwise.{pointwise}
-use Rattle.section_group.specs.declared.piece.GroupError.{GroupError}
-use Rattle.section_group.specs.declared.piece.GroupError.TheVariants.{BadMerge, Memory}
-use Rattle.section_group.specs.Merging.{all_merges, target, led, same_name, names_reserved, merge_at, IsFirstBadMerge}
-
-abbrev pub same_text : List ℕ → List ℕ → Bool
-same_text = pointwise nat_eq
+use Rattle.section_group.specs.Merging.{all_merges, target, led, same_name, names_reserved, merge_at}
 
 -- what a name is merged into by some merges alone
 abbrev pub target_among : List (List ℕ × List ℕ) → List ℕ → Option (List ℕ)
 target_among merges name = lookup (same_name name) merges
 
--- the first of two that is there
-abbrev pub or_else : Option (List ℕ) → Option (List ℕ) → Option (List ℕ)
-or_else None other = other
-or_else (Some name) other = Some name
-
 -- the name beside a name in two lists, or the name itself where the first does not have it
 unfoldable pub led_by : List (List ℕ) → List (List ℕ) → List ℕ → List ℕ
-led_by keys ends name = slice_index_or ends (position_or_len (same_text name) keys) name
+led_by keys ends name = slice_index_or ends (position_or_len (same_name name) keys) name
 
 -- the entries are the targets of the names that have one
 abbrev pub AreTargets : List (List ℕ × List ℕ) → List (List ℕ × List ℕ) → Type 0
-AreTargets given entries = (name : List ℕ) → lookup (same_text name) entries ≡ target given name
+AreTargets given entries = (name : List ℕ) → lookup (same_name name) entries ≡ target given name
 
 -- the ends are the names that many steps from the keys
 abbrev pub Leads : List (List ℕ × List ℕ) → ℕ → List (List ℕ) → List (List ℕ) → Type 0
@@ -51,14 +40,3 @@ goes_on given steps name = is_some (target given (led given steps name))
 
 abbrev pub fails : List (List ℕ × List ℕ) → ℕ → List ℕ × List ℕ → Bool
 fails given steps merge = leads_elsewhere given merge || (goes_on given steps merge.0 || names_reserved merge)
-
--- the left name of the first merge that is refused
-pub record NamesFirstBad (given : List (List ℕ × List ℕ)) (name : List ℕ) : Type 0 where
-  pub place : ℕ
-  pub first : IsFirstBadMerge given place
-  pub named : name ≡ (merge_at given place).0
-
--- what a refusal says: the first bad merge, or nothing for want of memory
-abbrev pub IsRefusal : List (List ℕ × List ℕ) → GroupError → Type 0
-IsRefusal given (BadMerge name) = NamesFirstBad given name
-IsRefusal given Memory = Unit {0}

@@ -9,8 +9,8 @@ use Rattle.section_group.specs.declared.parts.Parts.{Parts}
 use Rattle.section_group.specs.declared.homes.Home.{Home}
 use Rattle.section_group.specs.SectionOrder.{Input, is_used, section_name, place_cmp}
 use Rattle.section_group.specs.Placement.{is_owner, first_owner, section_attributes}
-use Rattle.section_group.specs.Chains.{same_text}
-use Rattle.section_group.specs.Steps.{input_from}
+use Rattle.section_group.specs.Merging.{same_name}
+use Rattle.section_group.specs.SectionOrder.{input_from}
 
 abbrev pub input_of : Parts → Input
 input_of parts = input_from parts.pieces.now parts.used.now parts.merges.now
@@ -23,7 +23,7 @@ IsFirstUpTo input count name (Some first) =
 
 -- the entries are the first owners of names
 abbrev pub AreOwners : Input → List (List ℕ × ℕ) → Type 0
-AreOwners input entries = (name : List ℕ) → lookup (same_text name) entries ≡ first_owner input name
+AreOwners input entries = (name : List ℕ) → lookup (same_name name) entries ≡ first_owner input name
 
 -- ---- numbered sections
 

@@ -1,11 +1,10 @@
 -- Merges: which output section the pieces of a base name go to (MSVC linker reference, "/MERGE"). The presets and the
 -- refusals are own.
-use Rattle.std.specs.Prelude.{◌≡◌, ◌≢◌, ℕ, zero, suc, ◌<◌, Bool, ◌||◌, ◌⊎◌, IsTrue, List, [], ◌∷◌, ◌++◌, length, slice_index_or, Option, IsSome, unwrap_or, codes, nat_eq}
+use Rattle.std.specs.Prelude.{◌≡◌, ◌≢◌, ℕ, zero, suc, ◌<◌, Bool, ◌||◌, ◌⊎◌, IsTrue, List, [], ◌∷◌, ◌++◌, length, slice_index_or, Option, IsSome, unwrap_or, codes}
 use Rattle.std.specs.Map.{lookup}
-use lib.Pointwise.{pointwise}
-
-abbrev pub same_name : List ℕ → List ℕ → Bool
-same_name a b = pointwise nat_eq a b
+pub use Rattle.link_base.specs.NameText.{same_name}
+use Rattle.section_group.specs.declared.piece.GroupError.{GroupError}
+use Rattle.section_group.specs.declared.piece.GroupError.TheVariants.{BadMerge, Memory}
 
 -- what is merged where nothing else is said
 abbrev pub preset_merges : List (List ℕ × List ℕ)
@@ -74,3 +73,14 @@ pub record IsFirstBadMerge (given : List (List ℕ × List ℕ)) (k : ℕ) : Typ
 -- no merge is refused
 abbrev pub HasNoBadMerge : List (List ℕ × List ℕ) → Type 0
 HasNoBadMerge given = (k : ℕ) → k < length given → ¬ IsBadMerge given k
+
+-- the left name of the first merge that is refused
+pub record NamesFirstBad (given : List (List ℕ × List ℕ)) (name : List ℕ) : Type 0 where
+  pub place : ℕ
+  pub first : IsFirstBadMerge given place
+  pub named : name ≡ (merge_at given place).0
+
+-- what a refusal says: the first bad merge, or nothing for want of memory
+abbrev pub IsRefusal : List (List ℕ × List ℕ) → GroupError → Type 0
+IsRefusal given (BadMerge name) = NamesFirstBad given name
+IsRefusal given Memory = Unit {0}

@@ -2,9 +2,9 @@
 use Rattle.std.specs.Prelude.{◌≡◌, ◌↔◌, ℕ, Bool, ◌&&◌, ◌||◌, not, ◌==◌, nat_lt, IsTrue, List, length, Option, unwrap_or, codes, if◌then◌else◌, bit_and, bit_or}
 use Rattle.std.specs.List.{All, Any, AllPairs, Contains, list_any}
 use Rattle.std.specs.Ordering.{is_lt}
-use Rattle.link_base.specs.Bytes.{all_below, first_below}
+use Rattle.link_base.specs.Bytes.{all_below, first_below, has_flag}
 use Rattle.section_group.specs.declared.piece.OutSection.{OutSection}
-use Rattle.section_group.specs.declared.flags.TheConstants.{SCN_CNT_CODE, SCN_CNT_INITIALIZED_DATA, SCN_CNT_UNINITIALIZED_DATA, SCN_MEM_ATTRIBUTES}
+use Rattle.link_base.specs.PeFormat.{SCN_CNT_CODE, SCN_CNT_INITIALIZED_DATA, SCN_CNT_UNINITIALIZED_DATA, SCN_MEM_ATTRIBUTES}
 use Rattle.section_group.specs.Merging.{same_name}
 use Rattle.section_group.specs.SectionOrder.{Input, piece_at, is_used, base_name, section_name, is_merged, place_cmp, inside_cmp, ComesBefore}
 
@@ -49,7 +49,7 @@ needs_place input k = nat_lt 0 (piece_at input k).size || (piece_at input k).nam
 
 abbrev pub has_initialised : Input → ℕ → List ℕ → Bool
 has_initialised input flag pieces =
-    list_any (λ k. (piece_at input k).init && not (bit_and (piece_at input k).flags flag == 0)) pieces
+    list_any (λ k. (piece_at input k).init && has_flag (piece_at input k).flags flag) pieces
 
 -- what a section holds: the content of its initialised pieces, or nothing that the file holds
 abbrev pub content_flags : Input → List ℕ → ℕ

@@ -1,12 +1,13 @@
 -- The order of pieces inside a section, and of sections in an image: lists of keys, each of which decides only where those
 -- before it are equal. The names are cut as in PE Format, "Grouped Sections (Object Only)"; the keys are own.
 use Rattle.std.specs.Prelude.{◌≡◌, ℕ, Bool, false, ◌&&◌, not, ◌==◌, nat_lt, IsTrue, List, [], length, slice_index_or, None, codes, if◌then◌else◌}
-use Rattle.std.specs.List.{before_first, after_first, Contains}
+use Rattle.std.specs.List.{Contains}
 use Rattle.std.specs.Ordering.{nat_cmp, bool_cmp, then_cmp, ordering_then, on, is_lt}
 use Rattle.std.specs.declared.cmp.Ordering.{Ordering}
 use Rattle.std.specs.Cmp.Lexicographic.{slice_cmp}
 use Rattle.section_group.specs.declared.piece.Piece.{Piece}
 use Rattle.section_group.specs.declared.piece.OutSection.{OutSection}
+pub use Rattle.link_base.specs.SectionName.{base_name, suffix}
 use Rattle.section_group.specs.Merging.{same_name, final_name}
 
 -- what is put into sections: the pieces, which of them are used, and the given merges
@@ -14,6 +15,10 @@ pub record Input : Type 0 where
   pub pieces : List Piece
   pub used : List Bool
   pub merges : List (List ℕ × List ℕ)
+
+-- what `group` is given
+abbrev pub input_from : List Piece → List Bool → List (List ℕ × List ℕ) → Input
+input_from pieces used merges = record { pieces = pieces; used = used; merges = merges }
 
 abbrev pub no_piece : Piece
 no_piece =
@@ -26,16 +31,6 @@ abbrev pub is_used : Input → ℕ → Bool
 is_used input k = nat_lt k (length input.pieces) && slice_index_or input.used k false
 
 -- ---- names
-
--- a name is cut at its first `$`, which belongs to neither part
-abbrev pub is_cut : ℕ → Bool
-is_cut byte = byte == 36
-
-abbrev pub base_name : List ℕ → List ℕ
-base_name name = before_first is_cut name
-
-abbrev pub suffix : List ℕ → List ℕ
-suffix name = after_first is_cut name
 
 -- the name of the section that a piece goes to
 abbrev pub section_name : Input → ℕ → List ℕ

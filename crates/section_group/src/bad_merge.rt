@@ -3,7 +3,8 @@
 ghost use Rattle.std.specs.Prelude.{◌≡◌, ℕ, List, IfOk, OnOk, IfErr, IfNone, IfSome};
 ghost use Rattle.indexmap.specs.IndexMap.{keys};
 ghost use Rattle.section_group.specs.Merging.{final_name, is_reserved, HasNoBadMerge};
-ghost use Rattle.section_group.specs.Chains.{led_by, fails, Follows, NamesFirstBad, IsRefusal};
+ghost use Rattle.section_group.specs.Chains.{led_by, fails, Follows};
+ghost use Rattle.section_group.specs.Merging.{NamesFirstBad, IsRefusal};
 
 use crate::piece::GroupError;
 use crate::renames::{Renames, follow};

@@ -7,9 +7,9 @@ ghost use Rattle.section_group.specs.Placement.{needs_place, has_initialised, co
 ghost use Rattle.section_group.specs.Gathering.{input_of};
 ghost use Rattle.section_group.specs.Keys.{IsWithin};
 
-use crate::flags::{SCN_CNT_CODE, SCN_CNT_INITIALIZED_DATA, SCN_CNT_UNINITIALIZED_DATA};
 use crate::owners::precedes;
 use crate::parts::Parts;
+use link_base::pe_format::{SCN_CNT_CODE, SCN_CNT_INITIALIZED_DATA, SCN_CNT_UNINITIALIZED_DATA};
 
 /// Whether one of the pieces has bytes or is named.
 pub(crate) fn is_needed(parts: &Parts<'_, '_>, members: &[u32]) -> bool

@@ -5,7 +5,6 @@ ghost use Rattle.indexmap.specs.IndexMap.{keys};
 ghost use Rattle.section_group.specs.Chains.{led_by};
 ghost use Rattle.section_group.specs.Steps.{cut_of};
 
-use crate::names::cut_name;
 use crate::piece::Piece;
 use crate::renames::Renames;
 use link_base::{Memory, Name};
@@ -29,7 +28,7 @@ pub(crate) fn cut_all<'a>(
 {
     let mut cuts = Vec::with_capacity(alloc, pieces.len())?;
     for piece in pieces {
-        let (base, suffix) = cut_name(&piece.name);
+        let (base, suffix) = piece.name.base_and_suffix();
         let section = renames.lead(&base);
         cuts.push(Cut {
             base,

@@ -3,8 +3,8 @@
 ghost use Rattle.std.specs.Prelude.{◌<◌, ◌≤◌, ◌^◌, length, IfOk, OnOk, IfErr};
 ghost use Rattle.section_group.specs.Merging.{HasNoBadMerge};
 ghost use Rattle.section_group.specs.Placement.{IsGrouping};
-ghost use Rattle.section_group.specs.Chains.{IsRefusal};
-ghost use Rattle.section_group.specs.Steps.{input_from};
+ghost use Rattle.section_group.specs.Merging.{IsRefusal};
+ghost use Rattle.section_group.specs.SectionOrder.{input_from};
 ghost use Rattle.section_group.specs.Gathering.{input_of};
 
 use crate::gather::{distribute, number_pieces};

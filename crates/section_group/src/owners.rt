@@ -6,12 +6,12 @@ ghost use Rattle.std.specs.Ordering.{is_lt};
 ghost use Rattle.indexmap.specs.IndexMap.{get};
 ghost use Rattle.section_group.specs.SectionOrder.{is_used, place_cmp, base_name, piece_at};
 ghost use Rattle.section_group.specs.Placement.{section_attributes, deciding_piece};
-ghost use Rattle.section_group.specs.Chains.{same_text};
+ghost use Rattle.section_group.specs.Merging.{same_name};
 ghost use Rattle.section_group.specs.Gathering.{input_of, AreOwners, IsFirstUpTo};
 
-use crate::flags::SCN_MEM_ATTRIBUTES;
 use crate::parts::Parts;
 use indexmap::IndexMap;
+use link_base::pe_format::SCN_MEM_ATTRIBUTES;
 use link_base::{Memory, Name};
 use std::alloc::Global;
 
@@ -49,8 +49,8 @@ fn take_owner<'a>(
     index: usize,
 ) -> Result<(), Memory>
     requires used { IsTrue (is_used (input_of parts.now) index) }
-    requires so_far { (name : List ℕ) → IsFirstUpTo (input_of parts.now) index name (get same_text owners.old name) }
-    ensures { OnOk result ((name : List ℕ) → IsFirstUpTo (input_of parts.now) (index + 1) name (get same_text owners.new name)) }
+    requires so_far { (name : List ℕ) → IsFirstUpTo (input_of parts.now) index name (get same_name owners.old name) }
+    ensures { OnOk result ((name : List ℕ) → IsFirstUpTo (input_of parts.now) (index + 1) name (get same_name owners.new name)) }
 {
     let base = &parts.cuts[index].base;
     if is_first(owners, parts, index) {
@@ -62,9 +62,9 @@ fn take_owner<'a>(
 /// Whether a piece comes before the owner that is noted for its base name.
 fn is_first<'a>(owners: &IndexMap<Name<'a>, usize>, parts: &Parts<'_, 'a>, index: usize) -> bool
     requires within { index < length parts.now.pieces.now }
-    requires so_far { (name : List ℕ) → IsFirstUpTo (input_of parts.now) index name (get same_text owners.now name) }
+    requires so_far { (name : List ℕ) → IsFirstUpTo (input_of parts.now) index name (get same_name owners.now name) }
     ensures { result ≡ option_map_or (λ first. is_lt (place_cmp (input_of parts.now) index first))
-        (get same_text owners.now (base_name (piece_at (input_of parts.now) index).name)) true }
+        (get same_name owners.now (base_name (piece_at (input_of parts.now) index).name)) true }
 {
     match owners.get(&parts.cuts[index].base) {
         Some(first) => precedes(parts, index, *first),

@@ -2,8 +2,9 @@
 
 ghost use Rattle.std.specs.Prelude.{◌≡◌, ◌≤◌, ◌^◌, ◌<◌, length, IfOk, OnOk, IfErr};
 ghost use Rattle.section_group.specs.Merging.{HasNoBadMerge};
-ghost use Rattle.section_group.specs.Chains.{IsRefusal};
-ghost use Rattle.section_group.specs.Steps.{AreCuts, input_from};
+ghost use Rattle.section_group.specs.Merging.{IsRefusal};
+ghost use Rattle.section_group.specs.Steps.{AreCuts};
+ghost use Rattle.section_group.specs.SectionOrder.{input_from};
 
 use crate::bad_merge::resolve;
 use crate::cut::{Cut, cut_all};

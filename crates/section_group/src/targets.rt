@@ -3,7 +3,9 @@
 ghost use Rattle.std.specs.Prelude.{◌≡◌, ◌∷◌, [], ℕ, List, IfOk, OnOk, nat_eq, unwrap_or, length};
 ghost use Rattle.indexmap.specs.IndexMap.{get};
 ghost use Rattle.section_group.specs.Merging.{target, preset_merges, final_name};
-ghost use Rattle.section_group.specs.Chains.{same_text, target_among, or_else, AreTargets};
+ghost use Rattle.section_group.specs.Merging.{same_name};
+ghost use Rattle.section_group.specs.Chains.{target_among, AreTargets};
+ghost use Rattle.std.specs.Option.{option_or};
 
 use indexmap::IndexMap;
 use link_base::{Memory, Name};
@@ -40,7 +42,7 @@ fn add_targets<'a>(
     targets: &mut IndexMap<Name<'a>, Name<'a>>,
     merges: &[(Name<'a>, Name<'a>)],
 ) -> Result<(), Memory>
-    ensures { OnOk result ((q : List ℕ) → get same_text targets.new q ≡ or_else (get same_text targets.old q) (target_among merges.now q)) }
+    ensures { OnOk result ((q : List ℕ) → get same_name targets.new q ≡ option_or (get same_name targets.old q) (target_among merges.now q)) }
 {
     for (left, right) in merges {
         if !targets.contains_key(left) {
