@@ -1,4 +1,5 @@
 -- What callers may cite: what raising fields leaves of a memory.
+pub use Rattle.base_reloc.proofs.RaiseNothing.{HaveBytes, walk_raises_nothing}
 use Rattle.std.proofs.Common.{◌≡◌, ℕ, zero, suc, ◌+◌, ◌-◌, ◌*◌, ◌%◌, ◌^◌, ◌<◌, ◌≤◌, Bool, true, false, cond, List, [], ◌∷◌, ◌++◌, length, take, drop, get_or, slice_index, refl, sym, ap, ◌∙◌, inl, inr, length-append, length-drop, arith}
 use Rattle.std.proofs.lemmas.List.{get_or_append_left, get_or-append_right, get_or-take, get_or-drop, drop_at, length-take-le}
 use Rattle.std.proofs.Math.Nat.{mod-lt}

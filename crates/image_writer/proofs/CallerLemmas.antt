@@ -2,6 +2,7 @@
 pub use Rattle.image_writer.proofs.PlaceLemmas.{laid_out}
 pub use Rattle.image_writer.proofs.AppendedLemmas.{appended_laid_out}
 pub use Rattle.image_writer.proofs.RewrittenLemmas.{rewritten_laid_out}
+pub use Rattle.image_writer.proofs.OnePlan.{one_file}
 pub use Rattle.image_writer.proofs.ImageTheorems.{file_means_plan}
 pub use Rattle.image_writer.proofs.LaidOutLemmas.{have_room}
 pub use Rattle.image_writer.proofs.PieceInFileLemmas.{piece_stands, patched_file}

@@ -24,4 +24,5 @@ pub mod RewrittenLemmas
 pub mod PieceLemmas
 pub mod PatchLemmas
 pub mod PieceInFileLemmas
+pub mod OnePlan
 pub mod CallerLemmas

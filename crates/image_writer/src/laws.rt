@@ -23,6 +23,12 @@ pub fn file_loads_as_planned()
     ensures { (plan : ImagePlan) → IsLoadable plan → MeansPlan plan (image_file plan) }
 {}
 
+/// Two files that mean one plan are equal.
+pub fn one_file_means_a_plan()
+    ensures { (plan : ImagePlan) (first second : List ℕ) → All (λ byte. byte < 256) first → All (λ byte. byte < 256) second
+        → MeansPlan plan first → MeansPlan plan second → first ≡ second }
+{}
+
 /// What `place` gives can be written, also with the section of base relocations that `append_reloc` adds, and after RVAs of
 /// pieces that stand in no section were written.
 pub fn layouts_can_be_written()

@@ -171,9 +171,9 @@ abbrev pub first_failed : List (ImageKind × Bool) → Option ImageKind
 first_failed [] = None
 first_failed (test ∷ tests) = if test.1 then first_failed tests else Some test.0
 
-unfoldable pub image_fault : List ℕ → Option ImageKind
-image_fault image =
-    first_failed
+-- the kinds in their order, each beside its test
+abbrev pub image_tests : List ℕ → List (ImageKind × Bool)
+image_tests image =
     ((bad.Dos, has_dos_header image)
     ∷ (bad.Signature, has_signature image)
     ∷ (bad.Machine, has_machine image)
@@ -187,6 +187,9 @@ image_fault image =
     ∷ (bad.Raw, has_raw_bytes image)
     ∷ (bad.Blocks, has_blocks image)
     ∷ [])
+
+unfoldable pub image_fault : List ℕ → Option ImageKind
+image_fault image = first_failed (image_tests image)
 
 -- how much a base lies above another, modulo 2^64
 abbrev pub base_delta : ℕ → ℕ → ℕ

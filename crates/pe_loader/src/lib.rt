@@ -7,5 +7,7 @@
 #![tactic(auto)]
 
 mod headers;
+mod laws;
 
 pub use headers::{headers_size, image_base, section_count, size_of_image};
+pub use laws::one_file_loads_a_memory;
