@@ -1,7 +1,7 @@
 -- The fields of a walk lie in the memory, and raising them by nothing leaves a memory of bytes as it is.
-use Rattle.std.proofs.Common.{◌≡◌, ℕ, zero, suc, ◌+◌, ◌*◌, ◌/◌, ◌%◌, ◌^◌, ◌<◌, ◌≤◌, leb, Bool, true, false, cond, ◌&&◌, ◌==◌, List, [], ◌∷◌, ◌++◌, length, take, drop, slice_index, get_or, refl, sym, ap, ◌∙◌, subst, ◌-◌, arith}
+use Rattle.std.proofs.Common.{◌≡◌, ℕ, zero, suc, ◌+◌, ◌*◌, ◌/◌, ◌%◌, ◌^◌, ◌<◌, ◌≤◌, Bool, true, false, cond, List, [], ◌∷◌, ◌++◌, length, take, drop, slice_index, refl, sym, ap, ◌∙◌, subst, ◌-◌, arith}
 use Rattle.std.specs.Int.{byte_at, bytes_low_first}
-use Rattle.std.proofs.Math.Nat.{div-one, div-div-eq-div-mul, mod-eq_of_lt, pow-suc}
+use Rattle.std.proofs.Math.Nat.{div-one, div-div-eq-div-mul, pow-suc}
 use Rattle.std.proofs.lemmas.Bool.{and_parts, leb-true}
 use Rattle.std.proofs.lemmas.List.{drop_more, drop-drop, take-append-drop}
 use Rattle.byteorder.specs.Endian.{little_from, little_bytes}
@@ -10,7 +10,7 @@ use Rattle.link_base.specs.Bytes.{number_at, u16_at}
 use Rattle.base_reloc.specs.declared.field.BaseField.{BaseField}
 use Rattle.base_reloc.specs.declared.entry.Entry.{Entry}
 use Rattle.base_reloc.specs.declared.entry.Entry.TheVariants.{Skip, Field, Malformed}
-use Rattle.base_reloc.specs.Blocks.{Walk, Fields, MalformedAt, width_of, entry_of, with_entry, then_walk, entries_at, has_block, block_size, block_page, block_entries, blocks_at, walk_of, walked_fields, raised, raised_all}
+use Rattle.base_reloc.specs.Blocks.{Walk, Fields, MalformedAt, width_of, entry_of, with_entry, then_walk, entries_at, block_size, block_page, block_entries, blocks_at, walk_of, walked_fields, raised, raised_all}
 
 -- ---- bytes
 

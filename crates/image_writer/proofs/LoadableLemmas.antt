@@ -1,5 +1,5 @@
 -- The plan of what is laid out loads, and so does its file.
-use Rattle.std.proofs.Common.{◌≡◌, ℕ, ◌<◌, ◌≤◌, true, IsTrue, List, [], ◌∷◌, ◌++◌, length, get_or, map, slice_get, Some, refl, sym, ap, ◌∙◌, subst, arith}
+use Rattle.std.proofs.Common.{◌≡◌, ℕ, ◌<◌, ◌≤◌, true, IsTrue, List, [], ◌∷◌, length, get_or, map, slice_get, Some, refl, sym, ap, ◌∙◌, subst, arith}
 use Rattle.std.specs.List.{All, flat_map, range_with_len}
 use Rattle.std.proofs.lemmas.List.Elements.{All-get_or, All-nil, All-cons, All-append}
 use Rattle.link_base.specs.PeFormat.{DIRECTORY_ENTRY_BASERELOC}
@@ -12,10 +12,9 @@ use Rattle.address_layout.specs.Layout.{all_pieces}
 use Rattle.base_reloc.specs.PageBlocks.{blocks_of, pages_of}
 use Rattle.image_writer.specs.declared.headers.Headers.{Headers}
 use Rattle.image_writer.specs.HeaderTable.{size_of_headers}
-use Rattle.image_writer.specs.ExpectedImage.{PlacedPiece, PlacedBytes, ImagePlan, MeansPlan, plan_bytes, own_bytes, plan_headers, permits, expected_byte, expected_image, image_file}
+use Rattle.image_writer.specs.ExpectedImage.{PlacedBytes, ImagePlan, MeansPlan, plan_bytes, permits, expected_byte, expected_image, image_file}
 use Rattle.image_writer.specs.LoadablePlan.{HasOneLength, IsRelocatable, IsWritable, IsLoadable, AreRowsPlaced, AreInRows}
 use Rattle.image_writer.specs.WrittenImage.{piece_contents, placed_piece, section_pieces, section_rows, written_plan, at_each_base, layout_plan, HaveRoom, IsLaidOut, HasContents}
-use Rattle.image_writer.specs.RawData.{all_bytes}
 use Rattle.image_writer.proofs.PlanBytes.{written_bytes}
 use Rattle.image_writer.proofs.ChainLemmas.{start_inside, rows_placed, pieces_in_rows}
 use Rattle.image_writer.proofs.LaidOutLemmas.{have_room, laid_out_written}
@@ -111,8 +110,8 @@ unrelocated headers sections layout contents directory =
       ascending = λ k lt. absurd (omega arith);
       within = All-nil _;
       raises = λ base permitted. same_image plan base headers.base (
-      written_bytes headers (rows_of sections) layout.sections.items layout.pieces.items layout.image (at_each_base contents) base
-      ∙ sym (written_bytes headers (rows_of sections) layout.sections.items layout.pieces.items layout.image (at_each_base contents) headers.base));
+          written_bytes headers (rows_of sections) layout.sections.items layout.pieces.items layout.image (at_each_base contents) base
+          ∙ sym (written_bytes headers (rows_of sections) layout.sections.items layout.pieces.items layout.image (at_each_base contents) headers.base));
     }
 
 -- the file of what is written without base relocations loads as its plan says

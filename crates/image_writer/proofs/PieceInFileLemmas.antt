@@ -1,6 +1,5 @@
 -- Where the bytes of a piece stand in the file of a layout, and what other bytes there change.
-use Rattle.std.proofs.Common.{◌≡◌, ◌≢◌, ℕ, zero, suc, ◌+◌, ◌-◌, ◌<◌, ◌≤◌, ◌⊎◌, nat_lt, Bool, true, false, cond, eqb, IsTrue, List, [], ◌∷◌, length, get_or, slice_index, slice_get, Some, refl, sym, ap, ◌∙◌, subst, inl, inr, eq-eqb, lt-ltb, le-ltb, arith}
-use Rattle.std.specs.List.{All}
+use Rattle.std.proofs.Common.{◌≡◌, ℕ, zero, suc, ◌+◌, ◌-◌, ◌<◌, ◌≤◌, ◌⊎◌, nat_lt, Bool, true, false, eqb, List, [], ◌∷◌, length, get_or, slice_index, slice_get, Some, refl, sym, ap, ◌∙◌, subst, inl, inr, eq-eqb, lt-ltb, le-ltb, arith}
 use Rattle.std.proofs.lemmas.Bool.{cases_lt, cond-true, cond-false, eqb-true, false≢true}
 use Rattle.std.proofs.lemmas.Grind.{same_number_lists}
 use Rattle.std.proofs.lemmas.List.{length-map}
@@ -8,7 +7,6 @@ use Rattle.std.proofs.lemmas.List.Elements.{All-weaker}
 use Rattle.link_base.specs.Bytes.{bytes_at}
 use Rattle.section_group.specs.declared.piece.Piece.{Piece}
 use Rattle.section_group.specs.declared.piece.OutSection.{OutSection}
-use Rattle.section_group.specs.SectionOrder.{no_piece}
 use Rattle.section_group.specs.Uniqueness.{SectionRow as OutRow, row_of, rows_of}
 use Rattle.address_layout.specs.declared.layout.Placed.{Placed}
 use Rattle.address_layout.specs.declared.layout.Layout.{Layout}
@@ -17,7 +15,7 @@ use Rattle.address_layout.specs.Layout.{all_pieces, placed_at}
 use Rattle.image_writer.specs.declared.headers.Headers.{Headers}
 use Rattle.image_writer.specs.declared.headers.SectionHeader.{SectionHeader}
 use Rattle.image_writer.specs.HeaderTable.{size_of_headers}
-use Rattle.image_writer.specs.ExpectedImage.{PlacedBytes, ImagePlan, own_bytes, piece_byte, raw_byte, image_file}
+use Rattle.image_writer.specs.ExpectedImage.{PlacedBytes, own_bytes, piece_byte, raw_byte, image_file}
 use Rattle.image_writer.specs.LoadablePlan.{IsWritable}
 use Rattle.image_writer.specs.WrittenImage.{header_row, section_rows, written_plan, layout_plan, HasRoom, HaveRoom, IsLaidOut}
 use Rattle.image_writer.specs.RawData.{all_bytes}
@@ -26,7 +24,7 @@ use Rattle.image_writer.proofs.PlanBytes.{written_bytes}
 use Rattle.image_writer.proofs.LaidOutLemmas.{laid_out_written}
 use Rattle.image_writer.proofs.TableLemmas.{length-section_rows}
 use Rattle.image_writer.proofs.LoadableLemmas.{written_writable}
-use Rattle.image_writer.proofs.RowPlaces.{row_there, holder, file_after, file_monotone}
+use Rattle.image_writer.proofs.RowPlaces.{holder, file_after}
 use Rattle.image_writer.proofs.FileBytes.{raw_place, file_length, header_byte, offset_is_place, raw_byte_reads, raw_in_file}
 use Rattle.image_writer.proofs.PieceLemmas.{pieces_of, LiesIn, lies_in, owner, IsApart, all_changed}
 use Rattle.image_writer.proofs.PatchLemmas.{bytes_are, length-patched, patched_before, patched_inside, patched_after}

@@ -1,5 +1,5 @@
 -- Each byte of a piece is the one that the pieces put at its address.
-use Rattle.std.proofs.Common.{◌≡◌, ◌≢◌, ℕ, zero, suc, ◌+◌, ◌-◌, ◌<◌, ◌≤◌, ◌⊎◌, Bool, true, false, cond, eqb, List, [], ◌∷◌, ◌++◌, length, get_or, refl, sym, ap, ◌∙◌, subst, inl, inr, eq-eqb, le-leb, lt-ltb, arith}
+use Rattle.std.proofs.Common.{◌≡◌, ℕ, zero, suc, ◌+◌, ◌-◌, ◌<◌, ◌≤◌, ◌⊎◌, Bool, true, false, cond, eqb, List, [], ◌∷◌, ◌++◌, length, get_or, refl, sym, ap, ◌∙◌, subst, inl, inr, eq-eqb, le-leb, lt-ltb, arith}
 use Rattle.std.proofs.lemmas.Bool.{and_from, cond-true, eqb-true, false≢true}
 use Rattle.section_group.specs.Uniqueness.{SectionRow as OutRow}
 use Rattle.address_layout.specs.declared.layout.Placed.{Placed}

@@ -51,7 +51,7 @@ pub fn written_file_loads_as_planned()
         → length headers.directories ≡ NUMBEROF_DIRECTORY_ENTRIES → slice_get headers.directories DIRECTORY_ENTRY_BASERELOC ≡ Some (0, 0)
         → permits (layout_plan headers sections layout (at_each_base (map piece_contents pieces))) headers.base ≡ true
         → MeansPlan (layout_plan headers sections layout (at_each_base (map piece_contents pieces)))
-            (image_file (layout_plan headers sections layout (at_each_base (map piece_contents pieces)))) }
+        (image_file (layout_plan headers sections layout (at_each_base (map piece_contents pieces)))) }
 {}
 
 /// In the file of what is laid out the bytes of piece `j` of section `i` stand at its place, and other bytes of the same
@@ -61,10 +61,10 @@ pub fn pieces_stand_in_the_file()
         → IsLaidOut pieces sections layout → HaveRoom pieces sections (contents headers.base) → length headers.directories ≡ NUMBEROF_DIRECTORY_ENTRIES
         → i < length sections → j < length (row_at sections i).1
         → let bytes = slice_index_or (contents headers.base) (piece_at sections i j) [] in
-            bytes_at (image_file (layout_plan headers sections layout contents)) (piece_place layout i (piece_at sections i j)) (length bytes) ≡ bytes }
+        bytes_at (image_file (layout_plan headers sections layout contents)) (piece_place layout i (piece_at sections i j)) (length bytes) ≡ bytes }
     ensures replaced { (headers : Headers) (pieces : List Piece) (sections : List OutSection) (layout : Layout) (old new : ℕ → List (List ℕ)) (i j : ℕ)
         → IsLaidOut pieces sections layout → HaveRoom pieces sections (old headers.base) → length headers.directories ≡ NUMBEROF_DIRECTORY_ENTRIES
         → i < length sections → j < length (row_at sections i).1 → DiffersAt (piece_at sections i j) (old headers.base) (new headers.base)
         → patched (piece_place layout i (piece_at sections i j)) (slice_index_or (new headers.base) (piece_at sections i j) []) (image_file (layout_plan headers sections layout old))
-            ≡ image_file (layout_plan headers sections layout new) }
+        ≡ image_file (layout_plan headers sections layout new) }
 {}

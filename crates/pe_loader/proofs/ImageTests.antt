@@ -1,5 +1,5 @@
 -- What the tests of an image say where none fails.
-use Rattle.std.proofs.Common.{◌≡◌, ℕ, ◌+◌, ◌*◌, ◌<◌, ◌≤◌, Bool, true, false, cond, ◌&&◌, List, [], ◌∷◌, length, Option, Some, None, is_none, slice_index, slice_get, ◌-◌, ◌%◌, ◌==◌, nat_lt, leb, zero, suc, inl, inr, refl, sym, ap, ◌∙◌, subst, arith}
+use Rattle.std.proofs.Common.{◌≡◌, ℕ, ◌+◌, ◌<◌, ◌≤◌, Bool, true, false, cond, ◌&&◌, List, [], ◌∷◌, length, Option, Some, None, is_none, slice_index, slice_get, ◌-◌, ◌%◌, ◌==◌, nat_lt, leb, zero, suc, inl, inr, refl, sym, ap, ◌∙◌, subst, arith}
 use Rattle.std.proofs.lemmas.Bool.{and_parts, cases_lt, leb-true}
 use Rattle.std.proofs.lemmas.List.{get_or_past}
 use Rattle.std.proofs.lemmas.List.FromFn.{get_or-map-range_with_len, length-map-range_with_len}
@@ -10,7 +10,7 @@ use Rattle.link_base.proofs.CallerLemmas.{all_below-each}
 use Rattle.address_layout.specs.PermittedBase.{is_permitted}
 use Rattle.base_reloc.specs.Blocks.{walked_fields, raised_all}
 use Rattle.base_reloc.proofs.CallerLemmas.{HaveBytes, walk_raises_nothing}
-use Rattle.pe_loader.specs.LoadedImage.{signature_at, section_count, image_base, size_of_image, headers_size, section_at, virtual_size, virtual_address, section_floor, is_section_placed, raw_offset, has_headers, has_sections, is_copied_into, section_byte, copied_byte, copied, base_walk, base_rule, base_delta, first_failed, image_tests, image_fault, loaded}
+use Rattle.pe_loader.specs.LoadedImage.{section_count, image_base, size_of_image, headers_size, section_at, virtual_size, virtual_address, section_floor, is_section_placed, raw_offset, has_headers, has_sections, is_copied_into, section_byte, copied_byte, copied, base_walk, base_rule, base_delta, first_failed, image_tests, image_fault, loaded}
 
 -- ---- no test fails
 

@@ -1,5 +1,5 @@
 -- An image with no byte besides those that it loads is settled by its memory.
-use Rattle.std.proofs.Common.{◌≡◌, ℕ, zero, suc, ◌+◌, ◌-◌, ◌*◌, ◌<◌, ◌≤◌, ◌==◌, nat_lt, leb, ltb, min, Bool, true, false, cond, List, [], length, slice_index, get_or, Option, Some, None, refl, sym, ap, ◌∙◌, subst, inl, inr, lt-ltb, le-leb, arith}
+use Rattle.std.proofs.Common.{◌≡◌, ℕ, zero, suc, ◌+◌, ◌-◌, ◌*◌, ◌<◌, ◌≤◌, nat_lt, leb, ltb, true, List, length, slice_index, Option, Some, None, refl, sym, ap, ◌∙◌, inl, inr, lt-ltb, le-leb, arith}
 use Rattle.std.specs.List.{All}
 use Rattle.std.proofs.lemmas.Bool.{and_from, and_parts, cases_lt, leb-true, ltb-true, cond-true, cond-false, false≢true, le-ltb}
 use Rattle.std.proofs.lemmas.Grind.{same_number_lists}
@@ -7,8 +7,8 @@ use Rattle.std.proofs.lemmas.List.{get_or_past}
 use Rattle.link_base.specs.Bytes.{number_at, u16_at, u32_at, first_below}
 use Rattle.link_base.proofs.CallerLemmas.{first_below-none, first_below-some, first_below-all_fail}
 use Rattle.base_reloc.proofs.CallerLemmas.{HaveBytes, number_at-same}
-use Rattle.pe_loader.specs.LoadedImage.{signature_at, file_header_at, optional_at, section_count, image_base, size_of_image, headers_size, section_at, virtual_size, virtual_address, raw_size, raw_offset, section_floor, copied_len, is_copied_into, section_byte, copied_byte, copied, loaded, file_end, is_copied_from, HasZeroSlack}
-use Rattle.pe_loader.proofs.ImageTests.{Passes, HeadersLie, headers_lie, SectionLies, section_lies, floors_rise, sections_part, copied_reads, length-copied, OwnMemory, own_memory}
+use Rattle.pe_loader.specs.LoadedImage.{signature_at, file_header_at, optional_at, section_count, image_base, headers_size, section_at, virtual_size, virtual_address, raw_size, raw_offset, copied_len, is_copied_into, section_byte, copied_byte, copied, loaded, file_end, is_copied_from, HasZeroSlack}
+use Rattle.pe_loader.proofs.ImageTests.{Passes, headers_lie, section_lies, floors_rise, sections_part, copied_reads, own_memory}
 
 -- ---- the headers
 
