@@ -3,4 +3,6 @@ pub mod RaiseLemmas
 pub mod PageLemmas
 pub mod TableLemmas
 pub mod RaiseNothing
+pub mod RaisedLemmas
+pub mod SettledLemmas
 pub mod CallerLemmas

@@ -1,9 +1,10 @@
 -- The fields of a walk lie in the memory, and raising them by nothing leaves a memory of bytes as it is.
-use Rattle.std.proofs.Common.{◌≡◌, ℕ, zero, suc, ◌+◌, ◌*◌, ◌/◌, ◌%◌, ◌^◌, ◌<◌, ◌≤◌, Bool, true, false, cond, List, [], ◌∷◌, ◌++◌, length, take, drop, slice_index, refl, sym, ap, ◌∙◌, subst, ◌-◌, arith}
+use Rattle.std.proofs.Common.{◌≡◌, ℕ, zero, suc, ◌+◌, ◌*◌, ◌/◌, ◌%◌, ◌^◌, ◌<◌, ◌≤◌, Bool, true, false, cond, List, [], ◌∷◌, ◌++◌, length, take, drop, slice_index, inl, inr, refl, sym, ap, ◌∙◌, subst, ◌-◌, arith}
+use Rattle.std.specs.List.{All}
 use Rattle.std.specs.Int.{byte_at, bytes_low_first}
 use Rattle.std.proofs.Math.Nat.{div-one, div-div-eq-div-mul, pow-suc}
-use Rattle.std.proofs.lemmas.Bool.{and_parts, leb-true}
-use Rattle.std.proofs.lemmas.List.{drop_more, drop-drop, take-append-drop}
+use Rattle.std.proofs.lemmas.Bool.{and_parts, cases_lt, leb-true}
+use Rattle.std.proofs.lemmas.List.{drop_more, drop-drop, get_or_past, take-append-drop}
 use Rattle.byteorder.specs.Endian.{little_from, little_bytes}
 use Rattle.byteorder.specs.Numbers.{little_from-lt}
 use Rattle.link_base.specs.Bytes.{number_at, u16_at}
@@ -16,6 +17,14 @@ use Rattle.base_reloc.specs.Blocks.{Walk, Fields, MalformedAt, width_of, entry_o
 
 abbrev pub HaveBytes : List ℕ → Type 0
 HaveBytes bytes = (k : ℕ) → slice_index bytes k < 256
+
+-- a list of bytes has bytes, and zeros past its end
+pub have_bytes : (bytes : List ℕ) → All (λ byte. byte < 256) bytes → HaveBytes bytes
+have_bytes bytes all k =
+    elim (cases_lt k (length bytes)) [
+      | inl lt ↦ all k 0 lt
+      | inr past ↦ let none = get_or_past bytes k 0 past in omega (arith, none)
+    ]
 
 byte_at-pow : (k x : ℕ) → byte_at k x ≡ x / 256 ^ k % 256
 byte_at-pow zero x = ap (λ (y : ℕ). y % 256) (sym (div-one x))

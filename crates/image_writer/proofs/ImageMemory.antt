@@ -8,7 +8,7 @@ use Rattle.link_base.proofs.CallerLemmas.{first_below-some, first_below-none}
 use Rattle.image_writer.specs.declared.headers.SectionHeader.{SectionHeader}
 use Rattle.image_writer.specs.HeaderTable.{size_of_headers}
 use Rattle.base_reloc.specs.Blocks.{Fields, walk_of}
-use Rattle.base_reloc.proofs.TableLemmas.{table_lists}
+use Rattle.base_reloc.proofs.CallerLemmas.{table_lists}
 use Rattle.pe_loader.specs.LoadedImage.{is_copied_into, section_byte, copied_byte, copied, base_walk}
 use Rattle.image_writer.specs.ExpectedImage.{ImagePlan, PlacedBytes, holds, piece_byte, raw_byte, plan_headers, expected_byte, expected_image, image_file, own_bytes}
 use Rattle.image_writer.specs.LoadablePlan.{IsLoadable}

@@ -3,10 +3,9 @@ use Rattle.std.proofs.Common.{◌≡◌, ℕ, zero, suc, ◌+◌, ◌-◌, ◌*�
 use Rattle.std.specs.List.{All}
 use Rattle.std.proofs.lemmas.Bool.{and_from, and_parts, cases_lt, leb-true, ltb-true, cond-true, cond-false, false≢true, le-ltb}
 use Rattle.std.proofs.lemmas.Grind.{same_number_lists}
-use Rattle.std.proofs.lemmas.List.{get_or_past}
 use Rattle.link_base.specs.Bytes.{number_at, u16_at, u32_at, first_below}
 use Rattle.link_base.proofs.CallerLemmas.{first_below-none, first_below-some, first_below-all_fail}
-use Rattle.base_reloc.proofs.CallerLemmas.{HaveBytes, number_at-same}
+use Rattle.base_reloc.proofs.CallerLemmas.{have_bytes, number_at-same}
 use Rattle.pe_loader.specs.LoadedImage.{signature_at, file_header_at, optional_at, section_count, image_base, headers_size, section_at, virtual_size, virtual_address, raw_size, raw_offset, copied_len, is_copied_into, section_byte, copied_byte, copied, loaded, file_end, is_copied_from, HasZeroSlack}
 use Rattle.pe_loader.proofs.ImageTests.{Passes, headers_lie, section_lies, floors_rise, sections_part, copied_reads, own_memory}
 
@@ -174,13 +173,6 @@ byte_same a b o pair first second =
         ∙ ap (λ (xs : List ℕ). slice_index xs (virtual_address a k + (o - raw_offset a k))) pair.same
         ∙ ap (slice_index (copied b)) (moved (virtual_address a k) (virtual_address b k) (raw_offset a k) (raw_offset b k) here.rva here.offset)
         ∙ copied_at b k o pair.second (omega (arith, found.0, count)) (sym (from_same a b k o pair found.0) ∙ found.1.0)
-
-have_bytes : (image : List ℕ) → All (λ byte. byte < 256) image → HaveBytes image
-have_bytes image all k =
-    elim (cases_lt k (length image)) [
-      | inl lt ↦ all k 0 lt
-      | inr past ↦ let none = get_or_past image k 0 past in omega (arith, none)
-    ]
 
 -- two files of bytes that load the same memory, each at its own base, and have no byte besides, are one
 pub one_image : (a b memory : List ℕ) → All (λ byte. byte < 256) a → All (λ byte. byte < 256) b → loaded a (image_base a) ≡ Some memory → loaded b (image_base b) ≡ Some memory → HasZeroSlack a → HasZeroSlack b → a ≡ b
