@@ -2,7 +2,7 @@
 pub use Rattle.address_layout.proofs.BareLemmas.{layout_bare, size_bare, stand_bare}
 pub use Rattle.address_layout.proofs.RowLemmas.{layout_same_rows, size_same_rows}
 pub use Rattle.address_layout.proofs.InsideLemmas.{places_ascend, piece_end_inside, initialised_end_inside, all_ends_inside, name_fits}
-pub use Rattle.address_layout.proofs.RewrittenLemmas.{piece_stands, rewritten_holds}
+pub use Rattle.address_layout.proofs.RewrittenLemmas.{piece_stands, rewritten_holds, rewritten_can_grow}
 pub use Rattle.address_layout.proofs.StandingLemmas.{row_here}
 pub use Rattle.address_layout.proofs.ArrangementLemmas.{Aligned, aligned_rows}
 pub use Rattle.address_layout.proofs.Theorems.{one_layout, one_image_size}
@@ -13,7 +13,7 @@ use Rattle.std.specs.Cmp.{IsTotalOrder, tied_itself}
 use Rattle.std.specs.Cmp.Rules.{comparing}
 use Rattle.std.specs.declared.cmp.Ordering.{Ordering}
 use Rattle.std.specs.declared.cmp.Ordering.TheVariants.{Equal}
-pub use Rattle.address_layout.proofs.RewrittenLemmas.{piece_stands, rewritten_holds}
+pub use Rattle.address_layout.proofs.RewrittenLemmas.{piece_stands, rewritten_holds, rewritten_can_grow}
 pub use Rattle.address_layout.proofs.StandingLemmas.{row_here}
 pub use Rattle.address_layout.proofs.ArrangementLemmas.{Aligned, aligned_rows}
 pub use Rattle.address_layout.proofs.Theorems.{one_layout, one_image_size}

@@ -49,11 +49,11 @@ layout_is pieces sections reloc headers end file placed rvas layout aligned stan
       standing = record {
         place = λ i j. place_of pieces (row_at sections i) (start_of pieces sections headers i) j;
         arranged =
-          subst (λ (h : ℕ). IsArrangement pieces sections reloc h (placed_at layout.sections.items) (λ i j. place_of pieces (row_at sections i) (start_of pieces sections headers i) j) layout.image) (sym same_headers)
-          (subst (IsArrangement pieces sections reloc headers (placed_at layout.sections.items) (λ i j. place_of pieces (row_at sections i) (start_of pieces sections headers i) j)) (sym image) arranged);
-      section_for_each = ap length (same_sections ∙ are.is_placed) ∙ length-map-range_with_len f 0 n;
-      rva_for_each = ap length same_pieces ∙ are.room;
-      written = λ i j lt below. ap (λ (rs : List ℕ). get_or rs (get_or (row_at sections i).1 j 0) 0) same_pieces ∙ are.written i j lt below ∙ fit.place i j lt below;
+            subst (λ (h : ℕ). IsArrangement pieces sections reloc h (placed_at layout.sections.items) (λ i j. place_of pieces (row_at sections i) (start_of pieces sections headers i) j) layout.image) (sym same_headers)
+            (subst (IsArrangement pieces sections reloc headers (placed_at layout.sections.items) (λ i j. place_of pieces (row_at sections i) (start_of pieces sections headers i) j)) (sym image) arranged);
+        section_for_each = ap length (same_sections ∙ are.is_placed) ∙ length-map-range_with_len f 0 n;
+        rva_for_each = ap length same_pieces ∙ are.room;
+        written = λ i j lt below. ap (λ (rs : List ℕ). get_or rs (get_or (row_at sections i).1 j 0) 0) same_pieces ∙ are.written i j lt below ∙ fit.place i j lt below;
       };
       unplaced = λ k apart.
           let whole_list : take n sections ≡ sections = take_all n sections (omega arith) in

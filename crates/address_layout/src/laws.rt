@@ -5,7 +5,7 @@ ghost use Rattle.section_group.specs.declared.piece.Piece.{Piece};
 ghost use Rattle.section_group.specs.declared.piece.OutSection.{OutSection};
 ghost use Rattle.address_layout.specs.declared.layout.Layout.{Layout};
 ghost use Rattle.address_layout.specs.Layout.{IsLayout, HoldsArrangement, IsRewritten, HasImageSize};
-ghost use Rattle.address_layout.specs.Growth.{SameLayout};
+ghost use Rattle.address_layout.specs.Growth.{SameLayout, CanGrow};
 
 use crate::layout::{Layout, Placed};
 use link_base::is_shared;
@@ -22,10 +22,12 @@ pub fn one_image_size()
         → HasImageSize pieces sections reloc size → HasImageSize pieces sections reloc other → size ≡ other }
 {}
 
-/// RVAs written for pieces that stand in no section leave the others where they are.
-#[tactic(auto, using(crate::proofs::RewrittenLemmas::rewritten_holds))]
+/// RVAs written for pieces that stand in no section leave the others where they are, and the section of base relocations can
+/// still follow.
+#[tactic(auto, using(crate::proofs::RewrittenLemmas::rewritten_holds, crate::proofs::RewrittenLemmas::rewritten_can_grow))]
 pub fn other_pieces_may_be_written()
-    ensures { (pieces : List Piece) (sections : List OutSection) (reloc : Bool) (old new : Layout)
+    ensures grows { (sections : List OutSection) (old new : Layout) → CanGrow old → IsRewritten sections old new → CanGrow new }
+    ensures holds { (pieces : List Piece) (sections : List OutSection) (reloc : Bool) (old new : Layout)
         → HoldsArrangement pieces sections reloc old → IsRewritten sections old new → HoldsArrangement pieces sections reloc new }
 {}
 

@@ -2,7 +2,6 @@
 use Rattle.std.proofs.Common.{◌≡◌, ℕ, zero, suc, ◌+◌, ◌%◌, ◌<◌, ◌≤◌, ◌==◌, Bool, true, false, cond, List, [], ◌∷◌, ◌++◌, length, min, slice_get, Some, refl, sym, ap, ◌∙◌, subst, append_assoc, arith, leb, ltb}
 use Rattle.std.specs.List.{flat_map}
 use Rattle.std.proofs.lemmas.Bool.{and_parts, leb-true, ltb-true}
-use Rattle.std.proofs.lemmas.List.{map-append}
 use Rattle.std.proofs.lemmas.List.Sums.{sum_by-cons}
 use Rattle.section_group.specs.Uniqueness.{SectionRow as OutRow}
 use Rattle.address_layout.specs.declared.layout.Placed.{Placed}
@@ -13,7 +12,7 @@ use Rattle.image_writer.specs.HeaderTable.{size_of_code, size_of_initialized_dat
 use Rattle.image_writer.specs.ExpectedImage.{PlacedBytes, holds, raw_bytes}
 use Rattle.image_writer.specs.LoadablePlan.{AreRowsPlaced, AreInRows}
 use Rattle.image_writer.specs.WrittenImage.{header_row, section_rows}
-use Rattle.image_writer.specs.RawData.{piece_bytes, section_bytes, all_bytes}
+use Rattle.image_writer.specs.RawData.{section_bytes, all_bytes}
 use Rattle.image_writer.specs.RawData.{Ascend, laid, laid_all}
 use Rattle.image_writer.proofs.RawLemmas.{Lie, lie_wider, lie_both, ascend_lie, section_raw}
 
@@ -74,7 +73,6 @@ rows_placed rvas contents image (row ∷ rows) (place ∷ placed) start file are
     )
 
 -- ---- the raw data
-
 
 -- all pieces lie between the end before them and the end of the image
 later_lie : (rvas : List ℕ) (contents : List (List ℕ)) (image : ℕ) (rows : List OutRow) (placed : List Placed) (start file : ℕ) → AreWritten rvas contents image rows placed start file → Lie start image (all_bytes rvas contents rows)

@@ -8,7 +8,7 @@ use Rattle.link_base.proofs.CallerLemmas.{first_below-some, first_below-none}
 use Rattle.image_writer.specs.declared.headers.SectionHeader.{SectionHeader}
 use Rattle.image_writer.specs.HeaderTable.{size_of_headers}
 use Rattle.base_reloc.specs.Blocks.{Fields, walk_of}
-use Rattle.base_reloc.proofs.TableLemmas.{table_lists}
+use Rattle.base_reloc.proofs.CallerLemmas.{table_lists}
 use Rattle.pe_loader.specs.LoadedImage.{is_copied_into, section_byte, copied_byte, copied, base_walk}
 use Rattle.image_writer.specs.ExpectedImage.{ImagePlan, PlacedBytes, holds, piece_byte, raw_byte, plan_headers, expected_byte, expected_image, image_file, own_bytes}
 use Rattle.image_writer.specs.LoadablePlan.{IsLoadable}
@@ -41,7 +41,7 @@ found_byte plan rva k placed lt passes =
     let row = there.0 in
     let said = row_reads plan k row placed there.1 in
     let place = row_from plan rva k row placed there.1 passes in
-    rw (said.rva, said.offset) (raw_byte_reads plan k (rva - row.rva) row placed there.1 (omega (arith, place.0, place.1)) ∙ byte_in_row (own_bytes plan) row rva place.0 place.1)
+    rw (said.rva, said.offset) (raw_byte_reads plan k (rva - row.rva) row placed.writable there.1 (omega (arith, place.0, place.1)) ∙ byte_in_row (own_bytes plan) row rva place.0 place.1)
 
 -- ---- a byte that none copies
 
@@ -81,7 +81,7 @@ copied_byte_is plan rva placed =
     rw (headers_size_reads plan placed, count_reads plan placed) (by_place (nat_lt rva (size_of_headers (length plan.rows))) refl)
   where
     by_place : (before : Bool) → nat_lt rva (size_of_headers (length plan.rows)) ≡ before → cond before (slice_index (image_file plan) rva) (section_byte (image_file plan) rva (first_below (length plan.rows) (is_copied_into (image_file plan) rva))) ≡ cond before (slice_index (plan_headers plan) rva) (piece_byte (own_bytes plan) rva)
-    by_place true e = header_byte plan rva placed (ltb-true _ _ e)
+    by_place true e = header_byte plan rva placed.writable (ltb-true _ _ e)
     by_place false e = byte_of_sections plan rva placed
 
 same_maps : (f g : ℕ → ℕ) (xs : List ℕ) → ((x : ℕ) → f x ≡ g x) → map f xs ≡ map g xs

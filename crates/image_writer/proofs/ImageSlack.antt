@@ -24,7 +24,7 @@ file_end_is plan (suc k) placed le =
     let said = row_reads plan k row placed there.1 in
     let after = file_after plan.rows k (size_of_headers (length plan.rows)) row there.1 in
     rw (said.raw_size, said.offset, file_end_is plan k placed (omega arith)) (
-    ends row.raw_size row.file_offset (raw_place plan k) (raw_place plan (suc k)) after (λ some. offset_is_place plan k row placed there.1 some))
+    ends row.raw_size row.file_offset (raw_place plan k) (raw_place plan (suc k)) after (λ some. offset_is_place plan k row placed.writable there.1 some))
   where
     ends : (size offset place next : ℕ) → next ≡ place + size → (0 < size → offset ≡ place) → cond (size == 0) place (offset + size) ≡ next
     ends size offset place next e at =
@@ -42,7 +42,7 @@ behind_size pieces row j le = cond-false (nat_lt j row.size) _ 0 (le-ltb _ _ le)
 zero_in_row : (plan : ImagePlan) (offset k : ℕ) (row : SectionHeader) → IsLoadable plan → slice_get plan.rows k ≡ Some row → raw_place plan k ≤ offset → offset < raw_place plan k + row.raw_size → is_copied_from (image_file plan) offset k ≡ false → slice_index (image_file plan) offset ≡ 0
 zero_in_row plan offset k row placed e low high fails =
     let said = row_reads plan k row placed e in
-    let at = offset_is_place plan k row placed e (some (raw_place plan k) offset row.raw_size low high) in
+    let at = offset_is_place plan k row placed.writable e (some (raw_place plan k) offset row.raw_size low high) in
     let j = offset - row.file_offset in
     let past : row.size ≤ j =
     elim (and_cases _ _ (rw (said.offset, said.raw_size, said.size) at fails)) [
@@ -50,7 +50,7 @@ zero_in_row plan offset k row placed e low high fails =
       | inr late ↦ behind row.file_offset (raw_place plan k) offset row.raw_size row.size at low high (ltb-false _ _ late)
     ] in
     ap (slice_index (image_file plan)) (split row.file_offset (raw_place plan k) offset at low)
-    ∙ raw_byte_reads plan k j row placed e (within row.file_offset (raw_place plan k) offset row.raw_size at low high)
+    ∙ raw_byte_reads plan k j row placed.writable e (within row.file_offset (raw_place plan k) offset row.raw_size at low high)
     ∙ behind_size (own_bytes plan) row j past
   where
     some : (place offset size : ℕ) → place ≤ offset → offset < place + size → 0 < size
@@ -84,13 +84,13 @@ zero_in_file plan offset placed low high none =
 pub zero_slack : (plan : ImagePlan) → IsLoadable plan → HasZeroSlack (image_file plan)
 zero_slack plan placed =
     record {
-      ends = rw (count_reads plan placed) (file_length plan placed ∙ sym (file_end_is plan (length plan.rows) placed (omega arith)));
+      ends = rw (count_reads plan placed) (file_length plan placed.writable ∙ sym (file_end_is plan (length plan.rows) placed (omega arith)));
       zero_elsewhere = λ offset low none. elsewhere offset (rw (headers_size_reads plan placed) at low) (rw (count_reads plan placed) at none);
     }
   where
     elsewhere : (offset : ℕ) → size_of_headers (length plan.rows) ≤ offset → first_below (length plan.rows) (is_copied_from (image_file plan) offset) ≡ None → slice_index (image_file plan) offset ≡ 0
     elsewhere offset low none =
         elim (cases_lt offset (length (image_file plan))) [
-          | inl there ↦ zero_in_file plan offset placed low (rw (file_length plan placed) at there) none
+          | inl there ↦ zero_in_file plan offset placed low (rw (file_length plan placed.writable) at there) none
           | inr past ↦ get_or_past (image_file plan) offset 0 past
         ]

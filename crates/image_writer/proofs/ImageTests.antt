@@ -15,7 +15,7 @@ use Rattle.image_writer.proofs.FileBytes.{headers_in_file, raw_in_file}
 
 -- the file is as long as the fixed headers at least
 fixed_in_file : (plan : ImagePlan) → IsLoadable plan → 328 ≤ length (image_file plan)
-fixed_in_file plan placed = above (length plan.rows) (length (image_file plan)) (headers_in_file plan placed)
+fixed_in_file plan placed = above (length plan.rows) (length (image_file plan)) (headers_in_file plan placed.writable)
   where
     above : (count len : ℕ) → size_of_headers count ≤ len → 328 ≤ len
     above count len le = omega arith
@@ -62,7 +62,7 @@ headers_pass : (plan : ImagePlan) → IsLoadable plan → has_headers (image_fil
 unfolding has_headers
 headers_pass plan placed =
     rw (signature_place plan, count_reads plan placed, headers_size_reads plan placed, size_reads plan placed) (
-    and_from _ _ (le-leb _ _ (omega arith)) (and_from _ _ (le-leb _ _ (headers_in_file plan placed)) (le-leb _ _ placed.headers_inside)))
+    and_from _ _ (le-leb _ _ (omega arith)) (and_from _ _ (le-leb _ _ (headers_in_file plan placed.writable)) (le-leb _ _ placed.headers_inside)))
 
 -- ---- the sections
 
@@ -82,7 +82,7 @@ section_passes : (plan : ImagePlan) (k : ℕ) → IsLoadable plan → k < length
 section_passes plan k placed lt =
     let there = row_there plan.rows k lt in
     let said = row_reads plan k there.0 placed there.1 in
-    let place = placed_row plan k there.0 placed there.1 in
+    let place = placed_row plan k there.0 placed.writable there.1 in
     rw (section_floor_is plan k placed lt, said.rva, said.size, size_reads plan placed) (
     and_from _ _ (eq-eqb _ _ place.aligned) (and_from _ _ (le-leb _ _ place.above) (le-leb _ _ place.inside)))
 
@@ -95,7 +95,7 @@ raw_passes : (plan : ImagePlan) (k : ℕ) → IsLoadable plan → k < length pla
 raw_passes plan k placed lt =
     let there = row_there plan.rows k lt in
     let said = row_reads plan k there.0 placed there.1 in
-    rw (said.raw_size, said.offset) (inside there.0.raw_size there.0.file_offset (length (image_file plan)) (λ some. raw_in_file plan k there.0 placed there.1 some))
+    rw (said.raw_size, said.offset) (inside there.0.raw_size there.0.file_offset (length (image_file plan)) (λ some. raw_in_file plan k there.0 placed.writable there.1 some))
   where
     inside : (size offset len : ℕ) → (0 < size → offset + size ≤ len) → ((size == 0) || nat_le (offset + size) len) ≡ true
     inside size offset len le =

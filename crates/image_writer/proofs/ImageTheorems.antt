@@ -1,5 +1,5 @@
 -- The file of a loadable plan loads as the plan says.
-use Rattle.std.proofs.Common.{◌≡◌, ℕ, Bool, true, false, cond, List, Option, Some, None, refl, sym, ap}
+use Rattle.std.proofs.Common.{◌≡◌, ℕ, Bool, true, false, cond, List, Some, None, refl, sym, ap}
 use Rattle.base_reloc.specs.Blocks.{raised_all}
 use Rattle.pe_loader.specs.LoadedImage.{base_delta, loaded}
 use Rattle.image_writer.specs.ExpectedImage.{ImagePlan, MeansPlan, permits, expected_image, expected_at, image_file}

@@ -1,5 +1,5 @@
 -- The plan of what is laid out loads, and so does its file.
-use Rattle.std.proofs.Common.{◌≡◌, ℕ, ◌<◌, ◌≤◌, true, IsTrue, List, [], ◌∷◌, ◌++◌, length, get_or, map, slice_get, Some, refl, sym, ap, ◌∙◌, subst, arith}
+use Rattle.std.proofs.Common.{◌≡◌, ℕ, ◌<◌, ◌≤◌, true, IsTrue, List, [], ◌∷◌, length, get_or, map, slice_get, Some, refl, sym, ap, ◌∙◌, subst, arith}
 use Rattle.std.specs.List.{All, flat_map, range_with_len}
 use Rattle.std.proofs.lemmas.List.Elements.{All-get_or, All-nil, All-cons, All-append}
 use Rattle.link_base.specs.PeFormat.{DIRECTORY_ENTRY_BASERELOC}
@@ -12,10 +12,9 @@ use Rattle.address_layout.specs.Layout.{all_pieces}
 use Rattle.base_reloc.specs.PageBlocks.{blocks_of, pages_of}
 use Rattle.image_writer.specs.declared.headers.Headers.{Headers}
 use Rattle.image_writer.specs.HeaderTable.{size_of_headers}
-use Rattle.image_writer.specs.ExpectedImage.{PlacedPiece, PlacedBytes, ImagePlan, MeansPlan, plan_bytes, own_bytes, plan_headers, permits, expected_byte, expected_image, image_file}
-use Rattle.image_writer.specs.LoadablePlan.{HasOneLength, IsRelocatable, IsLoadable, AreRowsPlaced, AreInRows}
+use Rattle.image_writer.specs.ExpectedImage.{PlacedBytes, ImagePlan, MeansPlan, plan_bytes, permits, expected_byte, expected_image, image_file}
+use Rattle.image_writer.specs.LoadablePlan.{HasOneLength, IsRelocatable, IsWritable, IsLoadable, AreRowsPlaced, AreInRows}
 use Rattle.image_writer.specs.WrittenImage.{piece_contents, placed_piece, section_pieces, section_rows, written_plan, at_each_base, layout_plan, HaveRoom, IsLaidOut, HasContents}
-use Rattle.image_writer.specs.RawData.{all_bytes}
 use Rattle.image_writer.proofs.PlanBytes.{written_bytes}
 use Rattle.image_writer.proofs.ChainLemmas.{start_inside, rows_placed, pieces_in_rows}
 use Rattle.image_writer.proofs.LaidOutLemmas.{have_room, laid_out_written}
@@ -47,6 +46,21 @@ all_lengths rvas contents (row ∷ rows) same =
 
 -- ---- the plan
 
+-- what is laid out can be written
+pub written_writable : (headers : Headers) (pieces : List Piece) (sections : List OutSection) (layout : Layout) (contents : ℕ → List (List ℕ)) → IsLaidOut pieces sections layout → HaveRoom pieces sections (contents headers.base) → length headers.directories ≡ 16 → IsWritable (layout_plan headers sections layout contents)
+unfolding written_plan
+written_writable headers pieces sections layout contents out room directories =
+    let rvas = layout.pieces.items in
+    let own = contents headers.base in
+    let placed = layout.sections.items in
+    let are = laid_out_written pieces sections layout own out room in
+    let count = length-section_rows pieces sections layout out in
+    let len : layout.headers ≡ size_of_headers (length (section_rows (rows_of sections) placed)) = out.headers ∙ ap size_of_headers (sym count) in
+    record {
+      directories = directories;
+      rows = subst (λ (n : ℕ). AreRowsPlaced (section_rows (rows_of sections) placed) n n layout.image) len (rows_placed rvas own layout.image (rows_of sections) placed layout.headers layout.headers are);
+    }
+
 pub written_loadable : (headers : Headers) (pieces : List Piece) (sections : List OutSection) (layout : Layout) (contents : ℕ → List (List ℕ)) → IsLaidOut pieces sections layout → HaveRoom pieces sections (contents headers.base) → HaveOneLength contents → length headers.directories ≡ 16 → permits (layout_plan headers sections layout contents) headers.base ≡ true → IsRelocatable (layout_plan headers sections layout contents) → IsLoadable (layout_plan headers sections layout contents)
 unfolding written_plan
 written_loadable headers pieces sections layout contents out room same directories permitted relocatable =
@@ -58,13 +72,12 @@ written_loadable headers pieces sections layout contents out room same directori
     let len : layout.headers ≡ size_of_headers (length (section_rows (rows_of sections) placed)) = out.headers ∙ ap size_of_headers (sym count) in
     let inside : layout.headers ≤ layout.image = start_inside rvas own layout.image (rows_of sections) placed layout.headers layout.headers are in
     record {
+      writable = written_writable headers pieces sections layout contents out room directories;
       few = omega (arith, count, out.few);
       some_size = some (length sections) layout.headers layout.image out.headers inside;
       size_fits = out.small;
       headers_inside = subst (λ (n : ℕ). n ≤ layout.image) len inside;
-      directories = directories;
       permitted = permitted;
-      rows = subst (λ (n : ℕ). AreRowsPlaced (section_rows (rows_of sections) placed) n n layout.image) len (rows_placed rvas own layout.image (rows_of sections) placed layout.headers layout.headers are);
       lengths = all_lengths rvas contents (rows_of sections) same;
       pieces = subst (λ (ps : List PlacedBytes). AreInRows ps (section_rows (rows_of sections) placed)) (sym (written_bytes headers (rows_of sections) placed rvas layout.image contents headers.base)) (pieces_in_rows rvas own layout.image (rows_of sections) placed layout.headers layout.headers are);
       relocatable = relocatable;
@@ -97,8 +110,8 @@ unrelocated headers sections layout contents directory =
       ascending = λ k lt. absurd (omega arith);
       within = All-nil _;
       raises = λ base permitted. same_image plan base headers.base (
-      written_bytes headers (rows_of sections) layout.sections.items layout.pieces.items layout.image (at_each_base contents) base
-      ∙ sym (written_bytes headers (rows_of sections) layout.sections.items layout.pieces.items layout.image (at_each_base contents) headers.base));
+          written_bytes headers (rows_of sections) layout.sections.items layout.pieces.items layout.image (at_each_base contents) base
+          ∙ sym (written_bytes headers (rows_of sections) layout.sections.items layout.pieces.items layout.image (at_each_base contents) headers.base));
     }
 
 -- the file of what is written without base relocations loads as its plan says

@@ -53,7 +53,7 @@ apart piece rva out =
           elim (out (omega arith)) [ inl before ↦ absurd (omega arith) | inr behind ↦ absurd (omega arith) ]
     ]
 
-passed : (piece : PlacedBytes) (pieces : List PlacedBytes) (rva : ℕ) → (0 < length piece.bytes → (rva < piece.rva) ⊎ (piece.rva + length piece.bytes ≤ rva)) → piece_byte (piece ∷ pieces) rva ≡ piece_byte pieces rva
+pub passed : (piece : PlacedBytes) (pieces : List PlacedBytes) (rva : ℕ) → (0 < length piece.bytes → (rva < piece.rva) ⊎ (piece.rva + length piece.bytes ≤ rva)) → piece_byte (piece ∷ pieces) rva ≡ piece_byte pieces rva
 passed piece pieces rva out = cond-false (holds piece rva) _ _ (apart piece rva out)
 
 -- the pieces with bytes lie between two places

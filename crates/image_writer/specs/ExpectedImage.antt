@@ -86,7 +86,3 @@ raw_bytes pieces row = map (raw_byte pieces row) (range_with_len 0 row.raw_size)
 -- the headers, and the raw bytes of each section, with what the pieces hold at the image's own base
 unfoldable pub image_file : ImagePlan → List ℕ
 image_file plan = plan_headers plan ++ flat_map (raw_bytes (own_bytes plan)) plan.rows
-
--- where the byte at an RVA of a section stands in the file
-abbrev pub file_place : SectionHeader → ℕ → ℕ
-file_place row rva = row.file_offset + (rva - row.rva)

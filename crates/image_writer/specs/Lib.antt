@@ -3,3 +3,4 @@ pub mod ExpectedImage
 pub mod LoadablePlan
 pub mod WrittenImage
 pub mod RawData
+pub mod PieceInFile

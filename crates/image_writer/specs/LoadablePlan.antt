@@ -50,14 +50,18 @@ pub record IsRelocatable (plan : ImagePlan) : Type 0 where
   pub within : LieWithin plan.size fields
   pub raises : (base : ℕ) → permits plan base ≡ true → expected_image plan base ≡ raised_all (base_delta plan.headers.base base) (expected_image plan plan.headers.base) fields
 
+-- the headers have all their directories, and each section stands after what is before it
+pub record IsWritable (plan : ImagePlan) : Type 0 where
+  pub directories : length plan.headers.directories ≡ NUMBEROF_DIRECTORY_ENTRIES
+  pub rows : AreRowsPlaced plan.rows (size_of_headers (length plan.rows)) (size_of_headers (length plan.rows)) plan.size
+
 pub record IsLoadable (plan : ImagePlan) : Type 0 where
+  pub writable : IsWritable plan
   pub few : length plan.rows < 2 ^ 16
   pub some_size : 0 < plan.size
   pub size_fits : plan.size ≤ IMAGE_LIMIT
   pub headers_inside : size_of_headers (length plan.rows) ≤ plan.size
-  pub directories : length plan.headers.directories ≡ NUMBEROF_DIRECTORY_ENTRIES
   pub permitted : permits plan plan.headers.base ≡ true
-  pub rows : AreRowsPlaced plan.rows (size_of_headers (length plan.rows)) (size_of_headers (length plan.rows)) plan.size
   pub lengths : All HasOneLength plan.pieces
   pub pieces : AreInRows (own_bytes plan) plan.rows
   pub relocatable : IsRelocatable plan

@@ -15,7 +15,10 @@ mod section_table;
 mod writing;
 
 pub use headers::Headers;
-pub use laws::file_loads_as_planned;
+pub use laws::{
+    file_loads_as_planned, layouts_can_be_written, one_file_means_a_plan, pieces_stand_in_the_file,
+    written_file_loads_as_planned,
+};
 pub use writing::image;
 
 #[cfg(test)]

@@ -1,6 +1,6 @@
 -- An image as it stands in memory (PE Format; which loaders refuse what, and when, is own): its refusals, in
 -- their order, and the memory at a base.
-use Rattle.std.specs.Prelude.{◌≡◌, ◌≤◌, ℕ, zero, suc, ◌+◌, ◌-◌, ◌*◌, ◌%◌, ◌^◌, Bool, true, false, ◌&&◌, ◌||◌, ◌==◌, nat_le, nat_lt, min, if◌then◌else◌, List, [], ◌∷◌, length, map, slice_index, Option, Some, None, is_none}
+use Rattle.std.specs.Prelude.{◌≡◌, ◌≤◌, ℕ, zero, suc, ◌+◌, ◌-◌, ◌*◌, ◌%◌, ◌^◌, Bool, true, false, ◌&&◌, ◌||◌, ◌==◌, nat_le, nat_lt, min, if◌then◌else◌, List, [], ◌∷◌, length, map, take, drop, slice_index, Option, Some, None, is_none}
 use Rattle.std.specs.List.{range_with_len}
 use Rattle.link_base.specs.Bytes.{u16_at, u32_at, u64_at, has_bytes, bytes_at, has_flag, all_below, first_below}
 use Rattle.link_base.specs.PeFormat.{PAGE_SIZE, FILE_ALIGNMENT, SIZEOF_OPTIONAL_HEADER, SIZEOF_SECTION_HEADER, NUMBEROF_DIRECTORY_ENTRIES, FILE_MACHINE_AMD64, NT_OPTIONAL_HDR64_MAGIC, DOS_SIGNATURE, NT_SIGNATURE, FILE_RELOCS_STRIPPED, FILE_LARGE_ADDRESS_AWARE, DIRECTORY_ENTRY_BASERELOC}
@@ -171,9 +171,9 @@ abbrev pub first_failed : List (ImageKind × Bool) → Option ImageKind
 first_failed [] = None
 first_failed (test ∷ tests) = if test.1 then first_failed tests else Some test.0
 
-unfoldable pub image_fault : List ℕ → Option ImageKind
-image_fault image =
-    first_failed
+-- the kinds in their order, each beside its test
+abbrev pub image_tests : List ℕ → List (ImageKind × Bool)
+image_tests image =
     ((bad.Dos, has_dos_header image)
     ∷ (bad.Signature, has_signature image)
     ∷ (bad.Machine, has_machine image)
@@ -187,6 +187,16 @@ image_fault image =
     ∷ (bad.Raw, has_raw_bytes image)
     ∷ (bad.Blocks, has_blocks image)
     ∷ [])
+
+-- what is wrong with the headers, by the first nine tests, and with the optional header, by five of them
+unfoldable pub header_fault : List ℕ → Option ImageKind
+header_fault image = first_failed (take 9 (image_tests image))
+
+unfoldable pub optional_fault : List ℕ → Option ImageKind
+optional_fault image = first_failed (take 5 (drop 4 (image_tests image)))
+
+unfoldable pub image_fault : List ℕ → Option ImageKind
+image_fault image = first_failed (image_tests image)
 
 -- how much a base lies above another, modulo 2^64
 abbrev pub base_delta : ℕ → ℕ → ℕ

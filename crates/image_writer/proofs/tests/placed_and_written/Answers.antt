@@ -7,7 +7,7 @@ image-requires-clause-laid_out c =
     laid_out c.args.pieces.now c.args.sections.now c.in-Ok.layout said.layout.standing c.requires.standing said.few_sections said.growth
 
 pub image-requires-clause-contents : goal.image-requires-clause-contents
-image-requires-clause-contents c = 
+image-requires-clause-contents c =
     let said = c.in-Ok.ensures in
     has_contents c.args.pieces.now c.args.sections.now c.in-Ok.layout c.requires.filled
     (laid_out c.args.pieces.now c.args.sections.now c.in-Ok.layout said.layout.standing c.requires.standing said.few_sections said.growth)
