@@ -4,3 +4,5 @@ pub mod PlacedSection
 pub mod SymbolLists
 pub mod Unbuilt
 pub mod ModuleParts
+pub mod TextBlocks
+pub mod StringTableTmp

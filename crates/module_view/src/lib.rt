@@ -11,6 +11,7 @@ mod laws;
 mod input_module;
 
 mod placed_section;
+mod text_block;
 
 
 
