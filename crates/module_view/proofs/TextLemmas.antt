@@ -9,7 +9,7 @@ use Rattle.memchr.specs.Find.{IsFirstByte, IsLastByte, is_byte}
 use Rattle.link_base.specs.Bytes.{is_nul, text_at}
 use Rattle.link_base.specs.Limits.{NAME_LIMIT}
 use Rattle.link_base.proofs.TestLemmas.{ltb_false}
-use Rattle.module_view.specs.StringTableTmp.{text_in, is_long_text}
+use Rattle.coff_object.specs.StringTable.{text_in, is_long_text}
 use Rattle.module_view.specs.TextBlocks.{run_of, reaches, begins_by, IsBlock, block_at}
 use Rattle.module_view.specs.declared.text_block.TextBlock.{TextBlock}
 

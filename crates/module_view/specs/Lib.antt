@@ -3,6 +3,6 @@ pub mod Opening
 pub mod PlacedSection
 pub mod SymbolLists
 pub mod Unbuilt
+pub mod Steps
 pub mod ModuleParts
 pub mod TextBlocks
-pub mod StringTableTmp

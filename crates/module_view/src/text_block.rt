@@ -4,7 +4,7 @@
 ghost use Rattle.std.specs.Prelude.{◌≡◌, ◌<◌, ◌+◌, ◌/◌, ◌^◌, length, IfOk};
 ghost use Rattle.memchr.specs.Find.{IsLastByte, is_byte};
 ghost use Rattle.link_base.specs.Limits as limit;
-ghost use Rattle.module_view.specs.StringTableTmp.{is_long_text};
+ghost use Rattle.coff_object.specs.StringTable.{is_long_text};
 ghost use Rattle.module_view.specs.TextBlocks.{run_of, IsBlock, HoldsBlocks, reaches, begins_by};
 
 use link_base::{Memory, NAME_LIMIT};

@@ -1,5 +1,5 @@
 use Rattle.std.proofs.Common.{◌≡◌, ◌<◌, ◌+◌, ◌*◌, ◌/◌, ◌%◌, ℕ, List, length, None, true, false, not, refl, sym, ap, subst, ◌∙◌, arith}
-use Rattle.module_view.specs.StringTableTmp.{is_long_text}
+use Rattle.coff_object.specs.StringTable.{is_long_text}
 use Rattle.module_view.specs.TextBlocks.{IsBlock, block_at, reaches}
 use Rattle.module_view.specs.declared.text_block.TextBlock.{TextBlock}
 use Rattle.module_view.proofs.TextLemmas.{low_offset, past_last, own_run, next_tells, no_run, block_read, reach_within}
