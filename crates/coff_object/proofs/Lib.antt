@@ -1,9 +1,13 @@
+pub mod HeaderLemmas
 pub mod NameLemmas
 pub mod TextLemmas
 pub mod TextStartLemmas
 pub mod WholeLemmas
 pub mod LoopLemmas
-pub mod RowLemmas
+pub mod SymbolsLemmas
+pub mod NumberLemmas
+pub mod RecordLemmas
+pub mod RelocationLemmas
+pub mod WellFormedLemmas
+pub mod StartLemmas
 pub mod Readable
-pub mod CallerLemmas
-mod WorkedObject

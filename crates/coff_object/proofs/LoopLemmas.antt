@@ -1,60 +1,82 @@
--- The least section, or the least symbol, that fails: steps of a loop that counts up.
-use Rattle.std.proofs.Common.{◌≡◌, ℕ, ◌+◌, ◌<◌, ◌≤◌, Bool, true, false, ◌&&◌, ltb, List, Some, None, lt-ltb, refl, ap, ◌∙◌, arith}
-use Rattle.std.specs.Cmp.Derive.{both_true}
+-- The least section, or the first symbol, that fails: steps of a loop.
+use Rattle.std.proofs.Common.{◌≡◌, ℕ, ◌+◌, ◌-◌, ◌<◌, ◌≤◌, Bool, true, false, cond, List, [], ◌∷◌, map, Option, Some, None, refl, sym, ap, ◌∙◌, arith}
+use Rattle.std.specs.Prelude.{option_map}
+use Rattle.std.proofs.lemmas.Bool.{false≢true}
 use Rattle.link_base.specs.Bytes.{first_below}
-use Rattle.link_base.proofs.CallerLemmas.{first_below-more, first_below-found, first_below-none}
-use Rattle.coff_object.specs.ObjectFile.{section_total, record_total}
-use Rattle.coff_object.proofs.WholeLemmas.{and_second}
-use Rattle.coff_object.specs.ObjectFaults.{of_section, first_section, of_symbol, first_symbol}
-
-and_false : (a : Bool) → (a && false) ≡ false
-and_false true = refl
-and_false false = refl
+use Rattle.link_base.proofs.CallerLemmas.{first_below-more, first_below-found, first_below-none, first_below-all_fail}
+use Rattle.coff_object.specs.ObjectHeader.{section_total}
+use Rattle.coff_object.specs.SymbolRecord.{SymbolView}
+use Rattle.coff_object.specs.ObjectFile.{section_at, SymbolEntry}
+use Rattle.coff_object.specs.ObjectFaults.{of_section, first_section, first_of}
 
 -- ---- sections
 
--- no section is below 1
-pub section_first : (fails : ℕ → Bool) → first_below 1 (of_section fails) ≡ None
+-- none is below the first
+pub section_start : (file : List ℕ) (fails : List ℕ → Bool) → first_below 0 (of_section file fails) ≡ None
 unfolding first_below
-section_first fails = refl
+section_start file fails = refl
 
-pub section_more : (fails : ℕ → Bool) (i : ℕ) → first_below i (of_section fails) ≡ None → fails i ≡ false → first_below (i + 1) (of_section fails) ≡ None
-section_more fails i none passes =
-    first_below-more i (of_section fails) none (ap (λ (b : Bool). ltb 0 i && b) passes ∙ and_false (ltb 0 i))
+pub section_more : (file header : List ℕ) (fails : List ℕ → Bool) (index : ℕ) (answer : Bool) → first_below index (of_section file fails) ≡ None → header ≡ section_at file (index + 1) → answer ≡ fails header → answer ≡ false → first_below (index + 1) (of_section file fails) ≡ None
+section_more file header fails index answer none is said passes =
+    first_below-more index (of_section file fails) none (ap fails (sym is) ∙ sym said ∙ passes)
 
-pub section_found : (bytes : List ℕ) (fails : ℕ → Bool) (i : ℕ) → 0 < i → i < section_total bytes + 1 → first_below i (of_section fails) ≡ None → fails i ≡ true → first_section bytes fails ≡ Some i
+pub section_found : (file header : List ℕ) (fails : List ℕ → Bool) (index : ℕ) (answer : Bool) → index < section_total file → first_below index (of_section file fails) ≡ None → header ≡ section_at file (index + 1) → answer ≡ fails header → answer ≡ true → first_section file fails ≡ Some (index + 1)
 unfolding first_section
-section_found bytes fails i some lt none here =
-    first_below-found i (section_total bytes + 1) (of_section fails) lt none (both_true (lt-ltb 0 i some) here)
+section_found file header fails index answer lt none is said here =
+    ap (option_map (λ (i : ℕ). i + 1)) (first_below-found index (section_total file) (of_section file fails) lt none (ap fails (sym is) ∙ sym said ∙ here))
 
-pub section_none : (bytes : List ℕ) (fails : ℕ → Bool) (i : ℕ) → section_total bytes + 1 ≡ i → first_below i (of_section fails) ≡ None → first_section bytes fails ≡ None
+pub section_none : (file : List ℕ) (fails : List ℕ → Bool) (index : ℕ) → section_total file ≡ index → first_below index (of_section file fails) ≡ None → first_section file fails ≡ None
 unfolding first_section
-section_none bytes fails i same none = ap (λ (k : ℕ). first_below k (of_section fails)) same ∙ none
+section_none file fails index same none =
+    ap (λ (k : ℕ). option_map (λ (i : ℕ). i + 1) (first_below k (of_section file fails))) same ∙ ap (option_map (λ (i : ℕ). i + 1)) none
+
+mapped_none : (place : Option ℕ) → option_map (λ (i : ℕ). i + 1) place ≡ None → place ≡ None
+mapped_none None e = refl
+mapped_none (Some i) e = absurd cc
+
+-- no section fails: each passes
+pub section_passes : (file : List ℕ) (fails : List ℕ → Bool) (section : ℕ) → 1 ≤ section → section ≤ section_total file → first_section file fails ≡ None → fails (section_at file section) ≡ false
+unfolding first_section
+section_passes file fails section first last none =
+    let place : section - 1 + 1 ≡ section = omega arith in
+    ap (λ (i : ℕ). fails (section_at file i)) (sym place)
+    ∙ first_below-none (section_total file) (of_section file fails) (mapped_none _ none) (section - 1) (omega arith)
+
+-- what none fails, none fails that is failed by less
+pub section_weaker : (file : List ℕ) (fails more : List ℕ → Bool) → ((header : List ℕ) → more header ≡ false → fails header ≡ false) → first_section file more ≡ None → first_section file fails ≡ None
+section_weaker file fails more weaker none =
+    section_none file fails (section_total file) refl
+    (first_below-all_fail (section_total file) (of_section file fails) (λ index lt. weaker (section_at file (index + 1)) (section_passes file more (index + 1) (omega arith) (omega arith) none)))
 
 -- ---- symbols
 
-pub symbol_start : (bytes : List ℕ) (fails : ℕ → Bool) → first_below 0 (of_symbol bytes fails) ≡ None
-unfolding first_below
-symbol_start bytes fails = refl
+-- the first of those that are left fails, and is the first of all
+pub symbol_found : (fails : SymbolEntry → Bool) (all : Option ℕ) (before after : List SymbolEntry) (index : ℕ) (symbol : SymbolView) (answer : Bool) → all ≡ first_of fails before → before ≡ (index, symbol) ∷ after → answer ≡ fails (index, symbol) → answer ≡ true → all ≡ Some index
+unfolding first_of
+symbol_found fails all before after index symbol answer same is said here = same ∙ rw is (rw (sym said ∙ here) refl)
 
-pub symbol_more : (bytes : List ℕ) (fails : ℕ → Bool) (i : ℕ) → first_below i (of_symbol bytes fails) ≡ None → of_symbol bytes fails i ≡ false → first_below (i + 1) (of_symbol bytes fails) ≡ None
-symbol_more bytes fails i none passes = first_below-more i (of_symbol bytes fails) none passes
+-- it passes: the first that fails is among the others
+pub symbol_more : (fails : SymbolEntry → Bool) (all : Option ℕ) (before after : List SymbolEntry) (index : ℕ) (symbol : SymbolView) (answer : Bool) → all ≡ first_of fails before → before ≡ (index, symbol) ∷ after → answer ≡ fails (index, symbol) → answer ≡ false → all ≡ first_of fails after
+unfolding first_of
+symbol_more fails all before after index symbol answer same is said passes = same ∙ rw is (rw (sym said ∙ passes) refl)
 
-pub symbol_found : (bytes : List ℕ) (fails : ℕ → Bool) (i : ℕ) → i < record_total bytes → first_below i (of_symbol bytes fails) ≡ None → of_symbol bytes fails i ≡ true → first_symbol bytes fails ≡ Some i
-unfolding first_symbol
-symbol_found bytes fails i lt none here = first_below-found i (record_total bytes) (of_symbol bytes fails) lt none here
+pub symbol_none : (fails : SymbolEntry → Bool) (all : Option ℕ) (before : List SymbolEntry) → all ≡ first_of fails before → before ≡ [] → all ≡ None
+unfolding first_of
+symbol_none fails all before same is = same ∙ rw is refl
 
-pub symbol_none : (bytes : List ℕ) (fails : ℕ → Bool) (i : ℕ) → record_total bytes ≡ i → first_below i (of_symbol bytes fails) ≡ None → first_symbol bytes fails ≡ None
-unfolding first_symbol
-symbol_none bytes fails i same none = ap (λ (k : ℕ). first_below k (of_symbol bytes fails)) same ∙ none
+-- none of those that are left fails: the first passes, and none of the others fails
+pub symbol_passes : (fails : SymbolEntry → Bool) (before after : List SymbolEntry) (entry : SymbolEntry) → before ≡ entry ∷ after → first_of fails before ≡ None → (fails entry ≡ false) × (first_of fails after ≡ None)
+unfolding first_of
+symbol_passes fails before after entry is none = split (fails entry) refl (sym (rw is refl) ∙ none)
+  where
+    split : (b : Bool) → fails entry ≡ b → cond b (Some entry.0) (first_of fails after) ≡ None → (fails entry ≡ false) × (first_of fails after ≡ None)
+    split true e h = absurd cc
+    split false e h = (e, h)
 
--- no symbol fails: each passes
-pub symbol_passes : (bytes : List ℕ) (fails : ℕ → Bool) (i : ℕ) → i < record_total bytes → first_symbol bytes fails ≡ None → of_symbol bytes fails i ≡ false
-unfolding first_symbol
-symbol_passes bytes fails i lt none = first_below-none (record_total bytes) (of_symbol bytes fails) none i lt
-
--- no section fails: each passes
-pub section_passes : (bytes : List ℕ) (fails : ℕ → Bool) (i : ℕ) → 0 < i → i ≤ section_total bytes → first_section bytes fails ≡ None → fails i ≡ false
-unfolding first_section
-section_passes bytes fails i some le none =
-    and_second (ltb 0 i) (fails i) (lt-ltb 0 i some) (first_below-none (section_total bytes + 1) (of_section fails) none i (omega arith))
+-- what none fails, none fails that is failed by less
+pub first_of-weaker : (fails more : SymbolEntry → Bool) (entries : List SymbolEntry) → ((entry : SymbolEntry) → more entry ≡ false → fails entry ≡ false) → first_of more entries ≡ None → first_of fails entries ≡ None
+unfolding first_of
+first_of-weaker fails more [] weaker none = refl
+first_of-weaker fails more (entry ∷ rest) weaker none =
+    let both = symbol_passes more (entry ∷ rest) rest entry refl none in
+    rw (weaker entry both.0) (first_of-weaker fails more rest weaker both.1)

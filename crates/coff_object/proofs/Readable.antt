@@ -1,120 +1,75 @@
 -- What the readers need of an object's bytes, and that a well formed object has it.
-use Rattle.std.proofs.Common.{◌≡◌, ℕ, ◌+◌, ◌-◌, ◌*◌, ◌<◌, ◌≤◌, Bool, true, false, cond, ◌&&◌, eqb, ltb, List, length, None, refl, sym, subst, arith}
-use Rattle.std.proofs.lemmas.Bool.{false≢true, ltb-true}
+use Rattle.std.proofs.Common.{◌≡◌, ℕ, ◌+◌, ◌-◌, ◌*◌, ◌<◌, ◌≤◌, Bool, true, false, cond, eqb, ltb, List, length, None, refl, sym, ap, ◌∙◌, subst, arith}
+use Rattle.std.proofs.lemmas.Bool.{false≢true}
 use Rattle.link_base.specs.Bytes.{u32_at}
-use Rattle.coff_object.specs.ObjectFile.{section_header, section_total, relocation_field_of, relocations_offset_of, relocation_record, has_overflow_count, relocation_total, record_total, symbol_record, aux_total_of, aux_left, starts_symbol}
-use Rattle.coff_object.specs.ObjectFaults.{leaves_file, is_truncated, body_leaves, counted_leave, relocations_leave, lacks_section_name, record_leaves, aux_leave, symbol_leaves, symbol_range_fault, table_leaves, object_fault}
-use Rattle.coff_object.proofs.WholeLemmas.{or_left, or_right, and_second, ltb_false, range_whole, file_whole, header_whole, leaves_not, record_whole}
+use Rattle.link_base.proofs.TestLemmas.{or_left, or_right}
+use Rattle.coff_object.specs.ObjectHeader.{header_size, section_total, record_total, symbol_size}
+use Rattle.coff_object.specs.StringTable.{string_table}
+use Rattle.coff_object.specs.SectionHeader.{relocation_field_in, relocations_offset_in, has_overflow_count_in}
+use Rattle.coff_object.specs.Relocations.{relocations_place, relocation_count_in}
+use Rattle.coff_object.specs.ObjectFile.{section_at, record_offset, aux_total_of, starts_symbol}
+use Rattle.coff_object.specs.ObjectFaults.{leaves_file, is_truncated, body_leaves, counted_leave, relocations_leave, lacks_section_name, table_leaves, object_fault}
+use Rattle.coff_object.specs.OpenObject.{HasRecords}
+use Rattle.coff_object.proofs.WholeLemmas.{range_whole, file_whole}
 use Rattle.coff_object.proofs.LoopLemmas.{section_passes}
-use Rattle.coff_object.proofs.RowLemmas.{ranges_hold, values_hold, fault_none, table_stays, names_stay}
-
--- a section's header and data, its relocations, and the text that its name refers to are in the file
-pub record ReadableSection (bytes : List ℕ) (section : ℕ) : Type 0 where
-  pub header : section_header bytes section + 40 ≤ length bytes
-  pub body : body_leaves bytes section ≡ false
-  pub named : lacks_section_name bytes section ≡ false
-  pub counted : has_overflow_count bytes section ≡ true → relocations_offset_of bytes section + 4 ≤ length bytes
-  pub relocations : (k : ℕ) → k < relocation_total bytes section → relocation_record bytes section k + 10 ≤ length bytes
-
--- a symbol's record and its auxiliary records are in the file, and in the table
-pub record ReadableSymbol (bytes : List ℕ) (index : ℕ) : Type 0 where
-  pub whole : symbol_record bytes index + 18 ≤ length bytes
-  pub room : index + 1 + aux_total_of bytes index ≤ record_total bytes
-  pub aux : (k : ℕ) → k < aux_total_of bytes index → symbol_record bytes (index + 1 + k) + 18 ≤ length bytes
-
-pub record Readable (bytes : List ℕ) : Type 0 where
-  pub file : 20 ≤ length bytes
-  pub table : table_leaves bytes ≡ false
-  pub sections : (i : ℕ) → 1 ≤ i → i ≤ section_total bytes → ReadableSection bytes i
-  pub symbols : (j : ℕ) → starts_symbol bytes j ≡ true → ReadableSymbol bytes j
+use Rattle.coff_object.proofs.StartLemmas.{starts_below, symbol_room}
+use Rattle.coff_object.proofs.WellFormedLemmas.{NoFault, no_fault, range_holds, table_stays, names_stay}
 
 -- ---- relocations
 
-counted_whole : (bytes : List ℕ) (offset : ℕ) → counted_leave bytes offset ≡ false → offset + 10 ≤ length bytes
+counted_whole : (file : List ℕ) (offset : ℕ) → counted_leave file offset ≡ false → offset + 10 ≤ length file
 unfolding counted_leave
-counted_whole bytes offset e =
-    range_whole bytes offset 10 (or_left (leaves_file bytes offset 10) _ e) (omega arith)
+counted_whole file offset e = range_whole file offset 10 (or_left (leaves_file file offset 10) _ e) (omega arith)
 
-counted_all : (bytes : List ℕ) (offset k : ℕ) → counted_leave bytes offset ≡ false → k < u32_at bytes offset - 1 → offset + 10 * (k + 1) + 10 ≤ length bytes
+counted_all : (file : List ℕ) (offset k : ℕ) → counted_leave file offset ≡ false → k < u32_at file offset - 1 → offset + 10 + 10 * k + 10 ≤ length file
 unfolding counted_leave
-counted_all bytes offset k e lt =
-    let rest = or_right (leaves_file bytes offset 10) _ e in
-    let all = or_right (eqb (u32_at bytes offset) 0) (leaves_file bytes offset (10 * u32_at bytes offset)) rest in
-    omega (arith, range_whole bytes offset (10 * u32_at bytes offset) all (omega arith))
+counted_all file offset k e lt =
+    let rest = or_right (leaves_file file offset 10) _ e in
+    let all = or_right (eqb (u32_at file offset) 0) (leaves_file file offset (10 * u32_at file offset)) rest in
+    omega (arith, range_whole file offset (10 * u32_at file offset) all (omega arith))
 
-relocation_whole : (bytes : List ℕ) (offset field k : ℕ) (overflow : Bool) → cond overflow (counted_leave bytes offset) (leaves_file bytes offset (10 * field)) ≡ false → k < cond overflow (u32_at bytes offset - 1) field → offset + 10 * cond overflow (k + 1) k + 10 ≤ length bytes
-relocation_whole bytes offset field k true e lt = counted_all bytes offset k e lt
-relocation_whole bytes offset field k false e lt = omega (arith, range_whole bytes offset (10 * field) e (omega arith))
+-- a relocation that is counted is in the file
+one_whole : (file : List ℕ) (offset field k : ℕ) (overflow : Bool) → cond overflow (counted_leave file offset) (leaves_file file offset (10 * field)) ≡ false → k < cond overflow (u32_at file offset - 1) field → offset + cond overflow 10 0 + 10 * k + 10 ≤ length file
+one_whole file offset field k true e lt = counted_all file offset k e lt
+one_whole file offset field k false e lt = omega (arith, range_whole file offset (10 * field) e (omega arith))
 
-count_whole : (bytes : List ℕ) (offset field : ℕ) (overflow : Bool) → cond overflow (counted_leave bytes offset) (leaves_file bytes offset (10 * field)) ≡ false → overflow ≡ true → offset + 4 ≤ length bytes
-count_whole bytes offset field true e is = omega (arith, counted_whole bytes offset e)
-count_whole bytes offset field false e is = absurd (false≢true is)
+-- none are counted beyond it, however far away an empty list of them begins
+pub relocation_whole : (file header : List ℕ) (k : ℕ) → relocations_leave file header ≡ false → k < relocation_count_in file header → relocations_place header + 10 * k + 10 ≤ length file
+unfolding relocations_leave relocation_count_in relocations_place
+relocation_whole file header k e lt =
+    one_whole file (relocations_offset_in header) (relocation_field_in header) k (has_overflow_count_in header) e lt
 
-readable_section : (bytes : List ℕ) (section : ℕ) → is_truncated bytes ≡ false → body_leaves bytes section ≡ false → relocations_leave bytes section ≡ false → lacks_section_name bytes section ≡ false → 1 ≤ section → section ≤ section_total bytes → ReadableSection bytes section
+count_there : (file : List ℕ) (offset field : ℕ) (overflow : Bool) → cond overflow (counted_leave file offset) (leaves_file file offset (10 * field)) ≡ false → overflow ≡ true → offset + 10 ≤ length file
+count_there file offset field true e is = counted_whole file offset e
+count_there file offset field false e is = absurd (false≢true is)
+
+pub count_whole : (file header : List ℕ) → relocations_leave file header ≡ false → has_overflow_count_in header ≡ true → relocations_offset_in header + 10 ≤ length file
 unfolding relocations_leave
-readable_section bytes section headers body relocations named first last =
-    let offset = relocations_offset_of bytes section in
-    let field = relocation_field_of bytes section in
+count_whole file header e is =
+    count_there file (relocations_offset_in header) (relocation_field_in header) (has_overflow_count_in header) e is
+
+-- ---- sections of an open object
+
+pub record ReadableSection (file : List ℕ) (section : ℕ) : Type 0 where
+  pub body : body_leaves file (section_at file section) ≡ false
+  pub named : lacks_section_name (string_table file) (section_at file section) ≡ false
+  pub relocations : relocations_leave file (section_at file section) ≡ false
+
+pub readable_section : (file : List ℕ) (section : ℕ) → object_fault file ≡ None → 1 ≤ section → section ≤ section_total file → ReadableSection file section
+readable_section file section e first last =
+    let none = no_fault file e in
     record {
-      header = header_whole bytes section headers first last;
-      body = body;
-      named = named;
-      counted = λ counts. count_whole bytes offset field (has_overflow_count bytes section) relocations counts;
-      relocations = λ k lt. relocation_whole bytes offset field k (has_overflow_count bytes section) relocations lt;
+      body = section_passes file (body_leaves file) section first last none.bodies;
+      named = section_passes file (lacks_section_name (string_table file)) section first last (names_stay file none.strings);
+      relocations = section_passes file (relocations_leave file) section first last none.relocations;
     }
 
--- ---- symbols
+-- ---- symbols of an open object
 
-and_left : (a b : Bool) → (a && b) ≡ true → a ≡ true
-and_left true b e = refl
-and_left false b e = absurd (false≢true e)
+-- a symbol's record is in the file, and so are its auxiliary records
+pub aux_whole : (file : List ℕ) (index place : ℕ) → object_fault file ≡ None → starts_symbol file index ≡ true → place < aux_total_of file index → record_offset file (index + 1 + place) + symbol_size file ≤ length file
+aux_whole file index place e starts lt =
+    (range_holds file (no_fault file e).symbols).whole (index + 1 + place) (omega (arith, symbol_room file index e starts))
 
-and_right : (a b : Bool) → (a && b) ≡ true → b ≡ true
-and_right true b e = e
-and_right false b e = absurd (false≢true e)
-
-pub starts_below : (bytes : List ℕ) (j : ℕ) → starts_symbol bytes j ≡ true → j < record_total bytes
-starts_below bytes j e = ltb-true j (record_total bytes) (and_left (ltb j (record_total bytes)) (eqb (aux_left bytes j) 0) e)
-
-pub starts_with_none : (bytes : List ℕ) (j : ℕ) → starts_symbol bytes j ≡ true → eqb (aux_left bytes j) 0 ≡ true
-starts_with_none bytes j e = and_right (ltb j (record_total bytes)) (eqb (aux_left bytes j) 0) e
-
-aux_fit : (bytes : List ℕ) (j : ℕ) → symbol_leaves bytes j ≡ false → eqb (aux_left bytes j) 0 ≡ true → j + 1 + aux_total_of bytes j ≤ record_total bytes
-unfolding symbol_leaves
-aux_fit bytes j e starts =
-    let both = or_right (record_leaves bytes j) (eqb (aux_left bytes j) 0 && aux_leave bytes j) e in
-    ltb_false (record_total bytes) (j + 1 + aux_total_of bytes j) (and_second (eqb (aux_left bytes j) 0) (aux_leave bytes j) starts both)
-
-readable_symbol : (bytes : List ℕ) (j : ℕ) → symbol_range_fault bytes ≡ None → starts_symbol bytes j ≡ true → ReadableSymbol bytes j
-readable_symbol bytes j ranges starts =
-    let lt = starts_below bytes j starts in
-    let room = aux_fit bytes j (leaves_not bytes j ranges lt) (starts_with_none bytes j starts) in
-    record {
-      whole = record_whole bytes j ranges lt;
-      room = room;
-      aux = λ k below. record_whole bytes (j + 1 + k) ranges (omega (arith, room));
-    }
-
--- ---- all of it
-
-pub readable : (bytes : List ℕ) → object_fault bytes ≡ None → Readable bytes
-readable bytes e =
-    let none = fault_none bytes e in
-    let ranges = ranges_hold bytes none.0 in
-    let values = values_hold bytes none.1 in
-    record {
-      file = file_whole bytes ranges.headers;
-      table = table_stays bytes values.strings;
-      sections = λ i first last. readable_section bytes i ranges.headers (section_passes bytes (body_leaves bytes) i first last ranges.bodies) (section_passes bytes (relocations_leave bytes) i first last ranges.relocations) (section_passes bytes (lacks_section_name bytes) i first last (names_stay bytes values.strings)) first last;
-      symbols = λ j starts. readable_symbol bytes j ranges.symbols starts;
-    }
-
--- ---- the same of an object, whose view is its bytes
-
-pub section_of : (inside shown : List ℕ) (i : ℕ) → inside ≡ shown → object_fault inside ≡ None → 1 ≤ i → i ≤ section_total shown → ReadableSection inside i
-section_of inside shown i same e first last =
-    (readable inside e).sections i first (subst (λ (bytes : List ℕ). i ≤ section_total bytes) (sym same) last)
-
-pub symbol_of : (inside shown : List ℕ) (j : ℕ) → inside ≡ shown → object_fault inside ≡ None → starts_symbol shown j ≡ true → ReadableSymbol inside j
-symbol_of inside shown j same e starts =
-    (readable inside e).symbols j (subst (λ (bytes : List ℕ). starts_symbol bytes j ≡ true) (sym same) starts)
+pub symbol_whole : (file : List ℕ) (index : ℕ) → object_fault file ≡ None → starts_symbol file index ≡ true → record_offset file index + symbol_size file ≤ length file
+symbol_whole file index e starts = (range_holds file (no_fault file e).symbols).whole index (starts_below file index starts)

@@ -1,29 +1,29 @@
-//! Reads COFF object files for x86-64: sections, relocations, symbol records and their auxiliary records, as
-//! views of the file's bytes. It takes the bytes and gives the views to the crates that link. Its contracts
-//! promise that each view is what the format says of the bytes, and that an object is refused exactly where
-//! it is malformed, for the first fault. What names mean, and COMDATs, are left to others. No call takes
-//! memory.
+//! x
 #![tactic(auto)]
 
-pub mod constants;
 mod error;
 mod fault;
-mod fields;
+mod file;
 mod header;
 mod object;
+mod offsets;
+mod ranges;
 mod relocation;
 mod section;
 mod section_fault;
+mod section_header;
 mod strings;
 mod symbol;
 mod symbol_fault;
+mod symbol_record;
+mod symbols;
+mod well_formed;
 
 pub use error::ObjError;
-pub use link_base::ObjFault;
+pub use header::is_big_object;
 pub use object::Object;
-pub use relocation::Relocation;
+pub use relocation::{Relocation, Relocations};
 pub use section::Section;
 pub use symbol::Symbol;
-
-#[cfg(test)]
-mod tests;
+pub use symbol_record::SymbolRecord;
+pub use symbols::Symbols;

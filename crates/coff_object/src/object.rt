@@ -2,35 +2,41 @@
 
 ghost use Rattle.std.specs.Prelude.{◌≡◌, ◌<◌, ◌≤◌, ◌^◌, length, take, IfOk, OnOk, IfErr, is_ok, is_none, true, None, Some};
 ghost use Rattle.std.specs.Option.{option_copied};
-ghost use Rattle.coff_object.specs.ObjectFile.{section_total, section_name_of, raw_size_of, flags_of, alignment_of, body_of, relocation_total, relocation_offset_of, relocation_symbol_of, relocation_kind_of, record_total, starts_symbol, symbol_name_of, symbol_value_of, symbol_section_field, symbol_section_of, symbol_kind_of, symbol_class_of, aux_total_of, aux_record};
+ghost use Rattle.coff_object.specs.ObjectFile.{section_total, section_name_of, raw_size_of, flags_of, alignment_of, body_of, relocation_total, relocation_of, relocations_of, record_total, symbol_size, string_table, starts_symbol, symbol_name_of, symbol_value_of, symbol_section_of, symbol_kind_of, symbol_class_of, aux_total_of, aux_record, symbol_entries};
 ghost use Rattle.coff_object.specs.ObjectFaults.{object_fault};
 
 use crate::error::ObjError;
 use crate::fault::object_fault;
-use crate::header::{record_total, section_total};
-use crate::relocation::{Relocation, relocation_in, relocation_total};
+use crate::file::File;
+use crate::relocation::{
+    Relocation, Relocations, relocation_at, relocation_count, relocations_place,
+};
 use crate::section::{Section, section_in, section_name_start};
-use crate::symbol::{Symbol, aux_in, symbol_in};
+use crate::strings::string_table;
+use crate::symbol::{Symbol, symbol_in};
+use crate::symbols::Symbols;
+use crate::well_formed::is_well_formed;
 use link_base::Name;
+use link_base::pe_format::SIZEOF_RELOCATION;
 use std::marker::Model;
 
-/// An object file that was opened. What it gives out is borrowed from the file's bytes. Sections are numbered
-/// from 1, and symbol records from 0; a symbol stands at record 0, and behind each symbol and its auxiliary
-/// records.
+/// An object file that was opened, a plain or a big one. What it gives out is borrowed from the file's bytes. Sections are
+/// numbered from 1, and symbol records from 0; a symbol stands at record 0, and after each symbol and its auxiliary records.
 #[derive(Drop)]
 pub struct Object<'a> {
-    bytes: &'a [u8],
+    file: File<'a>,
+    strings: &'a [u8],
 }
 
 impl<'a> Model for Object<'a> {
-    ghost use Rattle.std.specs.Prelude.{◌≡◌, List, ℕ, None};
-    ghost use Rattle.coff_object.specs.ObjectFaults.{object_fault};
+    ghost use Rattle.std.specs.Prelude.{List, ℕ};
+    ghost use Rattle.coff_object.specs.OpenObject.{IsOpen};
 
     ghost Value = { List ℕ };
 
-    ghost view = { λ object. object.bytes.now };
+    ghost view = { λ object. object.file };
 
-    ghost invariant = { λ object. object_fault object.bytes.now ≡ None };
+    ghost invariant = { λ object. IsOpen object.file object.strings.now };
 }
 
 impl<'a> Object<'a> {
@@ -43,17 +49,30 @@ impl<'a> Object<'a> {
         ensures refused { IfErr result (λ error. object_fault bytes.now ≡ Some error) }
         ensures opens { is_ok result ≡ is_none (object_fault bytes.now) }
     {
+        if is_well_formed(bytes) {
+            return Ok(Object::of(bytes));
+        }
         match object_fault(bytes) {
             Some(error) => Err(error),
-            None => Ok(Object { bytes }),
+            None => Ok(Object::of(bytes)),
         }
+    }
+
+    /// The object with these bytes, which are known to be well formed.
+    fn of(bytes: &'a [u8]) -> Object<'a>
+        requires { object_fault bytes.now ≡ None }
+        ensures { result ≡ bytes.now }
+    {
+        let file = File::read(bytes);
+        let strings = string_table(&file);
+        Object { file, strings }
     }
 
     /// How many sections there are.
     pub fn section_count(&self) -> u32
         ensures { result ≡ section_total self.now }
     {
-        u32::from(section_total(self.bytes))
+        self.file.section_count()
     }
 
     /// A section, by its number.
@@ -66,7 +85,8 @@ impl<'a> Object<'a> {
         ensures align { result.align ≡ alignment_of (flags_of self.now i) }
         ensures body { option_copied result.body ≡ body_of self.now i }
     {
-        section_in(self.bytes, i)
+        let header = self.file.section_header(i);
+        section_in(self.file.bytes(), self.strings, &header)
     }
 
     /// The first bytes of a section's name, at most `limit`: a name that is longer costs no more.
@@ -75,7 +95,8 @@ impl<'a> Object<'a> {
         requires last { i ≤ section_total self.now }
         ensures { result ≡ take limit (section_name_of self.now i) }
     {
-        section_name_start(self.bytes, i, limit)
+        let header = self.file.section_header(i);
+        section_name_start(self.strings, &header, limit)
     }
 
     /// How many relocations a section has.
@@ -84,7 +105,8 @@ impl<'a> Object<'a> {
         requires last { i ≤ section_total self.now }
         ensures { result ≡ relocation_total self.now i }
     {
-        relocation_total(self.bytes, i)
+        let header = self.file.section_header(i);
+        relocation_count(self.file.bytes(), &header)
     }
 
     /// A relocation of a section, by its index among them.
@@ -92,18 +114,30 @@ impl<'a> Object<'a> {
         requires first { 1 ≤ i }
         requires last { i ≤ section_total self.now }
         requires there { k < relocation_total self.now i }
-        ensures at { result.at ≡ relocation_offset_of self.now i k }
-        ensures symbol { result.symbol ≡ relocation_symbol_of self.now i k }
-        ensures kind { result.kind ≡ relocation_kind_of self.now i k }
+        ensures { result ≡ relocation_of self.now i k }
     {
-        relocation_in(self.bytes, i, k)
+        let header = self.file.section_header(i);
+        let place = relocations_place(&header) + SIZEOF_RELOCATION * k as usize;
+        relocation_at(self.file.bytes(), place)
+    }
+
+    /// The relocations of a section, in the order of their records.
+    pub fn relocations(&self, i: u32) -> Relocations<'a>
+        requires first { 1 ≤ i }
+        requires last { i ≤ section_total self.now }
+        ensures { result ≡ relocations_of self.now i }
+    {
+        let header = self.file.section_header(i);
+        let bytes = self.file.bytes();
+        let count = relocation_count(bytes, &header);
+        Relocations::from_place(bytes, relocations_place(&header), count)
     }
 
     /// How many symbol records there are, the auxiliary ones included.
     pub fn record_count(&self) -> u32
         ensures { result ≡ record_total self.now }
     {
-        record_total(self.bytes)
+        self.file.record_count()
     }
 
     /// The symbol that starts at a record.
@@ -112,20 +146,34 @@ impl<'a> Object<'a> {
         ensures name { result.name ≡ symbol_name_of self.now j }
         ensures value { result.value ≡ symbol_value_of self.now j }
         ensures section { result.section ≡ symbol_section_of self.now j }
-        ensures field { symbol_section_field self.now j < 2 ^ 16 }
         ensures kind { result.kind ≡ symbol_kind_of self.now j }
         ensures class { result.class ≡ symbol_class_of self.now j }
         ensures aux { result.aux ≡ aux_total_of self.now j }
     {
-        symbol_in(self.bytes, j)
+        symbol_in(&self.file.symbol(j, self.strings))
     }
 
-    /// An auxiliary record of the symbol that starts at a record, by its index behind it: 18 bytes.
+    /// All symbols with their records' indexes, in the order of their records.
+    pub fn symbols(&self) -> Symbols<'a>
+        ensures { result ≡ symbol_entries self.now }
+    {
+        Symbols::of(self.file.again(), self.strings)
+    }
+
+    /// An auxiliary record of the symbol that starts at a record, by its index after it: 18 bytes, or 20 in a big object.
     pub fn aux(&self, j: u32, k: u8) -> &'a [u8]
         requires symbol { starts_symbol self.now j ≡ true }
         requires there { k < aux_total_of self.now j }
-        ensures { result.now ≡ aux_record self.now j k }
+        ensures part { result.now ≡ aux_record self.now j k }
+        ensures len { length result.now ≡ symbol_size self.now }
     {
-        aux_in(self.bytes, j, k)
+        self.file.record(j + 1 + u32::from(k))
+    }
+
+    /// The string table, with the four bytes of its size. It is empty where there is none.
+    pub fn string_table(&self) -> &'a [u8]
+        ensures { result.now ≡ string_table self.now }
+    {
+        self.strings
     }
 }

@@ -1,12 +1,18 @@
 //! Relocations (PE Format, "COFF Relocations").
 
-ghost use Rattle.std.specs.Prelude.{◌≡◌, ◌≤◌, ◌<◌, ◌+◌, ◌^◌, length, true};
-ghost use Rattle.coff_object.specs.ObjectFile.{section_header, has_overflow_count, relocations_offset_of, relocation_total, relocation_record, relocation_offset_of, relocation_symbol_of, relocation_kind_of};
+ghost use Rattle.std.specs.Prelude.{◌≡◌, ◌≤◌, ◌<◌, ◌+◌, ◌*◌, ◌^◌, ℕ, length, true};
+ghost use Rattle.std.specs.Iterator.{YieldsFirst, item_count};
+ghost use Rattle.coff_object.specs.SectionHeader.{relocations_offset_in, has_overflow_count_in};
+ghost use Rattle.coff_object.specs.Relocations.{relocations_place, relocation_count_in, relocation_at, relocations_from};
 ghost use Rattle.coff_object.specs.ObjectFaults.{relocations_leave, counted_leave};
 
-use crate::constants::SCN_LNK_NRELOC_OVFL;
-use crate::fields::{leaves_file, u16_in, u32_in};
-use crate::header::{flags, relocation_field, relocations_offset};
+use crate::file::File;
+use crate::offsets::{RELOCATION_SYMBOL_TABLE_INDEX, RELOCATION_TYPE};
+use crate::ranges::leaves_file;
+use crate::section_header::SectionHeader;
+use link_base::pe_format::SIZEOF_RELOCATION;
+use link_base::{u16_in, u32_in};
+use std::marker::Model;
 
 /// A field of a section that the linker sets: its offset in the section's bytes, the symbol record that it
 /// refers to, and its type.
@@ -17,46 +23,46 @@ pub struct Relocation {
     pub kind: u16,
 }
 
-/// Whether the first record of a section's relocations holds their count.
-pub(crate) fn has_overflow_count(bytes: &[u8], section: u32) -> bool
-    requires first { 1 ≤ section }
-    requires header { section_header bytes.now section + 40 ≤ length bytes.now }
-    ensures { result ≡ has_overflow_count bytes.now section }
+/// How many relocations a section has.
+#[tactic(auto, unfolding(crate::specs::Relocations::relocation_count_in))]
+pub(crate) fn relocation_count(bytes: &[u8], header: &SectionHeader<'_>) -> u32
+    requires { has_overflow_count_in header.now ≡ true
+        → relocations_offset_in header.now + SIZEOF_RELOCATION ≤ length bytes.now }
+    ensures { result ≡ relocation_count_in bytes.now header.now }
 {
-    flags(bytes, section) & SCN_LNK_NRELOC_OVFL != 0 && relocation_field(bytes, section) == 0xffff
+    if header.has_overflow_count() {
+        u32_in(bytes, header.relocations_offset() as usize).saturating_sub(1)
+    } else {
+        u32::from(header.relocation_field())
+    }
 }
 
-/// How many relocations a section has.
-pub(crate) fn relocation_total(bytes: &[u8], section: u32) -> u32
-    requires first { 1 ≤ section }
-    requires header { section_header bytes.now section + 40 ≤ length bytes.now }
-    requires counted { has_overflow_count bytes.now section ≡ true
-        → relocations_offset_of bytes.now section + 4 ≤ length bytes.now }
-    ensures { result ≡ relocation_total bytes.now section }
+/// Where the first relocation of a section stands: a record that holds their count is none.
+#[tactic(auto, unfolding(crate::specs::Relocations::relocations_place))]
+pub(crate) fn relocations_place(header: &SectionHeader<'_>) -> usize
+    ensures place { result ≡ relocations_place header.now }
+    ensures bound { result < 2 ^ 33 }
 {
-    if has_overflow_count(bytes, section) {
-        u32_in(bytes, relocations_offset(bytes, section) as usize).saturating_sub(1)
+    let start = header.relocations_offset() as usize;
+    if header.has_overflow_count() {
+        start + SIZEOF_RELOCATION
     } else {
-        u32::from(relocation_field(bytes, section))
+        start
     }
 }
 
 /// Whether a section's relocations leave the file, or the record that counts them counts none.
 #[tactic(auto, unfolding(crate::specs::ObjectFaults::relocations_leave))]
-pub(crate) fn relocations_leave(bytes: &[u8], section: u32) -> bool
-    requires first { 1 ≤ section }
-    requires header { section_header bytes.now section + 40 ≤ length bytes.now }
-    ensures { result ≡ relocations_leave bytes.now section }
+pub(crate) fn relocations_leave(file: &File<'_>, header: &SectionHeader<'_>) -> bool
+    ensures { result ≡ relocations_leave file.now header.now }
 {
-    let start = relocations_offset(bytes, section) as usize;
-    if has_overflow_count(bytes, section) {
+    let bytes = file.bytes();
+    let start = header.relocations_offset() as usize;
+    if header.has_overflow_count() {
         counted_leave(bytes, start)
     } else {
-        leaves_file(
-            bytes,
-            start,
-            10 * usize::from(relocation_field(bytes, section)),
-        )
+        let count = usize::from(header.relocation_field());
+        leaves_file(bytes, start, SIZEOF_RELOCATION * count)
     }
 }
 
@@ -66,40 +72,78 @@ fn counted_leave(bytes: &[u8], start: usize) -> bool
     requires { start < 2 ^ 32 }
     ensures { result ≡ counted_leave bytes.now start }
 {
-    if leaves_file(bytes, start, 10) {
+    if leaves_file(bytes, start, SIZEOF_RELOCATION) {
         return true;
     }
     let count = u32_in(bytes, start) as usize;
-    count == 0 || leaves_file(bytes, start, 10 * count)
+    count == 0 || leaves_file(bytes, start, SIZEOF_RELOCATION * count)
 }
 
-/// Where the record of a relocation begins.
-fn relocation_record(bytes: &[u8], section: u32, index: u32) -> usize
-    requires first { 1 ≤ section }
-    requires header { section_header bytes.now section + 40 ≤ length bytes.now }
-    ensures { result ≡ relocation_record bytes.now section index }
+/// The relocation whose record begins at a place.
+pub(crate) fn relocation_at(bytes: &[u8], place: usize) -> Relocation
+    requires { place + SIZEOF_RELOCATION ≤ length bytes.now }
+    ensures { result ≡ relocation_at bytes.now place }
 {
-    let place = if has_overflow_count(bytes, section) {
-        index as usize + 1
-    } else {
-        index as usize
-    };
-    relocations_offset(bytes, section) as usize + 10 * place
-}
-
-/// A relocation, by its index among the section's.
-pub(crate) fn relocation_in(bytes: &[u8], section: u32, index: u32) -> Relocation
-    requires first { 1 ≤ section }
-    requires header { section_header bytes.now section + 40 ≤ length bytes.now }
-    requires whole { relocation_record bytes.now section index + 10 ≤ length bytes.now }
-    ensures at { result.at ≡ relocation_offset_of bytes.now section index }
-    ensures symbol { result.symbol ≡ relocation_symbol_of bytes.now section index }
-    ensures kind { result.kind ≡ relocation_kind_of bytes.now section index }
-{
-    let start = relocation_record(bytes, section, index);
     Relocation {
-        at: u32_in(bytes, start),
-        symbol: u32_in(bytes, start + 4),
-        kind: u16_in(bytes, start + 8),
+        at: u32_in(bytes, place),
+        symbol: u32_in(bytes, place + RELOCATION_SYMBOL_TABLE_INDEX),
+        kind: u16_in(bytes, place + RELOCATION_TYPE),
+    }
+}
+
+/// The relocations of a section that are still to come, in the order of their records.
+#[derive(Drop)]
+pub struct Relocations<'a> {
+    bytes: &'a [u8],
+    place: usize,
+    index: u32,
+    left: u32,
+}
+
+impl<'a> Model for Relocations<'a> {
+    ghost use Rattle.std.specs.Prelude.{List};
+    ghost use Rattle.coff_object.specs.declared.relocation.Relocation.{Relocation};
+    ghost use Rattle.coff_object.specs.Relocations.{relocations_from, HasRelocations};
+
+    ghost Value = { List Relocation };
+
+    ghost view = { λ it. relocations_from it.bytes.now it.place it.index it.left };
+
+    ghost invariant = { λ it. HasRelocations it.bytes.now it.place it.index it.left };
+}
+
+impl<'a> Relocations<'a> {
+    /// The relocations that stand one after the other from a place on.
+    pub(crate) fn from_place(bytes: &'a [u8], place: usize, count: u32) -> Relocations<'a>
+        requires { (k : ℕ) → k < count → place + SIZEOF_RELOCATION * k + SIZEOF_RELOCATION ≤ length bytes.now }
+        ensures { result ≡ relocations_from bytes.now place 0 count }
+    {
+        Relocations {
+            bytes,
+            place,
+            index: 0,
+            left: count,
+        }
+    }
+}
+
+impl<'a> Iterator for Relocations<'a> {
+    type Item = Relocation;
+
+    ghost next_gives = { YieldsFirst (λ relocations. relocations) };
+
+    ghost remaining = { item_count (λ relocations. relocations) };
+
+    fn next(&mut self) -> Option<Relocation> {
+        if self.left == 0 {
+            return None;
+        }
+        let relocation = relocation_at(
+            self.bytes,
+            self.place + SIZEOF_RELOCATION * self.index as usize,
+        );
+        self.index += 1;
+        self.left -= 1;
+        Some(relocation)
     }
 }

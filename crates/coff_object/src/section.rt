@@ -1,16 +1,18 @@
-//! Sections (PE Format, "Section Table (Section Headers)").
+//! Sections, as their headers describe them.
 
 ghost use Rattle.std.specs.Prelude.{◌≡◌, ◌≤◌, ◌+◌, length, take, false};
 ghost use Rattle.std.specs.Option.{option_copied};
-ghost use Rattle.coff_object.specs.ObjectFile.{string_table, section_header, section_name_of, raw_size_of, flags_of, alignment_of, is_uninitialised, body_of};
-ghost use Rattle.coff_object.specs.ObjectFaults.{body_leaves, table_leaves, lacks_section_name, has_no_alignment};
+ghost use Rattle.coff_object.specs.SectionHeader.{section_name_in, size_in, flags_in, alignment_of};
+ghost use Rattle.coff_object.specs.ObjectFile.{data_in};
+ghost use Rattle.coff_object.specs.ObjectFaults.{body_leaves, lacks_section_name, has_no_alignment};
 ghost use Rattle.coff_object.specs.TextEnd.{EndsTexts};
 
-use crate::constants::{SCN_CNT_UNINITIALIZED_DATA, SCN_TYPE_NO_PAD};
-use crate::fields::{first_bytes, leaves_file, range_in, short_text_in};
-use crate::header::{flags, raw_offset, raw_size, section_header};
+use crate::file::File;
+use crate::ranges::{first_bytes, leaves_file, range_in};
+use crate::section_header::SectionHeader;
 use crate::strings::{has_long_name, long_name_start, long_section_name, names_an_offset};
 use link_base::Name;
+use link_base::pe_format::SCN_TYPE_NO_PAD;
 
 /// A section: its name, its flags, its size and alignment in bytes, and its data, which an uninitialised
 /// section does not have.
@@ -24,7 +26,7 @@ pub struct Section<'a> {
 }
 
 /// The alignment in bytes that a section's flags say.
-pub(crate) fn alignment(flags: u32) -> u32
+fn alignment(flags: u32) -> u32
     ensures { result ≡ alignment_of flags }
 {
     let value = (flags >> 20) % 16;
@@ -37,118 +39,104 @@ pub(crate) fn alignment(flags: u32) -> u32
     }
 }
 
-/// Whether a section has no data in the file.
-pub(crate) fn is_uninitialised(bytes: &[u8], section: u32) -> bool
-    requires first { 1 ≤ section }
-    requires header { section_header bytes.now section + 40 ≤ length bytes.now }
-    ensures { result ≡ is_uninitialised bytes.now section }
-{
-    flags(bytes, section) & SCN_CNT_UNINITIALIZED_DATA != 0 || raw_offset(bytes, section) == 0
-}
-
 /// Whether the data of an initialised section leave the file.
 #[tactic(auto, unfolding(crate::specs::ObjectFaults::body_leaves))]
-pub(crate) fn body_leaves(bytes: &[u8], section: u32) -> bool
-    requires first { 1 ≤ section }
-    requires header { section_header bytes.now section + 40 ≤ length bytes.now }
-    ensures { result ≡ body_leaves bytes.now section }
+pub(crate) fn body_leaves(file: &File<'_>, header: &SectionHeader<'_>) -> bool
+    ensures { result ≡ body_leaves file.now header.now }
 {
-    let start = raw_offset(bytes, section) as usize;
-    let size = raw_size(bytes, section) as usize;
-    !is_uninitialised(bytes, section) && leaves_file(bytes, start, size)
+    let start = header.data_offset() as usize;
+    let size = header.size() as usize;
+    !header.is_uninitialised() && leaves_file(file.bytes(), start, size)
 }
 
 /// Whether the alignment is the one value that the format leaves free.
 #[tactic(auto, unfolding(crate::specs::ObjectFaults::has_no_alignment))]
-pub(crate) fn has_no_alignment(bytes: &[u8], section: u32) -> bool
-    requires first { 1 ≤ section }
-    requires header { section_header bytes.now section + 40 ≤ length bytes.now }
-    ensures { result ≡ has_no_alignment bytes.now section }
+pub(crate) fn has_no_alignment(header: &SectionHeader<'_>) -> bool
+    ensures { result ≡ has_no_alignment header.now }
 {
-    let flags = flags(bytes, section);
+    let flags = header.flags();
     flags & SCN_TYPE_NO_PAD == 0 && (flags >> 20) % 16 == 15
+}
+
+/// Whether a section's name refers to a text that is not in the string table.
+#[tactic(auto, unfolding(crate::specs::ObjectFaults::lacks_section_name))]
+pub(crate) fn lacks_section_name(
+    strings: &[u8],
+    header: &SectionHeader<'_>,
+    texts_end: usize,
+) -> bool
+    requires { EndsTexts strings.now texts_end }
+    ensures { result ≡ lacks_section_name strings.now header.now }
+{
+    let text = header.short_name();
+    names_an_offset(text) && !has_long_name(strings, text, texts_end)
 }
 
 /// The data of a section, where it has any.
 #[tactic(auto, unfolding(crate::specs::ObjectFaults::body_leaves))]
-fn body_in(bytes: &[u8], section: u32) -> Option<&[u8]>
-    requires first { 1 ≤ section }
-    requires header { section_header bytes.now section + 40 ≤ length bytes.now }
-    requires whole { body_leaves bytes.now section ≡ false }
-    ensures { option_copied result ≡ body_of bytes.now section }
+fn data_in<'a>(bytes: &'a [u8], header: &SectionHeader<'_>) -> Option<&'a [u8]>
+    requires { body_leaves bytes.now header.now ≡ false }
+    ensures { option_copied result ≡ data_in bytes.now header.now }
 {
-    if is_uninitialised(bytes, section) {
+    if header.is_uninitialised() {
         return None;
     }
-    let start = raw_offset(bytes, section) as usize;
-    Some(range_in(bytes, start, raw_size(bytes, section) as usize))
+    let start = header.data_offset() as usize;
+    Some(range_in(bytes, start, header.size() as usize))
 }
 
 /// The name of a section: that in its header, or the text of the string table that it refers to.
-#[tactic(auto, unfolding(crate::specs::ObjectFile::section_name_of))]
-fn section_name(bytes: &[u8], section: u32) -> Name<'_>
-    requires first { 1 ≤ section }
-    requires header { section_header bytes.now section + 40 ≤ length bytes.now }
-    requires table { table_leaves bytes.now ≡ false }
-    ensures { result ≡ section_name_of bytes.now section }
+#[tactic(auto, unfolding(crate::specs::SectionHeader::section_name_in))]
+fn section_name<'a>(strings: &'a [u8], header: &SectionHeader<'a>) -> Name<'a>
+    ensures { result ≡ section_name_in strings.now header.now }
 {
-    let text = short_text_in(bytes, section_header(bytes, section));
+    let text = header.short_name();
     if !names_an_offset(text) {
         return Name::of(text);
     }
-    match long_section_name(bytes, text) {
+    match long_section_name(strings, text) {
         Some(name) => name,
         None => Name::of(&[]),
     }
 }
 
 /// The first bytes of a section's name, at most `limit`.
-#[tactic(auto, unfolding(crate::specs::ObjectFile::section_name_of, crate::specs::ObjectFaults::lacks_section_name))]
-pub(crate) fn section_name_start(bytes: &[u8], section: u32, limit: usize) -> Name<'_>
-    requires first { 1 ≤ section }
-    requires header { section_header bytes.now section + 40 ≤ length bytes.now }
-    requires table { table_leaves bytes.now ≡ false }
-    requires named { lacks_section_name bytes.now section ≡ false }
-    ensures { result ≡ take limit (section_name_of bytes.now section) }
+#[tactic(auto, unfolding(crate::specs::SectionHeader::section_name_in, crate::specs::ObjectFaults::lacks_section_name))]
+pub(crate) fn section_name_start<'a>(
+    strings: &'a [u8],
+    header: &SectionHeader<'a>,
+    limit: usize,
+) -> Name<'a>
+    requires { lacks_section_name strings.now header.now ≡ false }
+    ensures { result ≡ take limit (section_name_in strings.now header.now) }
 {
-    let text = short_text_in(bytes, section_header(bytes, section));
+    let text = header.short_name();
     if names_an_offset(text) {
-        Name::of(long_name_start(bytes, text, limit))
+        Name::of(long_name_start(strings, text, limit))
     } else {
         Name::of(first_bytes(text, limit))
     }
 }
 
-/// Whether a section's name refers to a text that is not in the string table.
-#[tactic(auto, unfolding(crate::specs::ObjectFaults::lacks_section_name))]
-pub(crate) fn lacks_section_name(bytes: &[u8], section: u32, texts_end: usize) -> bool
-    requires first { 1 ≤ section }
-    requires header { section_header bytes.now section + 40 ≤ length bytes.now }
-    requires texts { EndsTexts (string_table bytes.now) texts_end }
-    ensures { result ≡ lacks_section_name bytes.now section }
+/// The section that a header describes.
+pub(crate) fn section_in<'a>(
+    bytes: &'a [u8],
+    strings: &'a [u8],
+    header: &SectionHeader<'a>,
+) -> Section<'a>
+    requires { body_leaves bytes.now header.now ≡ false }
+    ensures name { result.name ≡ section_name_in strings.now header.now }
+    ensures flags { result.flags ≡ flags_in header.now }
+    ensures size { result.size ≡ size_in header.now }
+    ensures align { result.align ≡ alignment_of (flags_in header.now) }
+    ensures body { option_copied result.body ≡ data_in bytes.now header.now }
 {
-    let text = short_text_in(bytes, section_header(bytes, section));
-    names_an_offset(text) && !has_long_name(bytes, text, texts_end)
-}
-
-/// A section, by its number.
-pub(crate) fn section_in(bytes: &[u8], section: u32) -> Section<'_>
-    requires first { 1 ≤ section }
-    requires header { section_header bytes.now section + 40 ≤ length bytes.now }
-    requires whole { body_leaves bytes.now section ≡ false }
-    requires table { table_leaves bytes.now ≡ false }
-    ensures name { result.name ≡ section_name_of bytes.now section }
-    ensures flags { result.flags ≡ flags_of bytes.now section }
-    ensures size { result.size ≡ raw_size_of bytes.now section }
-    ensures align { result.align ≡ alignment_of (flags_of bytes.now section) }
-    ensures body { option_copied result.body ≡ body_of bytes.now section }
-{
-    let flags = flags(bytes, section);
+    let flags = header.flags();
     Section {
-        name: section_name(bytes, section),
+        name: section_name(strings, header),
         flags,
-        size: raw_size(bytes, section),
+        size: header.size(),
         align: alignment(flags),
-        body: body_in(bytes, section),
+        body: data_in(bytes, header),
     }
 }

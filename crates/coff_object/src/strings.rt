@@ -1,93 +1,110 @@
 //! The string table, and the names that stand in it (PE Format, "COFF String Table").
 
-ghost use Rattle.std.specs.Prelude.{◌≡◌, ◌<◌, ◌≤◌, ◌+◌, ◌^◌, [], length, take, false, is_some, is_none, unwrap_or};
-ghost use Rattle.std.specs.Option.{option_copied, option_map};
-ghost use Rattle.link_base.specs.Bytes.{text_at};
-ghost use Rattle.coff_object.specs.ObjectFile.{string_table_offset, string_table_size, string_table, text_in_table, names_an_offset, decimal_number, long_section_name};
+ghost use Rattle.std.specs.Prelude.{◌≡◌, ◌<◌, ◌≤◌, ◌+◌, ◌^◌, [], length, take, drop, true, false, is_some, is_none, unwrap_or};
+ghost use Rattle.coff_object.specs.StringTable.{string_table_offset, string_table_size, string_table, text_in};
+ghost use Rattle.coff_object.specs.SectionHeader.{names_an_offset, name_offset, long_section_name};
 ghost use Rattle.coff_object.specs.ObjectFaults.{table_leaves};
 ghost use Rattle.coff_object.specs.TextEnd.{EndsTexts};
 
-use crate::fields::{before_nul, first_bytes, range_in, u32_in};
-use crate::header::{record_total, symbols_offset};
-use link_base::{Name, cstr};
+use crate::file::File;
+use crate::ranges::{before_nul, first_bytes, leaves_file, range_in};
+use link_base::{Name, cstr, decimal_number, u32_in};
 use memchr::memrchr;
 
-/// Where the string table begins: behind the symbol records.
-pub(crate) fn string_table_offset(bytes: &[u8]) -> usize
-    requires { 20 ≤ length bytes.now }
-    ensures place { result ≡ string_table_offset bytes.now }
+/// The size of the table stands in its first four bytes.
+const SIZEOF_STRING_TABLE_SIZE: usize = 4;
+
+/// Where the string table begins: after the symbol records.
+#[tactic(auto, unfolding(crate::specs::StringTable::string_table_offset))]
+fn string_table_offset(file: &File<'_>) -> usize
+    ensures place { result ≡ string_table_offset file.now }
     ensures bound { result < 2 ^ 40 }
 {
-    symbols_offset(bytes) as usize + 18 * (record_total(bytes) as usize)
+    file.symbols_offset() as usize + file.symbol_size() * file.record_count() as usize
 }
 
 /// The size of the string table, with the four bytes of its size; 0 where there is none.
-pub(crate) fn string_table_size(bytes: &[u8]) -> usize
-    requires { 20 ≤ length bytes.now }
-    ensures size { result ≡ string_table_size bytes.now }
+#[tactic(auto, unfolding(crate::specs::StringTable::string_table_size))]
+fn string_table_size(file: &File<'_>) -> usize
+    ensures size { result ≡ string_table_size file.now }
     ensures bound { result < 2 ^ 32 }
 {
-    let start = string_table_offset(bytes);
-    if symbols_offset(bytes) == 0 || start + 4 > bytes.len() {
+    let start = string_table_offset(file);
+    let bytes = file.bytes();
+    if file.symbols_offset() == 0 || start + SIZEOF_STRING_TABLE_SIZE > bytes.len() {
         return 0;
     }
     u32_in(bytes, start) as usize
 }
 
-/// The string table, whole.
-pub(crate) fn string_table(bytes: &[u8]) -> &[u8]
-    requires file { 20 ≤ length bytes.now }
-    requires table { table_leaves bytes.now ≡ false }
-    ensures { result.now ≡ string_table bytes.now }
+/// Whether the string table leaves the file.
+#[tactic(auto, unfolding(crate::specs::ObjectFaults::table_leaves))]
+pub(crate) fn table_leaves(file: &File<'_>) -> bool
+    ensures { result ≡ table_leaves file.now }
 {
-    range_in(bytes, string_table_offset(bytes), string_table_size(bytes))
+    leaves_file(
+        file.bytes(),
+        string_table_offset(file),
+        string_table_size(file),
+    )
 }
 
-/// The place behind the last NUL of a table: a text ends in the table where it begins before it. Found once,
-/// it spares a walk along each text.
-pub(crate) fn texts_end(table: &[u8]) -> usize
-    ensures { EndsTexts table.now result }
+/// The string table, whole.
+#[tactic(auto, unfolding(crate::specs::ObjectFaults::table_leaves, crate::specs::StringTable::string_table))]
+pub(crate) fn string_table<'a>(file: &File<'a>) -> &'a [u8]
+    requires { table_leaves file.now ≡ false }
+    ensures { result.now ≡ string_table file.now }
 {
-    match memrchr(0, table) {
+    range_in(
+        file.bytes(),
+        string_table_offset(file),
+        string_table_size(file),
+    )
+}
+
+/// The place after the last NUL of a table: a text ends in the table where it begins before it. Found once, it spares a walk
+/// along each text.
+pub(crate) fn texts_end(strings: &[u8]) -> usize
+    ensures { EndsTexts strings.now result }
+{
+    match memrchr(0, strings) {
         Some(last) => last + 1,
         None => 0,
     }
 }
 
 /// The text at an offset of the string table, where one ends in it.
-#[tactic(auto, unfolding(crate::specs::ObjectFile::text_in_table))]
-pub(crate) fn text_in_table(bytes: &[u8], offset: u32) -> Option<Name<'_>>
-    requires file { 20 ≤ length bytes.now }
-    requires table { table_leaves bytes.now ≡ false }
-    ensures { result ≡ text_in_table bytes.now offset }
+#[tactic(auto, unfolding(crate::specs::StringTable::text_in))]
+pub(crate) fn text_in(strings: &[u8], offset: usize) -> Option<Name<'_>>
+    ensures { result ≡ text_in strings.now offset }
 {
-    if offset < 4 {
+    if offset < SIZEOF_STRING_TABLE_SIZE {
         return None;
     }
-    cstr(string_table(bytes), offset as usize)
+    cstr(strings, offset)
 }
 
-/// The first bytes, at most `limit`, of the text that begins at an offset of the string table and is known to
-/// end in it. No byte behind the first `limit` is looked at.
-#[tactic(auto, using(crate::proofs::TextStartLemmas::text_start), unfolding(crate::specs::ObjectFile::text_in_table))]
-fn text_start(bytes: &[u8], offset: u32, limit: usize) -> &[u8]
-    requires file { 20 ≤ length bytes.now }
-    requires table { table_leaves bytes.now ≡ false }
-    requires ends { is_none (text_in_table bytes.now offset) ≡ false }
-    ensures { result.now ≡ take limit (unwrap_or (text_in_table bytes.now offset) []) }
+/// The first bytes, at most `limit`, of the text that begins at an offset of the string table and is known to end in it. No
+/// byte after the first `limit` is looked at.
+#[tactic(auto, using(crate::proofs::TextStartLemmas::text_start), unfolding(crate::specs::StringTable::text_in))]
+fn text_start(strings: &[u8], offset: usize, limit: usize) -> &[u8]
+    requires { is_none (text_in strings.now offset) ≡ false }
+    ensures { result.now ≡ take limit (unwrap_or (text_in strings.now offset) []) }
 {
-    let (_, rest) = string_table(bytes).split_at(offset as usize);
+    let (_, rest) = strings.split_at(offset);
     before_nul(first_bytes(rest, limit))
 }
 
 /// Whether a text ends in the string table that begins at an offset of it.
-#[tactic(auto, unfolding(crate::specs::ObjectFile::text_in_table))]
-pub(crate) fn has_text(bytes: &[u8], offset: u32, texts_end: usize) -> bool
-    requires { EndsTexts (string_table bytes.now) texts_end }
-    ensures { result ≡ is_some (text_in_table bytes.now offset) }
+#[tactic(auto, unfolding(crate::specs::StringTable::text_in))]
+pub(crate) fn has_text(strings: &[u8], offset: usize, texts_end: usize) -> bool
+    requires { EndsTexts strings.now texts_end }
+    ensures { result ≡ is_some (text_in strings.now offset) }
 {
-    offset >= 4 && (offset as usize) < texts_end
+    offset >= SIZEOF_STRING_TABLE_SIZE && offset < texts_end
 }
+
+// ---- names of sections
 
 /// Whether the text of a section's name field refers to the string table.
 pub(crate) fn names_an_offset(text: &[u8]) -> bool
@@ -96,64 +113,50 @@ pub(crate) fn names_an_offset(text: &[u8]) -> bool
     !text.is_empty() && text[0] == b'/'
 }
 
-/// The name that the text of a section's name field refers to.
-#[tactic(auto, unfolding(crate::specs::ObjectFile::long_section_name))]
-pub(crate) fn long_section_name<'a>(bytes: &'a [u8], text: &[u8]) -> Option<Name<'a>>
-    requires file { 20 ≤ length bytes.now }
-    requires table { table_leaves bytes.now ≡ false }
-    requires slash { 1 ≤ length text.now }
-    requires short { length text.now ≤ 8 }
-    ensures { result ≡ long_section_name bytes.now text.now }
+/// The offset that the text of a section's name field writes, where it writes one.
+#[tactic(auto, unfolding(crate::specs::SectionHeader::name_offset))]
+fn name_offset(text: &[u8]) -> Option<usize>
+    requires { length text.now ≤ 8 }
+    ensures { result ≡ name_offset text.now }
 {
-    let offset = decimal_number(&text[1..])?;
-    text_in_table(bytes, offset)
+    if !names_an_offset(text) {
+        return None;
+    }
+    decimal_number(&text[1..])
+}
+
+/// The name that the text of a section's name field refers to.
+#[tactic(auto, unfolding(crate::specs::SectionHeader::long_section_name))]
+pub(crate) fn long_section_name<'a>(strings: &'a [u8], text: &[u8]) -> Option<Name<'a>>
+    requires { length text.now ≤ 8 }
+    ensures { result ≡ long_section_name strings.now text.now }
+{
+    let offset = name_offset(text)?;
+    text_in(strings, offset)
 }
 
 /// The first bytes, at most `limit`, of the name that the text of a section's name field refers to.
-#[tactic(auto, unfolding(crate::specs::ObjectFile::long_section_name))]
-pub(crate) fn long_name_start<'a>(bytes: &'a [u8], text: &[u8], limit: usize) -> &'a [u8]
-    requires file { 20 ≤ length bytes.now }
-    requires table { table_leaves bytes.now ≡ false }
-    requires slash { 1 ≤ length text.now }
+#[tactic(auto, unfolding(crate::specs::SectionHeader::long_section_name))]
+pub(crate) fn long_name_start<'a>(strings: &'a [u8], text: &[u8], limit: usize) -> &'a [u8]
     requires short { length text.now ≤ 8 }
-    requires named { is_none (long_section_name bytes.now text.now) ≡ false }
-    ensures { result.now ≡ take limit (unwrap_or (long_section_name bytes.now text.now) []) }
+    requires named { is_none (long_section_name strings.now text.now) ≡ false }
+    ensures { result.now ≡ take limit (unwrap_or (long_section_name strings.now text.now) []) }
 {
-    match decimal_number(&text[1..]) {
-        Some(offset) => text_start(bytes, offset, limit),
+    match name_offset(text) {
+        Some(offset) => text_start(strings, offset, limit),
         None => &[],
     }
 }
 
 /// Whether the text of a section's name field refers to a text of the string table.
-#[tactic(auto, unfolding(crate::specs::ObjectFile::long_section_name))]
-pub(crate) fn has_long_name(bytes: &[u8], text: &[u8], texts_end: usize) -> bool
-    requires texts { EndsTexts (string_table bytes.now) texts_end }
-    requires slash { 1 ≤ length text.now }
+#[tactic(auto, unfolding(crate::specs::SectionHeader::long_section_name))]
+pub(crate) fn has_long_name(strings: &[u8], text: &[u8], texts_end: usize) -> bool
+    requires texts { EndsTexts strings.now texts_end }
     requires short { length text.now ≤ 8 }
-    ensures { result ≡ is_some (long_section_name bytes.now text.now) }
+    ensures { result ≡ is_some (long_section_name strings.now text.now) }
 {
-    match decimal_number(&text[1..]) {
-        Some(offset) => has_text(bytes, offset, texts_end),
+    match name_offset(text) {
+        Some(offset) => has_text(strings, offset, texts_end),
         None => false,
     }
-}
-
-/// The number that a text of at most seven digits writes, zeros before it allowed.
-#[tactic(auto, unfolding(crate::specs::ObjectFile::decimal_number))]
-fn decimal_number(text: &[u8]) -> Option<u32>
-    requires { length text.now < 8 }
-    ensures { result ≡ decimal_number text.now }
-{
-    if text.is_empty() {
-        return None;
-    }
-    let mut value = 0;
-    for digit in text {
-        if *digit < b'0' || *digit > b'9' {
-            return None;
-        }
-        value = 10 * value + u32::from(*digit - b'0');
-    }
-    Some(value)
 }

@@ -1,174 +1,103 @@
-//! What is wrong with the symbols of an object, kind by kind: the first record that fails. A symbol starts
-//! where no auxiliary record of an earlier one is left.
+//! What is wrong with the symbols of an object, kind by kind: the first that fails.
 
-ghost use Rattle.std.specs.Prelude.{◌≡◌, ◌<◌, ◌≤◌, ◌+◌, ◌*◌, length, false, None, IfSome};
-ghost use Rattle.coff_object.specs.ObjectFile.{string_table, section_total, record_total, symbol_record, aux_left};
-ghost use Rattle.coff_object.specs.ObjectFaults.{is_truncated, of_symbol, first_symbol, symbol_leaves, symbol_range_fault, lacks_symbol_name, has_no_section, value_exceeds, means_a_place};
+ghost use Rattle.std.specs.Prelude.{◌≡◌, ◌<◌, ◌≤◌, ◌+◌, ◌*◌, ℕ, pos, length, true, false, None, Some, IfSome, nat_lt};
+ghost use Rattle.std.specs.Int.Signed.{◌<ℤ◌};
+ghost use Rattle.coff_object.specs.ObjectHeader.{record_total, symbol_size};
+ghost use Rattle.coff_object.specs.StringTable.{string_table};
+ghost use Rattle.coff_object.specs.SymbolRecord.{section_of_number};
+ghost use Rattle.coff_object.specs.ObjectFile.{record_offset};
+ghost use Rattle.coff_object.specs.ObjectFaults.{is_truncated, first_symbol, first_torn_record, symbol_range_fault, lacks_symbol_name, has_no_section, value_exceeds, means_a_place};
+ghost use Rattle.coff_object.specs.OpenObject.{HasRecords};
 ghost use Rattle.coff_object.specs.TextEnd.{EndsTexts};
 
-use crate::constants::{SYM_CLASS_EXTERNAL, SYM_CLASS_LABEL, SYM_CLASS_STATIC};
-use crate::fields::{u16_in, u32_in};
-use crate::header::{raw_size, record_total, section_total};
-use crate::strings::has_text;
-use crate::symbol::{LAST_SECTION_NUMBER, symbol_record};
+use crate::file::File;
+use crate::symbol_record::SymbolRecord;
+use crate::symbols::{Symbols, next_start};
+use link_base::pe_format::{
+    SYM_CLASS_EXTERNAL, SYM_CLASS_LABEL, SYM_CLASS_STATIC, SYM_DEBUG, SYM_UNDEFINED,
+};
 
-/// How many auxiliary records are left behind a record, where some are left at it.
-#[tactic(auto, unfolding(crate::specs::ObjectFile::aux_left))]
-fn left_behind(bytes: &[u8], index: u32, left: u8) -> u8
-    requires file { 20 ≤ length bytes.now }
-    requires whole { symbol_record bytes.now index + 18 ≤ length bytes.now }
-    requires left { left ≡ aux_left bytes.now index }
-    ensures { result ≡ aux_left bytes.now (index + 1) }
+// ---- records
+
+/// How many of the symbol records are whole in the file.
+pub(crate) fn whole_records(file: &File<'_>) -> u32
+    ensures within { result ≤ record_total file.now }
+    ensures whole { (index : ℕ) → index < result → record_offset file.now index + symbol_size file.now ≤ length file.now }
+    ensures torn { result < record_total file.now → first_torn_record file.now ≡ Some result }
+    ensures none { result ≡ record_total file.now → first_torn_record file.now ≡ None }
 {
-    if left == 0 {
-        bytes[symbol_record(bytes, index) + 17]
+    let count = file.record_count();
+    let start = file.symbols_offset() as usize;
+    let len = file.bytes().len();
+    if len < start {
+        return 0;
+    }
+    let whole = (len - start) / file.symbol_size();
+    if whole < count as usize {
+        whole as u32
     } else {
-        left - 1
+        count
     }
 }
 
-/// The first record that leaves the file, or whose auxiliary records leave the table. It stops at the end of
-/// the file, however many records the header counts.
-#[tactic(auto, using(crate::proofs::WholeLemmas::file_whole))]
-pub(crate) fn symbol_range_fault(bytes: &[u8]) -> Option<u32>
-    requires { is_truncated bytes.now ≡ false }
-    ensures { result ≡ symbol_range_fault bytes.now }
+/// Whether the auxiliary records of a symbol leave the table of so many records.
+pub(crate) fn aux_leave(index: u32, aux: u8, count: u32) -> bool
+    requires { index < count }
+    ensures { result ≡ nat_lt count (index + 1 + aux) }
 {
-    let mut left = 0;
-    for index in 0..record_total(bytes) {
-        if symbol_leaves(bytes, index, left) {
+    u32::from(aux) > count - index - 1
+}
+
+/// The first record that leaves the file, or the first symbol whose auxiliary records leave the table: the lesser of them.
+/// It stops at the end of the file, however many records the header counts.
+pub(crate) fn symbol_range_fault(file: &File<'_>) -> Option<u32>
+    ensures { result ≡ symbol_range_fault file.now }
+{
+    let count = file.record_count();
+    let whole = whole_records(file);
+    let mut index = 0;
+    while index < whole {
+        let aux = file.aux_count(index);
+        if aux_leave(index, aux, count) {
             return Some(index);
         }
-        left = left_behind(bytes, index, left);
+        index = next_start(index, aux, count);
     }
-    None
+    if whole < count { Some(whole) } else { None }
 }
 
-#[tactic(auto, unfolding(crate::specs::ObjectFaults::symbol_leaves))]
-fn symbol_leaves(bytes: &[u8], index: u32, left: u8) -> bool
-    requires file { 20 ≤ length bytes.now }
-    requires left { left ≡ aux_left bytes.now index }
-    ensures { result ≡ symbol_leaves bytes.now index }
-{
-    let start = symbol_record(bytes, index);
-    if start + 18 > bytes.len() {
-        return true;
-    }
-    left == 0 && index as usize + 1 + usize::from(bytes[start + 17]) > record_total(bytes) as usize
-}
+// ---- one symbol
 
-/// The first symbol whose name is missing in the string table.
-#[tactic(auto, using(crate::proofs::WholeLemmas::file_whole))]
-pub(crate) fn symbol_name_fault(bytes: &[u8], texts_end: usize) -> Option<u32>
-    requires headers { is_truncated bytes.now ≡ false }
-    requires ranges { symbol_range_fault bytes.now ≡ None }
-    requires texts { EndsTexts (string_table bytes.now) texts_end }
-    ensures least { result ≡ first_symbol bytes.now (lacks_symbol_name bytes.now) }
-    ensures bound { IfSome result (λ index. 18 * index < length bytes.now) }
-{
-    let mut left = 0;
-    for index in 0..record_total(bytes) {
-        if lacks_symbol_name(bytes, index, left, texts_end) {
-            return Some(index);
-        }
-        left = left_behind(bytes, index, left);
-    }
-    None
-}
-
-/// Whether a symbol starts here whose name refers to a text that is not in the string table.
-#[tactic(auto, unfolding(crate::specs::ObjectFaults::lacks_symbol_name))]
-fn lacks_symbol_name(bytes: &[u8], index: u32, left: u8, texts_end: usize) -> bool
-    requires file { 20 ≤ length bytes.now }
-    requires whole { symbol_record bytes.now index + 18 ≤ length bytes.now }
-    requires left { left ≡ aux_left bytes.now index }
-    requires texts { EndsTexts (string_table bytes.now) texts_end }
-    ensures { result ≡ of_symbol bytes.now (lacks_symbol_name bytes.now) index }
-{
-    if left > 0 {
-        return false;
-    }
-    let start = symbol_record(bytes, index);
-    u32_in(bytes, start) == 0 && !has_text(bytes, u32_in(bytes, start + 4), texts_end)
-}
-
-/// The first symbol whose section number is none.
-#[tactic(auto, using(crate::proofs::WholeLemmas::file_whole))]
-pub(crate) fn section_number_fault(bytes: &[u8]) -> Option<u32>
-    requires headers { is_truncated bytes.now ≡ false }
-    requires ranges { symbol_range_fault bytes.now ≡ None }
-    ensures { result ≡ first_symbol bytes.now (has_no_section bytes.now) }
-{
-    let mut left = 0;
-    for index in 0..record_total(bytes) {
-        if has_no_section(bytes, index, left) {
-            return Some(index);
-        }
-        left = left_behind(bytes, index, left);
-    }
-    None
-}
-
-/// The least field of a section number that is -2 or more.
-const LEAST_NEGATIVE_NUMBER: u16 = 65_534;
-
-/// Whether a symbol starts here whose section number is above the sections, or below -2.
+/// Whether a symbol's section number is above the sections, or below those for debuggers.
 #[tactic(auto, unfolding(crate::specs::ObjectFaults::has_no_section))]
-fn has_no_section(bytes: &[u8], index: u32, left: u8) -> bool
-    requires file { 20 ≤ length bytes.now }
-    requires whole { symbol_record bytes.now index + 18 ≤ length bytes.now }
-    requires left { left ≡ aux_left bytes.now index }
-    ensures { result ≡ of_symbol bytes.now (has_no_section bytes.now) index }
+pub(crate) fn has_no_section(file: &File<'_>, symbol: &SymbolRecord<'_>) -> bool
+    ensures { result ≡ has_no_section file.now symbol.now }
 {
-    if left > 0 {
-        return false;
-    }
-    let number = u16_in(bytes, symbol_record(bytes, index) + 12);
-    if number <= LAST_SECTION_NUMBER {
-        number > section_total(bytes)
-    } else {
-        number < LEAST_NEGATIVE_NUMBER
-    }
+    let section = symbol.section();
+    section < SYM_DEBUG || i64::from(section) > i64::from(file.section_count())
 }
 
-/// The first symbol whose value is above its section's size.
-#[tactic(auto, using(crate::proofs::WholeLemmas::file_whole))]
-pub(crate) fn value_fault(bytes: &[u8]) -> Option<u32>
-    requires headers { is_truncated bytes.now ≡ false }
-    requires ranges { symbol_range_fault bytes.now ≡ None }
-    requires numbers { first_symbol bytes.now (has_no_section bytes.now) ≡ None }
-    ensures { result ≡ first_symbol bytes.now (value_exceeds bytes.now) }
-{
-    let mut left = 0;
-    for index in 0..record_total(bytes) {
-        if value_exceeds(bytes, index, left) {
-            return Some(index);
-        }
-        left = left_behind(bytes, index, left);
-    }
-    None
-}
-
-/// Whether a symbol starts here that means a place in a section, and lies above the section's size.
+/// Whether a symbol means a place in a section, and lies above the section's size.
 #[tactic(auto, unfolding(crate::specs::ObjectFaults::value_exceeds))]
-fn value_exceeds(bytes: &[u8], index: u32, left: u8) -> bool
-    requires headers { is_truncated bytes.now ≡ false }
-    requires file { 20 ≤ length bytes.now }
-    requires whole { symbol_record bytes.now index + 18 ≤ length bytes.now }
-    requires left { left ≡ aux_left bytes.now index }
-    requires number { of_symbol bytes.now (has_no_section bytes.now) index ≡ false }
-    ensures { result ≡ of_symbol bytes.now (value_exceeds bytes.now) index }
+pub(crate) fn value_exceeds(file: &File<'_>, symbol: &SymbolRecord<'_>) -> bool
+    requires headers { is_truncated file.now ≡ false }
+    requires number { has_no_section file.now symbol.now ≡ false }
+    ensures { result ≡ value_exceeds file.now symbol.now }
 {
-    if left > 0 {
+    let section = symbol.section();
+    if section <= SYM_UNDEFINED || !means_a_place(symbol.class()) {
         return false;
     }
-    let start = symbol_record(bytes, index);
-    let number = u16_in(bytes, start + 12);
-    if number == 0 || number > LAST_SECTION_NUMBER {
-        return false;
-    }
-    means_a_place(bytes[start + 16])
-        && u32_in(bytes, start + 8) > raw_size(bytes, u32::from(number))
+    let header = file.section_header(section_of_number(section));
+    symbol.value() > header.size()
+}
+
+/// The section that a number above 0 is that of.
+fn section_of_number(number: i32) -> u32
+    requires { pos 0 <ℤ number }
+    ensures { result ≡ section_of_number number }
+{
+    number as u32
 }
 
 /// Whether symbols of a storage class mean places where they have a section.
@@ -176,4 +105,56 @@ fn means_a_place(class: u8) -> bool
     ensures { result ≡ means_a_place class }
 {
     class == SYM_CLASS_EXTERNAL || class == SYM_CLASS_STATIC || class == SYM_CLASS_LABEL
+}
+
+// ---- all symbols
+
+/// The first symbol whose name is missing in the string table.
+pub(crate) fn symbol_name_fault<'a>(
+    file: &File<'a>,
+    strings: &'a [u8],
+    texts_end: usize,
+) -> Option<u32>
+    requires records { HasRecords file.now }
+    requires table { strings.now ≡ string_table file.now }
+    requires texts { EndsTexts strings.now texts_end }
+    ensures least { result ≡ first_symbol file.now lacks_symbol_name }
+    ensures bound { IfSome result (λ index. index < record_total file.now) }
+{
+    for (index, symbol) in Symbols::of(file.again(), strings) {
+        if symbol.lacks_name(texts_end) {
+            return Some(index);
+        }
+    }
+    None
+}
+
+/// The first symbol whose section number is none.
+pub(crate) fn section_number_fault<'a>(file: &File<'a>, strings: &'a [u8]) -> Option<u32>
+    requires records { HasRecords file.now }
+    requires table { strings.now ≡ string_table file.now }
+    ensures { result ≡ first_symbol file.now (has_no_section file.now) }
+{
+    for (index, symbol) in Symbols::of(file.again(), strings) {
+        if has_no_section(file, &symbol) {
+            return Some(index);
+        }
+    }
+    None
+}
+
+/// The first symbol whose value is above its section's size.
+pub(crate) fn value_fault<'a>(file: &File<'a>, strings: &'a [u8]) -> Option<u32>
+    requires headers { is_truncated file.now ≡ false }
+    requires records { HasRecords file.now }
+    requires table { strings.now ≡ string_table file.now }
+    requires numbers { first_symbol file.now (has_no_section file.now) ≡ None }
+    ensures { result ≡ first_symbol file.now (value_exceeds file.now) }
+{
+    for (index, symbol) in Symbols::of(file.again(), strings) {
+        if value_exceeds(file, &symbol) {
+            return Some(index);
+        }
+    }
+    None
 }

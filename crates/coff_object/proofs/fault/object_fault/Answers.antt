@@ -1,9 +1,19 @@
-use Rattle.std.proofs.Common.{sym}
-use Rattle.coff_object.proofs.RowLemmas.{ranges_hold}
+use Rattle.std.proofs.Common.{sym, ◌∙◌}
+use Rattle.coff_object.proofs.WholeLemmas.{file_whole}
+use Rattle.coff_object.proofs.WellFormedLemmas.{range_holds, table_stays}
 use Rattle.coff_object.proofs.fault.object_fault.Goals as goal
 
-pub value_rows-requires-clause-headers : goal.value_rows-requires-clause-headers
-value_rows-requires-clause-headers c = (ranges_hold _ (sym c.in-None.ensures)).headers
+pub read-file-requires : goal.read-file-requires
+read-file-requires c = file_whole c.args.bytes.now (sym c.is_truncated.ensures ∙ c.if-is_truncated.false)
 
-pub value_rows-requires-clause-ranges : goal.value_rows-requires-clause-ranges
-value_rows-requires-clause-ranges c = (ranges_hold _ (sym c.in-None.ensures)).symbols
+pub string_table_fault-requires-clause-records : goal.string_table_fault-requires-clause-records
+string_table_fault-requires-clause-records c = range_holds c.read-file.result (sym c.in_default-symbol_range_fault.ensures)
+
+pub string_table-strings-requires : goal.string_table-strings-requires
+string_table-strings-requires c = table_stays c.read-file.result (sym c.in_default-string_table_fault.ensures)
+
+pub section_number_fault-requires-clause-records : goal.section_number_fault-requires-clause-records
+section_number_fault-requires-clause-records c = range_holds c.read-file.result (sym c.in_default-symbol_range_fault.ensures)
+
+pub value_fault-requires-clause-records : goal.value_fault-requires-clause-records
+value_fault-requires-clause-records c = range_holds c.read-file.result (sym c.in_default-symbol_range_fault.ensures)

@@ -1,24 +1,19 @@
-use Rattle.std.proofs.Common.{arith, sym, ◌∙◌}
+use Rattle.std.proofs.Common.{arith, sym}
 use Rattle.coff_object.specs.ObjectFaults.{body_leaves}
-use Rattle.coff_object.proofs.LoopLemmas.{section_first, section_more, section_found, section_none}
-use Rattle.coff_object.proofs.WholeLemmas.{header_whole}
+use Rattle.coff_object.proofs.LoopLemmas.{section_start, section_more, section_found, section_none}
 use Rattle.coff_object.proofs.section_fault.body_fault.Goals as goal
 
-pub loop-section-init : goal.loop-section-init
-loop-section-init c = section_first (body_leaves c.args.bytes.now)
-
-pub body_leaves-requires-clause-header : goal.body_leaves-requires-clause-header
-body_leaves-requires-clause-header c =
-    header_whole c.args.bytes.now c.loop-section.section c.requires (omega arith) (omega (arith, c.section_count-section-end.ensures.count))
+pub loop-index-init : goal.loop-index-init
+loop-index-init c = section_start c.args.file.now (body_leaves c.args.file.now)
 
 pub returns-then-body_leaves : goal.returns-then-body_leaves
 returns-then-body_leaves c =
-    sym (section_found c.args.bytes.now (body_leaves c.args.bytes.now) c.loop-section.section (omega arith) (omega (arith, c.section_count-section-end.ensures.count)) c.loop-section.invariant (sym c.body_leaves.ensures ∙ c.if-body_leaves.true))
+    sym (section_found c.args.file.now c.section_header-header.result (body_leaves c.args.file.now) c.loop-index.index c.body_leaves.result (omega (arith, c.section_count-index-end.ensures)) c.loop-index.invariant c.section_header-header.ensures c.body_leaves.ensures c.if-body_leaves.true)
 
-pub loop-section-preserved : goal.loop-section-preserved
-loop-section-preserved c =
-    section_more (body_leaves c.args.bytes.now) c.loop-section.section c.loop-section.invariant (sym c.body_leaves.ensures ∙ c.if-body_leaves.false)
+pub loop-index-preserved : goal.loop-index-preserved
+loop-index-preserved c =
+    section_more c.args.file.now c.section_header-header.result (body_leaves c.args.file.now) c.loop-index.index c.body_leaves.result c.loop-index.invariant c.section_header-header.ensures c.body_leaves.ensures c.if-body_leaves.false
 
 pub returns : goal.returns
 returns c =
-    sym (section_none c.args.bytes.now (body_leaves c.args.bytes.now) c.loop-section.section (omega (arith, c.section_count-section-end.ensures.count)) c.loop-section.invariant)
+    sym (section_none c.args.file.now (body_leaves c.args.file.now) c.loop-index.index (omega (arith, c.section_count-index-end.ensures)) c.loop-index.invariant)

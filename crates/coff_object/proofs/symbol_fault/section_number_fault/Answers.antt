@@ -1,32 +1,19 @@
-use Rattle.std.proofs.Common.{arith, sym, ◌∙◌, refl}
-use Rattle.coff_object.specs.ObjectFile.{aux_left}
-use Rattle.coff_object.specs.ObjectFaults.{has_no_section}
-use Rattle.coff_object.proofs.LoopLemmas.{symbol_start, symbol_more, symbol_found, symbol_none}
-use Rattle.coff_object.proofs.WholeLemmas.{record_whole}
+use Rattle.std.proofs.Common.{sym, ◌∙◌}
+use Rattle.coff_object.specs.ObjectFaults.{of_symbol, first_symbol, has_no_section}
+use Rattle.coff_object.proofs.LoopLemmas.{symbol_found, symbol_more, symbol_none}
 use Rattle.coff_object.proofs.symbol_fault.section_number_fault.Goals as goal
-
-pub loop-index-init : goal.loop-index-init
-unfolding aux_left
-loop-index-init c = record { left = refl; none = symbol_start c.args.bytes.now (has_no_section c.args.bytes.now) }
-
-pub has_no_section-requires-clause-whole : goal.has_no_section-requires-clause-whole
-has_no_section-requires-clause-whole c =
-    record_whole c.args.bytes.now c.loop-index.index c.requires.ranges (omega (arith, c.record_total-index-end.ensures))
 
 pub returns-then-has_no_section : goal.returns-then-has_no_section
 returns-then-has_no_section c =
-    sym (symbol_found c.args.bytes.now (has_no_section c.args.bytes.now) c.loop-index.index (omega (arith, c.record_total-index-end.ensures)) c.loop-index.invariant.none (sym c.has_no_section.ensures ∙ c.if-has_no_section.true))
-
-pub left_behind-left-requires-clause-whole : goal.left_behind-left-requires-clause-whole
-left_behind-left-requires-clause-whole c =
-    record_whole c.args.bytes.now c.loop-index.index c.requires.ranges (omega (arith, c.record_total-index-end.ensures))
+    sym (symbol_found (of_symbol (has_no_section c.args.file.now)) (first_symbol c.args.file.now (has_no_section c.args.file.now)) c.loop-index.index-iterator c.next.new.self c.in-Some.index c.in-Some.symbol c.has_no_section.result c.loop-index.invariant.first c.in-Some.ensures.steps c.has_no_section.ensures c.if-has_no_section.true)
 
 pub loop-index-preserved : goal.loop-index-preserved
 loop-index-preserved c = record {
-  left = c.left_behind-left.ensures;
-  none = symbol_more c.args.bytes.now (has_no_section c.args.bytes.now) c.loop-index.index c.loop-index.invariant.none (sym c.has_no_section.ensures ∙ c.if-has_no_section.false);
+  can = tt;
+  ends = tt;
+  first = symbol_more (of_symbol (has_no_section c.args.file.now)) (first_symbol c.args.file.now (has_no_section c.args.file.now)) c.loop-index.index-iterator c.next.new.self c.in-Some.index c.in-Some.symbol c.has_no_section.result c.loop-index.invariant.first c.in-Some.ensures.steps c.has_no_section.ensures c.if-has_no_section.false;
 }
 
 pub returns : goal.returns
 returns c =
-    sym (symbol_none c.args.bytes.now (has_no_section c.args.bytes.now) c.loop-index.index (omega (arith, c.record_total-index-end.ensures)) c.loop-index.invariant.none)
+    sym (symbol_none (of_symbol (has_no_section c.args.file.now)) (first_symbol c.args.file.now (has_no_section c.args.file.now)) c.loop-index.index-iterator c.loop-index.invariant.first c.in-None.ensures.steps.0)

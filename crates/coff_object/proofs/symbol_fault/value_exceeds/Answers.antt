@@ -1,12 +1,12 @@
-use Rattle.std.proofs.Common.{◌≡◌, ℕ, ◌+◌, arith, ◌∙◌, ap}
-use Rattle.link_base.specs.Bytes.{u16_at}
-use Rattle.coff_object.specs.ObjectFile.{symbol_section_field}
-use Rattle.coff_object.proofs.WholeLemmas.{header_whole, number_inside}
+use Rattle.std.proofs.Common.{rules, arith}
+use mir.Val.{SFits}
+use mir.Syntax.{w32}
+use Rattle.std.proofs.lemmas.Int.{to_z-of_z}
+use Rattle.coff_object.proofs.NumberLemmas.{number_inside}
 use Rattle.coff_object.proofs.symbol_fault.value_exceeds.Goals as goal
 
-pub raw_size-requires-clause-header : goal.raw_size-requires-clause-header
-raw_size-requires-clause-header c =
-    let field : c.u16_in-number.result ≡ symbol_section_field c.args.bytes.now c.args.index =
-    c.u16_in-number.ensures ∙ ap (λ (start : ℕ). u16_at c.args.bytes.now (start + 12)) c.symbol_record-start.ensures.place in
-    let inside = number_inside c.args.bytes.now c.args.index c.requires.number (omega arith) (omega (arith, field)) in
-    header_whole c.args.bytes.now c.from.result c.requires.headers (omega arith) (omega (arith, field, inside))
+pub section_header-header-requires-clause-last : goal.section_header-header-requires-clause-last
+section_header-header-requires-clause-last c =
+    let fits : SFits w32 c.section-section.result = search rules in
+    let is = simp to_z-of_z at c.section_of_number.ensures in
+    omega (arith, is, number_inside c.args.file.now c.args.symbol.now c.section-section.result c.section-section.ensures c.requires.number)

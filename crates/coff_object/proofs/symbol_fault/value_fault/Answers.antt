@@ -1,36 +1,24 @@
-use Rattle.std.proofs.Common.{arith, sym, ◌∙◌, refl}
-use Rattle.coff_object.specs.ObjectFile.{aux_left}
-use Rattle.coff_object.specs.ObjectFaults.{value_exceeds, has_no_section}
-use Rattle.coff_object.proofs.LoopLemmas.{symbol_start, symbol_more, symbol_found, symbol_none, symbol_passes}
-use Rattle.coff_object.proofs.WholeLemmas.{record_whole}
+use Rattle.std.proofs.Common.{sym, ◌∙◌}
+use Rattle.coff_object.specs.ObjectFaults.{of_symbol, first_symbol, has_no_section, value_exceeds}
+use Rattle.coff_object.proofs.LoopLemmas.{symbol_found, symbol_more, symbol_none, symbol_passes}
 use Rattle.coff_object.proofs.symbol_fault.value_fault.Goals as goal
-
-pub loop-index-init : goal.loop-index-init
-unfolding aux_left
-loop-index-init c = record { left = refl; none = symbol_start c.args.bytes.now (value_exceeds c.args.bytes.now) }
-
-pub value_exceeds-requires-clause-whole : goal.value_exceeds-requires-clause-whole
-value_exceeds-requires-clause-whole c =
-    record_whole c.args.bytes.now c.loop-index.index c.requires.ranges (omega (arith, c.record_total-index-end.ensures))
 
 pub value_exceeds-requires-clause-number : goal.value_exceeds-requires-clause-number
 value_exceeds-requires-clause-number c =
-    symbol_passes c.args.bytes.now (has_no_section c.args.bytes.now) c.loop-index.index (omega (arith, c.record_total-index-end.ensures)) c.requires.numbers
+    (symbol_passes (of_symbol (has_no_section c.args.file.now)) c.loop-index.index-iterator c.next.new.self (c.in-Some.index, c.in-Some.symbol) c.in-Some.ensures.steps c.loop-index.invariant.numbers).0
 
 pub returns-then-value_exceeds : goal.returns-then-value_exceeds
 returns-then-value_exceeds c =
-    sym (symbol_found c.args.bytes.now (value_exceeds c.args.bytes.now) c.loop-index.index (omega (arith, c.record_total-index-end.ensures)) c.loop-index.invariant.none (sym c.value_exceeds.ensures ∙ c.if-value_exceeds.true))
-
-pub left_behind-left-requires-clause-whole : goal.left_behind-left-requires-clause-whole
-left_behind-left-requires-clause-whole c =
-    record_whole c.args.bytes.now c.loop-index.index c.requires.ranges (omega (arith, c.record_total-index-end.ensures))
+    sym (symbol_found (of_symbol (value_exceeds c.args.file.now)) (first_symbol c.args.file.now (value_exceeds c.args.file.now)) c.loop-index.index-iterator c.next.new.self c.in-Some.index c.in-Some.symbol c.value_exceeds.result c.loop-index.invariant.first c.in-Some.ensures.steps c.value_exceeds.ensures c.if-value_exceeds.true)
 
 pub loop-index-preserved : goal.loop-index-preserved
 loop-index-preserved c = record {
-  left = c.left_behind-left.ensures;
-  none = symbol_more c.args.bytes.now (value_exceeds c.args.bytes.now) c.loop-index.index c.loop-index.invariant.none (sym c.value_exceeds.ensures ∙ c.if-value_exceeds.false);
+  can = tt;
+  ends = tt;
+  numbers = (symbol_passes (of_symbol (has_no_section c.args.file.now)) c.loop-index.index-iterator c.next.new.self (c.in-Some.index, c.in-Some.symbol) c.in-Some.ensures.steps c.loop-index.invariant.numbers).1;
+  first = symbol_more (of_symbol (value_exceeds c.args.file.now)) (first_symbol c.args.file.now (value_exceeds c.args.file.now)) c.loop-index.index-iterator c.next.new.self c.in-Some.index c.in-Some.symbol c.value_exceeds.result c.loop-index.invariant.first c.in-Some.ensures.steps c.value_exceeds.ensures c.if-value_exceeds.false;
 }
 
 pub returns : goal.returns
 returns c =
-    sym (symbol_none c.args.bytes.now (value_exceeds c.args.bytes.now) c.loop-index.index (omega (arith, c.record_total-index-end.ensures)) c.loop-index.invariant.none)
+    sym (symbol_none (of_symbol (value_exceeds c.args.file.now)) (first_symbol c.args.file.now (value_exceeds c.args.file.now)) c.loop-index.index-iterator c.loop-index.invariant.first c.in-None.ensures.steps.0)

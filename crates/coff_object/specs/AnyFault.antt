@@ -1,0 +1,13 @@
+-- Whether a section, or a symbol, fails for any kind of fault that is judged of it. Own.
+use Rattle.std.specs.Prelude.{ℕ, Bool, ◌||◌, List}
+use Rattle.coff_object.specs.ObjectFile.{SymbolEntry}
+use Rattle.coff_object.specs.ObjectFaults.{body_leaves, relocations_leave, lacks_section_name, has_no_alignment, aux_leave, lacks_symbol_name, has_no_section, value_exceeds}
+
+unfoldable pub section_fails : List ℕ → List ℕ → List ℕ → Bool
+section_fails file strings header =
+    body_leaves file header
+    || (relocations_leave file header || (lacks_section_name strings header || has_no_alignment header))
+
+unfoldable pub symbol_fails : List ℕ → SymbolEntry → Bool
+symbol_fails file entry =
+    aux_leave file entry || (lacks_symbol_name entry.1 || (has_no_section file entry.1 || value_exceeds file entry.1))
