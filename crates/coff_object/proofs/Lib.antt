@@ -11,3 +11,5 @@ pub mod RelocationLemmas
 pub mod WellFormedLemmas
 pub mod StartLemmas
 pub mod Readable
+pub mod CallerLemmas
+mod WorkedObjects

@@ -73,3 +73,19 @@ aux_whole file index place e starts lt =
 
 pub symbol_whole : (file : List ℕ) (index : ℕ) → object_fault file ≡ None → starts_symbol file index ≡ true → record_offset file index + symbol_size file ≤ length file
 symbol_whole file index e starts = (range_holds file (no_fault file e).symbols).whole index (starts_below file index starts)
+
+-- ---- the same of an object, whose view is its bytes
+
+pub section_of : (inside shown : List ℕ) (i : ℕ) → inside ≡ shown → object_fault inside ≡ None → 1 ≤ i → i ≤ section_total shown → ReadableSection inside i
+section_of inside shown i same e first last =
+    readable_section inside i e first (subst (λ (file : List ℕ). i ≤ section_total file) (sym same) last)
+
+pub start_of : (inside shown : List ℕ) (j : ℕ) → inside ≡ shown → starts_symbol shown j ≡ true → starts_symbol inside j ≡ true
+start_of inside shown j same starts = ap (λ (file : List ℕ). starts_symbol file j) same ∙ starts
+
+pub count_of : (file bytes header : List ℕ) (section : ℕ) → bytes ≡ file → header ≡ section_at file section → ReadableSection file section → has_overflow_count_in header ≡ true → relocations_offset_in header + 10 ≤ length bytes
+count_of file bytes header section same is readable = rw (same, is) (count_whole file (section_at file section) readable.relocations)
+
+pub relocation_in_file : (file bytes header : List ℕ) (section place k : ℕ) → bytes ≡ file → header ≡ section_at file section → ReadableSection file section → place ≡ relocations_place header → k < relocation_count_in file (section_at file section) → place + 10 * k + 10 ≤ length bytes
+relocation_in_file file bytes header section place k same is readable places lt =
+    rw (places, same, is) (relocation_whole file (section_at file section) k readable.relocations lt)

@@ -16,7 +16,7 @@ chosen : (b : Bool) (x y : ℕ) → (cond b x y ≡ y) ⊎ (cond b x y ≡ x)
 chosen true x y = inr refl
 chosen false x y = inl refl
 
-size_cases : (file : List ℕ) → (symbol_size file ≡ 18) ⊎ (symbol_size file ≡ 20)
+pub size_cases : (file : List ℕ) → (symbol_size file ≡ 18) ⊎ (symbol_size file ≡ 20)
 unfolding symbol_size
 size_cases file = chosen (is_big_object file) 20 18
 
@@ -44,6 +44,16 @@ room_ends file le = torn (length file) (symbols_offset file) (symbol_size file) 
 pub beyond_file : (file : List ℕ) → length file < symbols_offset file → length file < record_offset file 0 + symbol_size file
 unfolding record_offset
 beyond_file file lt = omega arith
+
+after : (start size index place : ℕ) → (size ≡ 18) ⊎ (size ≡ 20) → start + size * index + size * (1 + place) ≡ start + size * (index + 1 + place)
+after start size index place (inl plain) = rw plain (omega arith)
+after start size index place (inr big) = rw big (omega arith)
+
+-- an auxiliary record stands so many records after its symbol
+pub place_after : (file : List ℕ) (start size index place : ℕ) → start ≡ record_offset file index → size ≡ symbol_size file → start + size * (1 + place) ≡ record_offset file (index + 1 + place)
+unfolding record_offset
+place_after file start size index place starts sizes =
+    rw (starts, sizes) (after (symbols_offset file) (symbol_size file) index place (size_cases file))
 
 -- no more records than the file holds
 fit : (total start size len : ℕ) → (size ≡ 18) ⊎ (size ≡ 20) → (0 < total → start + size * (total - 1) + size ≤ len) → 18 * total ≤ len

@@ -128,6 +128,17 @@ impl<'a> File<'a> {
         slice_in(self.bytes, self.record_offset(index), self.symbol_size())
     }
 
+    /// An auxiliary record of a symbol, by its index after it.
+    pub(crate) fn aux_record(&self, index: u32, place: u8) -> &'a [u8]
+        requires { record_offset self.now (index + 1 + place) + symbol_size self.now ≤ length self.now }
+        ensures part { result.now ≡ record_at self.now (index + 1 + place) }
+        ensures len { length result.now ≡ symbol_size self.now }
+    {
+        let size = self.symbol_size();
+        let start = self.record_offset(index) + size * (1 + usize::from(place));
+        slice_in(self.bytes, start, size)
+    }
+
     /// How many auxiliary records follow the symbol in a record.
     pub(crate) fn aux_count(&self, index: u32) -> u8
         requires { record_offset self.now index + symbol_size self.now ≤ length self.now }

@@ -1,4 +1,8 @@
-//! x
+//! The object files that a link reads (PE Format, "COFF File Header (Object and Image)" and the tables after it), and big
+//! objects, which have room for more sections. It takes a file's bytes from the crates that read and search files, and gives
+//! sections, relocations and symbols, as views of these bytes, to those that make a module of an object. Its contracts promise
+//! that an object opens exactly where no kind of fault stands, and that each field is the number at its place. What a
+//! section's or a symbol's auxiliary records mean is left to the crates above.
 #![tactic(auto)]
 
 mod error;
@@ -27,3 +31,6 @@ pub use section::Section;
 pub use symbol::Symbol;
 pub use symbol_record::SymbolRecord;
 pub use symbols::Symbols;
+
+#[cfg(test)]
+mod tests;

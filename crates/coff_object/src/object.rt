@@ -167,7 +167,7 @@ impl<'a> Object<'a> {
         ensures part { result.now ≡ aux_record self.now j k }
         ensures len { length result.now ≡ symbol_size self.now }
     {
-        self.file.record(j + 1 + u32::from(k))
+        self.file.aux_record(j, k)
     }
 
     /// The string table, with the four bytes of its size. It is empty where there is none.

@@ -1,0 +1,138 @@
+-- The definitions on one small object in both forms: one section `.text` of three bytes, and one external symbol `main` in it.
+use Rattle.std.proofs.Common.{◌≡◌, ℕ, List, [], ◌∷◌, ◌++◌, take, true, false, pos, Some, None, refl}
+use Rattle.std.specs.Prelude.{codes}
+use Rattle.link_base.specs.Bytes.{number_at, first_below}
+use Rattle.link_base.specs.Decimal.{decimal_number}
+use Rattle.link_base.specs.declared.kinds.object.ObjFault.TheVariants as kind
+use Rattle.coff_object.specs.ObjectHeader.{big_object_class, is_big_object, header_size, symbol_size, machine_of, section_total, section_headers_offset, symbols_offset, record_total}
+use Rattle.coff_object.specs.StringTable.{string_table_offset, string_table_size, string_table, text_in}
+use Rattle.coff_object.specs.SectionHeader.{short_name_in, name_offset, long_section_name, section_name_in, is_uninitialised_in, has_overflow_count_in, alignment_of}
+use Rattle.coff_object.specs.SymbolRecord.{long_name_offset_in, name_in, section_number_in, kind_in, class_in, aux_count_in}
+use Rattle.coff_object.specs.ObjectFile.{section_at, section_name_of, flags_of, raw_size_of, body_of, record_offset, record_at, symbol_at, symbol_name_of, symbol_value_of, symbol_section_of, symbol_class_of, starts_within, symbols_of, starts_symbol}
+use Rattle.coff_object.specs.ObjectFaults.{first_section, first_of, is_truncated, is_other_machine, body_leaves, counted_leave, relocations_leave, first_torn_record, symbol_range_fault, table_leaves, lacks_section_name, lacks_symbol_name, string_table_fault, has_no_alignment, has_no_section, value_exceeds, object_fault}
+
+plain_header : List ℕ
+plain_header =
+    0x64 ∷ 0x86 ∷ 0x01 ∷ 0x00 ∷ 0x00 ∷ 0x00 ∷ 0x00 ∷ 0x00 ∷ 0x3F ∷ 0x00 ∷ 0x00 ∷ 0x00 ∷ 0x01 ∷ 0x00 ∷ 0x00 ∷ 0x00 ∷ 0x00 ∷ 0x00 ∷ 0x00 ∷ 0x00 ∷ []
+
+big_header : List ℕ
+big_header =
+    0x00 ∷ 0x00 ∷ 0xFF ∷ 0xFF ∷ 0x02 ∷ 0x00 ∷ 0x64 ∷ 0x86 ∷ 0x00 ∷ 0x00 ∷ 0x00 ∷ 0x00 ∷ 0xC7 ∷ 0xA1 ∷ 0xBA ∷ 0xD1 ∷ 0xEE ∷ 0xBA ∷ 0xA9 ∷ 0x4B ∷
+    0xAF ∷ 0x20 ∷ 0xFA ∷ 0xF6 ∷ 0x6A ∷ 0xA4 ∷ 0xDC ∷ 0xB8 ∷ 0x00 ∷ 0x00 ∷ 0x00 ∷ 0x00 ∷ 0x00 ∷ 0x00 ∷ 0x00 ∷ 0x00 ∷ 0x00 ∷ 0x00 ∷ 0x00 ∷ 0x00 ∷
+    0x00 ∷ 0x00 ∷ 0x00 ∷ 0x00 ∷ 0x01 ∷ 0x00 ∷ 0x00 ∷ 0x00 ∷ 0x63 ∷ 0x00 ∷ 0x00 ∷ 0x00 ∷ 0x01 ∷ 0x00 ∷ 0x00 ∷ 0x00 ∷ []
+
+plain_section : List ℕ
+plain_section =
+    0x2E ∷ 0x74 ∷ 0x65 ∷ 0x78 ∷ 0x74 ∷ 0x00 ∷ 0x00 ∷ 0x00 ∷ 0x00 ∷ 0x00 ∷ 0x00 ∷ 0x00 ∷ 0x00 ∷ 0x00 ∷ 0x00 ∷ 0x00 ∷ 0x03 ∷ 0x00 ∷ 0x00 ∷ 0x00 ∷
+    0x3C ∷ 0x00 ∷ 0x00 ∷ 0x00 ∷ 0x00 ∷ 0x00 ∷ 0x00 ∷ 0x00 ∷ 0x00 ∷ 0x00 ∷ 0x00 ∷ 0x00 ∷ 0x00 ∷ 0x00 ∷ 0x00 ∷ 0x00 ∷ 0x20 ∷ 0x00 ∷ 0x50 ∷ 0x60 ∷ []
+
+big_section : List ℕ
+big_section =
+    0x2E ∷ 0x74 ∷ 0x65 ∷ 0x78 ∷ 0x74 ∷ 0x00 ∷ 0x00 ∷ 0x00 ∷ 0x00 ∷ 0x00 ∷ 0x00 ∷ 0x00 ∷ 0x00 ∷ 0x00 ∷ 0x00 ∷ 0x00 ∷ 0x03 ∷ 0x00 ∷ 0x00 ∷ 0x00 ∷
+    0x60 ∷ 0x00 ∷ 0x00 ∷ 0x00 ∷ 0x00 ∷ 0x00 ∷ 0x00 ∷ 0x00 ∷ 0x00 ∷ 0x00 ∷ 0x00 ∷ 0x00 ∷ 0x00 ∷ 0x00 ∷ 0x00 ∷ 0x00 ∷ 0x20 ∷ 0x00 ∷ 0x50 ∷ 0x60 ∷ []
+
+code : List ℕ
+code =
+    0x31 ∷ 0xC0 ∷ 0xC3 ∷ []
+
+plain_symbol : List ℕ
+plain_symbol =
+    0x6D ∷ 0x61 ∷ 0x69 ∷ 0x6E ∷ 0x00 ∷ 0x00 ∷ 0x00 ∷ 0x00 ∷ 0x00 ∷ 0x00 ∷ 0x00 ∷ 0x00 ∷ 0x01 ∷ 0x00 ∷ 0x20 ∷ 0x00 ∷ 0x02 ∷ 0x00 ∷ []
+
+big_symbol : List ℕ
+big_symbol =
+    0x6D ∷ 0x61 ∷ 0x69 ∷ 0x6E ∷ 0x00 ∷ 0x00 ∷ 0x00 ∷ 0x00 ∷ 0x00 ∷ 0x00 ∷ 0x00 ∷ 0x00 ∷ 0x01 ∷ 0x00 ∷ 0x00 ∷ 0x00 ∷ 0x20 ∷ 0x00 ∷ 0x02 ∷ 0x00 ∷ []
+
+string_row : List ℕ
+string_row =
+    0x04 ∷ 0x00 ∷ 0x00 ∷ 0x00 ∷ []
+
+plain : List ℕ
+plain = plain_header ++ (plain_section ++ (code ++ (plain_symbol ++ string_row)))
+
+big : List ℕ
+big = big_header ++ (big_section ++ (code ++ (big_symbol ++ string_row)))
+
+plain-well_formed : object_fault plain ≡ None
+unfolding plain big plain_header big_header plain_section big_section code plain_symbol big_symbol string_row number_at big_object_class is_big_object header_size symbol_size machine_of section_total section_headers_offset symbols_offset record_total string_table_offset string_table_size string_table text_in section_at record_offset record_at symbol_at first_below decimal_number short_name_in name_offset long_section_name is_uninitialised_in has_overflow_count_in long_name_offset_in section_number_in class_in aux_count_in starts_within first_section first_of is_truncated is_other_machine body_leaves counted_leave relocations_leave first_torn_record symbol_range_fault table_leaves lacks_section_name lacks_symbol_name string_table_fault has_no_alignment has_no_section value_exceeds object_fault
+plain-well_formed = refl
+
+big-well_formed : object_fault big ≡ None
+unfolding plain big plain_header big_header plain_section big_section code plain_symbol big_symbol string_row number_at big_object_class is_big_object header_size symbol_size machine_of section_total section_headers_offset symbols_offset record_total string_table_offset string_table_size string_table text_in section_at record_offset record_at symbol_at first_below decimal_number short_name_in name_offset long_section_name is_uninitialised_in has_overflow_count_in long_name_offset_in section_number_in class_in aux_count_in starts_within first_section first_of is_truncated is_other_machine body_leaves counted_leave relocations_leave first_torn_record symbol_range_fault table_leaves lacks_section_name lacks_symbol_name string_table_fault has_no_alignment has_no_section value_exceeds object_fault
+big-well_formed = refl
+
+big-is_big : is_big_object big ≡ true
+unfolding plain big plain_header big_header plain_section big_section code plain_symbol big_symbol string_row number_at big_object_class is_big_object header_size symbol_size machine_of section_total section_headers_offset symbols_offset record_total string_table_offset string_table_size string_table text_in section_at record_offset record_at symbol_at
+big-is_big = refl
+
+plain-cut_header : object_fault (take 59 plain) ≡ Some (record { kind = kind.Truncated; index = 0 })
+unfolding plain big plain_header big_header plain_section big_section code plain_symbol big_symbol string_row number_at big_object_class is_big_object header_size symbol_size machine_of section_total section_headers_offset symbols_offset record_total string_table_offset string_table_size string_table text_in section_at record_offset record_at symbol_at first_below decimal_number short_name_in name_offset long_section_name is_uninitialised_in has_overflow_count_in long_name_offset_in section_number_in class_in aux_count_in starts_within first_section first_of is_truncated is_other_machine body_leaves counted_leave relocations_leave first_torn_record symbol_range_fault table_leaves lacks_section_name lacks_symbol_name string_table_fault has_no_alignment has_no_section value_exceeds object_fault
+plain-cut_header = refl
+
+plain-cut_data : object_fault (take 62 plain) ≡ Some (record { kind = kind.SectionRange; index = 1 })
+unfolding plain big plain_header big_header plain_section big_section code plain_symbol big_symbol string_row number_at big_object_class is_big_object header_size symbol_size machine_of section_total section_headers_offset symbols_offset record_total string_table_offset string_table_size string_table text_in section_at record_offset record_at symbol_at first_below decimal_number short_name_in name_offset long_section_name is_uninitialised_in has_overflow_count_in long_name_offset_in section_number_in class_in aux_count_in starts_within first_section first_of is_truncated is_other_machine body_leaves counted_leave relocations_leave first_torn_record symbol_range_fault table_leaves lacks_section_name lacks_symbol_name string_table_fault has_no_alignment has_no_section value_exceeds object_fault
+plain-cut_data = refl
+
+big-cut_header : object_fault (take 55 big) ≡ Some (record { kind = kind.Truncated; index = 0 })
+unfolding plain big plain_header big_header plain_section big_section code plain_symbol big_symbol string_row number_at big_object_class is_big_object header_size symbol_size machine_of section_total section_headers_offset symbols_offset record_total string_table_offset string_table_size string_table text_in section_at record_offset record_at symbol_at first_below decimal_number short_name_in name_offset long_section_name is_uninitialised_in has_overflow_count_in long_name_offset_in section_number_in class_in aux_count_in starts_within first_section first_of is_truncated is_other_machine body_leaves counted_leave relocations_leave first_torn_record symbol_range_fault table_leaves lacks_section_name lacks_symbol_name string_table_fault has_no_alignment has_no_section value_exceeds object_fault
+big-cut_header = refl
+
+big-cut_symbol : object_fault (take 118 big) ≡ Some (record { kind = kind.SymbolRange; index = 0 })
+unfolding plain big plain_header big_header plain_section big_section code plain_symbol big_symbol string_row number_at big_object_class is_big_object header_size symbol_size machine_of section_total section_headers_offset symbols_offset record_total string_table_offset string_table_size string_table text_in section_at record_offset record_at symbol_at first_below decimal_number short_name_in name_offset long_section_name is_uninitialised_in has_overflow_count_in long_name_offset_in section_number_in class_in aux_count_in starts_within first_section first_of is_truncated is_other_machine body_leaves counted_leave relocations_leave first_torn_record symbol_range_fault table_leaves lacks_section_name lacks_symbol_name string_table_fault has_no_alignment has_no_section value_exceeds object_fault
+big-cut_symbol = refl
+
+plain-section_name : section_name_of plain 1 ≡ codes ".text"
+unfolding plain big plain_header big_header plain_section big_section code plain_symbol big_symbol string_row number_at big_object_class is_big_object header_size symbol_size machine_of section_total section_headers_offset symbols_offset record_total string_table_offset string_table_size string_table text_in section_at record_offset record_at symbol_at short_name_in section_name_in
+plain-section_name = refl
+
+plain-alignment : alignment_of (flags_of plain 1) ≡ 16
+unfolding plain big plain_header big_header plain_section big_section code plain_symbol big_symbol string_row number_at big_object_class is_big_object header_size symbol_size machine_of section_total section_headers_offset symbols_offset record_total string_table_offset string_table_size string_table text_in section_at record_offset record_at symbol_at
+plain-alignment = refl
+
+plain-body : body_of plain 1 ≡ Some code
+unfolding plain big plain_header big_header plain_section big_section code plain_symbol big_symbol string_row number_at big_object_class is_big_object header_size symbol_size machine_of section_total section_headers_offset symbols_offset record_total string_table_offset string_table_size string_table text_in section_at record_offset record_at symbol_at is_uninitialised_in
+plain-body = refl
+
+plain-symbols : symbols_of plain ≡ 0 ∷ []
+unfolding plain big plain_header big_header plain_section big_section code plain_symbol big_symbol string_row number_at big_object_class is_big_object header_size symbol_size machine_of section_total section_headers_offset symbols_offset record_total string_table_offset string_table_size string_table text_in section_at record_offset record_at symbol_at starts_within aux_count_in
+plain-symbols = refl
+
+plain-symbol_name : symbol_name_of plain 0 ≡ codes "main"
+unfolding plain big plain_header big_header plain_section big_section code plain_symbol big_symbol string_row number_at big_object_class is_big_object header_size symbol_size machine_of section_total section_headers_offset symbols_offset record_total string_table_offset string_table_size string_table text_in section_at record_offset record_at symbol_at name_in
+plain-symbol_name = refl
+
+plain-symbol_section : symbol_section_of plain 0 ≡ pos 1
+unfolding plain big plain_header big_header plain_section big_section code plain_symbol big_symbol string_row number_at big_object_class is_big_object header_size symbol_size machine_of section_total section_headers_offset symbols_offset record_total string_table_offset string_table_size string_table text_in section_at record_offset record_at symbol_at section_number_in
+plain-symbol_section = refl
+
+plain-symbol_class : symbol_class_of plain 0 ≡ 2
+unfolding plain big plain_header big_header plain_section big_section code plain_symbol big_symbol string_row number_at big_object_class is_big_object header_size symbol_size machine_of section_total section_headers_offset symbols_offset record_total string_table_offset string_table_size string_table text_in section_at record_offset record_at symbol_at class_in
+plain-symbol_class = refl
+
+big-section_name : section_name_of big 1 ≡ codes ".text"
+unfolding plain big plain_header big_header plain_section big_section code plain_symbol big_symbol string_row number_at big_object_class is_big_object header_size symbol_size machine_of section_total section_headers_offset symbols_offset record_total string_table_offset string_table_size string_table text_in section_at record_offset record_at symbol_at short_name_in section_name_in
+big-section_name = refl
+
+big-alignment : alignment_of (flags_of big 1) ≡ 16
+unfolding plain big plain_header big_header plain_section big_section code plain_symbol big_symbol string_row number_at big_object_class is_big_object header_size symbol_size machine_of section_total section_headers_offset symbols_offset record_total string_table_offset string_table_size string_table text_in section_at record_offset record_at symbol_at
+big-alignment = refl
+
+big-body : body_of big 1 ≡ Some code
+unfolding plain big plain_header big_header plain_section big_section code plain_symbol big_symbol string_row number_at big_object_class is_big_object header_size symbol_size machine_of section_total section_headers_offset symbols_offset record_total string_table_offset string_table_size string_table text_in section_at record_offset record_at symbol_at is_uninitialised_in
+big-body = refl
+
+big-symbols : symbols_of big ≡ 0 ∷ []
+unfolding plain big plain_header big_header plain_section big_section code plain_symbol big_symbol string_row number_at big_object_class is_big_object header_size symbol_size machine_of section_total section_headers_offset symbols_offset record_total string_table_offset string_table_size string_table text_in section_at record_offset record_at symbol_at starts_within aux_count_in
+big-symbols = refl
+
+big-symbol_name : symbol_name_of big 0 ≡ codes "main"
+unfolding plain big plain_header big_header plain_section big_section code plain_symbol big_symbol string_row number_at big_object_class is_big_object header_size symbol_size machine_of section_total section_headers_offset symbols_offset record_total string_table_offset string_table_size string_table text_in section_at record_offset record_at symbol_at name_in
+big-symbol_name = refl
+
+big-symbol_section : symbol_section_of big 0 ≡ pos 1
+unfolding plain big plain_header big_header plain_section big_section code plain_symbol big_symbol string_row number_at big_object_class is_big_object header_size symbol_size machine_of section_total section_headers_offset symbols_offset record_total string_table_offset string_table_size string_table text_in section_at record_offset record_at symbol_at section_number_in
+big-symbol_section = refl
+
+big-symbol_class : symbol_class_of big 0 ≡ 2
+unfolding plain big plain_header big_header plain_section big_section code plain_symbol big_symbol string_row number_at big_object_class is_big_object header_size symbol_size machine_of section_total section_headers_offset symbols_offset record_total string_table_offset string_table_size string_table text_in section_at record_offset record_at symbol_at class_in
+big-symbol_class = refl

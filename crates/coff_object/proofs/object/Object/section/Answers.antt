@@ -1,0 +1,10 @@
+use Rattle.std.proofs.Common.{◌∙◌}
+use Rattle.coff_object.proofs.WellFormedLemmas.{no_fault}
+use Rattle.coff_object.proofs.Readable.{section_of}
+use Rattle.coff_object.proofs.object.Object.section.Goals as goal
+
+pub section_header-header-requires-clause-headers : goal.section_header-header-requires-clause-headers
+section_header-header-requires-clause-headers c = (no_fault _ c.self.invariant.well_formed).headers
+
+pub section_in-requires : goal.section_in-requires
+section_in-requires c = rw (c.bytes.ensures, c.section_header-header.ensures) (section_of _ _ c.args.i c.self.view_is c.self.invariant.well_formed c.requires.first c.requires.last).body

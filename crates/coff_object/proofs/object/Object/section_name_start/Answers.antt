@@ -1,0 +1,9 @@
+use Rattle.coff_object.proofs.WellFormedLemmas.{no_fault}
+use Rattle.coff_object.proofs.Readable.{section_of}
+use Rattle.coff_object.proofs.object.Object.section_name_start.Goals as goal
+
+pub section_header-header-requires-clause-headers : goal.section_header-header-requires-clause-headers
+section_header-header-requires-clause-headers c = (no_fault _ c.self.invariant.well_formed).headers
+
+pub section_name_start-requires : goal.section_name_start-requires
+section_name_start-requires c = rw (c.self.invariant.table, c.section_header-header.ensures) (section_of _ _ c.args.i c.self.view_is c.self.invariant.well_formed c.requires.first c.requires.last).named
