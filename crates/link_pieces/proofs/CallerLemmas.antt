@@ -107,3 +107,32 @@ unplaced modules m section within first last none = go (is_placed (module_at mod
         let other = first_below-none (length pieces) (holds_section pieces m section) none there.0 there.1 in
         let own : is_piece_of m section piece ≡ true = both_true (eq-eqb m m refl) (eq-eqb section section refl) in
         sym own ∙ ap (is_piece_of m section) read ∙ other
+
+-- ---- the piece that a definition stands in
+
+any_contains : {X : Type 0} (test : X → Bool) (xs : List X) (x : X) → Contains xs x → test x ≡ true → list_any test xs ≡ true
+any_contains test xs x there passes =
+    list_any_at test xs there.0 x there.1 (ap test (get_or_default xs there.0 x x there.1) ∙ ap test ? ∙ passes)
+
+-- a section is named where a definition stands in it
+pub named_by : (bytes : List ℕ) (definition : Definition) (section value : ℕ) → Contains (definitions_of bytes) definition → definition.place ≡ place.Section section value → is_named bytes section ≡ true
+unfolding is_named
+named_by bytes definition section value there is =
+    any_contains (stands_in section) (definitions_of bytes) definition there (ap (is_place_in section) is ∙ eq-eqb section section refl)
+
+-- it is there and named, and the definition is in it or at its end
+pub record HoldsPlace (modules : List ModuleView) (value k : ℕ) : Type 0 where
+  pub within : k < length (link_pieces modules)
+  pub named : (get_or (link_pieces modules) k no_piece).named ≡ true
+  pub inside : value ≤ (get_or (link_pieces modules) k no_piece).size
+
+pub definition_held : (modules : List ModuleView) (position : ℕ) (definition : Definition) (section value k : ℕ) → opening_error (module_at modules position).bytes ≡ None → Contains (definitions_of (module_at modules position).bytes) definition → definition.place ≡ place.Section section value → piece_index modules position section ≡ Some k → HoldsPlace modules value k
+definition_held modules position definition section value k opened there is found =
+    let bytes = (module_at modules position).bytes in
+    let piece = found_piece modules position section k found in
+    let stands = subst (IsPlaceIn bytes) is (contained (λ (d : Definition). IsPlaceIn bytes d.place) (definitions_of bytes) definition (definitions_stand bytes opened) there) in
+    record {
+      within = piece.within;
+      named = ap (λ (p : Piece). p.named) piece.is ∙ named_by bytes definition section value there is;
+      inside = let size = ap (λ (p : Piece). p.size) piece.is in omega (arith, stands.value, size);
+    }

@@ -1,3 +1,5 @@
-pub mod OpeningLemmas
 pub mod CallerLemmas
 pub mod TextLemmas
+pub mod SectionLemmas
+pub mod SymbolLemmas
+pub mod OpeningLemmas

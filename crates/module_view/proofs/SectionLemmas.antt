@@ -5,12 +5,13 @@ use Rattle.std.specs.List.{list_any, range_with_len}
 use lib.Pointwise.{pointwise}
 use Rattle.std.proofs.lemmas.Bool.{cases_lt}
 use Rattle.std.proofs.lemmas.List.{take_all, take-take, length-take-le}
-use Rattle.std.proofs.lemmas.List.Folds.{list_any-append}
+use Rattle.std.proofs.lemmas.List.Folds.{list_any-append, list_any_at}
+use Rattle.std.proofs.lemmas.List.FromFn.{length-range_with_len, get_or-range_with_len}
 use Rattle.link_base.specs.Limits.{NAME_LIMIT}
 use Rattle.link_base.specs.NameText.{same_name, begins}
 use Rattle.link_base.specs.SectionName.{base_name, is_cut}
 use Rattle.link_base.proofs.RangeLemmas.{range_more}
-use Rattle.coff_object.proofs.TextStartLemmas.{before_first-take}
+use Rattle.coff_object.proofs.CallerLemmas.{before_first-take}
 use Rattle.module_view.specs.Opening.{is_linker_section, is_long}
 
 -- ---- the first bytes of a name
@@ -67,4 +68,4 @@ no_section test n section place none fails =
 -- one of the sections passes: a section passes
 pub some_section : (test : ℕ → Bool) (n count section : ℕ) → 1 + n ≡ section → n < count → test section ≡ true → list_any test (range_with_len 1 count) ≡ true
 some_section test n count section place lt passes =
-    list_any-from_Any test (range_with_len 1 count) ?
+    list_any_at test (range_with_len 1 count) n 0 (omega (arith, length-range_with_len 1 count)) (ap test (get_or-range_with_len 1 count n 0 lt ∙ place) ∙ passes)

@@ -15,6 +15,7 @@ use link_base::{Kind, NAME_LIMIT, Name};
 const NAME_START: usize = NAME_LIMIT + 1;
 
 /// What a section shows.
+#[derive(Clone, Copy)]
 struct SectionForm {
     is_linker: bool,
     is_long: bool,

@@ -23,7 +23,7 @@ pub(crate) struct TextBlock {
 #[derive(Drop)]
 pub(crate) struct LongTexts<'a> {
     strings: &'a [u8],
-    blocks: Vec<TextBlock>,
+    runs: Vec<TextBlock>,
     last: Option<usize>,
 }
 
@@ -37,7 +37,7 @@ impl<'a> Model for LongTexts<'a> {
 
     ghost view = { λ texts. texts.strings.now };
 
-    ghost invariant = { λ texts. HoldsBlocks texts.strings.now texts.blocks.items × IsLastByte (is_byte 0) texts.strings.now texts.last };
+    ghost invariant = { λ texts. HoldsBlocks texts.strings.now texts.runs.items × IsLastByte (is_byte 0) texts.strings.now texts.last };
 }
 
 impl<'a> LongTexts<'a> {
@@ -45,10 +45,10 @@ impl<'a> LongTexts<'a> {
     pub(crate) fn of(alloc: Global, strings: &'a [u8]) -> Result<LongTexts<'a>, Memory>
         ensures { IfOk result (λ texts. texts ≡ strings.now) }
     {
-        let blocks = blocks_of(alloc, strings)?;
+        let runs = blocks_of(alloc, strings)?;
         Ok(LongTexts {
             strings,
-            blocks,
+            runs,
             last: memrchr(0, strings),
         })
     }
@@ -66,10 +66,10 @@ impl<'a> LongTexts<'a> {
         }
         let index = offset / NAME_LIMIT;
         let place = offset % NAME_LIMIT;
-        if reaches(self.blocks[index].last, place) {
+        if reaches(self.runs[index].last, place) {
             return false;
         }
-        match self.blocks.get(index + 1) {
+        match self.runs.get(index + 1) {
             Some(next) => !begins_by(next.first, place),
             None => true,
         }

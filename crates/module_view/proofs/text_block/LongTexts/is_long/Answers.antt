@@ -16,7 +16,7 @@ pub returns-then-reaches : goal.returns-then-reaches
 returns-then-reaches c =
     let strings = c.self.inside.strings.now in
     let o = c.args.offset in
-    let blocks = c.self.inside.blocks.items in
+    let blocks = c.self.inside.runs.items in
     let parts : o / 32000 * 32000 + o % 32000 ≡ o = omega arith in
     let inside = reach_within strings o c.self.inside.last c.self.invariant.1 (sym c.reaches.ensures ∙ c.if-not-reaches.false) in
     let there : o / 32000 < length blocks = omega (arith, inside, c.self.invariant.0.count) in
@@ -27,7 +27,7 @@ pub returns-in-Some : goal.returns-in-Some
 returns-in-Some c =
     let strings = c.self.inside.strings.now in
     let o = c.args.offset in
-    let blocks = c.self.inside.blocks.items in
+    let blocks = c.self.inside.runs.items in
     let parts : o / 32000 * 32000 + o % 32000 ≡ o = omega arith in
     let inside = reach_within strings o c.self.inside.last c.self.invariant.1 (sym c.reaches.ensures ∙ c.if-not-reaches.false) in
     let there : o / 32000 < length blocks = omega (arith, inside, c.self.invariant.0.count) in
@@ -43,7 +43,7 @@ pub returns-in-None : goal.returns-in-None
 returns-in-None c =
     let strings = c.self.inside.strings.now in
     let o = c.args.offset in
-    let blocks = c.self.inside.blocks.items in
+    let blocks = c.self.inside.runs.items in
     let parts : o / 32000 * 32000 + o % 32000 ≡ o = omega arith in
     let inside = reach_within strings o c.self.inside.last c.self.invariant.1 (sym c.reaches.ensures ∙ c.if-not-reaches.false) in
     let there : o / 32000 < length blocks = omega (arith, inside, c.self.invariant.0.count) in
