@@ -1,19 +1,17 @@
 -- What callers may cite of a well formed object: what is in the file, what the fields can be, and where symbols
 -- start; of loops over its symbols; and of the first bytes of a text.
-use Rattle.std.proofs.Common.{◌≡◌, ℕ, zero, suc, ◌+◌, ◌-◌, ◌*◌, ◌^◌, ◌<◌, ◌≤◌, Bool, true, false, cond, ◌&&◌, not, eqb, ltb, List, length, map, drop, None, ℤ, pos, refl, sym, ap, ◌∙◌, ◌⊎◌, inl, inr, lt-ltb, lit≤, arith}
-use Rattle.std.specs.List.{range_with_len}
-use Rattle.std.specs.Int.Signed.{◌<ℤ◌, lt_z}
+use Rattle.std.proofs.Common.{◌≡◌, ℕ, zero, suc, ◌-◌, ◌*◌, ◌^◌, ◌<◌, ◌≤◌, Bool, true, false, cond, ◌&&◌, not, eqb, List, length, drop, None, refl, sym, ap, ◌∙◌, ◌⊎◌, inl, inr, lit≤, arith}
 use Rattle.std.proofs.lemmas.Bool.{cases_lt, false≢true}
 use Rattle.std.proofs.lemmas.Bool.Decides.{eqb_tells}
 use Rattle.std.proofs.lemmas.List.{length-take-le, length-drop}
 use Rattle.std.proofs.lemmas.List.FromFn.{length-map-range_with_len}
 use Rattle.link_base.specs.Bytes.{bytes_at, has_flag}
-use Rattle.link_base.specs.PeFormat.{SCN_TYPE_NO_PAD, SYM_UNDEFINED}
+use Rattle.link_base.specs.PeFormat.{SCN_TYPE_NO_PAD}
 use Rattle.link_base.proofs.TestLemmas.{and_second, ltb_false}
 use Rattle.coff_object.specs.Relocations.{relocations_from}
-use Rattle.coff_object.specs.SymbolRecord.{SymbolView, section_number_in, section_of_number, class_in, value_in}
-use Rattle.coff_object.specs.ObjectFile.{section_total, section_at, flags_of, alignment_value, alignment_of, raw_size_of, raw_offset_of, is_uninitialised, relocation_total, relocations_of, record_total, symbol_at, symbol_size, symbol_class_of, symbol_section_of, symbol_value_of, starts_symbol}
-use Rattle.coff_object.specs.ObjectFaults.{leaves_file, body_leaves, of_symbol, has_no_alignment, has_no_section, value_exceeds, is_in_section, means_a_place, object_fault}
+use Rattle.coff_object.specs.SymbolRecord.{SymbolView, section_number_in, section_of_number, value_in}
+use Rattle.coff_object.specs.ObjectFile.{section_total, section_at, flags_of, alignment_value, alignment_of, raw_size_of, raw_offset_of, is_uninitialised, relocation_total, relocations_of, record_total, symbol_at, symbol_size, symbol_section_of, symbol_value_of, starts_symbol}
+use Rattle.coff_object.specs.ObjectFaults.{leaves_file, body_leaves, of_symbol, has_no_alignment, has_no_section, value_exceeds, is_in_section, object_fault}
 use Rattle.coff_object.proofs.WholeLemmas.{range_whole}
 use Rattle.coff_object.proofs.LoopLemmas.{section_passes}
 use Rattle.coff_object.proofs.NumberLemmas.{number_inside}

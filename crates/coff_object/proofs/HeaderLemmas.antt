@@ -1,5 +1,5 @@
 -- Which form a header has, and what is read of it.
-use Rattle.std.proofs.Common.{◌≡◌, ℕ, ◌+◌, ◌-◌, ◌*◌, ◌<◌, ◌≤◌, Bool, cond, eqb, true, false, List, drop, length, refl, ◌∙◌, arith}
+use Rattle.std.proofs.Common.{◌≡◌, ℕ, ◌+◌, ◌-◌, ◌*◌, ◌<◌, Bool, cond, eqb, false, List, drop, length, refl, ◌∙◌, arith}
 use Rattle.std.proofs.lemmas.List.{drop_all}
 use Rattle.link_base.specs.NameText.{begins}
 use Rattle.link_base.specs.Bytes.{bytes_at}

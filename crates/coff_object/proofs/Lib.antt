@@ -11,5 +11,6 @@ pub mod RelocationLemmas
 pub mod WellFormedLemmas
 pub mod StartLemmas
 pub mod Readable
+pub mod LongTextLemmas
 pub mod CallerLemmas
 mod WorkedObjects

@@ -1,7 +1,7 @@
 -- What section numbers mean.
-use Rattle.std.proofs.Common.{◌≡◌, ℕ, ◌<◌, ◌≤◌, Bool, true, false, ◌||◌, ltb, List, ℤ, pos, negsuc, refl, sym, ap, ◌∙◌, arith}
+use Rattle.std.proofs.Common.{◌≡◌, ℕ, ◌≤◌, false, List, ℤ, pos, negsuc, arith}
 use Rattle.std.specs.Int.Signed.{lt_z}
-use Rattle.link_base.proofs.TestLemmas.{or_left, or_right, ltb_false}
+use Rattle.link_base.proofs.TestLemmas.{or_right, ltb_false}
 use Rattle.link_base.specs.PeFormat.{SYM_DEBUG}
 use Rattle.coff_object.specs.ObjectHeader.{section_total}
 use Rattle.coff_object.specs.SymbolRecord.{SymbolView, section_number_in, section_of_number}

@@ -1,19 +1,18 @@
 -- What the readers need of an object's bytes, and that a well formed object has it.
-use Rattle.std.proofs.Common.{◌≡◌, ℕ, ◌+◌, ◌-◌, ◌*◌, ◌<◌, ◌≤◌, Bool, true, false, cond, eqb, ltb, List, length, None, refl, sym, ap, ◌∙◌, subst, arith}
+use Rattle.std.proofs.Common.{◌≡◌, ℕ, ◌+◌, ◌-◌, ◌*◌, ◌<◌, ◌≤◌, Bool, true, false, cond, eqb, List, length, None, sym, ap, ◌∙◌, subst, arith}
 use Rattle.std.proofs.lemmas.Bool.{false≢true}
 use Rattle.link_base.specs.Bytes.{u32_at}
 use Rattle.link_base.proofs.TestLemmas.{or_left, or_right}
-use Rattle.coff_object.specs.ObjectHeader.{header_size, section_total, record_total, symbol_size}
+use Rattle.coff_object.specs.ObjectHeader.{section_total, symbol_size}
 use Rattle.coff_object.specs.StringTable.{string_table}
 use Rattle.coff_object.specs.SectionHeader.{relocation_field_in, relocations_offset_in, has_overflow_count_in}
 use Rattle.coff_object.specs.Relocations.{relocations_place, relocation_count_in}
 use Rattle.coff_object.specs.ObjectFile.{section_at, record_offset, aux_total_of, starts_symbol}
-use Rattle.coff_object.specs.ObjectFaults.{leaves_file, is_truncated, body_leaves, counted_leave, relocations_leave, lacks_section_name, table_leaves, object_fault}
-use Rattle.coff_object.specs.OpenObject.{HasRecords}
-use Rattle.coff_object.proofs.WholeLemmas.{range_whole, file_whole}
+use Rattle.coff_object.specs.ObjectFaults.{leaves_file, body_leaves, counted_leave, relocations_leave, lacks_section_name, object_fault}
+use Rattle.coff_object.proofs.WholeLemmas.{range_whole}
 use Rattle.coff_object.proofs.LoopLemmas.{section_passes}
 use Rattle.coff_object.proofs.StartLemmas.{starts_below, symbol_room}
-use Rattle.coff_object.proofs.WellFormedLemmas.{NoFault, no_fault, range_holds, table_stays, names_stay}
+use Rattle.coff_object.proofs.WellFormedLemmas.{no_fault, range_holds, names_stay}
 
 -- ---- relocations
 

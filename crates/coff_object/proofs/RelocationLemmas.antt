@@ -1,6 +1,5 @@
 -- The relocations that are left, one after the other.
-use Rattle.std.proofs.Common.{◌≡◌, ℕ, zero, suc, ◌+◌, ◌-◌, ◌*◌, ◌<◌, ◌≤◌, List, [], ◌∷◌, length, map, refl, sym, ap, ◌∙◌, arith}
-use Rattle.coff_object.specs.declared.relocation.Relocation.{Relocation}
+use Rattle.std.proofs.Common.{◌≡◌, ℕ, zero, suc, ◌+◌, ◌-◌, ◌*◌, ◌<◌, List, [], ◌∷◌, refl, arith}
 use Rattle.coff_object.specs.Relocations.{relocation_at, relocations_from}
 
 pub relocations_from-none : (file : List ℕ) (place index count : ℕ) → count ≡ 0 → relocations_from file place index count ≡ []

@@ -1,14 +1,13 @@
 -- Which records start a symbol: record 0, and the record after each symbol and its auxiliary records, below the count; and no
 -- other. They are the least that hold these rules.
-use Rattle.std.proofs.Common.{◌≡◌, ℕ, zero, suc, ◌+◌, ◌-◌, ◌<◌, ◌≤◌, Bool, true, false, cond, ◌||◌, eqb, ltb, List, [], ◌∷◌, ◌++◌, map, Option, Some, None, refl, sym, ap, ◌∙◌, inl, inr, ◌⊎◌, lt-ltb, arith, subst}
+use Rattle.std.proofs.Common.{◌≡◌, ℕ, zero, suc, ◌+◌, ◌-◌, ◌<◌, ◌≤◌, Bool, true, false, cond, ◌||◌, eqb, ltb, List, [], ◌∷◌, map, None, refl, sym, ap, ◌∙◌, inl, inr, ◌⊎◌, lt-ltb, arith, subst}
 use Rattle.std.specs.List.{list_any}
-use Rattle.std.proofs.lemmas.Bool.{cases_lt, false≢true, eqb-true, eq-eqb, ltb-true}
+use Rattle.std.proofs.lemmas.Bool.{false≢true, eqb-true, eq-eqb, ltb-true}
 use Rattle.link_base.proofs.TestLemmas.{ltb_false}
 use Rattle.coff_object.specs.ObjectHeader.{record_total}
-use Rattle.coff_object.specs.ObjectFile.{aux_total_of, starts_within, starts_from, symbols_of, starts_symbol, SymbolEntry, symbol_entry, symbol_entries}
+use Rattle.coff_object.specs.ObjectFile.{aux_total_of, starts_within, symbols_of, starts_symbol, SymbolEntry, symbol_entry, symbol_entries}
 use Rattle.coff_object.specs.ObjectFaults.{aux_leave, first_of, object_fault}
 use Rattle.coff_object.proofs.LoopLemmas.{symbol_passes}
-use Rattle.coff_object.proofs.SymbolsLemmas.{starts_from-step, starts_from-end}
 use Rattle.coff_object.proofs.WellFormedLemmas.{no_fault, aux_hold}
 
 -- ---- lists of starts

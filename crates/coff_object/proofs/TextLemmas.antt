@@ -9,7 +9,7 @@ use Rattle.memchr.specs.Find.{IsLastByte}
 use Rattle.link_base.specs.Bytes.{is_nul, text_at}
 use Rattle.coff_object.specs.TextEnd.{EndsTexts}
 
-first_is_near : (text : List ℕ) (k : ℕ) → is_nul (slice_index text k) ≡ true → position_or_len is_nul text ≤ k
+pub first_is_near : (text : List ℕ) (k : ℕ) → is_nul (slice_index text k) ≡ true → position_or_len is_nul text ≤ k
 first_is_near text k passes =
     elim (cases_lt k (position_or_len is_nul text)) [
       | inl lt ↦ absurd (false≢true (sym (fails_before_first is_nul text k 0 lt) ∙ passes))

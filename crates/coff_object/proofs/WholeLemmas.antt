@@ -1,5 +1,5 @@
 -- What is whole in a file, by the kinds that do not stand.
-use Rattle.std.proofs.Common.{◌≡◌, ℕ, suc, ◌+◌, ◌-◌, ◌*◌, ◌<◌, ◌≤◌, Bool, true, false, cond, ◌&&◌, ◌||◌, ltb, List, length, None, refl, sym, ap, ◌∙◌, inl, inr, lt-ltb, arith}
+use Rattle.std.proofs.Common.{◌≡◌, ℕ, ◌+◌, ◌-◌, ◌*◌, ◌<◌, ◌≤◌, false, ltb, List, length, None, inl, inr, lt-ltb, arith}
 use Rattle.std.proofs.lemmas.Bool.{cases_lt}
 use Rattle.link_base.proofs.CallerLemmas.{first_below-none}
 use Rattle.link_base.proofs.TestLemmas.{or_left, or_right, and_second, ltb_false}

@@ -9,3 +9,4 @@ pub mod ObjectFaults
 pub mod OpenObject
 pub mod TextEnd
 pub mod AnyFault
+pub mod LongText

@@ -1,7 +1,7 @@
 -- What is wrong with an object, as a table of kinds. Each kind says of which sections, or of which symbol records, it stands;
 -- it is judged where no earlier kind stands, and the least place counts. Own; the fields are those of the PE Format
 -- specification.
-use Rattle.std.specs.Prelude.{ℕ, ◌+◌, ◌*◌, pos, Bool, false, ◌||◌, ◌&&◌, not, ◌==◌, nat_le, nat_lt, if◌then◌else◌, List, [], ◌∷◌, length, Option, Some, None, option_map, is_none}
+use Rattle.std.specs.Prelude.{ℕ, ◌+◌, ◌*◌, pos, Bool, false, ◌||◌, ◌&&◌, not, ◌==◌, nat_lt, if◌then◌else◌, List, [], ◌∷◌, length, Option, Some, None, option_map, is_none}
 use Rattle.std.specs.Option.{option_or}
 use Rattle.std.specs.Int.Signed.{lt_z}
 use Rattle.link_base.specs.Bytes.{u32_at, has_flag, first_below}

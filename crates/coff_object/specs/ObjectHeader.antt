@@ -1,9 +1,9 @@
 -- The header of an object file, and the numbers that it gives. There are two forms: plain objects (PE Format, "COFF File
 -- Header (Object and Image)"), and big objects, which have room for more sections (LLVM, `COFF::BigObjHeader`).
-use Rattle.std.specs.Prelude.{ℕ, ◌+◌, ◌*◌, Bool, ◌&&◌, ◌==◌, if◌then◌else◌, List, [], ◌∷◌, drop}
+use Rattle.std.specs.Prelude.{ℕ, ◌+◌, Bool, ◌&&◌, ◌==◌, if◌then◌else◌, List, [], ◌∷◌, drop}
 use Rattle.link_base.specs.Bytes.{u16_at, u32_at}
 use Rattle.link_base.specs.NameText.{begins}
-use Rattle.link_base.specs.PeFormat.{SIZEOF_FILE_HEADER, SIZEOF_BIG_OBJECT_HEADER, SIZEOF_SECTION_HEADER, SIZEOF_SYMBOL, SIZEOF_SYMBOL_EX}
+use Rattle.link_base.specs.PeFormat.{SIZEOF_FILE_HEADER, SIZEOF_BIG_OBJECT_HEADER, SIZEOF_SYMBOL, SIZEOF_SYMBOL_EX}
 use Rattle.coff_object.specs.Offsets.{FILE_MACHINE, FILE_NUMBER_OF_SECTIONS, FILE_POINTER_TO_SYMBOL_TABLE, FILE_NUMBER_OF_SYMBOLS, FILE_SIZE_OF_OPTIONAL_HEADER, BIG_MACHINE, BIG_CLASS, BIG_NUMBER_OF_SECTIONS, BIG_POINTER_TO_SYMBOL_TABLE, BIG_NUMBER_OF_SYMBOLS}
 
 -- ---- the form

@@ -1,5 +1,5 @@
 -- A section header, as the 40 bytes that it has (PE Format, "Section Table (Section Headers)").
-use Rattle.std.specs.Prelude.{ℕ, ◌-◌, ◌/◌, ◌%◌, ◌^◌, Bool, ◌||◌, ◌&&◌, ◌==◌, if◌then◌else◌, List, [], drop, slice_index, Option, Some, None, unwrap_or, option_and_then}
+use Rattle.std.specs.Prelude.{ℕ, ◌-◌, ◌/◌, ◌%◌, ◌^◌, Bool, ◌||◌, ◌&&◌, ◌==◌, if◌then◌else◌, List, [], drop, slice_index, Option, None, unwrap_or, option_and_then}
 use Rattle.std.specs.List.{before_first}
 use Rattle.link_base.specs.Bytes.{u16_at, u32_at, bytes_at, is_nul, has_flag}
 use Rattle.link_base.specs.Decimal.{decimal_number}

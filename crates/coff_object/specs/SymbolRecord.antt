@@ -1,6 +1,6 @@
 -- A symbol record with the string table that its name may stand in (PE Format, "COFF Symbol Table"; for big objects LLVM,
 -- `COFF::symbol32`).
-use Rattle.std.specs.Prelude.{ℕ, ℤ, pos, ◌-ℤ◌, Bool, ◌==◌, nat_le, if◌then◌else◌, List, [], slice_index, Option, Some, None, unwrap_or, option_and_then}
+use Rattle.std.specs.Prelude.{ℕ, ℤ, pos, ◌-ℤ◌, Bool, ◌==◌, nat_le, if◌then◌else◌, List, [], slice_index, Option, Some, None, unwrap_or}
 use Rattle.std.specs.List.{before_first}
 use Rattle.link_base.specs.Bytes.{u16_at, u32_at, bytes_at, is_nul}
 use Rattle.link_base.specs.PeFormat.{SIZEOF_SYMBOL, SIZEOF_SYMBOL_EX}

@@ -107,7 +107,8 @@ impl<'a> File<'a> {
         requires last { section ≤ section_total self.now }
         ensures { result ≡ section_at self.now section }
     {
-        let start = self.section_headers() as usize + SIZEOF_SECTION_HEADER * (section as usize - 1);
+        let start = self.section_headers() as usize
+            + SIZEOF_SECTION_HEADER * (section as usize - 1);
         SectionHeader::of(slice_in(self.bytes, start, SIZEOF_SECTION_HEADER))
     }
 

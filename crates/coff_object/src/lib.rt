@@ -9,6 +9,7 @@ mod error;
 mod fault;
 mod file;
 mod header;
+mod long_texts;
 mod object;
 mod offsets;
 mod ranges;
@@ -25,6 +26,7 @@ mod well_formed;
 
 pub use error::ObjError;
 pub use header::is_big_object;
+pub use long_texts::LongTexts;
 pub use object::Object;
 pub use relocation::{Relocation, Relocations};
 pub use section::Section;

@@ -2,7 +2,7 @@
 
 ghost use Rattle.std.specs.Prelude.{◌≡◌, ◌<◌, ◌≤◌, ◌^◌, length, take, IfOk, OnOk, IfErr, is_ok, is_none, true, None, Some};
 ghost use Rattle.std.specs.Option.{option_copied};
-ghost use Rattle.coff_object.specs.ObjectFile.{section_total, section_name_of, raw_size_of, flags_of, alignment_of, body_of, relocation_total, relocation_of, relocations_of, record_total, symbol_size, string_table, starts_symbol, symbol_name_of, symbol_value_of, symbol_section_of, symbol_kind_of, symbol_class_of, aux_total_of, aux_record, symbol_entries};
+ghost use Rattle.coff_object.specs.ObjectFile.{section_total, section_name_of, name_offset_of, raw_size_of, flags_of, alignment_of, body_of, relocation_total, relocation_of, relocations_of, record_total, symbol_size, string_table, starts_symbol, symbol_name_of, symbol_value_of, symbol_section_of, symbol_kind_of, symbol_class_of, aux_total_of, aux_record, symbol_entries};
 ghost use Rattle.coff_object.specs.ObjectFaults.{object_fault};
 
 use crate::error::ObjError;
@@ -12,7 +12,7 @@ use crate::relocation::{
     Relocation, Relocations, relocation_at, relocation_count, relocations_place,
 };
 use crate::section::{Section, section_in, section_name_start};
-use crate::strings::string_table;
+use crate::strings::{name_offset, string_table};
 use crate::symbol::{Symbol, symbol_in};
 use crate::symbols::Symbols;
 use crate::well_formed::is_well_formed;
@@ -97,6 +97,16 @@ impl<'a> Object<'a> {
     {
         let header = self.file.section_header(i);
         section_name_start(self.strings, &header, limit)
+    }
+
+    /// The offset in the string table that a section's name field refers to, where it does. The name is not looked at.
+    pub fn section_name_offset(&self, i: u32) -> Option<usize>
+        requires first { 1 ≤ i }
+        requires last { i ≤ section_total self.now }
+        ensures { result ≡ name_offset_of self.now i }
+    {
+        let header = self.file.section_header(i);
+        name_offset(header.short_name())
     }
 
     /// How many relocations a section has.

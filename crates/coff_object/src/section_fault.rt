@@ -63,11 +63,7 @@ pub(crate) fn relocation_fault(file: &File<'_>) -> Option<u32>
 }
 
 /// The first section whose name is missing in the string table.
-pub(crate) fn section_name_fault(
-    file: &File<'_>,
-    strings: &[u8],
-    texts_end: usize,
-) -> Option<u32>
+pub(crate) fn section_name_fault(file: &File<'_>, strings: &[u8], texts_end: usize) -> Option<u32>
     requires headers { is_truncated file.now ≡ false }
     requires texts { EndsTexts strings.now texts_end }
     ensures { result ≡ first_section file.now (lacks_section_name strings.now) }

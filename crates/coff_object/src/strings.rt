@@ -115,7 +115,7 @@ pub(crate) fn names_an_offset(text: &[u8]) -> bool
 
 /// The offset that the text of a section's name field writes, where it writes one.
 #[tactic(auto, unfolding(crate::specs::SectionHeader::name_offset))]
-fn name_offset(text: &[u8]) -> Option<usize>
+pub(crate) fn name_offset(text: &[u8]) -> Option<usize>
     requires { length text.now ≤ 8 }
     ensures { result ≡ name_offset text.now }
 {

@@ -57,7 +57,10 @@ impl<'a> SymbolRecord<'a> {
         if u32_in(self.bytes, 0) != 0 {
             return Name::of(short_name(self.bytes));
         }
-        match text_in(self.strings, u32_in(self.bytes, SYMBOL_NAME_OFFSET) as usize) {
+        match text_in(
+            self.strings,
+            u32_in(self.bytes, SYMBOL_NAME_OFFSET) as usize,
+        ) {
             Some(name) => name,
             None => Name::of(&[]),
         }

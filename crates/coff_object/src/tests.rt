@@ -1,7 +1,8 @@
 //! One object in both forms, whole, cut and changed.
 
+use crate::long_texts::LongTexts;
 use crate::object::Object;
-use link_base::ObjFault;
+use link_base::{NAME_LIMIT, ObjFault};
 use std::test::Fail;
 
 /// A plain object with the code of `main`: three bytes in `.text`.
@@ -14,8 +15,7 @@ const PLAIN: &[u8] =
     \x04\x00\x00\x00";
 
 /// The same as a big object.
-const BIG: &[u8] =
-    b"\x00\x00\xff\xff\x02\x00\x64\x86\x00\x00\x00\x00\
+const BIG: &[u8] = b"\x00\x00\xff\xff\x02\x00\x64\x86\x00\x00\x00\x00\
     \xc7\xa1\xba\xd1\xee\xba\xa9\x4b\xaf\x20\xfa\xf6\x6a\xa4\xdc\xb8\
     \x00\x00\x00\x00\x00\x00\x00\x00\x00\x00\x00\x00\x00\x00\x00\x00\x01\x00\x00\x00\x63\x00\x00\x00\x01\x00\x00\x00\
     .text\x00\x00\x00\x00\x00\x00\x00\x00\x00\x00\x00\x03\x00\x00\x00\x60\x00\x00\x00\
@@ -105,7 +105,10 @@ fn reads_both_forms_alike(rt: HostRuntime) -> Result<(), Fail> {
             };
             assert_eq!(rt; object.section_count(), 1);
             let section = object.section(1);
-            assert!(rt; section.name.rest() == b".text".as_slice() && section.body == Some(b"\x31\xc0\xc3".as_slice()));
+            assert!(rt;
+                section.name.rest() == b".text".as_slice()
+                    && section.body == Some(b"\x31\xc0\xc3".as_slice())
+            );
             assert!(rt; (section.flags, section.size, section.align) == (0x6050_0020, 3, 16));
             assert_eq!(rt; object.relocation_count(1), 0);
             let mut symbols = object.symbols();
@@ -119,6 +122,22 @@ fn reads_both_forms_alike(rt: HostRuntime) -> Result<(), Fail> {
             }
             assert!(rt; symbols.next().is_none());
         }
+    }
+    Ok(())
+}
+
+/// A text of one byte more than a name may have is long, and what begins after its first byte is not.
+#[test]
+fn finds_the_one_long_text(rt: HostRuntime) -> Result<(), Fail> {
+    let mut table = b"\x00\x00\x00\x00short\x00".to_vec(rt.alloc())?;
+    for _ in 0..NAME_LIMIT + 1 {
+        table.push(b'a')?;
+    }
+    table.push(0)?;
+    let long = LongTexts::of(rt.alloc(), &table)?;
+    assert!(rt; long.is_long_at(10));
+    for offset in [0, 4, 9, 11, 32_010, 32_011, 40_000] {
+        assert!(rt; !long.is_long_at(offset), "{offset}");
     }
     Ok(())
 }

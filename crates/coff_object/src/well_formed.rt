@@ -27,7 +27,10 @@ pub(crate) fn is_well_formed(bytes: &[u8]) -> bool
         return false;
     }
     let file = File::read(bytes);
-    if is_other_machine(&file) || whole_records(&file) < file.record_count() || table_leaves(&file) {
+    if is_other_machine(&file)
+        || whole_records(&file) < file.record_count()
+        || table_leaves(&file)
+    {
         return false;
     }
     let strings = string_table(&file);
@@ -85,12 +88,7 @@ fn symbols_pass<'a>(file: &File<'a>, strings: &'a [u8], texts_end: usize) -> boo
 
 /// Whether a symbol fails for some kind.
 #[tactic(auto, unfolding(crate::specs::AnyFault::symbol_fails))]
-fn symbol_fails(
-    file: &File<'_>,
-    index: u32,
-    symbol: &SymbolRecord<'_>,
-    texts_end: usize,
-) -> bool
+fn symbol_fails(file: &File<'_>, index: u32, symbol: &SymbolRecord<'_>, texts_end: usize) -> bool
     requires headers { is_truncated file.now ≡ false }
     requires below { index < record_total file.now }
     requires texts { EndsTexts symbol.now.strings texts_end }

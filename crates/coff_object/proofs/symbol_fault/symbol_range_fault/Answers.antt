@@ -1,4 +1,4 @@
-use Rattle.std.proofs.Common.{sym, ◌∙◌, arith}
+use Rattle.std.proofs.Common.{sym, arith}
 use Rattle.coff_object.proofs.RecordLemmas.{leaving_found, leaving_passed, none_left, range_of_symbol, range_of_record, range_none}
 use Rattle.coff_object.proofs.symbol_fault.symbol_range_fault.Goals as goal
 

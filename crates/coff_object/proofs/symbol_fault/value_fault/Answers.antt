@@ -1,4 +1,4 @@
-use Rattle.std.proofs.Common.{sym, ◌∙◌}
+use Rattle.std.proofs.Common.{sym}
 use Rattle.coff_object.specs.ObjectFaults.{of_symbol, first_symbol, has_no_section, value_exceeds}
 use Rattle.coff_object.proofs.LoopLemmas.{symbol_found, symbol_more, symbol_none, symbol_passes}
 use Rattle.coff_object.proofs.symbol_fault.value_fault.Goals as goal

@@ -1,5 +1,4 @@
-use Rattle.std.proofs.Common.{ℕ, ◌<◌, ◌≤◌, length, List, Some, sym, ap, ◌∙◌, subst, arith}
-use Rattle.coff_object.specs.ObjectFaults.{first_torn_record}
+use Rattle.std.proofs.Common.{ℕ, length, List, ap, arith}
 use Rattle.coff_object.proofs.RecordLemmas.{room_of, room_fits, room_ends, beyond_file, torn_none, torn_some}
 use Rattle.coff_object.proofs.symbol_fault.whole_records.Goals as goal
 
@@ -14,7 +13,7 @@ pub returns-then-whole-count-clause-whole : goal.returns-then-whole-count-clause
 returns-then-whole-count-clause-whole c =
     let room = room_of c.args.file.now c.bytes-len.result.now _ _ c.bytes-len.ensures c.symbols_offset-start.ensures c.symbol_size.ensures.size in
     λ index lt. let there = rw room at lt in
-        room_fits c.args.file.now index (omega (arith, ap (λ (bytes : List ℕ). length bytes) c.bytes-len.ensures)) there
+    room_fits c.args.file.now index (omega (arith, ap (λ (bytes : List ℕ). length bytes) c.bytes-len.ensures)) there
 
 pub returns-then-whole-count-clause-torn : goal.returns-then-whole-count-clause-torn
 returns-then-whole-count-clause-torn c =

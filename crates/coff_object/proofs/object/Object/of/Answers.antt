@@ -1,4 +1,4 @@
-use Rattle.std.proofs.Common.{◌≡◌, List, ℕ, None, ap, ◌∙◌}
+use Rattle.std.proofs.Common.{List, ℕ, ap, ◌∙◌}
 use Rattle.coff_object.specs.ObjectFaults.{object_fault}
 use Rattle.coff_object.proofs.WholeLemmas.{file_whole}
 use Rattle.coff_object.proofs.WellFormedLemmas.{no_fault, table_stays}

@@ -1,5 +1,4 @@
 use Rattle.std.proofs.Common.{ℕ, ◌<◌, refl, ◌∙◌, subst}
-use Rattle.coff_object.specs.Relocations.{relocation_count_in}
 use Rattle.coff_object.proofs.WellFormedLemmas.{no_fault}
 use Rattle.coff_object.proofs.Readable.{section_of, count_of, relocation_in_file}
 use Rattle.coff_object.proofs.object.Object.relocations.Goals as goal

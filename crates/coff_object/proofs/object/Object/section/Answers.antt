@@ -1,4 +1,3 @@
-use Rattle.std.proofs.Common.{◌∙◌}
 use Rattle.coff_object.proofs.WellFormedLemmas.{no_fault}
 use Rattle.coff_object.proofs.Readable.{section_of}
 use Rattle.coff_object.proofs.object.Object.section.Goals as goal
