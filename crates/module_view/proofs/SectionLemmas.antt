@@ -34,16 +34,6 @@ is_linker_section-take n name le =
     ap (λ (b : Bool). b || pointwise nat_eq (base_name (take n name)) (codes ".reloc")) import_part
     ∙ ap (λ (b : Bool). begins name (codes ".idata$") || b) relocations
 
--- one more than the limit tell whether the name is too long
-pub is_long-take : (n : ℕ) (name : List ℕ) → NAME_LIMIT < n → is_long (take n name) ≡ is_long name
-is_long-take n name lt =
-    elim (cases_lt (length name) n) [
-      | inl short ↦ ap is_long (take_all n name (omega arith))
-      | inr long ↦
-          let cut = length-take-le n name long in
-          lt-ltb NAME_LIMIT (length (take n name)) (omega arith) ∙ sym (lt-ltb NAME_LIMIT (length name) (omega arith))
-    ]
-
 -- ---- a loop over sections, or over symbols
 
 or_false : (b : Bool) → b ≡ (b || false)

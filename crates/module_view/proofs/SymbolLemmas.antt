@@ -21,33 +21,6 @@ use Rattle.module_view.specs.SymbolLists.{is_definition, defines, definition_of,
 use Rattle.module_view.specs.declared.definition.Place.TheVariants.{Section}
 use Rattle.module_view.specs.Opening.{is_long}
 
--- ---- a name that is too long
-
--- a long name's text stands in the string table
-pub long_by_offset : (symbol : SymbolView) (offset : ℕ) → long_name_offset_in symbol ≡ Some offset → is_long_text symbol.strings offset ≡ is_long (name_in symbol)
-unfolding long_name_offset_in name_in is_long_text
-long_by_offset symbol offset is = go (eqb (u32_at symbol.bytes 0) 0) is
-  where
-    place : ℕ
-    place = u32_at symbol.bytes SYMBOL_NAME_OFFSET
-
-    go : (b : Bool) → cond b (Some (u32_at symbol.bytes SYMBOL_NAME_OFFSET)) None ≡ Some offset → ltb NAME_LIMIT (length (unwrap_or (text_in symbol.strings offset) [])) ≡ ltb NAME_LIMIT (length (cond b (unwrap_or (text_in symbol.strings (u32_at symbol.bytes SYMBOL_NAME_OFFSET)) []) (short_symbol_name symbol.bytes)))
-    go true e =
-        let same : u32_at symbol.bytes SYMBOL_NAME_OFFSET ≡ offset = cc in
-        ap (λ (o : ℕ). ltb NAME_LIMIT (length (unwrap_or (text_in symbol.strings o) []))) (sym same)
-    go false e = absurd cc
-
--- a short name has eight bytes at most
-pub short_by_offset : (symbol : SymbolView) → long_name_offset_in symbol ≡ None → false ≡ is_long (name_in symbol)
-unfolding long_name_offset_in name_in
-short_by_offset symbol is = go (eqb (u32_at symbol.bytes 0) 0) is
-  where
-    go : (b : Bool) → cond b (Some (u32_at symbol.bytes SYMBOL_NAME_OFFSET)) None ≡ None → false ≡ ltb NAME_LIMIT (length (cond b (unwrap_or (text_in symbol.strings (u32_at symbol.bytes SYMBOL_NAME_OFFSET)) []) (short_symbol_name symbol.bytes)))
-    go true e = absurd cc
-    go false e =
-        let field = take 8 (drop 0 symbol.bytes) in
-        sym (le-ltb NAME_LIMIT (length (short_symbol_name symbol.bytes)) (omega (arith, length-take (position_or_len is_nul field) field, length-take 8 (drop 0 symbol.bytes))))
-
 -- ---- what is told of symbols, after one more
 
 pub still_none : {X : Type 0} (test : X → Bool) (before after : List X) (x : X) (whole b : Bool) → before ≡ x ∷ after → list_any test before ≡ whole → b ≡ test x → b ≡ false → list_any test after ≡ whole
@@ -139,10 +112,6 @@ section_read number fits above = ap nat_abs (to_z-of_z w32 number fits) ∙ go n
     go : (z : ℤ) → lt_z (pos 0) z ≡ true → nat_abs z ≡ section_of_number z
     go (pos n) e = refl
     go (negsuc n) e = absurd cc
-
--- a list whose slice was written
-pub written : {X : Type 0} (n : ℕ) (xs ys : List X) → n ≡ length xs → take n (xs ++ ys) ≡ xs
-written n xs ys is = ap (λ (k : ℕ). take k (xs ++ ys)) is ∙ take-append_seam xs ys
 
 -- ---- which symbols are definitions
 

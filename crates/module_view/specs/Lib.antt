@@ -5,4 +5,3 @@ pub mod SymbolLists
 pub mod Unbuilt
 pub mod Steps
 pub mod ModuleParts
-pub mod TextBlocks

@@ -13,7 +13,6 @@ mod opening;
 mod placed_section;
 mod sections;
 mod symbols;
-mod text_block;
 mod unbuilt;
 
 pub use definition::{Definition, Place};

@@ -9,7 +9,7 @@ use crate::first_bytes::form_shown;
 use crate::input_module::{Module, Origin};
 use crate::sections::judge_sections;
 use crate::symbols::{SymbolLists, read_symbols};
-use coff_object::Object;
+use coff_object::{LongTexts, Object};
 use std::alloc::Global;
 
 /// The module with these bytes. They are refused for the first of: a form that the first bytes show (`Unsupported`), a fault
@@ -32,14 +32,15 @@ pub fn open_module<'a>(
         Ok(object) => object,
         Err(error) => return Err(ModuleError::Object(error)),
     };
-    let unbuilt = match judge_sections(&object) {
+    let texts = LongTexts::of(alloc, object.string_table())?;
+    let unbuilt = match judge_sections(&object, &texts) {
         Ok(unbuilt) => unbuilt,
         Err(kind) => return Err(ModuleError::Unsupported(kind)),
     };
     let SymbolLists {
         definitions,
         starts,
-    } = match read_symbols(alloc, &object, unbuilt) {
+    } = match read_symbols(alloc, &object, &texts, unbuilt) {
         Ok(lists) => lists,
         Err(error) => return Err(error),
     };

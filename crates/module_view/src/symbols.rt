@@ -1,16 +1,15 @@
 //! The lists that one pass over the symbols of an object makes.
 
 ghost use Rattle.std.specs.Prelude.{◌≡◌, ◌<◌, ◌++◌, ◌∷◌, [], ℕ, false, None, slice_index_or, IfOk, OnOk, IfErr, if◌then◌else◌};
-ghost use Rattle.coff_object.specs.ObjectFile.{starts_symbol, name_in};
+ghost use Rattle.coff_object.specs.ObjectFile.{starts_symbol, string_table};
 ghost use Rattle.module_view.specs.SymbolLists.{is_definition, definition_of, definitions_of};
-ghost use Rattle.module_view.specs.Opening.{RefusesToOpen, is_long};
+ghost use Rattle.module_view.specs.Opening.{RefusesToOpen};
 ghost use Rattle.module_view.specs.Steps.{symbol_error};
 
 use crate::definition::{Definition, Place};
 use crate::error::ModuleError;
-use crate::text_block::LongTexts;
 use crate::unbuilt::is_unbuilt_symbol;
-use coff_object::{Object, SymbolRecord};
+use coff_object::{LongTexts, Object, SymbolRecord};
 use link_base::pe_format::{SYM_CLASS_EXTERNAL, SYM_UNDEFINED};
 use link_base::{Kind, Memory};
 use std::alloc::Global;
@@ -28,19 +27,20 @@ pub(crate) struct SymbolLists<'a> {
 pub(crate) fn read_symbols<'a>(
     alloc: Global,
     object: &Object<'a>,
+    texts: &LongTexts<'_>,
     unbuilt: bool,
 ) -> Result<SymbolLists<'a>, ModuleError>
+    requires { texts.now ≡ string_table object.now }
     ensures definitions { IfOk result (λ lists. lists.definitions.items ≡ definitions_of object.now) }
     ensures starts { IfOk result (λ lists. (j : ℕ) → slice_index_or lists.starts.items j false ≡ starts_symbol object.now j) }
     ensures accepted { OnOk result (symbol_error unbuilt object.now ≡ None) }
     ensures refused { IfErr result (RefusesToOpen (symbol_error unbuilt object.now)) }
 {
-    let texts = LongTexts::of(alloc, object.string_table())?;
     let mut definitions = Vec::new(alloc);
     let mut starts = vec![in alloc; false; object.record_count() as usize]?;
     let mut unbuilt = unbuilt;
     for (index, symbol) in object.symbols() {
-        if is_long_named(&texts, &symbol) {
+        if texts.is_long_symbol(&symbol) {
             return Err(ModuleError::Unsupported(Kind::LongName));
         }
         starts[index as usize] = true;
@@ -54,17 +54,6 @@ pub(crate) fn read_symbols<'a>(
         definitions,
         starts,
     })
-}
-
-/// Whether a symbol's name is too long, by the texts of its string table.
-fn is_long_named(texts: &LongTexts<'_>, symbol: &SymbolRecord<'_>) -> bool
-    requires { texts.now ≡ symbol.now.strings }
-    ensures { result ≡ is_long (name_in symbol.now) }
-{
-    match symbol.long_name_offset() {
-        Some(offset) => texts.is_long(offset),
-        None => false,
-    }
 }
 
 /// Appends a symbol, where it is a definition.

@@ -30,11 +30,11 @@ loop-index-init c =
           ∙ ap (list_any (λ (e : SymbolEntry). eqb e.0 j)) all ∙ starts_among bytes j;
     }
 
-pub is_long_named-requires : goal.is_long_named-requires
-is_long_named-requires c =
+pub is_long_symbol-requires : goal.is_long_symbol-requires
+is_long_symbol-requires c =
     let bytes = c.args.object.now in
     let step = symbols_left-step bytes c.loop-index.index-iterator c.next.new.self c.in-Some.index c.in-Some.symbol c.loop-index.invariant.left c.in-Some.ensures.steps in
-    c.in_ok-texts.ensures ∙ c.string_table.ensures ∙ sym (symbol_strings bytes c.in-Some.index c.in-Some.symbol step.is)
+    symbol_strings bytes c.in-Some.index c.in-Some.symbol step.is ∙ sym c.requires
 
 pub index_mut-requires : goal.index_mut-requires
 index_mut-requires c =
@@ -55,7 +55,7 @@ loop-index-preserved c =
       can = tt;
       ends = tt;
       left = step.left;
-      long = still_none (λ (e : SymbolEntry). is_long (name_in e.1)) before after entry _ c.is_long_named.result steps c.loop-index.invariant.long c.is_long_named.ensures c.if-is_long_named.false;
+      long = still_none (λ (e : SymbolEntry). is_long (name_in e.1)) before after entry _ c.is_long_symbol.result steps c.loop-index.invariant.long c.is_long_symbol.ensures c.if-is_long_symbol.false;
       unbuilt = one_noted (λ (e : SymbolEntry). is_unbuilt_symbol e.1) before after entry c.loop-index.unbuilt c.is_unbuilt_symbol-unbuilt.result _ steps c.loop-index.invariant.unbuilt c.is_unbuilt_symbol-unbuilt.ensures;
       definitions = definitions_more before after entry c.loop-index.definitions.items c.push_definition.new.definitions.items (definitions_of bytes) steps c.loop-index.invariant.definitions c.in_ok-push_definition.ensures;
       count = length-set marks c.in-Some.index _ ∙ c.loop-index.invariant.count;
