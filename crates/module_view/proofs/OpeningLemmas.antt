@@ -1,5 +1,5 @@
 -- Why bytes do not open, stage by stage.
-use Rattle.std.proofs.Common.{◌≡◌, ℕ, Bool, true, false, cond, ◌||◌, List, [], ◌∷◌, Option, Some, None, refl, sym, ap, subst, ◌∙◌}
+use Rattle.std.proofs.Common.{◌≡◌, ℕ, Bool, true, false, ◌||◌, List, [], ◌∷◌, Option, Some, None, refl, sym, ap, subst, ◌∙◌}
 use Rattle.std.specs.Prelude.{option_map}
 use Rattle.std.specs.Option.{option_or}
 use Rattle.link_base.specs.Refusals.{shown, first_standing}
@@ -10,7 +10,7 @@ use Rattle.coff_object.specs.declared.error.ObjError.{ObjError}
 use Rattle.module_view.specs.declared.error.ModuleError.{ModuleError}
 use Rattle.module_view.specs.declared.error.ModuleError.TheVariants as error
 use Rattle.module_view.specs.Unbuilt.{has_unbuilt_section, has_unbuilt_symbol}
-use Rattle.module_view.specs.Opening.{opening_error, form_error, object_error, content_error, unsupported, has_linker_section, has_long_section_name, has_long_symbol_name, RefusesToOpen}
+use Rattle.module_view.specs.Opening.{opening_error, form_error, content_error, unsupported, has_linker_section, has_long_section_name, has_long_symbol_name, RefusesToOpen}
 use Rattle.module_view.specs.Steps.{section_form, symbol_error}
 
 -- ---- sections, then symbols

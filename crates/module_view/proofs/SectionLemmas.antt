@@ -1,18 +1,16 @@
 -- The first bytes of a section's name, and one more section in a loop.
-use Rattle.std.proofs.Common.{◌≡◌, ℕ, zero, suc, ◌+◌, ◌<◌, ◌≤◌, Bool, true, false, ◌&&◌, ◌||◌, List, [], ◌∷◌, ◌++◌, length, take, nat_eq, inl, inr, refl, sym, ap, ◌∙◌, lt-ltb, arith}
+use Rattle.std.proofs.Common.{◌≡◌, ℕ, zero, suc, ◌+◌, ◌<◌, ◌≤◌, Bool, true, false, ◌&&◌, ◌||◌, List, [], ◌∷◌, ◌++◌, length, take, nat_eq, refl, sym, ap, ◌∙◌, arith}
 use Rattle.std.specs.Prelude.{codes}
 use Rattle.std.specs.List.{list_any, range_with_len}
 use lib.Pointwise.{pointwise}
-use Rattle.std.proofs.lemmas.Bool.{cases_lt}
-use Rattle.std.proofs.lemmas.List.{take_all, take-take, length-take-le}
+use Rattle.std.proofs.lemmas.List.{take-take}
 use Rattle.std.proofs.lemmas.List.Folds.{list_any-append, list_any_at}
 use Rattle.std.proofs.lemmas.List.FromFn.{length-range_with_len, get_or-range_with_len}
-use Rattle.link_base.specs.Limits.{NAME_LIMIT}
-use Rattle.link_base.specs.NameText.{same_name, begins}
+use Rattle.link_base.specs.NameText.{begins}
 use Rattle.link_base.specs.SectionName.{base_name, is_cut}
 use Rattle.link_base.proofs.RangeLemmas.{range_more}
 use Rattle.coff_object.proofs.CallerLemmas.{before_first-take}
-use Rattle.module_view.specs.Opening.{is_linker_section, is_long}
+use Rattle.module_view.specs.Opening.{is_linker_section}
 
 -- ---- the first bytes of a name
 

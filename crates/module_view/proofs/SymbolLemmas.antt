@@ -1,25 +1,18 @@
 -- One more symbol in a loop over the symbols of an object.
-use Rattle.std.proofs.Common.{◌≡◌, ℕ, zero, suc, ◌<◌, ◌≢◌, ℤ, pos, negsuc, replicate, w32, FitsSigned, to_z, of_z, Bool, true, false, cond, ◌&&◌, ◌||◌, ltb, eqb, List, [], ◌∷◌, ◌++◌, length, map, filter, take, drop, get_or, set, Option, Some, None, inl, inr, refl, sym, ap, ◌∙◌, append_assoc, le-ltb, arith}
-use Rattle.std.specs.Prelude.{unwrap_or}
+use Rattle.std.proofs.Common.{◌≡◌, ℕ, zero, suc, ◌<◌, ◌≢◌, ℤ, pos, negsuc, replicate, w32, FitsSigned, to_z, of_z, Bool, true, false, cond, ◌&&◌, ◌||◌, eqb, List, [], ◌∷◌, ◌++◌, length, map, filter, get_or, set, inl, inr, refl, sym, ap, ◌∙◌, append_assoc, arith}
 use Rattle.std.specs.Int.Signed.{lt_z}
 use lib.IntN.{nat_abs}
-use Rattle.std.specs.List.{list_any, position_or_len}
+use Rattle.std.specs.List.{list_any}
 use Rattle.std.specs.Cmp.Derive.{both_true}
 use Rattle.std.proofs.lemmas.Bool.{eq-eqb, ne_eqb}
 use Rattle.std.proofs.lemmas.Bool.Decides.{eqb_tells}
 use Rattle.std.proofs.lemmas.Int.{to_z-of_z}
-use Rattle.std.proofs.lemmas.List.{append-nil, get_or-set_same, get_or-set_other, length-take}
-use Rattle.std.proofs.Math.Seq.{take-append_seam}
-use Rattle.link_base.specs.Bytes.{u32_at, is_nul}
-use Rattle.link_base.specs.Limits.{NAME_LIMIT}
-use Rattle.coff_object.specs.SymbolRecord.{SymbolView, name_in, value_in, class_in, section_number_in, long_name_offset_in, section_of_number, short_symbol_name}
-use Rattle.coff_object.specs.StringTable.{text_in, is_long_text}
+use Rattle.std.proofs.lemmas.List.{get_or-set_same, get_or-set_other}
+use Rattle.coff_object.specs.SymbolRecord.{SymbolView, name_in, value_in, class_in, section_number_in, section_of_number}
 use Rattle.coff_object.specs.ObjectFile.{SymbolEntry, symbols_of, symbol_entry, symbol_entries, starts_symbol}
-use Rattle.coff_object.specs.Offsets.{SYMBOL_NAME_OFFSET}
 use Rattle.module_view.specs.declared.definition.Definition.{Definition}
 use Rattle.module_view.specs.SymbolLists.{is_definition, defines, definition_of, definitions_in}
 use Rattle.module_view.specs.declared.definition.Place.TheVariants.{Section}
-use Rattle.module_view.specs.Opening.{is_long}
 
 -- ---- what is told of symbols, after one more
 

@@ -2,7 +2,6 @@
 -- the forms that its names show, then those that are not linked yet. The order is own.
 use Rattle.std.specs.Prelude.{◌≡◌, ℕ, Bool, ◌||◌, ◌&&◌, not, ◌==◌, nat_lt, List, [], ◌∷◌, length, Option, Some, None, option_map, codes}
 use Rattle.std.specs.List.{list_any}
-use Rattle.std.specs.Option.{option_or}
 use Rattle.link_base.specs.Bytes.{u16_at, has_bytes}
 use Rattle.link_base.specs.Limits.{NAME_LIMIT}
 use Rattle.link_base.specs.NameText.{same_name, begins}

@@ -21,3 +21,6 @@ pub use input_module::{Module, Origin};
 pub use laws::modules_are_shared;
 pub use opening::open_module;
 pub use placed_section::comes_in;
+
+#[cfg(test)]
+mod tests;

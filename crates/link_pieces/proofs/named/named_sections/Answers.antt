@@ -1,5 +1,4 @@
-use Rattle.std.proofs.Common.{◌<◌, ℕ, List, false, length, ap, sym, subst, ◌∙◌, arith}
-use Rattle.std.proofs.lemmas.List.{get_or_default}
+use Rattle.std.proofs.Common.{length, ap, ◌∙◌, arith}
 use Rattle.link_pieces.proofs.NamedLemmas.{all_marked, within_marks}
 use Rattle.link_pieces.proofs.named.named_sections.Goals as goal
 

@@ -1,4 +1,4 @@
-use Rattle.std.proofs.Common.{◌≡◌, ◌+◌, ◌<◌, ℕ, Bool, true, false, ◌||◌, refl, sym, ap, ◌∙◌, arith}
+use Rattle.std.proofs.Common.{◌+◌, ◌<◌, refl, sym, ◌∙◌, arith}
 use Rattle.coff_object.specs.ObjectFile.{section_total, section_name_of}
 use Rattle.link_base.proofs.TestLemmas.{or_left, or_right}
 use Rattle.module_view.specs.Unbuilt.{is_unbuilt_section}
