@@ -83,6 +83,7 @@ relocations_leave file header =
 
 -- ---- 5 SymbolRange
 
+-- a record goes beyond the end of the file
 abbrev pub record_leaves : List ℕ → ℕ → Bool
 record_leaves file index = nat_lt (length file) (record_offset file index + symbol_size file)
 
@@ -106,6 +107,7 @@ symbol_range_fault file = least_place (first_torn_record file) (first_of (aux_le
 
 -- ---- 6 StringTable
 
+-- the table itself goes beyond the end of the file
 unfoldable pub table_leaves : List ℕ → Bool
 table_leaves file = leaves_file file (string_table_offset file) (string_table_size file)
 
@@ -114,6 +116,7 @@ unfoldable pub lacks_section_name : List ℕ → List ℕ → Bool
 lacks_section_name strings header =
     names_an_offset (short_name_in header) && is_none (long_section_name strings (short_name_in header))
 
+-- an offset that is written is that of no text
 abbrev pub lacks_text : List ℕ → Option ℕ → Bool
 lacks_text strings None = false
 lacks_text strings (Some offset) = is_none (text_in strings offset)
@@ -131,6 +134,7 @@ string_table_fault file =
 
 -- ---- 7 Alignment
 
+-- the one value that the format leaves free
 unfoldable pub has_no_alignment : List ℕ → Bool
 has_no_alignment header =
     not (has_flag (flags_in header) SCN_TYPE_NO_PAD) && (alignment_value (flags_in header) == 15)
@@ -144,6 +148,7 @@ has_no_section file symbol =
 
 -- ---- 9 SymbolValue
 
+-- symbols of these classes mean places where they have a section
 abbrev pub means_a_place : ℕ → Bool
 means_a_place class = (class == SYM_CLASS_EXTERNAL) || ((class == SYM_CLASS_STATIC) || (class == SYM_CLASS_LABEL))
 
@@ -159,6 +164,7 @@ value_exceeds file symbol =
 
 -- ---- the table
 
+-- a kind, at the place where it stands
 abbrev pub row : ObjFault → Option ℕ → Option ObjError
 row fault place = option_map (λ index. record { kind = fault; index = index }) place
 

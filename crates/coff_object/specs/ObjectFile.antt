@@ -113,6 +113,7 @@ starts_from file index = starts_within file (record_total file - index) index
 abbrev pub symbols_of : List ℕ → List ℕ
 symbols_of file = starts_from file 0
 
+-- a record is one of them
 unfoldable pub starts_symbol : List ℕ → ℕ → Bool
 starts_symbol file index = list_any (λ start. start == index) (symbols_of file)
 

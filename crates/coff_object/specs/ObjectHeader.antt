@@ -21,6 +21,7 @@ big_object_class =
 unfoldable pub is_big_object : List ℕ → Bool
 is_big_object file = begins file big_object_start && begins (drop BIG_CLASS file) big_object_class
 
+-- the number for big objects, or for plain ones
 abbrev pub by_form : List ℕ → ℕ → ℕ → ℕ
 by_form file big plain = if is_big_object file then big else plain
 

@@ -3,7 +3,7 @@
 use link_base::ObjFault;
 
 /// A refusal of an object, with the place of the fault: a section (from 1), a symbol record (from 0), or 0. A
-/// symbol whose name is missing is counted behind the sections: its record and the number of sections together.
+/// symbol whose name is missing is counted after the sections: its record and the number of sections together.
 #[derive(Clone, Copy, Debug, PartialEq, Eq)]
 pub struct ObjError {
     pub kind: ObjFault,
