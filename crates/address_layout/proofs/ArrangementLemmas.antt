@@ -9,7 +9,7 @@ use Rattle.section_group.specs.declared.piece.OutSection.{OutSection}
 use Rattle.address_layout.specs.declared.layout.Placed.{Placed}
 use Rattle.address_layout.specs.Places.{IsLeastMultiple, row_at, piece_in, alignment_in, piece_end, piece_floor, IsInitialisedEnd, IsPlacedSection, end_before, file_before, section_count, IsArrangement}
 use Rattle.address_layout.specs.Layout.{IsAlignment, StandOnce}
-use Rattle.address_layout.specs.Rounded.{rounded, narrowed, end_after, place_of, raw_end_after, bytes_before, size_from, raw_from, floor_of, start_of, file_of, placed_from, narrowed_placed, placed_of}
+use Rattle.address_layout.specs.Rounded.{rounded, saturated, end_after, place_of, raw_end_after, bytes_before, size_from, raw_from, floor_of, start_of, file_of, placed_from, saturated_placed, placed_of}
 use Rattle.address_layout.proofs.RoundLemmas.{rounded_above, rounded_bound, rounded_least, rounded_is}
 use Rattle.address_layout.proofs.ExtentLemmas.{is_alignment}
 use Rattle.address_layout.proofs.StandingLemmas.{row_here, stands}
@@ -259,10 +259,10 @@ file_small pieces sections headers (suc i) rows le =
     let raw = raw_small pieces (row_at sections i) (start_of pieces sections headers i) (rows i (omega arith)) in
     omega (arith, before, raw, start_above pieces sections headers i, floor_step pieces sections headers i, file_step pieces sections headers i)
 
-narrow_same : (n : ℕ) → n < 4294967296 → narrowed n ≡ n
+narrow_same : (n : ℕ) → n < 4294967296 → saturated n ≡ n
 narrow_same n lt = omega arith
 
-file_narrow : (b : Bool) (n : ℕ) → n < 4294967296 → narrowed (cond b 0 n) ≡ cond b 0 n
+file_narrow : (b : Bool) (n : ℕ) → n < 4294967296 → saturated (cond b 0 n) ≡ cond b 0 n
 file_narrow true n lt = refl
 file_narrow false n lt = narrow_same n lt
 
@@ -271,8 +271,8 @@ same_placed p q a b c d = λ i. record { rva = a i; size = b i; raw = c i; file 
 
 -- the places of an image that is not too large are as they are computed
 pub record Fits (pieces : List Piece) (sections : List OutSection) (headers : ℕ) : Type 0 where
-  pub placed : (i : ℕ) → i < length sections → narrowed_placed (placed_of pieces sections headers i) ≡ placed_of pieces sections headers i
-  pub place : (i j : ℕ) → i < length sections → j < length (row_at sections i).1 → narrowed (place_of pieces (row_at sections i) (start_of pieces sections headers i) j) ≡ place_of pieces (row_at sections i) (start_of pieces sections headers i) j
+  pub placed : (i : ℕ) → i < length sections → saturated_placed (placed_of pieces sections headers i) ≡ placed_of pieces sections headers i
+  pub place : (i j : ℕ) → i < length sections → j < length (row_at sections i).1 → saturated (place_of pieces (row_at sections i) (start_of pieces sections headers i) j) ≡ place_of pieces (row_at sections i) (start_of pieces sections headers i) j
 
 pub fits : (pieces : List Piece) (sections : List OutSection) (headers : ℕ) → All (λ piece. IsAlignment piece.align) pieces → StandOnce pieces sections → length sections ≤ 96 → rounded 4096 (floor_of pieces sections headers (length sections)) ≤ 536870912 → Fits pieces sections headers
 fits pieces sections headers aligned standing few small = record {
@@ -282,7 +282,7 @@ fits pieces sections headers aligned standing few small = record {
       let top = top_of i lt in
       let raw = raw_small pieces row start (rows i lt) in
       let file = file_small pieces sections headers i rows (omega arith) in
-      same_placed (narrowed_placed (placed_of pieces sections headers i)) (placed_of pieces sections headers i)
+      same_placed (saturated_placed (placed_of pieces sections headers i)) (placed_of pieces sections headers i)
       (narrow_same start (omega (arith, top)))
       (narrow_same (size_from pieces row start) (omega (arith, top)))
       (narrow_same (raw_from pieces row start) (omega (arith, top, raw)))

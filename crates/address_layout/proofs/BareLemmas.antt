@@ -72,14 +72,18 @@ arrangement_bare pieces sections reloc headers placed place image is = record {
 
 -- the layout of some pieces is that of the same pieces without their bytes
 pub layout_bare : (pieces : List Piece) (sections : List OutSection) (reloc : Bool) (layout : Layout) → IsLayout pieces sections reloc layout → IsLayout (map bare pieces) sections reloc layout
-layout_bare pieces sections reloc layout is = record {
-  place = is.place;
-  arranged = arrangement_bare pieces sections reloc layout.headers _ is.place layout.image is.arranged;
-  section_for_each = is.section_for_each;
-  rva_for_each = is.rva_for_each ∙ sym (length-map pieces bare);
-  written = is.written;
-  unplaced = is.unplaced;
-}
+layout_bare pieces sections reloc layout is =
+    let held = is.standing in
+    record {
+      standing = record {
+        place = held.place;
+        arranged = arrangement_bare pieces sections reloc layout.headers _ held.place layout.image held.arranged;
+        section_for_each = held.section_for_each;
+        rva_for_each = held.rva_for_each ∙ sym (length-map pieces bare);
+        written = held.written;
+      };
+      unplaced = is.unplaced;
+    }
 
 -- and so is the size of their image
 pub size_bare : (pieces : List Piece) (sections : List OutSection) (reloc : Bool) (size : ℕ) → HasImageSize pieces sections reloc size → HasImageSize (map bare pieces) sections reloc size

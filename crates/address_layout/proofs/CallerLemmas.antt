@@ -2,6 +2,10 @@
 pub use Rattle.address_layout.proofs.BareLemmas.{layout_bare, size_bare, stand_bare}
 pub use Rattle.address_layout.proofs.RowLemmas.{layout_same_rows, size_same_rows}
 pub use Rattle.address_layout.proofs.InsideLemmas.{places_ascend, piece_end_inside, initialised_end_inside, all_ends_inside, name_fits}
+pub use Rattle.address_layout.proofs.RewrittenLemmas.{piece_stands, rewritten_holds, rewritten_can_grow}
+pub use Rattle.address_layout.proofs.StandingLemmas.{row_here}
+pub use Rattle.address_layout.proofs.ArrangementLemmas.{Aligned, aligned_rows}
+pub use Rattle.address_layout.proofs.Theorems.{one_layout, one_image_size}
 use Rattle.std.proofs.Common.{◌≡◌, ◌≢◌, ℕ, zero, suc, ◌<◌, Bool, true, false, ◌&&◌, eqb, IsTrue, List, [], ◌∷◌, ◌++◌, length, get_or, refl, sym, ap, ◌∙◌, subst, inl, inr, arith}
 use Rattle.std.specs.List.{All, AllPairs, Any, Contains, IsDistinct}
 use Rattle.std.specs.Ordering.{is_lt, nat_cmp, ordering_then}
@@ -9,6 +13,10 @@ use Rattle.std.specs.Cmp.{IsTotalOrder, tied_itself}
 use Rattle.std.specs.Cmp.Rules.{comparing}
 use Rattle.std.specs.declared.cmp.Ordering.{Ordering}
 use Rattle.std.specs.declared.cmp.Ordering.TheVariants.{Equal}
+pub use Rattle.address_layout.proofs.RewrittenLemmas.{piece_stands, rewritten_holds, rewritten_can_grow}
+pub use Rattle.address_layout.proofs.StandingLemmas.{row_here}
+pub use Rattle.address_layout.proofs.ArrangementLemmas.{Aligned, aligned_rows}
+pub use Rattle.address_layout.proofs.Theorems.{one_layout, one_image_size}
 use Rattle.std.proofs.Common.{rules}
 use Rattle.std.proofs.lemmas.Bool.{false≢true, eqb-true}
 use Rattle.std.proofs.lemmas.Cmp.{nat_cmp_total}

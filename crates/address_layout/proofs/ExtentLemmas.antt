@@ -12,7 +12,7 @@ use Rattle.section_group.specs.SectionOrder.{no_piece}
 use Rattle.address_layout.specs.declared.extent.Extent.{Extent}
 use Rattle.address_layout.specs.Places.{piece_in, alignment_in}
 use Rattle.address_layout.specs.Layout.{IsAlignment}
-use Rattle.address_layout.specs.Rounded.{rounded, narrowed, end_after, place_of, raw_end_after, bytes_before, ArePlaced}
+use Rattle.address_layout.specs.Rounded.{rounded, saturated, end_after, place_of, raw_end_after, bytes_before, ArePlaced}
 use Rattle.address_layout.proofs.RoundLemmas.{rounded_bound, rounded_above}
 
 -- ---- alignments
@@ -60,7 +60,7 @@ between : (b : Bool) (low x y z high : ℕ) → z ≡ cond b x y → low ≤ x �
 between true low x y z high e a c d f = (omega arith, omega arith)
 between false low x y z high e a c d f = (omega arith, omega arith)
 
-pub placed_more : (pieces : List Piece) (row : List ℕ × List ℕ) (start j : ℕ) (extent more : Extent) (first rvas : List ℕ) (rva at value : ℕ) → All (λ piece. IsAlignment piece.align) pieces → All (λ k. k < length pieces) row.1 → IsDistinct eqb row.1 → length first ≡ length pieces → j < length row.1 → ArePlaced pieces row start j extent first rvas → rva ≡ rounded (alignment_in pieces row j) extent.end → at ≡ get_or row.1 j 0 → value ≡ narrowed rva → more.end ≡ rva + (piece_in pieces row j).size → more.initialised_end ≡ cond (piece_in pieces row j).init (rva + (piece_in pieces row j).size) extent.initialised_end → more.has_bytes ≡ (extent.has_bytes || ltb 0 (piece_in pieces row j).size) → (piece_in pieces row j).size < 4294967296 → ArePlaced pieces row start (j + 1) more first (set rvas at value)
+pub placed_more : (pieces : List Piece) (row : List ℕ × List ℕ) (start j : ℕ) (extent more : Extent) (first rvas : List ℕ) (rva at value : ℕ) → All (λ piece. IsAlignment piece.align) pieces → All (λ k. k < length pieces) row.1 → IsDistinct eqb row.1 → length first ≡ length pieces → j < length row.1 → ArePlaced pieces row start j extent first rvas → rva ≡ rounded (alignment_in pieces row j) extent.end → at ≡ get_or row.1 j 0 → value ≡ saturated rva → more.end ≡ rva + (piece_in pieces row j).size → more.initialised_end ≡ cond (piece_in pieces row j).init (rva + (piece_in pieces row j).size) extent.initialised_end → more.has_bytes ≡ (extent.has_bytes || ltb 0 (piece_in pieces row j).size) → (piece_in pieces row j).size < 4294967296 → ArePlaced pieces row start (j + 1) more first (set rvas at value)
 unfolding end_after raw_end_after bytes_before
 placed_more pieces row start j extent more first rvas rva at value aligned within once room lt are is_rva is_at is_value is_end is_raw is_bytes fits =
     let a = alignment_in pieces row j in
@@ -84,7 +84,7 @@ placed_more pieces row start j extent more first rvas rva at value aligned withi
         | inr last ↦
             let same : i ≡ j = omega arith in
             ap (λ (n : ℕ). get_or (set rvas at value) (get_or row.1 n 0) 0) same ∙ ap (λ (k : ℕ). get_or (set rvas at value) k 0) (sym is_at)
-            ∙ get_or-set_same rvas at value 0 in' ∙ is_value ∙ ap narrowed here ∙ ap (λ (n : ℕ). narrowed (place_of pieces row start n)) (sym same)
+            ∙ get_or-set_same rvas at value 0 in' ∙ is_value ∙ ap saturated here ∙ ap (λ (n : ℕ). saturated (place_of pieces row start n)) (sym same)
       ];
       others = λ k apart.
           let other : k ≢ at = λ e. apart j (omega arith) (sym is_at ∙ sym e) in

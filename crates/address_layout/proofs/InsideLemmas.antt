@@ -7,9 +7,10 @@ use Rattle.std.proofs.lemmas.List.Elements.{Contains-append_cases}
 use Rattle.section_group.specs.declared.piece.OutSection.{OutSection}
 use Rattle.section_group.specs.declared.piece.Piece.{Piece}
 use Rattle.section_group.specs.SectionOrder.{no_piece}
+use Rattle.link_base.specs.Limits.{IMAGE_LIMIT}
 use Rattle.address_layout.specs.declared.layout.Layout.{Layout}
 use Rattle.address_layout.specs.declared.layout.Placed.{Placed}
-use Rattle.address_layout.specs.Layout.{all_pieces, placed_at, IsLayout}
+use Rattle.address_layout.specs.Layout.{all_pieces, placed_at, HoldsArrangement}
 use Rattle.address_layout.specs.Places.{row_at, piece_in, piece_end, piece_floor, IsPlacedSection, end_before, IsArrangement}
 
 -- ---- one section
@@ -58,7 +59,7 @@ ends_grow pieces sections reloc headers placed place image is i (suc j) le withi
     ]
 
 -- each section ends inside the image
-pub all_ends_inside : (pieces : List Piece) (sections : List OutSection) (reloc : Bool) (layout : Layout) (i : ℕ) → IsLayout pieces sections reloc layout → i < length sections → (placed_at layout.sections.items i).rva + (placed_at layout.sections.items i).size ≤ layout.image
+pub all_ends_inside : (pieces : List Piece) (sections : List OutSection) (reloc : Bool) (layout : Layout) (i : ℕ) → HoldsArrangement pieces sections reloc layout → i < length sections → (placed_at layout.sections.items i).rva + (placed_at layout.sections.items i).size ≤ layout.image
 all_ends_inside pieces sections reloc layout i is lt =
     let placed = placed_at layout.sections.items in
     let up = ends_grow pieces sections reloc layout.headers placed is.place layout.image is.arranged (suc i) (length sections) lt (omega arith) in
@@ -96,7 +97,7 @@ stands_at (s ∷ ss) k there =
     ]
 
 -- an RVA inside a piece, or at its end, is one of 32 bits
-pub name_fits : (pieces : List Piece) (sections : List OutSection) (reloc : Bool) (layout : Layout) (k value : ℕ) → IsLayout pieces sections reloc layout → layout.image ≤ 536870912 → Contains (all_pieces sections) k → get_or layout.pieces.items k 0 < 2 ^ 32 → value ≤ (get_or pieces k no_piece).size → get_or layout.pieces.items k 0 + value < 2 ^ 32
+pub name_fits : (pieces : List Piece) (sections : List OutSection) (reloc : Bool) (layout : Layout) (k value : ℕ) → HoldsArrangement pieces sections reloc layout → layout.image ≤ IMAGE_LIMIT → Contains (all_pieces sections) k → get_or layout.pieces.items k 0 < 2 ^ 32 → value ≤ (get_or pieces k no_piece).size → get_or layout.pieces.items k 0 + value < 2 ^ 32
 name_fits pieces sections reloc layout k value is small there fits le =
     elim (cases_lt 0 (get_or pieces k no_piece).size) [
       | inl some ↦

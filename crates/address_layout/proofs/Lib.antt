@@ -8,5 +8,6 @@ pub mod RelocLemmas
 pub mod BareLemmas
 pub mod RowLemmas
 pub mod InsideLemmas
+pub mod RewrittenLemmas
 pub mod CallerLemmas
 pub mod Theorems

@@ -45,13 +45,15 @@ module _ (sections others : List OutSection) (same : rows_of sections ≡ rows_o
 -- sections with the same rows have one layout
 pub layout_same_rows : (pieces : List Piece) (sections others : List OutSection) (reloc : Bool) (layout : Layout) → rows_of sections ≡ rows_of others → IsLayout pieces sections reloc layout → IsLayout pieces others reloc layout
 layout_same_rows pieces sections others reloc layout same is = record {
-  place = is.place;
-  arranged = arrangement_same_rows sections others same pieces reloc layout.headers _ is.place layout.image is.arranged;
-  section_for_each = is.section_for_each ∙ same_count sections others same;
-  rva_for_each = is.rva_for_each;
-  written = λ i j lt.
-      subst (λ (row : List ℕ × List ℕ). j < length row.1 → get_or layout.pieces.items (get_or row.1 j 0) 0 ≡ is.place i j) (same_row sections others same i)
-      (is.written i j (omega (arith, same_count sections others same)));
+  standing = let held = is.standing in record {
+    place = held.place;
+    arranged = arrangement_same_rows sections others same pieces reloc layout.headers _ held.place layout.image held.arranged;
+    section_for_each = held.section_for_each ∙ same_count sections others same;
+    rva_for_each = held.rva_for_each;
+    written = λ i j lt.
+        subst (λ (row : List ℕ × List ℕ). j < length row.1 → get_or layout.pieces.items (get_or row.1 j 0) 0 ≡ held.place i j) (same_row sections others same i)
+        (held.written i j (omega (arith, same_count sections others same)));
+  };
   unplaced = λ k apart.
       is.unplaced k (λ there. apart (subst (λ (indexes : List ℕ). Contains indexes k) (same_pieces sections others same) there));
 }

@@ -9,7 +9,7 @@ use Rattle.section_group.specs.declared.piece.OutSection.{OutSection}
 use Rattle.address_layout.specs.declared.layout.Placed.{Placed}
 use Rattle.address_layout.specs.Places.{section_row, row_at}
 use Rattle.address_layout.specs.Layout.{all_pieces, StandOnce}
-use Rattle.address_layout.specs.Rounded.{rounded, narrowed, place_of, size_from, raw_from, floor_of, start_of, file_of, placed_from, narrowed_placed, placed_of, AreSections}
+use Rattle.address_layout.specs.Rounded.{rounded, saturated, place_of, size_from, raw_from, floor_of, start_of, file_of, placed_from, saturated_placed, placed_of, AreSections}
 use Rattle.address_layout.proofs.StandingLemmas.{pieces_more, row_here, stands}
 
 pub sections_begin : (pieces : List Piece) (sections : List OutSection) (headers : ℕ) (rvas : List ℕ) → headers ≤ 4680 → length rvas ≡ length pieces → ((k : ℕ) → get_or rvas k 0 ≡ 0) → AreSections pieces sections headers 0 headers headers [] rvas
@@ -35,7 +35,7 @@ earlier_piece [] (suc count) i k lt le there = absurd (omega arith)
 earlier_piece (s ∷ ss) (suc count) zero k lt le there = Contains-append_left s.pieces.items (all_pieces (take count ss)) k there
 earlier_piece (s ∷ ss) (suc count) (suc i) k lt le there = Contains-append_right s.pieces.items (all_pieces (take count ss)) k (earlier_piece ss count i k (omega arith) (omega arith) there)
 
-pub sections_more : (pieces : List Piece) (sections : List OutSection) (headers i end file : ℕ) (placed : List Placed) (rvas : List ℕ) (section : OutSection) (spot : Placed) (more raw : ℕ) (after : List ℕ) → StandOnce pieces sections → i < length sections → section ≡ get_or sections i section → AreSections pieces sections headers i end file placed rvas → spot ≡ narrowed_placed (placed_from pieces (section_row section) (rounded 4096 end) file) → more ≡ rounded 4096 end + size_from pieces (section_row section) (rounded 4096 end) → raw ≡ raw_from pieces (section_row section) (rounded 4096 end) → more ≤ end + 4096 + length section.pieces.items * 4294975488 → raw ≤ 511 + length section.pieces.items * 4294975488 → length after ≡ length pieces → ((j : ℕ) → j < length section.pieces.items → get_or after (get_or section.pieces.items j 0) 0 ≡ narrowed (place_of pieces (section_row section) (rounded 4096 end) j)) → ((k : ℕ) → ¬ Contains section.pieces.items k → get_or after k 0 ≡ get_or rvas k 0) → AreSections pieces sections headers (i + 1) more (file + raw) (placed ++ spot ∷ []) after
+pub sections_more : (pieces : List Piece) (sections : List OutSection) (headers i end file : ℕ) (placed : List Placed) (rvas : List ℕ) (section : OutSection) (spot : Placed) (more raw : ℕ) (after : List ℕ) → StandOnce pieces sections → i < length sections → section ≡ get_or sections i section → AreSections pieces sections headers i end file placed rvas → spot ≡ saturated_placed (placed_from pieces (section_row section) (rounded 4096 end) file) → more ≡ rounded 4096 end + size_from pieces (section_row section) (rounded 4096 end) → raw ≡ raw_from pieces (section_row section) (rounded 4096 end) → more ≤ end + 4096 + length section.pieces.items * 4294975488 → raw ≤ 511 + length section.pieces.items * 4294975488 → length after ≡ length pieces → ((j : ℕ) → j < length section.pieces.items → get_or after (get_or section.pieces.items j 0) 0 ≡ saturated (place_of pieces (section_row section) (rounded 4096 end) j)) → ((k : ℕ) → ¬ Contains section.pieces.items k → get_or after k 0 ≡ get_or rvas k 0) → AreSections pieces sections headers (i + 1) more (file + raw) (placed ++ spot ∷ []) after
 unfolding floor_of file_of
 sections_more pieces sections headers i end file placed rvas section spot more raw after standing lt is are is_spot is_more is_raw more_bound raw_bound room written others =
     let row = row_here sections i section lt is in
@@ -50,9 +50,9 @@ sections_more pieces sections headers i end file placed rvas section spot more r
       file_bound = omega (arith, are.file_bound, raw_bound, longer);
       is_placed =
           ap (λ (ps : List Placed). ps ++ spot ∷ []) are.is_placed
-          ∙ ap (λ (p : Placed). map (λ n. narrowed_placed (placed_of pieces sections headers n)) (range_with_len 0 i) ++ p ∷ [])
-          (is_spot ∙ ap (λ (r : List ℕ × List ℕ). narrowed_placed (placed_from pieces r (rounded 4096 end) file)) (sym row) ∙ ap (λ (n : ℕ). narrowed_placed (placed_from pieces (row_at sections i) n file)) start ∙ ap (λ (n : ℕ). narrowed_placed (placed_from pieces (row_at sections i) (start_of pieces sections headers i) n)) are.is_file)
-          ∙ sym (map-range_with_len_more (λ n. narrowed_placed (placed_of pieces sections headers n)) 0 i i (omega arith));
+          ∙ ap (λ (p : Placed). map (λ n. saturated_placed (placed_of pieces sections headers n)) (range_with_len 0 i) ++ p ∷ [])
+          (is_spot ∙ ap (λ (r : List ℕ × List ℕ). saturated_placed (placed_from pieces r (rounded 4096 end) file)) (sym row) ∙ ap (λ (n : ℕ). saturated_placed (placed_from pieces (row_at sections i) n file)) start ∙ ap (λ (n : ℕ). saturated_placed (placed_from pieces (row_at sections i) (start_of pieces sections headers i) n)) are.is_file)
+          ∙ sym (map-range_with_len_more (λ n. saturated_placed (placed_of pieces sections headers n)) 0 i i (omega arith));
       room = room;
       written = λ n j below within. elim (cases_lt n i) [
         | inl inner ↦
@@ -64,8 +64,8 @@ sections_more pieces sections headers i end file placed rvas section spot more r
             let here : row_at sections n ≡ section_row section = ap (row_at sections) same ∙ row in
             let within' : j < length section.pieces.items = subst (λ (r : List ℕ × List ℕ). j < length r.1) here within in
             ap (λ (r : List ℕ × List ℕ). get_or after (get_or r.1 j 0) 0) here ∙ written j within'
-            ∙ ap (λ (r : List ℕ × List ℕ). narrowed (place_of pieces r (rounded 4096 end) j)) (sym here)
-            ∙ ap (λ (s : ℕ). narrowed (place_of pieces (row_at sections n) s j)) (start ∙ ap (start_of pieces sections headers) (sym same))
+            ∙ ap (λ (r : List ℕ × List ℕ). saturated (place_of pieces r (rounded 4096 end) j)) (sym here)
+            ∙ ap (λ (s : ℕ). saturated (place_of pieces (row_at sections n) s j)) (start ∙ ap (start_of pieces sections headers) (sym same))
       ];
       unplaced = λ k apart.
           let not_here : ¬ Contains section.pieces.items k = λ there. apart (subst (λ (xs : List ℕ). Contains xs k) (sym grown) (Contains-append_right (all_pieces (take i sections)) section.pieces.items k there)) in

@@ -153,26 +153,26 @@ pub one_layout : (pieces : List Piece) (sections : List OutSection) (reloc : Boo
 one_layout pieces sections reloc layout other a b =
     let placed = placed_at layout.sections.items in
     let placed' = placed_at other.sections.items in
-    let ends = ends_same pieces sections reloc layout.headers other.headers layout.image other.image placed placed' a.place b.place a.arranged b.arranged in
-    let files = files_same pieces sections reloc layout.headers other.headers layout.image other.image placed placed' a.place b.place a.arranged b.arranged in
-    let counts = a.section_for_each ∙ sym b.section_for_each in
+    let ends = ends_same pieces sections reloc layout.headers other.headers layout.image other.image placed placed' a.standing.place b.standing.place a.standing.arranged b.standing.arranged in
+    let files = files_same pieces sections reloc layout.headers other.headers layout.image other.image placed placed' a.standing.place b.standing.place a.standing.arranged b.standing.arranged in
+    let counts = a.standing.section_for_each ∙ sym b.standing.section_for_each in
     let blank : Placed = record { rva = 0; size = 0; raw = 0; file = 0 } in
     let section = λ (i : ℕ) (lt : i < length layout.sections.items).
-    let below : i < length sections = omega (arith, lt, a.section_for_each) in
-    section_same pieces (row_at sections i) _ _ _ _ (placed i) (placed' i) (a.place i) (b.place i) (ends i (omega arith)) (files i (omega arith)) (a.arranged.each i below) (b.arranged.each i below)
+    let below : i < length sections = omega (arith, lt, a.standing.section_for_each) in
+    section_same pieces (row_at sections i) _ _ _ _ (placed i) (placed' i) (a.standing.place i) (b.standing.place i) (ends i (omega arith)) (files i (omega arith)) (a.standing.arranged.each i below) (b.standing.arranged.each i below)
     in
     let piece : (k : ℕ) → k < length layout.pieces.items → get_or layout.pieces.items k 0 ≡ get_or other.pieces.items k 0 = λ k lt. elim (in_rows sections k) [
       | inl found ↦
           let i = found.0 in
           let j = found.1 in
-          let same = place_same pieces (row_at sections i) _ _ _ _ (placed i) (placed' i) (a.place i) (b.place i) (ends i (omega (arith, found.2))) (a.arranged.each i found.2) (b.arranged.each i found.2) j found.3 in
-          let both = a.written i j found.2 found.3 ∙ same ∙ sym (b.written i j found.2 found.3) in
+          let same = place_same pieces (row_at sections i) _ _ _ _ (placed i) (placed' i) (a.standing.place i) (b.standing.place i) (ends i (omega (arith, found.2))) (a.standing.arranged.each i found.2) (b.standing.arranged.each i found.2) j found.3 in
+          let both = a.standing.written i j found.2 found.3 ∙ same ∙ sym (b.standing.written i j found.2 found.3) in
           subst (λ (n : ℕ). get_or layout.pieces.items n 0 ≡ get_or other.pieces.items n 0) found.4 both
       | inr apart ↦ a.unplaced k apart ∙ sym (b.unplaced k apart)
     ] in
     record {
-      headers = sym (least_same 512 _ _ layout.headers other.headers refl a.arranged.of_headers b.arranged.of_headers);
+      headers = sym (least_same 512 _ _ layout.headers other.headers refl a.standing.arranged.of_headers b.standing.arranged.of_headers);
       sections = sym (ext_get_or blank layout.sections.items other.sections.items counts section);
-      pieces = sym (ext_get_or 0 layout.pieces.items other.pieces.items (a.rva_for_each ∙ sym b.rva_for_each) piece);
-      image = sym (least_same 4096 _ _ layout.image other.image (ends (length sections) (omega arith)) a.arranged.of_image b.arranged.of_image);
+      pieces = sym (ext_get_or 0 layout.pieces.items other.pieces.items (a.standing.rva_for_each ∙ sym b.standing.rva_for_each) piece);
+      image = sym (least_same 4096 _ _ layout.image other.image (ends (length sections) (omega arith)) a.standing.arranged.of_image b.standing.arranged.of_image);
     }

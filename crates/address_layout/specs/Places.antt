@@ -1,6 +1,7 @@
 -- The least places (PE Format, "Optional Header Windows-Specific Fields", SectionAlignment and FileAlignment; the rules for
 -- pieces are own).
 use Rattle.std.specs.Prelude.{◌≡◌, ℕ, zero, suc, ◌+◌, ◌-◌, ◌*◌, ◌%◌, ◌<◌, ◌≤◌, ◌⊎◌, Bool, false, ◌==◌, IsTrue, List, [], map, length, slice_index, slice_index_or, codes, if◌then◌else◌}
+use Rattle.link_base.specs.PeFormat.{PAGE_SIZE, FILE_ALIGNMENT, SECTION_HEADERS_OFFSET, SIZEOF_SECTION_HEADER}
 use Rattle.section_group.specs.declared.piece.Piece.{Piece}
 use Rattle.section_group.specs.declared.piece.OutSection.{OutSection}
 use Rattle.section_group.specs.Merging.{same_name}
@@ -25,7 +26,7 @@ row_at sections i = slice_index_or (map section_row sections) i ([], [])
 abbrev pub piece_in : List Piece → List ℕ × List ℕ → ℕ → Piece
 piece_in pieces row j = slice_index_or pieces (slice_index row.1 j) no_piece
 
--- the rows of the exception table stand one behind the other
+-- the rows of the exception table stand one after the other
 abbrev pub alignment_in : List Piece → List ℕ × List ℕ → ℕ → ℕ
 alignment_in pieces row j = if same_name row.0 (codes ".pdata") then 4 else (piece_in pieces row j).align
 
@@ -57,13 +58,13 @@ HasNoBytes pieces row = (j : ℕ) → j < length row.1 → (piece_in pieces row 
 -- a section stands at the least page at or above the end before it, and each piece at its least place; the section runs to
 -- the end of its last piece, or is one byte long where no piece has bytes
 pub record IsPlacedSection (pieces : List Piece) (row : List ℕ × List ℕ) (before file_before : ℕ) (placed : Placed) (place : ℕ → ℕ) : Type 0 where
-  pub start : IsLeastMultiple 4096 before placed.rva
+  pub start : IsLeastMultiple PAGE_SIZE before placed.rva
   pub each : (j : ℕ) → j < length row.1 → IsLeastMultiple (alignment_in pieces row j) (piece_floor pieces row placed.rva place j) (place j)
   pub size_of_bytes : HasBytes pieces row → placed.rva + placed.size ≡ piece_floor pieces row placed.rva place (length row.1)
   pub size_of_none : HasNoBytes pieces row → placed.size ≡ 1
   pub initialised_end : ℕ
   pub is_initialised_end : IsInitialisedEnd pieces row placed.rva place initialised_end
-  pub raw : IsLeastMultiple 512 (initialised_end - placed.rva) placed.raw
+  pub raw : IsLeastMultiple FILE_ALIGNMENT (initialised_end - placed.rva) placed.raw
   pub file : placed.file ≡ (if placed.raw == 0 then 0 else file_before)
 
 -- ---- all sections
@@ -84,6 +85,6 @@ section_count sections reloc = length sections + (if reloc then 1 else 0)
 
 -- the sections stand at least places; place i j is that of piece j of section i
 pub record IsArrangement (pieces : List Piece) (sections : List OutSection) (reloc : Bool) (headers : ℕ) (placed : ℕ → Placed) (place : ℕ → ℕ → ℕ) (image : ℕ) : Type 0 where
-  pub of_headers : IsLeastMultiple 512 (328 + 40 * section_count sections reloc) headers
+  pub of_headers : IsLeastMultiple FILE_ALIGNMENT (SECTION_HEADERS_OFFSET + SIZEOF_SECTION_HEADER * section_count sections reloc) headers
   pub each : (i : ℕ) → i < length sections → IsPlacedSection pieces (row_at sections i) (end_before headers placed i) (file_before headers placed i) (placed i) (place i)
-  pub of_image : IsLeastMultiple 4096 (end_before headers placed (length sections)) image
+  pub of_image : IsLeastMultiple PAGE_SIZE (end_before headers placed (length sections)) image

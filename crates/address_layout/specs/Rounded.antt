@@ -1,6 +1,7 @@
 -- The places as they are computed: each number rounded up.
 use Rattle.std.specs.Prelude.{◌≡◌, ◌≢◌, ◌≤◌, slice_index, ℕ, zero, suc, ◌+◌, ◌-◌, ◌*◌, ◌/◌, ◌<◌, Bool, false, ◌||◌, ◌==◌, nat_lt, min, List, map, take, length, if◌then◌else◌}
 use Rattle.std.specs.List.{Contains, range_with_len}
+use Rattle.link_base.specs.PeFormat.{PAGE_SIZE, FILE_ALIGNMENT}
 use Rattle.section_group.specs.declared.piece.Piece.{Piece}
 use Rattle.section_group.specs.declared.piece.OutSection.{OutSection}
 use Rattle.address_layout.specs.declared.layout.Placed.{Placed}
@@ -12,8 +13,8 @@ unfoldable pub rounded : ℕ → ℕ → ℕ
 rounded step low = (low + (step - 1)) / step * step
 
 -- a number as 32 bits hold it, or the greatest that they hold
-abbrev pub narrowed : ℕ → ℕ
-narrowed n = min n 4294967295
+abbrev pub saturated : ℕ → ℕ
+saturated n = min n 4294967295
 
 -- ---- the pieces of a section
 
@@ -37,21 +38,21 @@ bytes_before pieces row (suc j) = bytes_before pieces row j || nat_lt 0 (piece_i
 
 -- ---- the sections
 
--- a section that begins at a place, and what is behind it
+-- a section that begins at a place, and what is after it
 abbrev pub size_from : List Piece → List ℕ × List ℕ → ℕ → ℕ
 size_from pieces row start = if bytes_before pieces row (length row.1) then end_after pieces row start (length row.1) - start else 1
 
 abbrev pub raw_from : List Piece → List ℕ × List ℕ → ℕ → ℕ
-raw_from pieces row start = rounded 512 (raw_end_after pieces row start (length row.1) - start)
+raw_from pieces row start = rounded FILE_ALIGNMENT (raw_end_after pieces row start (length row.1) - start)
 
 -- the end of the first sections
 unfoldable pub floor_of : List Piece → List OutSection → ℕ → ℕ → ℕ
 floor_of pieces sections headers zero = headers
 floor_of pieces sections headers (suc i) =
-    rounded 4096 (floor_of pieces sections headers i) + size_from pieces (row_at sections i) (rounded 4096 (floor_of pieces sections headers i))
+    rounded PAGE_SIZE (floor_of pieces sections headers i) + size_from pieces (row_at sections i) (rounded PAGE_SIZE (floor_of pieces sections headers i))
 
 abbrev pub start_of : List Piece → List OutSection → ℕ → ℕ → ℕ
-start_of pieces sections headers i = rounded 4096 (floor_of pieces sections headers i)
+start_of pieces sections headers i = rounded PAGE_SIZE (floor_of pieces sections headers i)
 
 -- the end of the raw data of the first sections
 unfoldable pub file_of : List Piece → List OutSection → ℕ → ℕ → ℕ
@@ -68,8 +69,8 @@ placed_from pieces row start file = record {
   file = if raw_from pieces row start == 0 then 0 else file;
 }
 
-abbrev pub narrowed_placed : Placed → Placed
-narrowed_placed placed = record { rva = narrowed placed.rva; size = narrowed placed.size; raw = narrowed placed.raw; file = narrowed placed.file }
+abbrev pub saturated_placed : Placed → Placed
+saturated_placed placed = record { rva = saturated placed.rva; size = saturated placed.size; raw = saturated placed.raw; file = saturated placed.file }
 
 abbrev pub placed_of : List Piece → List OutSection → ℕ → ℕ → Placed
 placed_of pieces sections headers i = placed_from pieces (row_at sections i) (start_of pieces sections headers i) (file_of pieces sections headers i)
@@ -83,7 +84,7 @@ pub record ArePlaced (pieces : List Piece) (row : List ℕ × List ℕ) (start c
   pub low : start ≤ extent.initialised_end
   pub high : extent.initialised_end ≤ extent.end
   pub room : length rvas ≡ length first
-  pub written : (j : ℕ) → j < count → slice_index rvas (slice_index row.1 j) ≡ narrowed (place_of pieces row start j)
+  pub written : (j : ℕ) → j < count → slice_index rvas (slice_index row.1 j) ≡ saturated (place_of pieces row start j)
   pub others : (k : ℕ) → ((j : ℕ) → j < count → slice_index row.1 j ≢ k) → slice_index rvas k ≡ slice_index first k
 
 -- the first sections are placed, with no more than so many pieces
@@ -92,9 +93,9 @@ pub record AreSections (pieces : List Piece) (sections : List OutSection) (heade
   pub is_file : file ≡ file_of pieces sections headers count
   pub end_bound : end ≤ 8192 + count * 4096 + length (all_pieces (take count sections)) * 4294975488
   pub file_bound : file ≤ 8192 + count * 4096 + length (all_pieces (take count sections)) * 4294975488
-  pub is_placed : placed ≡ map (λ i. narrowed_placed (placed_of pieces sections headers i)) (range_with_len 0 count)
+  pub is_placed : placed ≡ map (λ i. saturated_placed (placed_of pieces sections headers i)) (range_with_len 0 count)
   pub room : length rvas ≡ length pieces
-  pub written : (i j : ℕ) → i < count → j < length (row_at sections i).1 → slice_index rvas (slice_index (row_at sections i).1 j) ≡ narrowed (place_of pieces (row_at sections i) (start_of pieces sections headers i) j)
+  pub written : (i j : ℕ) → i < count → j < length (row_at sections i).1 → slice_index rvas (slice_index (row_at sections i).1 j) ≡ saturated (place_of pieces (row_at sections i) (start_of pieces sections headers i) j)
   pub unplaced : (k : ℕ) → ¬ Contains (all_pieces (take count sections)) k → slice_index rvas k ≡ 0
 
 -- all sections are placed

@@ -4,9 +4,9 @@ ghost use Rattle.std.specs.Prelude.{◌≡◌, ◌+◌, ◌*◌, ◌^◌, ◌<�
 ghost use Rattle.std.specs.List.{All, Contains, IsDistinct};
 ghost use Rattle.address_layout.specs.Places.{section_row, alignment_in};
 ghost use Rattle.address_layout.specs.Layout.{IsAlignment};
-ghost use Rattle.address_layout.specs.Rounded.{rounded, narrowed, end_after, place_of, raw_end_after, bytes_before};
+ghost use Rattle.address_layout.specs.Rounded.{rounded, saturated, end_after, place_of, raw_end_after, bytes_before};
 
-use crate::round::{narrow, round_up};
+use crate::round::{round_up, saturating_u32};
 use link_base::Name;
 use section_group::{OutSection, Piece};
 
@@ -44,7 +44,7 @@ pub(crate) fn place_pieces(
     ensures room { length rvas.new ≡ length pieces.now }
 
     ensures written { (j : ℕ) → j < length section.now.pieces.items
-        → slice_index rvas.new (slice_index section.now.pieces.items j) ≡ narrowed (place_of pieces.now (section_row section.now) start j) }
+        → slice_index rvas.new (slice_index section.now.pieces.items j) ≡ saturated (place_of pieces.now (section_row section.now) start j) }
     ensures others { (k : ℕ) → ¬ Contains section.now.pieces.items k → slice_index rvas.new k ≡ slice_index rvas.old k }
 {
     let is_pdata = section.name == Name::of(b".pdata");
@@ -56,14 +56,14 @@ pub(crate) fn place_pieces(
     for index in &section.pieces {
         let piece = &pieces[*index as usize];
         let rva = round_up(extent.end, alignment_of(piece, is_pdata));
-        rvas[*index as usize] = narrow(rva);
+        rvas[*index as usize] = saturating_u32(rva);
         let end = rva + size_of(piece);
         extent = extent_with(extent, piece, end);
     }
     extent
 }
 
-/// The alignment of a piece. The rows of the exception table stand one behind the other.
+/// The alignment of a piece. The rows of the exception table stand one after the other.
 fn alignment_of(piece: &Piece<'_>, is_pdata: bool) -> u64
     ensures { result ≡ (if is_pdata then 4 else piece.now.align) }
 {

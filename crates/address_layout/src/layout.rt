@@ -1,25 +1,20 @@
 //! Where the sections and the pieces of an image stand, and why they have no place.
 
-use link_base::Memory;
+use link_base::pe_format::{FILE_ALIGNMENT, PAGE_SIZE, SECTION_HEADERS_OFFSET};
+use link_base::{IMAGE_LIMIT, Memory};
 use std::alloc::{AllocError, AllocFailed};
 
-/// How many sections an image has at most (PE Format, "COFF File Header (Object and Image)").
-pub(crate) const MAX_SECTIONS: usize = 96;
-
-/// The greatest size in memory of an image that the linker makes.
-pub(crate) const MAX_IMAGE: u64 = 0x2000_0000;
+/// The greatest size in memory of an image, in the 64 bits that places are computed in.
+pub(crate) const MAX_IMAGE: u64 = IMAGE_LIMIT as u64;
 
 /// The alignment of sections in memory.
-pub(crate) const SECTION_ALIGNMENT: u64 = 0x1000;
+pub(crate) const SECTION_ALIGNMENT: u64 = PAGE_SIZE as u64;
 
 /// The alignment of raw data in the file.
-pub(crate) const FILE_ALIGNMENT: u64 = 0x200;
+pub(crate) const RAW_ALIGNMENT: u64 = FILE_ALIGNMENT as u64;
 
 /// Where the section headers begin in the file.
-pub(crate) const SECTION_HEADERS_OFFSET: usize = 328;
-
-/// The length of a section header.
-pub(crate) const SECTION_HEADER_LEN: usize = 40;
+pub(crate) const HEADERS_OFFSET: usize = SECTION_HEADERS_OFFSET as usize;
 
 /// Where a section stands.
 #[derive(Drop)]

@@ -1,9 +1,10 @@
-//! The section of base relocations, behind all others.
+//! The section of base relocations, after all others.
 
 ghost use Rattle.std.specs.Prelude.{◌≡◌, ◌==◌, ◌^◌, ◌+◌, ◌<◌, if◌then◌else◌, ◌≤◌, ◌++◌, ◌∷◌, [], OnOk, OnErr, IfErr};
+ghost use Rattle.link_base.specs.Limits.{IMAGE_LIMIT};
 ghost use Rattle.address_layout.specs.Growth.{last_end, raw_end, grown_size, CanGrow, Appends, SameLayout, IsGrowRefusal};
 
-use crate::layout::{FILE_ALIGNMENT, Layout, LayoutError, MAX_IMAGE, Placed, SECTION_ALIGNMENT};
+use crate::layout::{Layout, LayoutError, MAX_IMAGE, Placed, RAW_ALIGNMENT, SECTION_ALIGNMENT};
 use crate::round::round_up;
 use std::alloc::Global;
 
@@ -16,7 +17,7 @@ use std::alloc::Global;
 pub fn append_reloc(_alloc: Global, layout: &mut Layout, length: u32) -> Result<(), LayoutError>
     requires { CanGrow layout.old }
     ensures added { OnOk result (Appends layout.old layout.new length) }
-    ensures within { OnOk result (layout.new.image ≤ 536870912) }
+    ensures within { OnOk result (layout.new.image ≤ IMAGE_LIMIT) }
 
     ensures refused { IfErr result (IsGrowRefusal layout.old length) }
     ensures unchanged { OnErr result (SameLayout layout.old layout.new) }
@@ -27,7 +28,7 @@ pub fn append_reloc(_alloc: Global, layout: &mut Layout, length: u32) -> Result<
     if image > MAX_IMAGE {
         return Err(LayoutError::ImageTooLarge(image));
     }
-    let raw = round_up(u64::from(length), FILE_ALIGNMENT) as u32;
+    let raw = round_up(u64::from(length), RAW_ALIGNMENT) as u32;
     let placed = Placed {
         rva: start as u32,
         size,
@@ -48,7 +49,7 @@ fn grown_size(length: u32) -> u32
     if length == 0 { 1 } else { length }
 }
 
-/// The file offset of raw data of a length behind all others.
+/// The file offset of raw data of a length after all others.
 fn file_place(layout: &Layout, raw: u32) -> u32
     requires { CanGrow layout.now }
     ensures { result ≡ (if raw == 0 then 0 else raw_end layout.now) }
@@ -78,7 +79,7 @@ fn push_placed(layout: &mut Layout, placed: Placed) -> Result<(), LayoutError>
 fn end_of(layout: &Layout) -> u32
     requires { CanGrow layout.now }
     ensures value { result ≡ last_end layout.now }
-    ensures small { result ≤ 536870912 }
+    ensures small { result ≤ IMAGE_LIMIT }
 {
     match layout.sections.last() {
         Some(placed) => placed.rva + placed.size,

@@ -3,6 +3,7 @@
 use Rattle.std.specs.Prelude.{◌≡◌, ℕ, zero, suc, ◌+◌, ◌-◌, ◌*◌, ◌/◌, ◌%◌, ◌^◌, Bool, true, false, ◌&&◌, ◌==◌, nat_le, if◌then◌else◌, List, [], ◌∷◌, ◌++◌, length, take, drop, fold, Option, Some, None, Result, IsOk, IsErrAnd}
 use Rattle.byteorder.specs.Endian.{little_bytes}
 use Rattle.link_base.specs.Bytes.{u16_at, u32_at, number_at}
+use Rattle.link_base.specs.PeFormat.{PAGE_SIZE, REL_BASED_ABSOLUTE, REL_BASED_HIGHLOW, REL_BASED_DIR64}
 use Rattle.base_reloc.specs.declared.field.BaseField.{BaseField}
 use Rattle.base_reloc.specs.declared.entry.Entry.{Entry}
 use Rattle.base_reloc.specs.declared.entry.Entry.TheVariants.{Skip, Field, Malformed}
@@ -10,32 +11,18 @@ use Rattle.base_reloc.specs.declared.loading.BadBlocks.{BadBlocks}
 
 -- ---- an entry
 
--- the types of an entry: nothing, a field of four bytes, and one of eight
-abbrev pub rel_based_absolute : ℕ
-rel_based_absolute = 0
-
-abbrev pub rel_based_highlow : ℕ
-rel_based_highlow = 3
-
-abbrev pub rel_based_dir64 : ℕ
-rel_based_dir64 = 10
-
--- the fields of a block lie in one page of so many bytes
-abbrev pub page_size : ℕ
-page_size = 4096
-
 -- the bytes of a field
 abbrev pub width_of : BaseField → ℕ
 width_of field = if field.wide then 8 else 4
 
--- an entry is a type in the upper four bits and an offset in the page
+-- an entry is a type in the upper four bits, for nothing, a field of four bytes or one of eight, and an offset in the page
 abbrev pub entry_of : ℕ → ℕ → ℕ → Entry
 entry_of memory_size page word =
-    let rva = page + word % page_size in
-    let kind = word / page_size in
-    if kind == rel_based_absolute then Skip
-    else (if (kind == rel_based_highlow) && nat_le (rva + 4) memory_size then Field (record { rva = rva; wide = false })
-    else (if (kind == rel_based_dir64) && nat_le (rva + 8) memory_size then Field (record { rva = rva; wide = true })
+    let rva = page + word % PAGE_SIZE in
+    let kind = word / PAGE_SIZE in
+    if kind == REL_BASED_ABSOLUTE then Skip
+    else (if (kind == REL_BASED_HIGHLOW) && nat_le (rva + 4) memory_size then Field (record { rva = rva; wide = false })
+    else (if (kind == REL_BASED_DIR64) && nat_le (rva + 8) memory_size then Field (record { rva = rva; wide = true })
     else Malformed))
 
 -- ---- the walk over the blocks

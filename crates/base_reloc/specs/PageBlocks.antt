@@ -5,7 +5,8 @@ use Rattle.std.specs.List.{flat_map}
 use Rattle.std.specs.List.Sorted.{IsStrictlyIncreasing}
 use Rattle.link_base.specs.Bytes.{number_bytes}
 use Rattle.base_reloc.specs.declared.field.BaseField.{BaseField}
-use Rattle.base_reloc.specs.Blocks.{rel_based_absolute, rel_based_highlow, rel_based_dir64, page_size, width_of}
+use Rattle.link_base.specs.PeFormat.{REL_BASED_ABSOLUTE, REL_BASED_HIGHLOW, REL_BASED_DIR64, PAGE_SIZE}
+use Rattle.base_reloc.specs.Blocks.{width_of}
 
 -- ---- fields
 
@@ -19,7 +20,7 @@ LieWithin memory_size fields = All (λ field. field.rva + width_of field ≤ mem
 
 -- the RVA of the page that a field begins in
 abbrev pub page_of : BaseField → ℕ
-page_of field = field.rva - field.rva % page_size
+page_of field = field.rva - field.rva % PAGE_SIZE
 
 -- ---- fields page by page
 
@@ -44,11 +45,11 @@ page_rva (field ∷ fields) = page_of field
 -- an entry is a type in the upper four bits and an offset in the page
 abbrev pub entry_word : BaseField → ℕ
 entry_word field =
-    (if field.wide then rel_based_dir64 else rel_based_highlow) * page_size + field.rva % page_size
+    (if field.wide then REL_BASED_DIR64 else REL_BASED_HIGHLOW) * PAGE_SIZE + field.rva % PAGE_SIZE
 
 -- one entry without a field fills a block of an odd number to a multiple of four
 abbrev pub filler_words : ℕ → List ℕ
-filler_words count = if count % 2 == 0 then [] else rel_based_absolute * page_size ∷ []
+filler_words count = if count % 2 == 0 then [] else REL_BASED_ABSOLUTE * PAGE_SIZE ∷ []
 
 unfoldable pub block_words : List BaseField → List ℕ
 block_words fields = map entry_word fields ++ filler_words (length fields)

@@ -5,10 +5,9 @@ ghost use Rattle.link_base.specs.Bytes.{u16_at, u32_at};
 ghost use Rattle.base_reloc.specs.Blocks.{entry_of, is_block_size, has_block, block_page, block_size};
 
 use crate::field::BaseField;
-use crate::format::{
-    BLOCK_HEADER_LEN, PAGE_SIZE, REL_BASED_ABSOLUTE, REL_BASED_DIR64, REL_BASED_HIGHLOW,
-};
-use link_base::{field_u16, field_u32};
+use crate::format::BLOCK_HEADER_LEN;
+use link_base::pe_format::{PAGE_SIZE, REL_BASED_ABSOLUTE, REL_BASED_DIR64, REL_BASED_HIGHLOW};
+use link_base::u32_in;
 
 /// What an entry of a block says: nothing, a field to raise, or that the entry is malformed.
 #[derive(Clone, Copy)]
@@ -16,28 +15,6 @@ pub(crate) enum Entry {
     Skip,
     Field(BaseField),
     Malformed,
-}
-
-/// The number in the two bytes at `at`.
-pub(crate) fn u16_in(bytes: &[u8], at: usize) -> u16
-    requires { at + 2 ≤ length bytes.now }
-    ensures { result ≡ u16_at bytes.now at }
-{
-    match field_u16(bytes, at) {
-        Some(number) => number,
-        None => 0,
-    }
-}
-
-/// The number in the four bytes at `at`.
-pub(crate) fn u32_in(bytes: &[u8], at: usize) -> u32
-    requires { at + 4 ≤ length bytes.now }
-    ensures { result ≡ u32_at bytes.now at }
-{
-    match field_u32(bytes, at) {
-        Some(number) => number,
-        None => 0,
-    }
 }
 
 /// The RVA of the page of the block at `at`.

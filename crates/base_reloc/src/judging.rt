@@ -3,8 +3,9 @@
 ghost use Rattle.std.specs.Prelude.{◌≡◌, ◌≤◌, ◌<◌, ◌+◌, ◌^◌, true, length};
 ghost use Rattle.base_reloc.specs.Blocks.{has_block, block_entries, walk_of, malformed_place};
 
-use crate::entry::{Entry, entry_of, has_block, page_in, size_in, u16_in};
+use crate::entry::{Entry, entry_of, has_block, page_in, size_in};
 use crate::format::BLOCK_HEADER_LEN;
+use link_base::u16_in;
 
 /// The offset of the first malformed block or entry, of a mapped image of so many bytes.
 pub(crate) fn first_malformed(memory_len: usize, blocks: &[u8]) -> Option<u32>

@@ -1,6 +1,7 @@
 //! Laws of the definitions, each the contract of a function that does nothing.
 
 ghost use Rattle.std.specs.Prelude.{◌≡◌, ◌<◌, ◌^◌, ℕ, List, length, map, slice_index};
+ghost use Rattle.std.specs.List.{All};
 ghost use Rattle.std.specs.List.Sorted.{IsStrictlyIncreasing};
 ghost use Rattle.base_reloc.specs.Blocks.{Fields, walk_of, walked_fields, raised_all};
 ghost use Rattle.base_reloc.specs.PageBlocks.{IsAscending, LieWithin, page_rva, pages_of, blocks_of};
@@ -27,7 +28,7 @@ pub fn pages_ascend()
 
 /// To raise fields that lie in a mapped image changes no byte outside them, and where no two share a byte it raises each
 /// by the delta, also where one crosses the end of a page.
-#[tactic(auto, using(crate::proofs::CallerLemmas::length_raised_all, crate::proofs::CallerLemmas::raised_elsewhere, crate::proofs::CallerLemmas::raised_each))]
+#[tactic(auto, using(crate::proofs::RaisedLemmas::length_raised_all, crate::proofs::RaisedLemmas::raised_elsewhere, crate::proofs::RaisedLemmas::raised_each))]
 pub fn raising_changes_its_fields_alone()
     ensures size { (fields : List BaseField) (memory : List ℕ) (delta : ℕ) → LieWithin (length memory) fields
         → length (raised_all delta memory fields) ≡ length memory }
@@ -35,4 +36,12 @@ pub fn raising_changes_its_fields_alone()
         → slice_index (raised_all delta memory fields) rva ≡ slice_index memory rva }
     ensures fields { (fields : List BaseField) (memory : List ℕ) (delta : ℕ) → LieWithin (length memory) fields → ShareNoByte fields
         → AreRaised delta memory (raised_all delta memory fields) fields }
+{}
+
+/// A memory is another with its fields raised where each field holds the raised number and no other byte differs.
+pub fn raised_numbers_settle_a_memory()
+    ensures { (fields : List BaseField) (old new : List ℕ) (delta : ℕ) → All (λ byte. byte < 256) old → All (λ byte. byte < 256) new
+        → length new ≡ length old → LieWithin (length old) fields → ShareNoByte fields
+        → ((rva : ℕ) → IsOutsideAll rva fields → slice_index new rva ≡ slice_index old rva) → AreRaised delta old new fields
+        → raised_all delta old fields ≡ new }
 {}

@@ -14,7 +14,10 @@ mod raising;
 mod writing;
 
 pub use field::BaseField;
-pub use laws::{pages_ascend, raising_changes_its_fields_alone, table_lists_its_fields};
+pub use laws::{
+    pages_ascend, raised_numbers_settle_a_memory, raising_changes_its_fields_alone,
+    table_lists_its_fields,
+};
 pub use loading::{BadBlocks, apply};
 pub use writing::blocks;
 

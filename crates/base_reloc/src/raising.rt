@@ -3,10 +3,11 @@
 ghost use Rattle.std.specs.Prelude.{◌≡◌, ◌≤◌, ◌<◌, ◌+◌, ◌^◌, true, None, length};
 ghost use Rattle.base_reloc.specs.Blocks.{width_of, entry_of, has_block, block_entries, walk_of, walked_fields, malformed_place, raised, entry_raised, raised_all};
 
-use crate::entry::{Entry, entry_of, page_in, size_in, u16_in};
+use crate::entry::{Entry, entry_of, page_in, size_in};
 use crate::field::BaseField;
 use crate::format::BLOCK_HEADER_LEN;
 use byteorder::{ByteOrder, LittleEndian};
+use link_base::u16_in;
 
 /// Raises each field that the blocks list, in order.
 pub(crate) fn raise_listed(memory: &mut [u8], blocks: &[u8], delta: u64)

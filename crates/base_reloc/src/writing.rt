@@ -6,9 +6,8 @@ ghost use Rattle.link_base.specs.Bytes.{number_bytes};
 ghost use Rattle.base_reloc.specs.PageBlocks.{IsAscending, page_of, entry_word, filler_words, block_of, blocks_of};
 
 use crate::field::BaseField;
-use crate::format::{
-    BLOCK_HEADER_LEN, PAGE_SIZE, REL_BASED_ABSOLUTE, REL_BASED_DIR64, REL_BASED_HIGHLOW,
-};
+use crate::format::BLOCK_HEADER_LEN;
+use link_base::pe_format::{PAGE_SIZE, REL_BASED_ABSOLUTE, REL_BASED_DIR64, REL_BASED_HIGHLOW};
 use link_base::{LeNumber, Memory, push_fields};
 use std::alloc::Global;
 
@@ -24,7 +23,7 @@ pub fn blocks(alloc: Global, fields: &[BaseField]) -> Result<Vec<u8>, Memory>
     requires { IsAscending fields.now }
     ensures { IfOk result (λ table. table.items ≡ blocks_of fields.now) }
 {
-    let mut table = Vec::new(alloc);
+    let mut table = Vec::with_capacity(alloc, 2 * fields.len())?;
     let mut rest = fields;
     while !rest.is_empty() {
         let (page, others) = rest.split_at(page_len(rest, page_of(rest[0])));
@@ -61,7 +60,10 @@ fn push_block(table: &mut Vec<u8>, fields: &[BaseField]) -> Result<(), Memory>
     let size = BLOCK_HEADER_LEN + 2 * count;
     push_fields(
         table,
-        &[LeNumber::U32(page_of(fields[0])), LeNumber::U32(size as u32)],
+        &[
+            LeNumber::U32(page_of(fields[0])),
+            LeNumber::U32(size as u32),
+        ],
     )?;
     push_entries(table, fields)?;
     push_filler(table, fields.len())
@@ -96,5 +98,8 @@ fn push_filler(table: &mut Vec<u8>, count: usize) -> Result<(), Memory>
     if count % 2 == 0 {
         return Ok(());
     }
-    push_fields(table, &[LeNumber::U16(REL_BASED_ABSOLUTE * PAGE_SIZE as u16)])
+    push_fields(
+        table,
+        &[LeNumber::U16(REL_BASED_ABSOLUTE * PAGE_SIZE as u16)],
+    )
 }

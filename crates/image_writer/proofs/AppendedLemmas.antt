@@ -13,9 +13,9 @@ use Rattle.section_group.specs.SectionOrder.{no_piece}
 use Rattle.address_layout.specs.declared.layout.Placed.{Placed}
 use Rattle.address_layout.specs.declared.layout.Layout.{Layout}
 use Rattle.address_layout.specs.Places.{IsLeastMultiple, row_at, section_row, section_count, piece_in, piece_end, piece_floor, end_before, file_before}
-use Rattle.address_layout.specs.Layout.{all_pieces, StandOnce, IsAlignment, IsLayout, placed_at}
+use Rattle.address_layout.specs.Layout.{all_pieces, StandOnce, IsAlignment, HoldsArrangement, placed_at}
 use Rattle.address_layout.specs.Growth.{last_end, raw_end, grown_size, Appends}
-use Rattle.address_layout.proofs.StandingLemmas.{row_here}
+use Rattle.address_layout.proofs.CallerLemmas.{row_here}
 use Rattle.image_writer.specs.HeaderTable.{size_of_headers}
 use Rattle.image_writer.specs.WrittenImage.{place_in, IsSectionLaidOut, IsLaidOut}
 use Rattle.image_writer.proofs.LaidOutLemmas.{all_front, all_back}
@@ -162,7 +162,7 @@ last pieces piece rvas sections section headers placed more same count only alig
     (subst (λ (k : ℕ). more.file ≡ cond (eqb more.raw 0) 0 (file_before headers (placed_at placed) k)) count offset))
 
 -- the sections of a layout with one more, of one piece that is the last of all
-each_appended : (pieces : List Piece) (piece : Piece) (sections : List OutSection) (section : OutSection) (old : Layout) (len : ℕ) (more : Placed) → IsLayout pieces sections true old → StandOnce pieces sections → section.pieces.items ≡ length pieces ∷ [] → piece.size ≡ len → more.rva % 4096 ≡ 0 → last_end old ≤ more.rva → len ≤ more.raw → len ≤ more.size → more.file ≡ cond (eqb more.raw 0) 0 (raw_end old) → (i : ℕ) → i < length (sections ++ section ∷ []) → LaidOutAt (pieces ++ piece ∷ []) (old.pieces.items ++ more.rva ∷ []) (sections ++ section ∷ []) old.headers (old.sections.items ++ more ∷ []) i
+each_appended : (pieces : List Piece) (piece : Piece) (sections : List OutSection) (section : OutSection) (old : Layout) (len : ℕ) (more : Placed) → HoldsArrangement pieces sections true old → StandOnce pieces sections → section.pieces.items ≡ length pieces ∷ [] → piece.size ≡ len → more.rva % 4096 ≡ 0 → last_end old ≤ more.rva → len ≤ more.raw → len ≤ more.size → more.file ≡ cond (eqb more.raw 0) 0 (raw_end old) → (i : ℕ) → i < length (sections ++ section ∷ []) → LaidOutAt (pieces ++ piece ∷ []) (old.pieces.items ++ more.rva ∷ []) (sections ++ section ∷ []) old.headers (old.sections.items ++ more ∷ []) i
 each_appended pieces piece sections section old len more is standing only size aligned above raw grown offset i lt =
     elim (cases_lt i (length sections)) [
       | inl before ↦
@@ -176,7 +176,7 @@ each_appended pieces piece sections section old len more is standing only size a
 
 -- what `place` gave with room for one more section, and `append_reloc` extended, is laid out; the last piece is that of the
 -- section of base relocations
-pub appended_laid_out : (pieces : List Piece) (piece : Piece) (sections : List OutSection) (section : OutSection) (old new : Layout) (len : ℕ) → IsLayout pieces sections true old → All (λ piece. IsAlignment piece.align) pieces → StandOnce pieces sections → section_count sections true ≤ 96 → Appends old new len → new.image ≤ 536870912 → section.pieces.items ≡ length pieces ∷ [] → piece.size ≡ len → IsLaidOut (pieces ++ piece ∷ []) (sections ++ section ∷ []) new
+pub appended_laid_out : (pieces : List Piece) (piece : Piece) (sections : List OutSection) (section : OutSection) (old new : Layout) (len : ℕ) → HoldsArrangement pieces sections true old → All (λ piece. IsAlignment piece.align) pieces → StandOnce pieces sections → section_count sections true ≤ 96 → Appends old new len → new.image ≤ 536870912 → section.pieces.items ≡ length pieces ∷ [] → piece.size ≡ len → IsLaidOut (pieces ++ piece ∷ []) (sections ++ section ∷ []) new
 appended_laid_out pieces piece sections section old new len is alignments standing few more small only size =
     let sections' = sections ++ section ∷ [] in
     let count : length sections' ≡ section_count sections true = omega (arith, length-append sections (section ∷ [])) in

@@ -2,24 +2,26 @@
 use Rattle.std.proofs.Common.{◌≡◌, ℕ, zero, suc, ◌+◌, ◌%◌, ◌<◌, ◌≤◌, ◌==◌, Bool, true, false, cond, List, [], ◌∷◌, ◌++◌, length, min, slice_get, Some, refl, sym, ap, ◌∙◌, subst, append_assoc, arith, leb, ltb}
 use Rattle.std.specs.List.{flat_map}
 use Rattle.std.proofs.lemmas.Bool.{and_parts, leb-true, ltb-true}
-use Rattle.std.proofs.lemmas.List.{map-append}
 use Rattle.std.proofs.lemmas.List.Sums.{sum_by-cons}
 use Rattle.section_group.specs.Uniqueness.{SectionRow as OutRow}
 use Rattle.address_layout.specs.declared.layout.Placed.{Placed}
-use Rattle.image_writer.specs.declared.headers.SectionRow.{SectionRow}
-use Rattle.image_writer.specs.ImageFormat.{page_size, has_flag, scn_cnt_code}
+use Rattle.image_writer.specs.declared.headers.SectionHeader.{SectionHeader}
+use Rattle.link_base.specs.Bytes.{has_flag}
+use Rattle.link_base.specs.PeFormat.{PAGE_SIZE, SCN_CNT_CODE}
 use Rattle.image_writer.specs.HeaderTable.{size_of_code, size_of_initialized_data}
-use Rattle.image_writer.specs.ExpectedImage.{PlacedPiece, holds, raw_bytes, AreRowsPlaced, AreInRows}
-use Rattle.image_writer.specs.WrittenImage.{header_row, section_rows, placed_piece, placed_pieces, all_indexes}
+use Rattle.image_writer.specs.ExpectedImage.{PlacedBytes, holds, raw_bytes}
+use Rattle.image_writer.specs.LoadablePlan.{AreRowsPlaced, AreInRows}
+use Rattle.image_writer.specs.WrittenImage.{header_row, section_rows}
+use Rattle.image_writer.specs.RawData.{section_bytes, all_bytes}
 use Rattle.image_writer.specs.RawData.{Ascend, laid, laid_all}
 use Rattle.image_writer.proofs.RawLemmas.{Lie, lie_wider, lie_both, ascend_lie, section_raw}
 
 -- a section that can be written behind what is before it
 pub record IsWritten (rvas : List ℕ) (contents : List (List ℕ)) (row : OutRow) (place : Placed) (start file_start : ℕ) : Type 0 where
-  pub aligned : place.rva % page_size ≡ 0
+  pub aligned : place.rva % PAGE_SIZE ≡ 0
   pub above : start ≤ place.rva
-  pub ascending : Ascend (placed_pieces rvas contents row.pieces) (place.rva + place.raw) place.rva
-  pub lying : Lie place.rva (place.rva + place.size) (placed_pieces rvas contents row.pieces)
+  pub ascending : Ascend (section_bytes rvas contents row.pieces) (place.rva + place.raw) place.rva
+  pub lying : Lie place.rva (place.rva + place.size) (section_bytes rvas contents row.pieces)
   pub file : place.file ≡ cond (place.raw == 0) 0 file_start
 
 -- each section behind the one before it, inside an image and a file
@@ -65,40 +67,35 @@ rows_placed rvas contents image (row ∷ rows) (place ∷ placed) start file are
         inside = start_inside rvas contents image rows placed next (file + place.raw) are.1;
         raw_fits = omega (arith, behind);
         file_fits = row_file_fits place.raw place.file file are.0.file (omega (arith, behind));
-        file_place = are.0.file;
+        file_start = are.0.file;
       },
       rows_placed rvas contents image rows placed next (file + place.raw) are.1,
     )
 
 -- ---- the raw data
 
-pub pieces_both : (rvas : List ℕ) (contents : List (List ℕ)) (row : OutRow) (rows : List OutRow) → placed_pieces rvas contents (all_indexes (row ∷ rows)) ≡ placed_pieces rvas contents row.pieces ++ placed_pieces rvas contents (all_indexes rows)
-pieces_both rvas contents row rows = map-append (placed_piece rvas contents) row.pieces (all_indexes rows)
-
 -- all pieces lie between the end before them and the end of the image
-later_lie : (rvas : List ℕ) (contents : List (List ℕ)) (image : ℕ) (rows : List OutRow) (placed : List Placed) (start file : ℕ) → AreWritten rvas contents image rows placed start file → Lie start image (placed_pieces rvas contents (all_indexes rows))
+later_lie : (rvas : List ℕ) (contents : List (List ℕ)) (image : ℕ) (rows : List OutRow) (placed : List Placed) (start file : ℕ) → AreWritten rvas contents image rows placed start file → Lie start image (all_bytes rvas contents rows)
 unfolding AreWritten Lie
 later_lie rvas contents image [] placed start file are = tt
 later_lie rvas contents image (row ∷ rows) [] start file are = absurd are
 later_lie rvas contents image (row ∷ rows) (place ∷ placed) start file are =
     let next = place.rva + place.size in
-    let mine = placed_pieces rvas contents row.pieces in
-    let rest = placed_pieces rvas contents (all_indexes rows) in
+    let mine = section_bytes rvas contents row.pieces in
+    let rest = all_bytes rvas contents rows in
     let inside = start_inside rvas contents image rows placed next (file + place.raw) are.1 in
-    subst (Lie start image) (sym (pieces_both rvas contents row rows))
     (lie_both start image mine rest
     (lie_wider place.rva next start image mine are.0.above inside are.0.lying)
     (lie_wider next image start image rest (omega (arith, are.0.above)) (omega arith) (later_lie rvas contents image rows placed next (file + place.raw) are.1)))
 
-pub all_raw : (rvas : List ℕ) (contents : List (List ℕ)) (image : ℕ) (rows : List OutRow) (placed : List Placed) (start file : ℕ) (before : List PlacedPiece) → AreWritten rvas contents image rows placed start file → Lie 0 start before → laid_all rvas contents rows placed ≡ flat_map (raw_bytes (before ++ placed_pieces rvas contents (all_indexes rows))) (section_rows rows placed)
+pub all_raw : (rvas : List ℕ) (contents : List (List ℕ)) (image : ℕ) (rows : List OutRow) (placed : List Placed) (start file : ℕ) (before : List PlacedBytes) → AreWritten rvas contents image rows placed start file → Lie 0 start before → laid_all rvas contents rows placed ≡ flat_map (raw_bytes (before ++ all_bytes rvas contents rows)) (section_rows rows placed)
 unfolding AreWritten laid_all
 all_raw rvas contents image [] placed start file before are b = refl
 all_raw rvas contents image (row ∷ rows) [] start file before are b = absurd are
 all_raw rvas contents image (row ∷ rows) (place ∷ placed) start file before are b =
     let next = place.rva + place.size in
-    let mine = placed_pieces rvas contents row.pieces in
-    let rest = placed_pieces rvas contents (all_indexes rows) in
-    let whole : before ++ placed_pieces rvas contents (all_indexes (row ∷ rows)) ≡ before ++ (mine ++ rest) = ap (λ (ps : List PlacedPiece). before ++ ps) (pieces_both rvas contents row rows) in
+    let mine = section_bytes rvas contents row.pieces in
+    let rest = all_bytes rvas contents rows in
     let moved : (before ++ mine) ++ rest ≡ before ++ (mine ++ rest) = append_assoc before mine rest in
     let low : Lie 0 place.rva before = lie_wider 0 start 0 place.rva before (omega arith) are.0.above b in
     let here : laid mine (place.rva + place.raw) place.rva ≡ raw_bytes (before ++ (mine ++ rest)) (header_row row place) =
@@ -106,33 +103,32 @@ all_raw rvas contents image (row ∷ rows) (place ∷ placed) start file before 
     let front : Lie 0 next (before ++ mine) = lie_both 0 next before mine (lie_wider 0 start 0 next before (omega arith) (omega (arith, are.0.above)) b) (lie_wider place.rva next 0 next mine (omega arith) (omega arith) are.0.lying) in
     let behind = all_raw rvas contents image rows placed next (file + place.raw) (before ++ mine) are.1 front in
     ap (λ (xs : List ℕ). xs ++ laid_all rvas contents rows placed) here
-    ∙ ap (λ (xs : List ℕ). raw_bytes (before ++ (mine ++ rest)) (header_row row place) ++ xs) (behind ∙ ap (λ (ps : List PlacedPiece). flat_map (raw_bytes ps) (section_rows rows placed)) moved)
-    ∙ ap (λ (ps : List PlacedPiece). raw_bytes ps (header_row row place) ++ flat_map (raw_bytes ps) (section_rows rows placed)) (sym whole)
+    ∙ ap (λ (xs : List ℕ). raw_bytes (before ++ (mine ++ rest)) (header_row row place) ++ xs) (behind ∙ ap (λ (ps : List PlacedBytes). flat_map (raw_bytes ps) (section_rows rows placed)) moved)
 
 -- ---- each byte of a piece lies in a section
 
 -- every byte of a piece lies in the raw data and in the size of some row
-abbrev InSome : List SectionRow → PlacedPiece → Type 0
+abbrev InSome : List SectionHeader → PlacedBytes → Type 0
 InSome rows piece =
     (rva : ℕ) → holds piece rva ≡ true
-    → (number : ℕ) × ((row : SectionRow) × (slice_get rows number ≡ Some row) × (row.rva ≤ rva) × (rva < row.rva + min row.raw_size row.size))
+    → (number : ℕ) × ((row : SectionHeader) × (slice_get rows number ≡ Some row) × (row.rva ≤ rva) × (rva < row.rva + min row.raw_size row.size))
 
-EachIn : List SectionRow → List PlacedPiece → Type 0
+EachIn : List SectionHeader → List PlacedBytes → Type 0
 EachIn rows [] = Unit {0}
 EachIn rows (piece ∷ pieces) = InSome rows piece × EachIn rows pieces
 
-each_both : (rows : List SectionRow) (xs ys : List PlacedPiece) → EachIn rows xs → EachIn rows ys → EachIn rows (xs ++ ys)
+each_both : (rows : List SectionHeader) (xs ys : List PlacedBytes) → EachIn rows xs → EachIn rows ys → EachIn rows (xs ++ ys)
 unfolding EachIn
 each_both rows [] ys a b = b
 each_both rows (x ∷ xs) ys a b = (a.0, each_both rows xs ys a.1 b)
 
-each_later : (row : SectionRow) (rows : List SectionRow) (pieces : List PlacedPiece) → EachIn rows pieces → EachIn (row ∷ rows) pieces
+each_later : (row : SectionHeader) (rows : List SectionHeader) (pieces : List PlacedBytes) → EachIn rows pieces → EachIn (row ∷ rows) pieces
 unfolding EachIn
 each_later row rows [] each = tt
 each_later row rows (piece ∷ pieces) each =
     (λ rva here. let found = each.0 rva here in (suc found.0, found.1), each_later row rows pieces each.1)
 
-each_first : (row : SectionRow) (rows : List SectionRow) (pieces : List PlacedPiece) → Lie row.rva (row.rva + row.raw_size) pieces → Lie row.rva (row.rva + row.size) pieces → EachIn (row ∷ rows) pieces
+each_first : (row : SectionHeader) (rows : List SectionHeader) (pieces : List PlacedBytes) → Lie row.rva (row.rva + row.raw_size) pieces → Lie row.rva (row.rva + row.size) pieces → EachIn (row ∷ rows) pieces
 unfolding EachIn Lie
 each_first row rows [] a b = tt
 each_first row rows (piece ∷ pieces) a b = (
@@ -146,30 +142,29 @@ each_first row rows (piece ∷ pieces) a b = (
   each_first row rows pieces a.1 b.1,
 )
 
-each_in : (rvas : List ℕ) (contents : List (List ℕ)) (image : ℕ) (rows : List OutRow) (placed : List Placed) (start file : ℕ) → AreWritten rvas contents image rows placed start file → EachIn (section_rows rows placed) (placed_pieces rvas contents (all_indexes rows))
+each_in : (rvas : List ℕ) (contents : List (List ℕ)) (image : ℕ) (rows : List OutRow) (placed : List Placed) (start file : ℕ) → AreWritten rvas contents image rows placed start file → EachIn (section_rows rows placed) (all_bytes rvas contents rows)
 unfolding AreWritten EachIn
 each_in rvas contents image [] placed start file are = tt
 each_in rvas contents image (row ∷ rows) [] start file are = absurd are
 each_in rvas contents image (row ∷ rows) (place ∷ placed) start file are =
-    let mine = placed_pieces rvas contents row.pieces in
-    let rest = placed_pieces rvas contents (all_indexes rows) in
+    let mine = section_bytes rvas contents row.pieces in
+    let rest = all_bytes rvas contents rows in
     let table = section_rows rows placed in
-    subst (EachIn (header_row row place ∷ table)) (sym (pieces_both rvas contents row rows))
     (each_both (header_row row place ∷ table) mine rest
     (each_first (header_row row place) table mine (ascend_lie mine (place.rva + place.raw) place.rva are.0.ascending) are.0.lying)
     (each_later (header_row row place) table rest (each_in rvas contents image rows placed (place.rva + place.size) (file + place.raw) are.1)))
 
-each_index : (rows : List SectionRow) (pieces : List PlacedPiece) → EachIn rows pieces → AreInRows pieces rows
+each_index : (rows : List SectionHeader) (pieces : List PlacedBytes) → EachIn rows pieces → AreInRows pieces rows
 unfolding EachIn
 each_index rows [] each index rva piece e here = absurd cc
 each_index rows (first ∷ pieces) each zero rva piece e here =
     let same : first ≡ piece = cc in
-    each.0 rva (subst (λ (p : PlacedPiece). holds p rva ≡ true) (sym same) here)
+    each.0 rva (subst (λ (p : PlacedBytes). holds p rva ≡ true) (sym same) here)
 each_index rows (first ∷ pieces) each (suc index) rva piece e here = each_index rows pieces each.1 index rva piece e here
 
-pub pieces_in_rows : (rvas : List ℕ) (contents : List (List ℕ)) (image : ℕ) (rows : List OutRow) (placed : List Placed) (start file : ℕ) → AreWritten rvas contents image rows placed start file → AreInRows (placed_pieces rvas contents (all_indexes rows)) (section_rows rows placed)
+pub pieces_in_rows : (rvas : List ℕ) (contents : List (List ℕ)) (image : ℕ) (rows : List OutRow) (placed : List Placed) (start file : ℕ) → AreWritten rvas contents image rows placed start file → AreInRows (all_bytes rvas contents rows) (section_rows rows placed)
 pieces_in_rows rvas contents image rows placed start file are =
-    each_index (section_rows rows placed) (placed_pieces rvas contents (all_indexes rows)) (each_in rvas contents image rows placed start file are)
+    each_index (section_rows rows placed) (all_bytes rvas contents rows) (each_in rvas contents image rows placed start file are)
 
 -- ---- the sums of raw sizes
 
@@ -186,11 +181,11 @@ unfolding AreWritten
 code_fits rvas contents image [] placed start file are = omega (arith, are.1)
 code_fits rvas contents image (row ∷ rows) [] start file are = absurd are
 code_fits rvas contents image (row ∷ rows) (place ∷ placed) start file are =
-    chosen (has_flag row.flags scn_cnt_code) place.raw (size_of_code (section_rows rows placed)) file 4294967296 (size_of_code (section_rows (row ∷ rows) (place ∷ placed))) (sum_by-cons _ (header_row row place) (section_rows rows placed)) (code_fits rvas contents image rows placed (place.rva + place.size) (file + place.raw) are.1)
+    chosen (has_flag row.flags SCN_CNT_CODE) place.raw (size_of_code (section_rows rows placed)) file 4294967296 (size_of_code (section_rows (row ∷ rows) (place ∷ placed))) (sum_by-cons _ (header_row row place) (section_rows rows placed)) (code_fits rvas contents image rows placed (place.rva + place.size) (file + place.raw) are.1)
 
 pub initialized_fits : (rvas : List ℕ) (contents : List (List ℕ)) (image : ℕ) (rows : List OutRow) (placed : List Placed) (start file : ℕ) → AreWritten rvas contents image rows placed start file → file + size_of_initialized_data (section_rows rows placed) < 4294967296
 unfolding AreWritten
 initialized_fits rvas contents image [] placed start file are = omega (arith, are.1)
 initialized_fits rvas contents image (row ∷ rows) [] start file are = absurd are
 initialized_fits rvas contents image (row ∷ rows) (place ∷ placed) start file are =
-    other (has_flag row.flags scn_cnt_code) place.raw (size_of_initialized_data (section_rows rows placed)) file 4294967296 (size_of_initialized_data (section_rows (row ∷ rows) (place ∷ placed))) (sum_by-cons _ (header_row row place) (section_rows rows placed)) (initialized_fits rvas contents image rows placed (place.rva + place.size) (file + place.raw) are.1)
+    other (has_flag row.flags SCN_CNT_CODE) place.raw (size_of_initialized_data (section_rows rows placed)) file 4294967296 (size_of_initialized_data (section_rows (row ∷ rows) (place ∷ placed))) (sum_by-cons _ (header_row row place) (section_rows rows placed)) (initialized_fits rvas contents image rows placed (place.rva + place.size) (file + place.raw) are.1)

@@ -9,9 +9,9 @@ use Rattle.section_group.specs.declared.piece.OutSection.{OutSection}
 use Rattle.address_layout.specs.declared.layout.Placed.{Placed}
 use Rattle.address_layout.specs.declared.layout.Layout.{Layout}
 use Rattle.address_layout.specs.Places.{row_at, piece_in, piece_end, end_before, file_before, HasNoBytes, IsPlacedSection}
-use Rattle.address_layout.specs.Layout.{StandOnce, IsAlignment, IsLayout, placed_at}
+use Rattle.address_layout.specs.Layout.{StandOnce, IsAlignment, HoldsArrangement, placed_at}
 use Rattle.address_layout.specs.Growth.{last_end, raw_end}
-use Rattle.address_layout.proofs.ArrangementLemmas.{Aligned, aligned_rows}
+use Rattle.address_layout.proofs.CallerLemmas.{Aligned, aligned_rows}
 use Rattle.image_writer.proofs.PlaceLemmas.{end_in_floor}
 
 divides_more : (a m : ℕ) → 8192 % a ≡ 0 → m % 8192 ≡ 0 → 0 < a → m % a ≡ 0
@@ -73,7 +73,7 @@ raw_small pieces row before file placed place aligned is =
     ]
 
 -- the raw data of the first sections end not far behind these
-pub file_end_small : (pieces : List Piece) (sections : List OutSection) (reloc : Bool) (layout : Layout) → All (λ piece. IsAlignment piece.align) pieces → StandOnce pieces sections → IsLayout pieces sections reloc layout → (i : ℕ) → i ≤ length sections → file_before layout.headers (placed_at layout.sections.items) i ≤ end_before layout.headers (placed_at layout.sections.items) i + i * 8702
+pub file_end_small : (pieces : List Piece) (sections : List OutSection) (reloc : Bool) (layout : Layout) → All (λ piece. IsAlignment piece.align) pieces → StandOnce pieces sections → HoldsArrangement pieces sections reloc layout → (i : ℕ) → i ≤ length sections → file_before layout.headers (placed_at layout.sections.items) i ≤ end_before layout.headers (placed_at layout.sections.items) i + i * 8702
 file_end_small pieces sections reloc layout alignments standing is zero le = omega arith
 file_end_small pieces sections reloc layout alignments standing is (suc i) le =
     let placed = placed_at layout.sections.items in
@@ -84,7 +84,7 @@ file_end_small pieces sections reloc layout alignments standing is (suc i) le =
     let raw = raw_small pieces row before file (placed i) (is.place i) (aligned_rows pieces sections i alignments standing (omega arith)) here in
     omega (arith, file_end_small pieces sections reloc layout alignments standing is i (omega arith), raw, here.start.above)
 
-pub raw_end_small : (pieces : List Piece) (sections : List OutSection) (reloc : Bool) (layout : Layout) → All (λ piece. IsAlignment piece.align) pieces → StandOnce pieces sections → IsLayout pieces sections reloc layout → raw_end layout ≤ last_end layout + length sections * 8702
+pub raw_end_small : (pieces : List Piece) (sections : List OutSection) (reloc : Bool) (layout : Layout) → All (λ piece. IsAlignment piece.align) pieces → StandOnce pieces sections → HoldsArrangement pieces sections reloc layout → raw_end layout ≤ last_end layout + length sections * 8702
 raw_end_small pieces sections reloc layout alignments standing is =
     let placed = placed_at layout.sections.items in
     subst (λ (n : ℕ). file_before layout.headers placed n ≤ end_before layout.headers placed n + length sections * 8702) (sym is.section_for_each) (file_end_small pieces sections reloc layout alignments standing is (length sections) (omega arith))

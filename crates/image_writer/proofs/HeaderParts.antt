@@ -4,9 +4,9 @@ use Rattle.std.specs.List.{flat_map}
 use Rattle.std.proofs.lemmas.List.{length-replicate}
 use Rattle.link_base.proofs.CallerLemmas.{length-number_bytes}
 use Rattle.image_writer.specs.declared.headers.Headers.{Headers}
-use Rattle.image_writer.specs.declared.headers.SectionRow.{SectionRow}
+use Rattle.image_writer.specs.declared.headers.SectionHeader.{SectionHeader}
 use Rattle.image_writer.specs.HeaderTable.{dos_header, file_header, standard_fields, version_fields, size_fields, reserve_fields, directory_fields, fixed_headers, section_header, header_table, short_name, size_of_headers, padded}
-use Rattle.image_writer.specs.ExpectedImage.{ImagePlan, plan_headers, raw_bytes, image_file}
+use Rattle.image_writer.specs.ExpectedImage.{ImagePlan, plan_headers, raw_bytes, image_file, own_bytes}
 use Rattle.image_writer.proofs.StandsAt.{StandsAt, whole, first_part, second_part, length-parts}
 
 -- ---- lengths
@@ -17,7 +17,7 @@ length-dos_header = simp (length-append, length-number_bytes)
 length-file_header : (f : Headers) (count : ℕ) → length (file_header f count) ≡ 24
 length-file_header f count = simp (length-append, length-number_bytes)
 
-length-standard_fields : (f : Headers) (rows : List SectionRow) → length (standard_fields f rows) ≡ 24
+length-standard_fields : (f : Headers) (rows : List SectionHeader) → length (standard_fields f rows) ≡ 24
 length-standard_fields f rows = simp (length-append, length-number_bytes)
 
 length-version_fields : (f : Headers) → length (version_fields f) ≡ 32
@@ -35,7 +35,7 @@ length-directory_fields directory = simp (length-append, length-number_bytes)
 pub length-short_name : (name : List ℕ) → length (short_name name) ≡ 8
 length-short_name name = omega (arith, length-append (take 8 name) (replicate (8 - length name) 0), length-take 8 name, length-replicate {A = ℕ} (8 - length name) 0)
 
-pub length-section_header : (row : SectionRow) → length (section_header row) ≡ 40
+pub length-section_header : (row : SectionHeader) → length (section_header row) ≡ 40
 length-section_header row = behind_name (short_name row.name) _ (length-short_name row.name) (simp (length-append, length-number_bytes))
   where
     behind_name : (name rest : List ℕ) → length name ≡ 8 → length rest ≡ 32 → length (name ++ rest) ≡ 40
@@ -70,7 +70,7 @@ places dos file standard version sizes reserve directories bytes d f s v z r h =
 
 pub headers_stand : (plan : ImagePlan) → StandsAt (plan_headers plan) 0 (image_file plan)
 unfolding image_file
-headers_stand plan = first_part (plan_headers plan) (flat_map (raw_bytes plan.pieces) plan.rows) 0 (image_file plan) (whole (image_file plan))
+headers_stand plan = first_part (plan_headers plan) (flat_map (raw_bytes (own_bytes plan)) plan.rows) 0 (image_file plan) (whole (image_file plan))
 
 table_stands : (plan : ImagePlan) → StandsAt (fixed_headers plan.headers plan.rows plan.size ++ flat_map section_header plan.rows) 0 (image_file plan)
 unfolding header_table
@@ -100,7 +100,7 @@ parts_stand plan =
 length_of_all : (d f s v z r t : List ℕ) → length d ≡ 64 → length f ≡ 24 → length s ≡ 24 → length v ≡ 32 → length z ≡ 16 → length r ≡ 40 → length t ≡ 128 → length (d ++ (f ++ (s ++ (v ++ (z ++ (r ++ t)))))) ≡ 328
 length_of_all d f s v z r t ed ef es ev ez er et = simp (length-append, ed, ef, es, ev, ez, er, et)
 
-pub length-fixed_headers : (f : Headers) (rows : List SectionRow) (size : ℕ) → length f.directories ≡ 16 → length (fixed_headers f rows size) ≡ 328
+pub length-fixed_headers : (f : Headers) (rows : List SectionHeader) (size : ℕ) → length f.directories ≡ 16 → length (fixed_headers f rows size) ≡ 328
 length-fixed_headers f rows size e =
     length_of_all dos_header (file_header f (length rows)) (standard_fields f rows) (version_fields f) (size_fields f (length rows) size) (reserve_fields f) (flat_map directory_fields f.directories)
     length-dos_header
@@ -129,7 +129,7 @@ length-plan_headers plan e =
     fits : (fixed sections : List ℕ) (count : ℕ) → length fixed ≡ 328 → length sections ≡ 40 * count → length (fixed ++ sections) ≤ size_of_headers count
     fits fixed sections count a b = omega (arith, length-append fixed sections)
 
-pub raw_stand : (plan : ImagePlan) → length plan.headers.directories ≡ 16 → StandsAt (flat_map (raw_bytes plan.pieces) plan.rows) (size_of_headers (length plan.rows)) (image_file plan)
+pub raw_stand : (plan : ImagePlan) → length plan.headers.directories ≡ 16 → StandsAt (flat_map (raw_bytes (own_bytes plan)) plan.rows) (size_of_headers (length plan.rows)) (image_file plan)
 unfolding image_file
 raw_stand plan e =
-    second_part (plan_headers plan) (flat_map (raw_bytes plan.pieces) plan.rows) 0 (size_of_headers (length plan.rows)) (size_of_headers (length plan.rows)) (image_file plan) (length-plan_headers plan e) (omega arith) (whole (image_file plan))
+    second_part (plan_headers plan) (flat_map (raw_bytes (own_bytes plan)) plan.rows) 0 (size_of_headers (length plan.rows)) (size_of_headers (length plan.rows)) (image_file plan) (length-plan_headers plan e) (omega arith) (whole (image_file plan))

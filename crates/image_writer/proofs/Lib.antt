@@ -18,4 +18,11 @@ pub mod ImageTheorems
 pub mod PlaceLemmas
 pub mod FileEndLemmas
 pub mod AppendedLemmas
+pub mod PlanBytes
+pub mod LoadableLemmas
+pub mod RewrittenLemmas
+pub mod PieceLemmas
+pub mod PatchLemmas
+pub mod PieceInFileLemmas
+pub mod OnePlan
 pub mod CallerLemmas

@@ -7,7 +7,7 @@ use Rattle.section_group.specs.declared.piece.OutSection.{OutSection}
 use Rattle.address_layout.specs.declared.layout.Placed.{Placed}
 use Rattle.address_layout.specs.declared.layout.Layout.{Layout}
 use Rattle.address_layout.specs.Places.{IsLeastMultiple, IsPlacedSection, piece_in, piece_end, piece_floor, row_at, section_count, end_before, file_before}
-use Rattle.address_layout.specs.Layout.{StandOnce, IsLayout, placed_at}
+use Rattle.address_layout.specs.Layout.{StandOnce, HoldsArrangement, placed_at}
 use Rattle.address_layout.specs.Growth.{CanGrow}
 use Rattle.image_writer.specs.WrittenImage.{place_in, IsSectionLaidOut, IsLaidOut}
 
@@ -70,7 +70,7 @@ section_laid_out pieces rvas row before file placed place is same = record {
     ascending zero lt = omega (arith, (is.each 0 lt).above, same 0 lt)
     ascending (suc j) lt = omega (arith, (is.each (suc j) lt).above, same (suc j) lt, same j (omega arith))
 
-pub laid_out : (pieces : List Piece) (sections : List OutSection) (layout : Layout) → IsLayout pieces sections false layout → StandOnce pieces sections → section_count sections false ≤ 96 → CanGrow layout → IsLaidOut pieces sections layout
+pub laid_out : (pieces : List Piece) (sections : List OutSection) (layout : Layout) → HoldsArrangement pieces sections false layout → StandOnce pieces sections → section_count sections false ≤ 96 → CanGrow layout → IsLaidOut pieces sections layout
 laid_out pieces sections layout is standing few growth = record {
   headers = least_is_next (328 + 40 * section_count sections false) layout.headers is.arranged.of_headers ∙ ap (λ (n : ℕ). next_multiple_of (328 + 40 * n) 512) (omega arith);
   few = omega (arith, few);

@@ -5,8 +5,8 @@ use Rattle.std.proofs.lemmas.Bool.{and_parts, and_from, cases_Bool, cases_lt, le
 use Rattle.std.proofs.lemmas.Grind.{same_number_lists}
 use Rattle.std.proofs.lemmas.List.{get_or_append_left, get_or-append_right, get_or-replicate, length-replicate}
 use Rattle.std.proofs.lemmas.List.FromFn.{get_or-map-range_with_len, length-map-range_with_len}
-use Rattle.image_writer.specs.declared.headers.SectionRow.{SectionRow}
-use Rattle.image_writer.specs.ExpectedImage.{PlacedPiece, holds, piece_byte, raw_byte, raw_bytes}
+use Rattle.image_writer.specs.declared.headers.SectionHeader.{SectionHeader}
+use Rattle.image_writer.specs.ExpectedImage.{PlacedBytes, holds, piece_byte, raw_byte, raw_bytes}
 use Rattle.image_writer.specs.RawData.{gap, next_place, laid, Ascend}
 
 -- ---- pieces that ascend
@@ -15,7 +15,7 @@ place_rises : (bytes : List ℕ) (rva place : ℕ) → (0 < length bytes → pla
 place_rises [] rva place le = omega arith
 place_rises (b ∷ bs) rva place le = omega (arith, le (omega arith))
 
-pub ascend_end : (pieces : List PlacedPiece) (end place : ℕ) → Ascend pieces end place → place ≤ end
+pub ascend_end : (pieces : List PlacedBytes) (end place : ℕ) → Ascend pieces end place → place ≤ end
 unfolding Ascend
 ascend_end [] end place up = up
 ascend_end (piece ∷ pieces) end place up =
@@ -25,7 +25,7 @@ one_more : (bytes : List ℕ) (rva place end : ℕ) → (0 < length bytes → pl
 one_more [] rva place end le fits = omega arith
 one_more (b ∷ bs) rva place end le fits = omega (arith, le (omega arith), fits)
 
-pub length-laid : (pieces : List PlacedPiece) (end place : ℕ) → Ascend pieces end place → length (laid pieces end place) ≡ end - place
+pub length-laid : (pieces : List PlacedBytes) (end place : ℕ) → Ascend pieces end place → length (laid pieces end place) ≡ end - place
 unfolding laid Ascend
 length-laid [] end place up = length-replicate {A = ℕ} (end - place) 0
 length-laid (piece ∷ pieces) end place up =
@@ -42,7 +42,7 @@ length-laid (piece ∷ pieces) end place up =
 
 -- ---- pieces that do not hold an address
 
-pub apart : (piece : PlacedPiece) (rva : ℕ) → (0 < length piece.bytes → (rva < piece.rva) ⊎ (piece.rva + length piece.bytes ≤ rva)) → holds piece rva ≡ false
+pub apart : (piece : PlacedBytes) (rva : ℕ) → (0 < length piece.bytes → (rva < piece.rva) ⊎ (piece.rva + length piece.bytes ≤ rva)) → holds piece rva ≡ false
 apart piece rva out =
     elim (cases_Bool (holds piece rva)) [
       | inr elsewhere ↦ elsewhere
@@ -53,21 +53,21 @@ apart piece rva out =
           elim (out (omega arith)) [ inl before ↦ absurd (omega arith) | inr behind ↦ absurd (omega arith) ]
     ]
 
-passed : (piece : PlacedPiece) (pieces : List PlacedPiece) (rva : ℕ) → (0 < length piece.bytes → (rva < piece.rva) ⊎ (piece.rva + length piece.bytes ≤ rva)) → piece_byte (piece ∷ pieces) rva ≡ piece_byte pieces rva
+pub passed : (piece : PlacedBytes) (pieces : List PlacedBytes) (rva : ℕ) → (0 < length piece.bytes → (rva < piece.rva) ⊎ (piece.rva + length piece.bytes ≤ rva)) → piece_byte (piece ∷ pieces) rva ≡ piece_byte pieces rva
 passed piece pieces rva out = cond-false (holds piece rva) _ _ (apart piece rva out)
 
 -- the pieces with bytes lie between two places
-unfoldable pub Lie : ℕ → ℕ → List PlacedPiece → Type 0
+unfoldable pub Lie : ℕ → ℕ → List PlacedBytes → Type 0
 Lie low high [] = Unit {0}
 Lie low high (piece ∷ pieces) = (0 < length piece.bytes → (low ≤ piece.rva) × (piece.rva + length piece.bytes ≤ high)) × Lie low high pieces
 
-pub lie_wider : (low high lower higher : ℕ) (pieces : List PlacedPiece) → lower ≤ low → high ≤ higher → Lie low high pieces → Lie lower higher pieces
+pub lie_wider : (low high lower higher : ℕ) (pieces : List PlacedBytes) → lower ≤ low → high ≤ higher → Lie low high pieces → Lie lower higher pieces
 unfolding Lie
 lie_wider low high lower higher [] below above lie = tt
 lie_wider low high lower higher (piece ∷ pieces) below above lie =
     (λ some. let at = lie.0 some in (omega (arith, at.0), omega (arith, at.1)), lie_wider low high lower higher pieces below above lie.1)
 
-pub lie_both : (low high : ℕ) (xs ys : List PlacedPiece) → Lie low high xs → Lie low high ys → Lie low high (xs ++ ys)
+pub lie_both : (low high : ℕ) (xs ys : List PlacedBytes) → Lie low high xs → Lie low high ys → Lie low high (xs ++ ys)
 unfolding Lie
 lie_both low high [] ys a b = b
 lie_both low high (x ∷ xs) ys a b = (a.0, lie_both low high xs ys a.1 b)
@@ -77,19 +77,19 @@ outside low high start len rva at (inl before) = inl (omega (arith, at.0))
 outside low high start len rva at (inr behind) = inr (omega (arith, at.1))
 
 -- the pieces that lie elsewhere are passed over
-pub front_passed : (low high rva : ℕ) (xs ys : List PlacedPiece) → Lie low high xs → (rva < low) ⊎ (high ≤ rva) → piece_byte (xs ++ ys) rva ≡ piece_byte ys rva
+pub front_passed : (low high rva : ℕ) (xs ys : List PlacedBytes) → Lie low high xs → (rva < low) ⊎ (high ≤ rva) → piece_byte (xs ++ ys) rva ≡ piece_byte ys rva
 unfolding Lie
 front_passed low high rva [] ys lie out = refl
 front_passed low high rva (x ∷ xs) ys lie out =
     passed x (xs ++ ys) rva (λ some. outside low high x.rva (length x.bytes) rva (lie.0 some) out) ∙ front_passed low high rva xs ys lie.1 out
 
-pub none_there : (low high rva : ℕ) (pieces : List PlacedPiece) → Lie low high pieces → (rva < low) ⊎ (high ≤ rva) → piece_byte pieces rva ≡ 0
+pub none_there : (low high rva : ℕ) (pieces : List PlacedBytes) → Lie low high pieces → (rva < low) ⊎ (high ≤ rva) → piece_byte pieces rva ≡ 0
 unfolding Lie
 none_there low high rva [] lie out = refl
 none_there low high rva (x ∷ xs) lie out =
     passed x xs rva (λ some. outside low high x.rva (length x.bytes) rva (lie.0 some) out) ∙ none_there low high rva xs lie.1 out
 
-pub back_passed : (rva : ℕ) (xs ys : List PlacedPiece) → piece_byte ys rva ≡ 0 → piece_byte (xs ++ ys) rva ≡ piece_byte xs rva
+pub back_passed : (rva : ℕ) (xs ys : List PlacedBytes) → piece_byte ys rva ≡ 0 → piece_byte (xs ++ ys) rva ≡ piece_byte xs rva
 back_passed rva [] ys none = none
 back_passed rva (x ∷ xs) ys none = ap (λ (n : ℕ). cond (holds x rva) (get_or x.bytes (rva - x.rva) 0) n) (back_passed rva xs ys none)
 
@@ -98,7 +98,7 @@ next_lies : (bytes : List ℕ) (rva place end : ℕ) → (0 < length bytes → p
 next_lies [] rva place end le fits some = absurd (omega arith)
 next_lies (b ∷ bs) rva place end le fits some = (le some, fits)
 
-pub ascend_lie : (pieces : List PlacedPiece) (end place : ℕ) → Ascend pieces end place → Lie place end pieces
+pub ascend_lie : (pieces : List PlacedBytes) (end place : ℕ) → Ascend pieces end place → Lie place end pieces
 unfolding Ascend Lie
 ascend_lie [] end place up = tt
 ascend_lie (piece ∷ pieces) end place up =
@@ -110,10 +110,10 @@ ascend_lie (piece ∷ pieces) end place up =
 -- ---- the bytes that are laid
 
 -- the byte at a place behind zeros and bytes, or in them
-byte_here : (b : ℕ) (bs : List ℕ) (rva : ℕ) (rest : List ℕ) (pieces : List PlacedPiece) (place end k : ℕ) → place ≤ rva → Lie (rva + length (b ∷ bs)) end pieces → ((j : ℕ) → rva + length (b ∷ bs) + j ≡ place + k → get_or rest j 0 ≡ piece_byte pieces (place + k)) → get_or ((replicate (rva - place) 0 ++ (b ∷ bs)) ++ rest) k 0 ≡ piece_byte (record { rva = rva; bytes = b ∷ bs } ∷ pieces) (place + k)
+byte_here : (b : ℕ) (bs : List ℕ) (rva : ℕ) (rest : List ℕ) (pieces : List PlacedBytes) (place end k : ℕ) → place ≤ rva → Lie (rva + length (b ∷ bs)) end pieces → ((j : ℕ) → rva + length (b ∷ bs) + j ≡ place + k → get_or rest j 0 ≡ piece_byte pieces (place + k)) → get_or ((replicate (rva - place) 0 ++ (b ∷ bs)) ++ rest) k 0 ≡ piece_byte (record { rva = rva; bytes = b ∷ bs } ∷ pieces) (place + k)
 byte_here b bs rva rest pieces place end k le lie later =
     let bytes = b ∷ bs in
-    let piece : PlacedPiece = record { rva = rva; bytes = b ∷ bs } in
+    let piece : PlacedBytes = record { rva = rva; bytes = b ∷ bs } in
     let zeros : List ℕ = replicate (rva - place) 0 in
     let many : length zeros ≡ rva - place = length-replicate {A = ℕ} (rva - place) 0 in
     let front : length (zeros ++ bytes) ≡ rva - place + length bytes = omega (arith, length-append zeros bytes, many) in
@@ -136,12 +136,12 @@ byte_here b bs rva rest pieces place end k le lie later =
           ∙ sym (passed piece pieces (place + k) (λ some. inr (omega arith)))
     ]
 
-byte_more : (bytes : List ℕ) (rva : ℕ) (rest : List ℕ) (pieces : List PlacedPiece) (place end k : ℕ) → (0 < length bytes → place ≤ rva) → Lie (next_place bytes rva place) end pieces → ((j : ℕ) → next_place bytes rva place + j ≡ place + k → get_or rest j 0 ≡ piece_byte pieces (place + k)) → get_or ((replicate (gap bytes rva place) 0 ++ bytes) ++ rest) k 0 ≡ piece_byte (record { rva = rva; bytes = bytes } ∷ pieces) (place + k)
+byte_more : (bytes : List ℕ) (rva : ℕ) (rest : List ℕ) (pieces : List PlacedBytes) (place end k : ℕ) → (0 < length bytes → place ≤ rva) → Lie (next_place bytes rva place) end pieces → ((j : ℕ) → next_place bytes rva place + j ≡ place + k → get_or rest j 0 ≡ piece_byte pieces (place + k)) → get_or ((replicate (gap bytes rva place) 0 ++ bytes) ++ rest) k 0 ≡ piece_byte (record { rva = rva; bytes = bytes } ∷ pieces) (place + k)
 byte_more [] rva rest pieces place end k le lie later =
     later k refl ∙ sym (passed (record { rva = rva; bytes = [] }) pieces (place + k) (λ some. absurd (omega arith)))
 byte_more (b ∷ bs) rva rest pieces place end k le lie later = byte_here b bs rva rest pieces place end k (le (omega arith)) lie later
 
-pub laid_byte : (pieces : List PlacedPiece) (end place k : ℕ) → Ascend pieces end place → k < end - place → get_or (laid pieces end place) k 0 ≡ piece_byte pieces (place + k)
+pub laid_byte : (pieces : List PlacedBytes) (end place k : ℕ) → Ascend pieces end place → k < end - place → get_or (laid pieces end place) k 0 ≡ piece_byte pieces (place + k)
 unfolding laid Ascend
 laid_byte [] end place k up lt = get_or-replicate (end - place) k 0 0 lt
 laid_byte (piece ∷ pieces) end place k up lt =
@@ -152,7 +152,7 @@ laid_byte (piece ∷ pieces) end place k up lt =
 
 -- ---- the raw data of a section among others
 
-section_byte : (before mine after : List PlacedPiece) (row : SectionRow) (high k : ℕ) → Lie 0 row.rva before → Lie row.rva (row.rva + row.size) mine → Lie (row.rva + row.size) high after → piece_byte mine (row.rva + k) ≡ raw_byte (before ++ (mine ++ after)) row k
+section_byte : (before mine after : List PlacedBytes) (row : SectionHeader) (high k : ℕ) → Lie 0 row.rva before → Lie row.rva (row.rva + row.size) mine → Lie (row.rva + row.size) high after → piece_byte mine (row.rva + k) ≡ raw_byte (before ++ (mine ++ after)) row k
 section_byte before mine after row high k b m a =
     elim (cases_lt k row.size) [
       | inl inner ↦
@@ -162,7 +162,7 @@ section_byte before mine after row high k b m a =
       | inr past ↦ none_there row.rva (row.rva + row.size) (row.rva + k) mine m (inr (omega arith)) ∙ sym (cond-false (ltb k row.size) _ 0 (le-ltb _ _ past))
     ]
 
-pub section_raw : (before mine after : List PlacedPiece) (row : SectionRow) (high : ℕ) → Lie 0 row.rva before → Ascend mine (row.rva + row.raw_size) row.rva → Lie row.rva (row.rva + row.size) mine → Lie (row.rva + row.size) high after → laid mine (row.rva + row.raw_size) row.rva ≡ raw_bytes (before ++ (mine ++ after)) row
+pub section_raw : (before mine after : List PlacedBytes) (row : SectionHeader) (high : ℕ) → Lie 0 row.rva before → Ascend mine (row.rva + row.raw_size) row.rva → Lie row.rva (row.rva + row.size) mine → Lie (row.rva + row.size) high after → laid mine (row.rva + row.raw_size) row.rva ≡ raw_bytes (before ++ (mine ++ after)) row
 section_raw before mine after row high b up m a =
     let f = raw_byte (before ++ (mine ++ after)) row in
     let made : length (map f (range_with_len 0 row.raw_size)) ≡ row.raw_size = length-map-range_with_len f 0 row.raw_size in

@@ -7,8 +7,9 @@ use Rattle.section_group.specs.declared.piece.OutSection.{OutSection}
 use Rattle.section_group.specs.Uniqueness.{SectionRow as OutRow, row_of, rows_of}
 use Rattle.address_layout.specs.declared.layout.Placed.{Placed}
 use Rattle.address_layout.specs.Layout.{placed_at}
-use Rattle.image_writer.specs.ExpectedImage.{PlacedPiece}
-use Rattle.image_writer.specs.WrittenImage.{header_row, section_rows, piece_contents, placed_pieces}
+use Rattle.image_writer.specs.ExpectedImage.{PlacedBytes}
+use Rattle.image_writer.specs.WrittenImage.{header_row, section_rows, piece_contents}
+use Rattle.image_writer.specs.RawData.{section_bytes}
 use Rattle.image_writer.specs.RawData.{laid, laid_all}
 
 drop_to : {X : Type 0} (xs : List X) (i : ℕ) (x : X) → i < length xs → x ≡ get_or xs i x → drop i xs ≡ x ∷ drop (i + 1) xs
@@ -35,17 +36,17 @@ rows_step sections placed i section same lt is =
     ap (λ (rows : List OutRow). section_rows rows (drop i placed)) (rows_to sections i section lt is)
     ∙ ap (section_rows (row_of section ∷ drop (i + 1) (rows_of sections))) (placed_to placed i (omega arith))
 
-pub all_step : (rvas : List ℕ) (contents : List (List ℕ)) (sections : List OutSection) (placed : List Placed) (i : ℕ) (section : OutSection) → length placed ≡ length sections → i < length sections → section ≡ get_or sections i section → laid_all rvas contents (drop i (rows_of sections)) (drop i placed) ≡ laid (placed_pieces rvas contents section.pieces.items) ((placed_at placed i).rva + (placed_at placed i).raw) (placed_at placed i).rva ++ laid_all rvas contents (drop (i + 1) (rows_of sections)) (drop (i + 1) placed)
+pub all_step : (rvas : List ℕ) (contents : List (List ℕ)) (sections : List OutSection) (placed : List Placed) (i : ℕ) (section : OutSection) → length placed ≡ length sections → i < length sections → section ≡ get_or sections i section → laid_all rvas contents (drop i (rows_of sections)) (drop i placed) ≡ laid (section_bytes rvas contents section.pieces.items) ((placed_at placed i).rva + (placed_at placed i).raw) (placed_at placed i).rva ++ laid_all rvas contents (drop (i + 1) (rows_of sections)) (drop (i + 1) placed)
 unfolding laid_all
 all_step rvas contents sections placed i section same lt is =
     ap (λ (rows : List OutRow). laid_all rvas contents rows (drop i placed)) (rows_to sections i section lt is)
     ∙ ap (laid_all rvas contents (row_of section ∷ drop (i + 1) (rows_of sections))) (placed_to placed i (omega arith))
 
 -- the first of the pieces that are still to be written
-pub piece_step : (rvas : List ℕ) (pieces : List Piece) (indexes : List ℕ) (j k : ℕ) (piece : Piece) (bytes : List ℕ) → j < length indexes → k ≡ get_or indexes j 0 → k < length pieces → piece ≡ get_or pieces k piece → bytes ≡ piece_contents piece → placed_pieces rvas (map piece_contents pieces) (drop j indexes) ≡ record { rva = get_or rvas k 0; bytes = bytes } ∷ placed_pieces rvas (map piece_contents pieces) (drop (j + 1) indexes)
+pub piece_step : (rvas : List ℕ) (pieces : List Piece) (indexes : List ℕ) (j k : ℕ) (piece : Piece) (bytes : List ℕ) → j < length indexes → k ≡ get_or indexes j 0 → k < length pieces → piece ≡ get_or pieces k piece → bytes ≡ piece_contents piece → section_bytes rvas (map piece_contents pieces) (drop j indexes) ≡ record { rva = get_or rvas k 0; bytes = bytes } ∷ section_bytes rvas (map piece_contents pieces) (drop (j + 1) indexes)
 piece_step rvas pieces indexes j k piece bytes lt at less is content =
-    let rest = placed_pieces rvas (map piece_contents pieces) (drop (j + 1) indexes) in
+    let rest = section_bytes rvas (map piece_contents pieces) (drop (j + 1) indexes) in
     let held : get_or (map piece_contents pieces) k [] ≡ bytes = get_or-map piece_contents pieces k piece [] less ∙ ap piece_contents (sym is) ∙ sym content in
-    let one : List ℕ → PlacedPiece = λ bs. record { rva = get_or rvas k 0; bytes = bs } in
-    ap (placed_pieces rvas (map piece_contents pieces)) (drop_more indexes j 0 lt ∙ ap (λ (n : ℕ). n ∷ drop (j + 1) indexes) (sym at))
+    let one : List ℕ → PlacedBytes = λ bs. record { rva = get_or rvas k 0; bytes = bs } in
+    ap (section_bytes rvas (map piece_contents pieces)) (drop_more indexes j 0 lt ∙ ap (λ (n : ℕ). n ∷ drop (j + 1) indexes) (sym at))
     ∙ ap (λ (bs : List ℕ). one bs ∷ rest) held

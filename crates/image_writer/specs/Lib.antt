@@ -1,6 +1,6 @@
-pub mod ImageFormat
 pub mod HeaderTable
-pub mod LoadedImage
 pub mod ExpectedImage
+pub mod LoadablePlan
 pub mod WrittenImage
 pub mod RawData
+pub mod PieceInFile

@@ -1,19 +1,20 @@
 -- The image that a layout of sections and pieces means, and what is asked of the layout (PE Format, "Section Table
 -- (Section Headers)"; the rest is own).
-use Rattle.std.specs.Prelude.{◌≡◌, ◌≤◌, ◌<◌, ℕ, ◌+◌, ◌%◌, ◌==◌, IsTrue, if◌then◌else◌, List, [], ◌∷◌, length, map, slice_index, slice_index_or, unwrap_or, option_copied}
+use Rattle.std.specs.Prelude.{◌≡◌, ◌≤◌, ◌<◌, ℕ, ◌+◌, ◌%◌, ◌^◌, ◌==◌, IsTrue, if◌then◌else◌, List, [], ◌∷◌, length, map, slice_index, slice_index_or, unwrap_or, option_copied}
 use Rattle.std.specs.List.{All, flat_map}
+use Rattle.link_base.specs.PeFormat.{PAGE_SIZE}
+use Rattle.link_base.specs.Limits.{SECTION_LIMIT, IMAGE_LIMIT}
 use Rattle.section_group.specs.declared.piece.Piece.{Piece}
 use Rattle.section_group.specs.declared.piece.OutSection.{OutSection}
 use Rattle.section_group.specs.SectionOrder.{no_piece}
-use Rattle.section_group.specs.Uniqueness.{SectionRow as OutRow}
+use Rattle.section_group.specs.Uniqueness.{SectionRow as OutRow, rows_of}
 use Rattle.address_layout.specs.declared.layout.Placed.{Placed}
 use Rattle.address_layout.specs.declared.layout.Layout.{Layout}
 use Rattle.address_layout.specs.Places.{row_at, piece_in, piece_end, piece_floor, end_before, file_before}
 use Rattle.address_layout.specs.Layout.{all_pieces, placed_at}
 use Rattle.address_layout.specs.Growth.{last_end, raw_end}
 use Rattle.image_writer.specs.declared.headers.Headers.{Headers}
-use Rattle.image_writer.specs.declared.headers.SectionRow.{SectionRow}
-use Rattle.image_writer.specs.ImageFormat.{page_size, image_limit}
+use Rattle.image_writer.specs.declared.headers.SectionHeader.{SectionHeader}
 use Rattle.image_writer.specs.HeaderTable.{size_of_headers}
 use Rattle.image_writer.specs.ExpectedImage.{PlacedPiece, ImagePlan}
 
@@ -24,7 +25,7 @@ abbrev pub piece_contents : Piece → List ℕ
 piece_contents piece = if piece.init then unwrap_or (option_copied piece.body) [] else []
 
 -- what the section table says of a section
-abbrev pub header_row : OutRow → Placed → SectionRow
+abbrev pub header_row : OutRow → Placed → SectionHeader
 header_row row placed = record {
   name = row.name;
   size = placed.size;
@@ -34,30 +35,35 @@ header_row row placed = record {
   flags = row.flags;
 }
 
-abbrev pub section_rows : List OutRow → List Placed → List SectionRow
+abbrev pub section_rows : List OutRow → List Placed → List SectionHeader
 section_rows [] placed = []
 section_rows (row ∷ rows) [] = []
 section_rows (row ∷ rows) (place ∷ placed) = header_row row place ∷ section_rows rows placed
 
--- a piece by its index, at its RVA and with its contents
-abbrev pub placed_piece : List ℕ → List (List ℕ) → ℕ → PlacedPiece
-placed_piece rvas contents k = record { rva = slice_index rvas k; bytes = slice_index_or contents k [] }
+-- a piece by its index, at its RVA and with its contents, which are lists by the base
+abbrev pub placed_piece : List ℕ → (ℕ → List (List ℕ)) → ℕ → PlacedPiece
+placed_piece rvas contents k = record { rva = slice_index rvas k; bytes = λ base. slice_index_or (contents base) k [] }
 
-abbrev pub placed_pieces : List ℕ → List (List ℕ) → List ℕ → List PlacedPiece
-placed_pieces rvas contents indexes = map (placed_piece rvas contents) indexes
+-- what a section holds
+abbrev pub section_pieces : List ℕ → (ℕ → List (List ℕ)) → OutRow → List PlacedPiece
+section_pieces rvas contents row = map (placed_piece rvas contents) row.pieces
 
--- the pieces of all sections, one section after the other
-abbrev pub all_indexes : List OutRow → List ℕ
-all_indexes rows = flat_map (λ row. row.pieces) rows
+-- contents that do not depend on the base
+abbrev pub at_each_base : List (List ℕ) → ℕ → List (List ℕ)
+at_each_base contents base = contents
 
 -- the plan of an image with these sections at these places, and these RVAs and contents of the pieces by their indexes
-unfoldable pub written_plan : Headers → List OutRow → List Placed → List ℕ → ℕ → List (List ℕ) → ImagePlan
+unfoldable pub written_plan : Headers → List OutRow → List Placed → List ℕ → ℕ → (ℕ → List (List ℕ)) → ImagePlan
 written_plan headers rows placed rvas image contents = record {
   headers = headers;
   rows = section_rows rows placed;
   size = image;
-  pieces = placed_pieces rvas contents (all_indexes rows);
+  pieces = flat_map (section_pieces rvas contents) rows;
 }
+
+-- the plan of a layout
+abbrev pub layout_plan : Headers → List OutSection → Layout → (ℕ → List (List ℕ)) → ImagePlan
+layout_plan headers sections layout contents = written_plan headers (rows_of sections) layout.sections.items layout.pieces.items layout.image contents
 
 -- ---- layouts that can be written
 
@@ -68,7 +74,7 @@ place_in rvas row j = slice_index rvas (slice_index row.1 j)
 -- a section stands on a page at or above the end before it; its pieces ascend from its start, the initialised ones lie in
 -- its raw data, and those with bytes in its size
 pub record IsSectionLaidOut (pieces : List Piece) (rvas : List ℕ) (row : List ℕ × List ℕ) (end_before file_before : ℕ) (placed : Placed) : Type 0 where
-  pub aligned : placed.rva % page_size ≡ 0
+  pub aligned : placed.rva % PAGE_SIZE ≡ 0
   pub above : end_before ≤ placed.rva
   pub ascending : (j : ℕ) → j < length row.1 → piece_floor pieces row placed.rva (place_in rvas row) j ≤ place_in rvas row j
   pub in_raw : (j : ℕ) → j < length row.1 → IsTrue (piece_in pieces row j).init → piece_end pieces row (place_in rvas row) j ≤ placed.rva + placed.raw
@@ -78,14 +84,26 @@ pub record IsSectionLaidOut (pieces : List Piece) (rvas : List ℕ) (row : List 
 -- the headers have room for the sections, each of which is laid out, and the last ends inside the image and the file
 pub record IsLaidOut (pieces : List Piece) (sections : List OutSection) (layout : Layout) : Type 0 where
   pub headers : layout.headers ≡ size_of_headers (length sections)
-  pub few : length sections ≤ 96
+  pub few : length sections ≤ SECTION_LIMIT
   pub section_for_each : length layout.sections.items ≡ length sections
   pub rva_for_each : length layout.pieces.items ≡ length pieces
   pub within : All (λ k. k < length pieces) (all_pieces sections)
   pub each : (i : ℕ) → i < length sections → IsSectionLaidOut pieces layout.pieces.items (row_at sections i) (end_before layout.headers (placed_at layout.sections.items) i) (file_before layout.headers (placed_at layout.sections.items) i) (placed_at layout.sections.items i)
   pub inside : last_end layout ≤ layout.image
-  pub small : layout.image ≤ image_limit
-  pub file : raw_end layout < 4294967296
+  pub small : layout.image ≤ IMAGE_LIMIT
+  pub file : raw_end layout < 2 ^ 32
+
+-- ---- contents that can be written
+
+-- contents of pieces, by their indexes, that have their room: an initialised piece has no more than its size, and another has
+-- none
+abbrev pub HasRoom : List Piece → List (List ℕ) → ℕ → Type 0
+HasRoom pieces contents k =
+    (length (slice_index_or contents k []) ≤ (slice_index_or pieces k no_piece).size)
+    × (0 < length (slice_index_or contents k []) → IsTrue (slice_index_or pieces k no_piece).init)
+
+abbrev pub HaveRoom : List Piece → List OutSection → List (List ℕ) → Type 0
+HaveRoom pieces sections contents = All (HasRoom pieces contents) (all_pieces sections)
 
 -- an initialised piece has as many bytes as its size
 abbrev pub HasItsBytes : List Piece → ℕ → Type 0

@@ -15,7 +15,7 @@ pub(crate) fn push_zeros(out: &mut Vec<u8>, count: usize) -> Result<(), Memory>
     Ok(())
 }
 
-/// Appends the first eight bytes of the name, with NULs behind a shorter one.
+/// Appends the first eight bytes of the name, with NULs after a shorter one.
 pub(crate) fn push_short_name(out: &mut Vec<u8>, name: &Name<'_>) -> Result<(), Memory>
     ensures { OnOk result (out.new.items ≡ out.old.items ++ short_name name.now) }
 {

@@ -6,37 +6,47 @@ ghost use Rattle.image_writer.specs.HeaderTable.{size_of_code, size_of_initializ
 
 use crate::bytes_out::{push_short_name, push_zeros};
 use crate::header_sums::{code_base, code_size, initialized_data_size, uninitialized_data_size};
-use crate::pe_format::{
-    DIRECTORY_COUNT, DOS_SIGNATURE, FILE_ALIGNMENT, FILE_DLL, FILE_EXECUTABLE_IMAGE,
-    FILE_LARGE_ADDRESS_AWARE, FILE_MACHINE_AMD64, FILE_RELOCS_STRIPPED, NT_OPTIONAL_HDR64_MAGIC,
-    NT_SIGNATURE, OPTIONAL_HEADER_LEN, PAGE_SIZE, PE_HEADER_OFFSET, SECTION_HEADER_LEN,
-    SECTION_HEADERS_OFFSET,
-};
 use link_base::LeNumber::{U8, U16, U32, U64};
+use link_base::pe_format::{
+    DOS_SIGNATURE, FILE_ALIGNMENT, FILE_DLL, FILE_EXECUTABLE_IMAGE, FILE_LARGE_ADDRESS_AWARE,
+    FILE_MACHINE_AMD64, FILE_RELOCS_STRIPPED, NT_OPTIONAL_HDR64_MAGIC, NT_SIGNATURE,
+    NUMBEROF_DIRECTORY_ENTRIES, PAGE_SIZE, PE_HEADER_OFFSET, SECTION_HEADERS_OFFSET,
+    SIZEOF_OPTIONAL_HEADER, SIZEOF_SECTION_HEADER,
+};
 use link_base::{Memory, Name, push_fields};
 
-/// What the headers say of the image beside its sections. `flags` are the DLL characteristics; a
-/// directory is an RVA and a size.
+/// What the headers say of the image beside its sections.
 #[derive(Clone, Copy)]
 pub struct Headers {
+    /// The base that the image prefers.
     pub base: u64,
+    /// The RVA of the entry point, or 0.
     pub entry: u32,
+    /// Whether the image is a DLL.
     pub dll: bool,
+    /// Whether the image can stand at its own base alone.
     pub fixed: bool,
+    /// Whether the image may stand above 2 GiB.
     pub large: bool,
+    /// The DLL characteristics.
     pub flags: u16,
     pub subsystem: u16,
+    /// The image's version, major and minor.
     pub version: (u16, u16),
+    /// The time stamp, in seconds since 1970.
     pub time: u32,
+    /// The bytes of stack to reserve and to commit.
     pub stack: (u64, u64),
+    /// The bytes of heap to reserve and to commit.
     pub heap: (u64, u64),
+    /// The data directories, each an RVA and a size.
     pub directories: [(u32, u32); 16],
 }
 
 /// What the headers say of a section: its size in memory, its place there, and the size and the place of
 /// its raw bytes in the file.
 #[derive(Drop)]
-pub(crate) struct SectionRow<'a> {
+pub(crate) struct SectionHeader<'a> {
     pub name: Name<'a>,
     pub size: u32,
     pub rva: u32,
@@ -49,7 +59,7 @@ pub(crate) struct SectionRow<'a> {
 pub(crate) fn headers_size(count: u16) -> u32
     ensures { result ≡ size_of_headers count }
 {
-    (SECTION_HEADERS_OFFSET + SECTION_HEADER_LEN * u32::from(count)).next_multiple_of(
+    (SECTION_HEADERS_OFFSET + SIZEOF_SECTION_HEADER as u32 * u32::from(count)).next_multiple_of(
         FILE_ALIGNMENT,
     )
 }
@@ -59,7 +69,7 @@ pub(crate) fn headers_size(count: u16) -> u32
 pub(crate) fn push_headers(
     out: &mut Vec<u8>,
     headers: &Headers,
-    rows: &[SectionRow<'_>],
+    rows: &[SectionHeader<'_>],
     image_size: u32,
 ) -> Result<(), Memory>
     requires few { length rows.now < 2 ^ 16 }
@@ -80,7 +90,7 @@ pub(crate) fn push_headers(
 fn push_fixed_headers(
     out: &mut Vec<u8>,
     headers: &Headers,
-    rows: &[SectionRow<'_>],
+    rows: &[SectionHeader<'_>],
     image_size: u32,
 ) -> Result<(), Memory>
     requires few { length rows.now < 2 ^ 16 }
@@ -100,7 +110,7 @@ fn push_fixed_headers(
     Ok(())
 }
 
-fn push_section_headers(out: &mut Vec<u8>, rows: &[SectionRow<'_>]) -> Result<(), Memory>
+fn push_section_headers(out: &mut Vec<u8>, rows: &[SectionHeader<'_>]) -> Result<(), Memory>
     ensures { OnOk result (out.new.items ≡ out.old.items ++ flat_map section_header rows.now) }
 {
     for row in rows {
@@ -109,7 +119,7 @@ fn push_section_headers(out: &mut Vec<u8>, rows: &[SectionRow<'_>]) -> Result<()
     Ok(())
 }
 
-fn push_section_header(out: &mut Vec<u8>, row: &SectionRow<'_>) -> Result<(), Memory>
+fn push_section_header(out: &mut Vec<u8>, row: &SectionHeader<'_>) -> Result<(), Memory>
     ensures { OnOk result (out.new.items ≡ out.old.items ++ section_header row.now) }
 {
     push_short_name(out, &row.name)?;
@@ -142,7 +152,7 @@ fn push_directories(out: &mut Vec<u8>, directories: &[(u32, u32)]) -> Result<(),
 fn push_standard_fields(
     out: &mut Vec<u8>,
     headers: &Headers,
-    rows: &[SectionRow<'_>],
+    rows: &[SectionHeader<'_>],
 ) -> Result<(), Memory>
     requires code { size_of_code rows.now < 2 ^ 32 }
     requires initialized { size_of_initialized_data rows.now < 2 ^ 32 }
@@ -152,7 +162,7 @@ fn push_standard_fields(
     push_fields(
         out,
         &[
-            U16(NT_OPTIONAL_HDR64_MAGIC),
+            U16(NT_OPTIONAL_HDR64_MAGIC as u16),
             U8(14),
             U8(0),
             U32(code_size(rows)),
@@ -187,7 +197,7 @@ fn push_size_fields(
 fn push_dos_header(out: &mut Vec<u8>) -> Result<(), Memory>
     ensures { OnOk result (out.new.items ≡ out.old.items ++ dos_header) }
 {
-    push_fields(out, &[U16(DOS_SIGNATURE)])?;
+    push_fields(out, &[U16(DOS_SIGNATURE as u16)])?;
     out.extend_from_slice(&[0; 58])?;
     push_fields(out, &[U32(PE_HEADER_OFFSET)])?;
     Ok(())
@@ -205,7 +215,7 @@ fn push_file_header(out: &mut Vec<u8>, headers: &Headers, count: u16) -> Result<
             U32(headers.time),
             U32(0),
             U32(0),
-            U16(OPTIONAL_HEADER_LEN),
+            U16(SIZEOF_OPTIONAL_HEADER as u16),
             U16(characteristics_of(headers)),
         ],
     )
@@ -258,7 +268,7 @@ fn push_reserve_fields(out: &mut Vec<u8>, headers: &Headers) -> Result<(), Memor
             U64(headers.heap.0),
             U64(headers.heap.1),
             U32(0),
-            U32(DIRECTORY_COUNT),
+            U32(NUMBEROF_DIRECTORY_ENTRIES),
         ],
     )
 }

@@ -1,17 +1,17 @@
-//! The raw data of sections: the contents of their pieces, each at its place, and zeros between and behind them.
+//! The raw data of sections: the contents of their pieces, each at its place, and zeros between and after them.
 
 ghost use Rattle.std.specs.Prelude.{◌≡◌, ◌<◌, ◌≤◌, ◌+◌, ◌^◌, ◌++◌, length, map, replicate, slice_index, IfOk, OnOk};
 ghost use Rattle.std.specs.List.{All};
 ghost use Rattle.section_group.specs.Uniqueness.{rows_of};
-ghost use Rattle.image_writer.specs.WrittenImage.{piece_contents, placed_pieces, IsLaidOut, HasContents};
-ghost use Rattle.image_writer.specs.RawData.{gap, next_place, laid, laid_all, Ascend};
+ghost use Rattle.image_writer.specs.WrittenImage.{piece_contents, IsLaidOut, HasContents};
+ghost use Rattle.image_writer.specs.RawData.{section_bytes, gap, next_place, laid, laid_all, Ascend};
 
 use crate::bytes_out::push_zeros;
 use address_layout::{Layout, Placed};
 use link_base::Memory;
 use section_group::{OutSection, Piece};
 
-/// Appends the raw data of all sections, one behind the other.
+/// Appends the raw data of all sections, one after the other.
 pub(crate) fn push_sections(
     out: &mut Vec<u8>,
     layout: &Layout,
@@ -39,10 +39,10 @@ fn push_section(
 ) -> Result<(), Memory>
     requires within { All (λ k. k < length pieces.now) section.now.pieces.items }
     requires room { length rvas.now ≡ length pieces.now }
-    requires ascending { Ascend (placed_pieces rvas.now (map piece_contents pieces.now) section.now.pieces.items)
+    requires ascending { Ascend (section_bytes rvas.now (map piece_contents pieces.now) section.now.pieces.items)
         (placed.now.rva + placed.now.raw) placed.now.rva }
     ensures { OnOk result (out.new.items ≡ out.old.items
-        ++ laid (placed_pieces rvas.now (map piece_contents pieces.now) section.now.pieces.items)
+        ++ laid (section_bytes rvas.now (map piece_contents pieces.now) section.now.pieces.items)
         (placed.now.rva + placed.now.raw) placed.now.rva) }
 {
     let mut place = placed.rva as usize;
@@ -55,7 +55,7 @@ fn push_section(
     Ok(())
 }
 
-/// Appends zeros up to the place of the bytes, and the bytes, and gives the place behind them. Where there are no bytes,
+/// Appends zeros up to the place of the bytes, and the bytes, and gives the place after them. Where there are no bytes,
 /// it appends nothing.
 fn push_piece(out: &mut Vec<u8>, place: usize, rva: usize, bytes: &[u8]) -> Result<usize, Memory>
     requires small { rva < 2 ^ 32 }
@@ -66,7 +66,9 @@ fn push_piece(out: &mut Vec<u8>, place: usize, rva: usize, bytes: &[u8]) -> Resu
     if bytes.is_empty() {
         return Ok(place);
     }
-    push_zeros(out, rva - place)?;
+    if rva > place {
+        push_zeros(out, rva - place)?;
+    }
     out.extend_from_slice(bytes)?;
     Ok(rva + bytes.len())
 }

@@ -4,7 +4,7 @@ ghost use Rattle.std.specs.Prelude.{◌≡◌, length, IfOk};
 ghost use Rattle.section_group.specs.Uniqueness.{row_of, rows_of};
 ghost use Rattle.image_writer.specs.WrittenImage.{header_row, section_rows};
 
-use crate::headers::SectionRow;
+use crate::headers::SectionHeader;
 use address_layout::Placed;
 use link_base::Memory;
 use section_group::OutSection;
@@ -15,7 +15,7 @@ pub(crate) fn table_of<'a>(
     alloc: Global,
     sections: &[OutSection<'a>],
     placed: &[Placed],
-) -> Result<Vec<SectionRow<'a>>, Memory>
+) -> Result<Vec<SectionHeader<'a>>, Memory>
     requires { length placed.now ≡ length sections.now }
     ensures { IfOk result (λ rows. rows.items ≡ section_rows (rows_of sections.now) placed.now) }
 {
@@ -26,10 +26,10 @@ pub(crate) fn table_of<'a>(
     Ok(rows)
 }
 
-fn row<'a>(section: &OutSection<'a>, placed: &Placed) -> SectionRow<'a>
+fn row<'a>(section: &OutSection<'a>, placed: &Placed) -> SectionHeader<'a>
     ensures { result ≡ header_row (row_of section.now) placed.now }
 {
-    SectionRow {
+    SectionHeader {
         name: section.name.again(),
         size: placed.size,
         rva: placed.rva,

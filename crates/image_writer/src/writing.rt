@@ -1,10 +1,9 @@
 //! The whole image file.
 
 ghost use Rattle.std.specs.Prelude.{◌≡◌, ◌<◌, ◌^◌, map, IfOk};
-ghost use Rattle.section_group.specs.Uniqueness.{rows_of};
 ghost use Rattle.address_layout.specs.Growth.{raw_end};
 ghost use Rattle.image_writer.specs.ExpectedImage.{image_file};
-ghost use Rattle.image_writer.specs.WrittenImage.{piece_contents, written_plan, IsLaidOut, HasContents};
+ghost use Rattle.image_writer.specs.WrittenImage.{piece_contents, at_each_base, layout_plan, IsLaidOut, HasContents};
 
 use crate::headers::{Headers, push_headers};
 use crate::raw_data::push_sections;
@@ -14,7 +13,7 @@ use link_base::Memory;
 use section_group::{OutSection, Piece};
 use std::alloc::Global;
 
-/// The file of an image: its headers, and behind them the raw data of each section, as long as its raw size, with the bytes of
+/// The file of an image: its headers, and after them the raw data of each section, as long as its raw size, with the bytes of
 /// each initialised piece at its place and zeros elsewhere.
 pub fn image(
     alloc: Global,
@@ -25,8 +24,8 @@ pub fn image(
 ) -> Result<Vec<u8>, Memory>
     requires laid_out { IsLaidOut pieces.now sections.now layout.now }
     requires contents { HasContents pieces.now sections.now }
-    ensures { IfOk result (λ image. image.items ≡ image_file (written_plan headers.now (rows_of sections.now)
-        layout.now.sections.items layout.now.pieces.items layout.now.image (map piece_contents pieces.now))) }
+    ensures { IfOk result (λ image. image.items ≡ image_file (layout_plan headers.now sections.now layout.now
+        (at_each_base (map piece_contents pieces.now)))) }
 {
     let table = table_of(alloc, sections, &layout.sections)?;
     let mut out = Vec::with_capacity(alloc, file_len(layout))?;

@@ -1,3 +1,4 @@
 pub mod StoreLemmas
 pub mod CallerLemmas
 pub mod HostLemmas
+pub mod OutputLemmas

@@ -8,3 +8,5 @@ pub mod MemSink
 pub mod HostCounts
 pub mod HostWrites
 pub mod HostReads
+pub mod Outside
+pub mod Outputs

@@ -12,6 +12,7 @@ mod host_sink;
 mod mem_files;
 mod mem_sink;
 mod never_fails;
+mod outputs;
 mod sink;
 #[cfg(test)]
 mod tests;
@@ -22,4 +23,5 @@ pub use host_sink::HostSink;
 pub use mem_files::MemFiles;
 pub use mem_sink::MemSink;
 pub use never_fails::NeverFails;
+pub use outputs::{Output, OutputError, write_outputs};
 pub use sink::{PutError, Sink};

@@ -67,8 +67,8 @@ loop-index-preserved c =
     let rva = c.round_up-rva.ensures ∙ ap (λ (a : ℕ). rounded a c.loop-index.extent.end) alignment in
     let size = c.size_of.ensures.value in
     let end = ap (λ (n : ℕ). c.round_up-rva.result + n) (size ∙ ap (λ (p : Piece). p.size) piece) in
-    placed_more pieces row c.args.start j c.loop-index.extent c.extent_with-extent.result c.args.rvas.now c.loop-index.rvas c.round_up-rva.result (get_or c.deref-index-items.result.now j 0) c.narrow.result
-    c.requires.aligned c.requires.within c.requires.once c.requires.room lt c.loop-index.invariant rva (ap (λ (xs : List ℕ). get_or xs j 0) items) c.narrow.ensures
+    placed_more pieces row c.args.start j c.loop-index.extent c.extent_with-extent.result c.args.rvas.now c.loop-index.rvas c.round_up-rva.result (get_or c.deref-index-items.result.now j 0) c.saturating_u32.result
+    c.requires.aligned c.requires.within c.requires.once c.requires.room lt c.loop-index.invariant rva (ap (λ (xs : List ℕ). get_or xs j 0) items) c.saturating_u32.ensures
     (c.extent_with-extent.ensures.end ∙ end)
     (c.extent_with-extent.ensures.initialised_end ∙ ap (λ (p : Piece). cond p.init (c.round_up-rva.result + c.size_of.result) c.loop-index.extent.initialised_end) piece ∙ ap (λ (n : ℕ). cond (piece_in pieces row j).init n c.loop-index.extent.initialised_end) end)
     (c.extent_with-extent.ensures.has_bytes ∙ ap (λ (p : Piece). c.loop-index.extent.has_bytes || ltb 0 p.size) piece)

@@ -21,14 +21,14 @@ overflow_cast-result c =
 pub round_up-image-requires-clause-fits : goal.round_up-image-requires-clause-fits
 round_up-image-requires-clause-fits c =
     let are = c.in_ok-placed.ensures.1 in
-    omega (arith, are.end_bound, pieces_fewer c.args.sections.now (length c.args.sections.now), pieces_few c.args.pieces.now c.args.sections.now c.requires.standing, c.requires.few, c.if-count-gt-MAX_SECTIONS.false)
+    omega (arith, are.end_bound, pieces_fewer c.args.sections.now (length c.args.sections.now), pieces_few c.args.pieces.now c.args.sections.now c.requires.standing, c.requires.few, c.if-count-gt-SECTION_LIMIT.false)
 
 pub returns-then-image-gt-MAX_IMAGE-clause-refused : goal.returns-then-image-gt-MAX_IMAGE-clause-refused
 returns-then-image-gt-MAX_IMAGE-clause-refused c =
     let sections = c.args.sections.now in
     let count : length sections + c.from.result ≡ section_count sections c.args.reloc = ap (λ (n : ℕ). length sections + n) (c.from.ensures ∙ byte_is c.args.reloc) in
     let headers = c.headers_len-headers.ensures.value ∙ ap (λ (n : ℕ). rounded 512 (328 + 40 * n)) count in (
-      subst (λ (n : ℕ). n ≤ 96) count c.if-count-gt-MAX_SECTIONS.false,
+      subst (λ (n : ℕ). n ≤ 96) count c.if-count-gt-SECTION_LIMIT.false,
       size_is c.args.pieces.now sections c.args.reloc c.headers_len-headers.result c.in_ok-placed.end c.in_ok-placed.ensures.0 c.in_ok-placed.placed.items c.place_all.new.rvas c.round_up-image.result c.requires.aligned c.requires.standing headers c.in_ok-placed.ensures.1 c.round_up-image.ensures,
       c.if-image-gt-MAX_IMAGE.true,
     )
@@ -38,7 +38,7 @@ returns-clause-layout c =
     let sections = c.args.sections.now in
     let count : length sections + c.from.result ≡ section_count sections c.args.reloc = ap (λ (n : ℕ). length sections + n) (c.from.ensures ∙ byte_is c.args.reloc) in
     let headers = c.headers_len-headers.ensures.value ∙ ap (λ (n : ℕ). rounded 512 (328 + 40 * n)) count in
-    let few : length sections ≤ 96 = omega (arith, c.if-count-gt-MAX_SECTIONS.false) in
+    let few : length sections ≤ 96 = omega (arith, c.if-count-gt-SECTION_LIMIT.false) in
     layout_is c.args.pieces.now sections c.args.reloc c.headers_len-headers.result c.in_ok-placed.end c.in_ok-placed.ensures.0 c.in_ok-placed.placed.items c.place_all.new.rvas _ c.requires.aligned c.requires.standing few headers c.in_ok-placed.ensures.1
     refl refl (whole c.place_all.new.rvas _ _ (c.in_ok-rvas.ensures.len ∙ sym c.in_ok-placed.ensures.1.room)) c.round_up-image.ensures c.if-image-gt-MAX_IMAGE.false
 
@@ -47,7 +47,7 @@ returns-clause-growth c =
     let sections = c.args.sections.now in
     let count : length sections + c.from.result ≡ section_count sections c.args.reloc = ap (λ (n : ℕ). length sections + n) (c.from.ensures ∙ byte_is c.args.reloc) in
     let headers = c.headers_len-headers.ensures.value ∙ ap (λ (n : ℕ). rounded 512 (328 + 40 * n)) count in
-    let few : length sections ≤ 96 = omega (arith, c.if-count-gt-MAX_SECTIONS.false) in
+    let few : length sections ≤ 96 = omega (arith, c.if-count-gt-SECTION_LIMIT.false) in
     can_grow c.args.pieces.now sections c.args.reloc c.headers_len-headers.result c.in_ok-placed.end c.in_ok-placed.ensures.0 c.in_ok-placed.placed.items c.place_all.new.rvas _ c.requires.aligned c.requires.standing few headers c.in_ok-placed.ensures.1
     refl refl (whole c.place_all.new.rvas _ _ (c.in_ok-rvas.ensures.len ∙ sym c.in_ok-placed.ensures.1.room)) c.round_up-image.ensures c.if-image-gt-MAX_IMAGE.false
 
@@ -55,4 +55,4 @@ pub returns-clause-few_sections : goal.returns-clause-few_sections
 returns-clause-few_sections c =
     let sections = c.args.sections.now in
     let count : length sections + c.from.result ≡ section_count sections c.args.reloc = ap (λ (n : ℕ). length sections + n) (c.from.ensures ∙ byte_is c.args.reloc) in
-    subst (λ (n : ℕ). n ≤ 96) count c.if-count-gt-MAX_SECTIONS.false
+    subst (λ (n : ℕ). n ≤ 96) count c.if-count-gt-SECTION_LIMIT.false

@@ -3,9 +3,10 @@ use Rattle.std.proofs.lemmas.List.{append-nil, drop_all, length-map}
 use Rattle.section_group.specs.Uniqueness.{SectionRow as OutRow, row_of, rows_of}
 use Rattle.address_layout.specs.declared.layout.Placed.{Placed}
 use Rattle.address_layout.specs.Layout.{placed_at}
-use Rattle.image_writer.specs.WrittenImage.{piece_contents, placed_pieces}
+use Rattle.image_writer.specs.WrittenImage.{piece_contents}
+use Rattle.image_writer.specs.RawData.{section_bytes}
 use Rattle.image_writer.specs.RawData.{laid, laid_all, Ascend}
-use Rattle.image_writer.proofs.LaidOutLemmas.{all_here, ascends_there}
+use Rattle.image_writer.proofs.LaidOutLemmas.{all_here, have_room, ascends_there}
 use Rattle.image_writer.proofs.StepLemmas.{kept, place_here, all_step}
 use Rattle.image_writer.proofs.raw_data.push_sections.Goals as goal
 
@@ -21,10 +22,10 @@ push_section-requires-clause-ascending c =
     let placed = c.args.layout.now.sections.items in
     let contents = map piece_contents c.args.pieces.now in
     let lt = c.loop-i-test.true in
-    let there = ascends_there c.args.pieces.now c.args.sections.now c.args.layout.now i section out c.requires.contents lt c.index-sections-i.is in
+    let there = ascends_there c.args.pieces.now c.args.sections.now c.args.layout.now contents i section out (have_room c.args.pieces.now c.args.sections.now c.requires.contents) lt c.index-sections-i.is in
     let here = place_here placed i c.index.result.now (omega (arith, lt, out.section_for_each)) c.index.ensures in
-    subst (λ (rvas : List ℕ). Ascend (placed_pieces rvas contents section.pieces.items) (c.index.result.now.rva + c.index.result.now.raw) c.index.result.now.rva) (sym c.deref.ensures.value)
-    (subst (λ (place : Placed). Ascend (placed_pieces c.args.layout.now.pieces.items contents section.pieces.items) (place.rva + place.raw) place.rva) here there)
+    subst (λ (rvas : List ℕ). Ascend (section_bytes rvas contents section.pieces.items) (c.index.result.now.rva + c.index.result.now.raw) c.index.result.now.rva) (sym c.deref.ensures.value)
+    (subst (λ (place : Placed). Ascend (section_bytes c.args.layout.now.pieces.items contents section.pieces.items) (place.rva + place.raw) place.rva) here there)
 
 pub loop-i-preserved : goal.loop-i-preserved
 loop-i-preserved c =
@@ -37,7 +38,7 @@ loop-i-preserved c =
     let contents = map piece_contents c.args.pieces.now in
     let lt = c.loop-i-test.true in
     let here = place_here placed i c.index.result.now (omega (arith, lt, out.section_for_each)) c.index.ensures in
-    let filled : List ℕ → Placed → List ℕ = λ rs place. laid (placed_pieces rs contents section.pieces.items) (place.rva + place.raw) place.rva in
+    let filled : List ℕ → Placed → List ℕ = λ rs place. laid (section_bytes rs contents section.pieces.items) (place.rva + place.raw) place.rva in
     kept c.push_section.new.out.items c.loop-i.out.items (filled rvas (placed_at placed i)) (laid_all rvas contents (drop (i + 1) (rows_of sections)) (drop (i + 1) placed)) (laid_all rvas contents (drop i (rows_of sections)) (drop i placed)) _
     (c.in_ok-push_section.ensures ∙ ap (λ (rs : List ℕ). c.loop-i.out.items ++ filled rs c.index.result.now) c.deref.ensures.value ∙ ap (λ (place : Placed). c.loop-i.out.items ++ filled rvas place) (sym here))
     c.loop-i.invariant

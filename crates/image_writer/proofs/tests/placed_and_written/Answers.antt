@@ -4,7 +4,10 @@ use Rattle.image_writer.proofs.tests.placed_and_written.Goals as goal
 pub image-requires-clause-laid_out : goal.image-requires-clause-laid_out
 image-requires-clause-laid_out c =
     let said = c.in-Ok.ensures in
-    laid_out c.args.pieces.now c.args.sections.now c.in-Ok.layout said.layout c.requires.standing said.few_sections said.growth
+    laid_out c.args.pieces.now c.args.sections.now c.in-Ok.layout said.layout.standing c.requires.standing said.few_sections said.growth
 
 pub image-requires-clause-contents : goal.image-requires-clause-contents
-image-requires-clause-contents c = has_contents c.args.pieces.now c.args.sections.now c.requires.filled c.requires.standing
+image-requires-clause-contents c =
+    let said = c.in-Ok.ensures in
+    has_contents c.args.pieces.now c.args.sections.now c.in-Ok.layout c.requires.filled
+    (laid_out c.args.pieces.now c.args.sections.now c.in-Ok.layout said.layout.standing c.requires.standing said.few_sections said.growth)

@@ -1,13 +1,14 @@
 -- An image as it stands in memory (PE Format; which loaders refuse what, and when, is own): its refusals, in
 -- their order, and the memory at a base.
-use Rattle.std.specs.Prelude.{◌≡◌, ◌≤◌, ℕ, zero, suc, ◌+◌, ◌-◌, ◌*◌, ◌%◌, ◌^◌, Bool, true, false, ◌&&◌, ◌||◌, ◌==◌, nat_le, nat_lt, min, if◌then◌else◌, List, [], ◌∷◌, length, map, slice_index, Option, Some, None, is_none}
+use Rattle.std.specs.Prelude.{◌≡◌, ◌≤◌, ℕ, zero, suc, ◌+◌, ◌-◌, ◌*◌, ◌%◌, ◌^◌, Bool, true, false, ◌&&◌, ◌||◌, ◌==◌, nat_le, nat_lt, min, if◌then◌else◌, List, [], ◌∷◌, length, map, take, drop, slice_index, Option, Some, None, is_none}
 use Rattle.std.specs.List.{range_with_len}
-use Rattle.link_base.specs.Bytes.{u16_at, u32_at, u64_at, has_bytes, bytes_at, all_below, first_below}
+use Rattle.link_base.specs.Bytes.{u16_at, u32_at, u64_at, has_bytes, bytes_at, has_flag, all_below, first_below}
+use Rattle.link_base.specs.PeFormat.{PAGE_SIZE, FILE_ALIGNMENT, SIZEOF_OPTIONAL_HEADER, SIZEOF_SECTION_HEADER, NUMBEROF_DIRECTORY_ENTRIES, FILE_MACHINE_AMD64, NT_OPTIONAL_HDR64_MAGIC, DOS_SIGNATURE, NT_SIGNATURE, FILE_RELOCS_STRIPPED, FILE_LARGE_ADDRESS_AWARE, DIRECTORY_ENTRY_BASERELOC}
+use Rattle.link_base.specs.Limits.{IMAGE_LIMIT}
 use Rattle.link_base.specs.declared.kinds.image.ImageKind.{ImageKind}
 use Rattle.link_base.specs.declared.kinds.image.ImageKind.TheVariants as bad
 use Rattle.address_layout.specs.declared.base.BaseRule.{BaseRule}
 use Rattle.address_layout.specs.PermittedBase.{is_permitted}
-use Rattle.image_writer.specs.ImageFormat.{page_size, file_alignment, optional_header_len, section_header_len, directory_count, machine_amd64, pe32_plus_magic, dos_magic, pe_signature, file_relocs_stripped, file_large_address_aware, image_limit, has_flag}
 use Rattle.base_reloc.specs.Blocks.{Walk, Fields, MalformedAt, walk_of, walked_fields, raised_all}
 
 -- ---- the headers' places
@@ -47,7 +48,7 @@ directory_size image number = u32_at image (optional_at image + 116 + 8 * number
 
 -- the header of a section, by its index from 0
 abbrev pub section_at : List ℕ → ℕ → ℕ
-section_at image index = optional_at image + optional_header_len + section_header_len * index
+section_at image index = optional_at image + SIZEOF_OPTIONAL_HEADER + SIZEOF_SECTION_HEADER * index
 
 unfoldable pub virtual_size : List ℕ → ℕ → ℕ
 virtual_size image index = u32_at image (section_at image index + 8)
@@ -62,37 +63,41 @@ unfoldable pub raw_offset : List ℕ → ℕ → ℕ
 raw_offset image index = u32_at image (section_at image index + 20)
 
 abbrev pub is_fixed : List ℕ → Bool
-is_fixed image = has_flag (file_characteristics image) file_relocs_stripped
+is_fixed image = has_flag (file_characteristics image) FILE_RELOCS_STRIPPED
 
 abbrev pub is_large : List ℕ → Bool
-is_large image = has_flag (file_characteristics image) file_large_address_aware
+is_large image = has_flag (file_characteristics image) FILE_LARGE_ADDRESS_AWARE
 
 -- ---- the tests, in the order of their refusals
 
+-- the DOS header's length, and where the PE signature's offset (e_lfanew) stands in it
+abbrev pub dos_header_size : ℕ
+dos_header_size = 64
+
 unfoldable pub has_dos_header : List ℕ → Bool
-has_dos_header image = has_bytes image 0 64 && (u16_at image 0 == dos_magic)
+has_dos_header image = has_bytes image 0 dos_header_size && (u16_at image 0 == DOS_SIGNATURE)
 
 unfoldable pub has_signature : List ℕ → Bool
-has_signature image = has_bytes image (signature_at image) 4 && (u32_at image (signature_at image) == pe_signature)
+has_signature image = has_bytes image (signature_at image) 4 && (u32_at image (signature_at image) == NT_SIGNATURE)
 
 unfoldable pub has_machine : List ℕ → Bool
-has_machine image = has_bytes image (file_header_at image) 2 && (u16_at image (file_header_at image) == machine_amd64)
+has_machine image = has_bytes image (file_header_at image) 2 && (u16_at image (file_header_at image) == FILE_MACHINE_AMD64)
 
 unfoldable pub has_optional_header : List ℕ → Bool
 has_optional_header image =
-    has_bytes image (optional_at image) optional_header_len && (u16_at image (file_header_at image + 16) == optional_header_len)
+    has_bytes image (optional_at image) SIZEOF_OPTIONAL_HEADER && (u16_at image (file_header_at image + 16) == SIZEOF_OPTIONAL_HEADER)
 
 unfoldable pub has_magic : List ℕ → Bool
-has_magic image = u16_at image (optional_at image) == pe32_plus_magic
+has_magic image = u16_at image (optional_at image) == NT_OPTIONAL_HDR64_MAGIC
 
 unfoldable pub has_alignments : List ℕ → Bool
-has_alignments image = (u32_at image (optional_at image + 32) == page_size) && (u32_at image (optional_at image + 36) == file_alignment)
+has_alignments image = (u32_at image (optional_at image + 32) == PAGE_SIZE) && (u32_at image (optional_at image + 36) == FILE_ALIGNMENT)
 
 unfoldable pub has_directories : List ℕ → Bool
-has_directories image = u32_at image (optional_at image + 108) == directory_count
+has_directories image = u32_at image (optional_at image + 108) == NUMBEROF_DIRECTORY_ENTRIES
 
 unfoldable pub has_size : List ℕ → Bool
-has_size image = nat_lt 0 (size_of_image image) && nat_le (size_of_image image) image_limit
+has_size image = nat_lt 0 (size_of_image image) && nat_le (size_of_image image) IMAGE_LIMIT
 
 unfoldable pub has_headers : List ℕ → Bool
 has_headers image =
@@ -100,14 +105,14 @@ has_headers image =
     && (nat_le (headers_size image) (length image) && nat_le (headers_size image) (size_of_image image))
 
 -- where what stands before a section ends: the section before it, or the headers
-abbrev pub end_before : List ℕ → ℕ → ℕ
-end_before image zero = headers_size image
-end_before image (suc index) = virtual_address image index + virtual_size image index
+abbrev pub section_floor : List ℕ → ℕ → ℕ
+section_floor image zero = headers_size image
+section_floor image (suc index) = virtual_address image index + virtual_size image index
 
 abbrev pub is_section_placed : List ℕ → ℕ → Bool
 is_section_placed image index =
-    (virtual_address image index % page_size == 0)
-    && (nat_le (end_before image index) (virtual_address image index)
+    (virtual_address image index % PAGE_SIZE == 0)
+    && (nat_le (section_floor image index) (virtual_address image index)
     && nat_le (virtual_address image index + virtual_size image index) (size_of_image image))
 
 unfoldable pub has_sections : List ℕ → Bool
@@ -146,12 +151,9 @@ copied image = map (copied_byte image) (range_with_len 0 (size_of_image image))
 
 -- ---- the fields that are raised: those of the base relocation directory
 
-abbrev pub reloc_directory : ℕ
-reloc_directory = 5
-
 unfoldable pub base_walk : List ℕ → Walk
 base_walk image =
-    walk_of (size_of_image image) (bytes_at (copied image) (directory_rva image reloc_directory) (directory_size image reloc_directory))
+    walk_of (size_of_image image) (bytes_at (copied image) (directory_rva image DIRECTORY_ENTRY_BASERELOC) (directory_size image DIRECTORY_ENTRY_BASERELOC))
 
 abbrev pub is_walked : Walk → Bool
 is_walked (Fields fields) = true
@@ -159,8 +161,8 @@ is_walked (MalformedAt offset) = false
 
 unfoldable pub has_blocks : List ℕ → Bool
 has_blocks image =
-    (directory_size image reloc_directory == 0)
-    || (nat_le (directory_rva image reloc_directory + directory_size image reloc_directory) (size_of_image image) && is_walked (base_walk image))
+    (directory_size image DIRECTORY_ENTRY_BASERELOC == 0)
+    || (nat_le (directory_rva image DIRECTORY_ENTRY_BASERELOC + directory_size image DIRECTORY_ENTRY_BASERELOC) (size_of_image image) && is_walked (base_walk image))
 
 -- ---- the refusal, and the memory
 
@@ -169,9 +171,9 @@ abbrev pub first_failed : List (ImageKind × Bool) → Option ImageKind
 first_failed [] = None
 first_failed (test ∷ tests) = if test.1 then first_failed tests else Some test.0
 
-unfoldable pub image_fault : List ℕ → Option ImageKind
-image_fault image =
-    first_failed
+-- the kinds in their order, each beside its test
+abbrev pub image_tests : List ℕ → List (ImageKind × Bool)
+image_tests image =
     ((bad.Dos, has_dos_header image)
     ∷ (bad.Signature, has_signature image)
     ∷ (bad.Machine, has_machine image)
@@ -186,9 +188,19 @@ image_fault image =
     ∷ (bad.Blocks, has_blocks image)
     ∷ [])
 
--- how much a base lies above the image's own, modulo 2^64
-abbrev pub base_delta : List ℕ → ℕ → ℕ
-base_delta image base = (base + 2 ^ 64 - image_base image) % 2 ^ 64
+-- what is wrong with the headers, by the first nine tests, and with the optional header, by five of them
+unfoldable pub header_fault : List ℕ → Option ImageKind
+header_fault image = first_failed (take 9 (image_tests image))
+
+unfoldable pub optional_fault : List ℕ → Option ImageKind
+optional_fault image = first_failed (take 5 (drop 4 (image_tests image)))
+
+unfoldable pub image_fault : List ℕ → Option ImageKind
+image_fault image = first_failed (image_tests image)
+
+-- how much a base lies above another, modulo 2^64
+abbrev pub base_delta : ℕ → ℕ → ℕ
+base_delta own base = (base + 2 ^ 64 - own) % 2 ^ 64
 
 -- what the headers say of the base
 abbrev pub base_rule : List ℕ → BaseRule
@@ -198,7 +210,7 @@ base_rule image = record { base = image_base image; fixed = is_fixed image; larg
 unfoldable pub loaded : List ℕ → ℕ → Option (List ℕ)
 loaded image base =
     if is_none (image_fault image) && is_permitted (base_rule image) (size_of_image image) base
-    then Some (raised_all (base_delta image base) (copied image) (walked_fields (base_walk image)))
+    then Some (raised_all (base_delta (image_base image) base) (copied image) (walked_fields (base_walk image)))
     else None
 
 -- ---- what loading leaves out

@@ -1,0 +1,123 @@
+-- The plan of what is laid out loads, and so does its file.
+use Rattle.std.proofs.Common.{◌≡◌, ℕ, ◌<◌, ◌≤◌, true, IsTrue, List, [], ◌∷◌, length, get_or, map, slice_get, Some, refl, sym, ap, ◌∙◌, subst, arith}
+use Rattle.std.specs.List.{All, flat_map, range_with_len}
+use Rattle.std.proofs.lemmas.List.Elements.{All-get_or, All-nil, All-cons, All-append}
+use Rattle.link_base.specs.PeFormat.{DIRECTORY_ENTRY_BASERELOC}
+use Rattle.section_group.specs.declared.piece.Piece.{Piece}
+use Rattle.section_group.specs.declared.piece.OutSection.{OutSection}
+use Rattle.section_group.specs.SectionOrder.{no_piece}
+use Rattle.section_group.specs.Uniqueness.{SectionRow as OutRow, rows_of}
+use Rattle.address_layout.specs.declared.layout.Layout.{Layout}
+use Rattle.address_layout.specs.Layout.{all_pieces}
+use Rattle.base_reloc.specs.PageBlocks.{blocks_of, pages_of}
+use Rattle.image_writer.specs.declared.headers.Headers.{Headers}
+use Rattle.image_writer.specs.HeaderTable.{size_of_headers}
+use Rattle.image_writer.specs.ExpectedImage.{PlacedBytes, ImagePlan, MeansPlan, plan_bytes, permits, expected_byte, expected_image, image_file}
+use Rattle.image_writer.specs.LoadablePlan.{HasOneLength, IsRelocatable, IsWritable, IsLoadable, AreRowsPlaced, AreInRows}
+use Rattle.image_writer.specs.WrittenImage.{piece_contents, placed_piece, section_pieces, section_rows, written_plan, at_each_base, layout_plan, HaveRoom, IsLaidOut, HasContents}
+use Rattle.image_writer.proofs.PlanBytes.{written_bytes}
+use Rattle.image_writer.proofs.ChainLemmas.{start_inside, rows_placed, pieces_in_rows}
+use Rattle.image_writer.proofs.LaidOutLemmas.{have_room, laid_out_written}
+use Rattle.image_writer.proofs.TableLemmas.{length-section_rows}
+use Rattle.image_writer.proofs.ImageTheorems.{file_means_plan}
+
+-- ---- contents
+
+-- where each initialised piece has as many bytes as its size, those of the sections have
+pub has_contents : (pieces : List Piece) (sections : List OutSection) (layout : Layout) → All (λ piece. IsTrue piece.init → length (piece_contents piece) ≡ piece.size) pieces → IsLaidOut pieces sections layout → HasContents pieces sections
+has_contents pieces sections layout filled out =
+    λ i d lt. All-get_or (λ (piece : Piece). IsTrue piece.init → length (piece_contents piece) ≡ piece.size) pieces (get_or (all_pieces sections) i d) no_piece (out.within i d lt) filled
+
+-- contents by their indexes that have one length at each base
+abbrev pub HaveOneLength : (ℕ → List (List ℕ)) → Type 0
+HaveOneLength contents = (base other k : ℕ) → length (get_or (contents base) k []) ≡ length (get_or (contents other) k [])
+
+-- ---- the lengths of the pieces
+
+lengths_of : (rvas : List ℕ) (contents : ℕ → List (List ℕ)) (indexes : List ℕ) → HaveOneLength contents → All HasOneLength (map (placed_piece rvas contents) indexes)
+lengths_of rvas contents [] same = All-nil HasOneLength
+lengths_of rvas contents (k ∷ ks) same =
+    All-cons HasOneLength (placed_piece rvas contents k) (map (placed_piece rvas contents) ks) (λ base other. same base other k) (lengths_of rvas contents ks same)
+
+all_lengths : (rvas : List ℕ) (contents : ℕ → List (List ℕ)) (rows : List OutRow) → HaveOneLength contents → All HasOneLength (flat_map (section_pieces rvas contents) rows)
+all_lengths rvas contents [] same = All-nil HasOneLength
+all_lengths rvas contents (row ∷ rows) same =
+    All-append HasOneLength (section_pieces rvas contents row) (flat_map (section_pieces rvas contents) rows) (lengths_of rvas contents row.pieces same) (all_lengths rvas contents rows same)
+
+-- ---- the plan
+
+-- what is laid out can be written
+pub written_writable : (headers : Headers) (pieces : List Piece) (sections : List OutSection) (layout : Layout) (contents : ℕ → List (List ℕ)) → IsLaidOut pieces sections layout → HaveRoom pieces sections (contents headers.base) → length headers.directories ≡ 16 → IsWritable (layout_plan headers sections layout contents)
+unfolding written_plan
+written_writable headers pieces sections layout contents out room directories =
+    let rvas = layout.pieces.items in
+    let own = contents headers.base in
+    let placed = layout.sections.items in
+    let are = laid_out_written pieces sections layout own out room in
+    let count = length-section_rows pieces sections layout out in
+    let len : layout.headers ≡ size_of_headers (length (section_rows (rows_of sections) placed)) = out.headers ∙ ap size_of_headers (sym count) in
+    record {
+      directories = directories;
+      rows = subst (λ (n : ℕ). AreRowsPlaced (section_rows (rows_of sections) placed) n n layout.image) len (rows_placed rvas own layout.image (rows_of sections) placed layout.headers layout.headers are);
+    }
+
+pub written_loadable : (headers : Headers) (pieces : List Piece) (sections : List OutSection) (layout : Layout) (contents : ℕ → List (List ℕ)) → IsLaidOut pieces sections layout → HaveRoom pieces sections (contents headers.base) → HaveOneLength contents → length headers.directories ≡ 16 → permits (layout_plan headers sections layout contents) headers.base ≡ true → IsRelocatable (layout_plan headers sections layout contents) → IsLoadable (layout_plan headers sections layout contents)
+unfolding written_plan
+written_loadable headers pieces sections layout contents out room same directories permitted relocatable =
+    let rvas = layout.pieces.items in
+    let own = contents headers.base in
+    let placed = layout.sections.items in
+    let are = laid_out_written pieces sections layout own out room in
+    let count = length-section_rows pieces sections layout out in
+    let len : layout.headers ≡ size_of_headers (length (section_rows (rows_of sections) placed)) = out.headers ∙ ap size_of_headers (sym count) in
+    let inside : layout.headers ≤ layout.image = start_inside rvas own layout.image (rows_of sections) placed layout.headers layout.headers are in
+    record {
+      writable = written_writable headers pieces sections layout contents out room directories;
+      few = omega (arith, count, out.few);
+      some_size = some (length sections) layout.headers layout.image out.headers inside;
+      size_fits = out.small;
+      headers_inside = subst (λ (n : ℕ). n ≤ layout.image) len inside;
+      permitted = permitted;
+      lengths = all_lengths rvas contents (rows_of sections) same;
+      pieces = subst (λ (ps : List PlacedBytes). AreInRows ps (section_rows (rows_of sections) placed)) (sym (written_bytes headers (rows_of sections) placed rvas layout.image contents headers.base)) (pieces_in_rows rvas own layout.image (rows_of sections) placed layout.headers layout.headers are);
+      relocatable = relocatable;
+    }
+  where
+    some : (count len image : ℕ) → len ≡ size_of_headers count → len ≤ image → 0 < image
+    some count len image is le = omega arith
+
+-- ---- without base relocations
+
+same_maps : (f g : ℕ → ℕ) (xs : List ℕ) → ((x : ℕ) → f x ≡ g x) → map f xs ≡ map g xs
+same_maps f g [] same = refl
+same_maps f g (x ∷ xs) same = rw (same x, same_maps f g xs same) refl
+
+same_image : (plan : ImagePlan) (base other : ℕ) → plan_bytes plan base ≡ plan_bytes plan other → expected_image plan base ≡ expected_image plan other
+unfolding expected_image expected_byte
+same_image plan base other same = same_maps (expected_byte plan base) (expected_byte plan other) (range_with_len 0 plan.size) (λ rva. rw same refl)
+
+-- contents that are the same at each base need no base relocations
+pub unrelocated : (headers : Headers) (sections : List OutSection) (layout : Layout) (contents : List (List ℕ)) → slice_get headers.directories DIRECTORY_ENTRY_BASERELOC ≡ Some (0, 0) → IsRelocatable (layout_plan headers sections layout (at_each_base contents))
+unfolding written_plan blocks_of pages_of
+unrelocated headers sections layout contents directory =
+    let plan = layout_plan headers sections layout (at_each_base contents) in
+    record {
+      fields = [];
+      table = (0, 0);
+      directory = directory;
+      inside = omega arith;
+      lists = refl;
+      ascending = λ k lt. absurd (omega arith);
+      within = All-nil _;
+      raises = λ base permitted. same_image plan base headers.base (
+          written_bytes headers (rows_of sections) layout.sections.items layout.pieces.items layout.image (at_each_base contents) base
+          ∙ sym (written_bytes headers (rows_of sections) layout.sections.items layout.pieces.items layout.image (at_each_base contents) headers.base));
+    }
+
+-- the file of what is written without base relocations loads as its plan says
+pub written_means : (headers : Headers) (pieces : List Piece) (sections : List OutSection) (layout : Layout) → IsLaidOut pieces sections layout → HasContents pieces sections → length headers.directories ≡ 16 → slice_get headers.directories DIRECTORY_ENTRY_BASERELOC ≡ Some (0, 0) → permits (layout_plan headers sections layout (at_each_base (map piece_contents pieces))) headers.base ≡ true → MeansPlan (layout_plan headers sections layout (at_each_base (map piece_contents pieces))) (image_file (layout_plan headers sections layout (at_each_base (map piece_contents pieces))))
+written_means headers pieces sections layout out has directories directory permitted =
+    let contents = map piece_contents pieces in
+    file_means_plan (layout_plan headers sections layout (at_each_base contents))
+    (written_loadable headers pieces sections layout (at_each_base contents) out (have_room pieces sections has) (λ base other k. refl) directories permitted
+    (unrelocated headers sections layout contents directory))

@@ -1,0 +1,3 @@
+pub mod ImageTests
+pub mod OneImage
+pub mod CallerLemmas
