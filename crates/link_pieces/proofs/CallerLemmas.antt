@@ -1,10 +1,11 @@
 -- What callers may cite of the pieces of a link: what each is, and the one that a section is.
-use Rattle.std.proofs.Common.{◌≡◌, ℕ, zero, suc, ◌+◌, ◌<◌, ◌≤◌, Bool, true, false, ◌&&◌, eqb, List, [], ◌∷◌, ◌++◌, length, map, filter, get_or, Some, None, inl, inr, refl, sym, ap, subst, ◌∙◌, arith}
+use Rattle.std.proofs.Common.{◌≡◌, ℕ, zero, suc, ◌+◌, ◌<◌, ◌≤◌, Bool, true, false, eqb, List, length, map, filter, get_or, Some, None, inl, inr, refl, sym, ap, subst, ◌∙◌, arith}
 use Rattle.std.specs.Cmp.Derive.{both_true}
-use Rattle.std.specs.List.{All, Contains, range_with_len, flat_map}
+use Rattle.std.specs.List.{All, Contains, list_any, range_with_len, flat_map}
 use Rattle.std.proofs.lemmas.Bool.{cases_lt, eq-eqb, eqb-true}
 use Rattle.std.proofs.lemmas.List.{get_or_default, length-map}
-use Rattle.std.proofs.lemmas.List.Elements.{Contains-append_left, Contains-append_right}
+use Rattle.std.proofs.lemmas.List.Elements.{All-contains, Contains-append_left, Contains-append_right}
+use Rattle.std.proofs.lemmas.List.Folds.{list_any_at}
 use Rattle.std.proofs.Math.ListN.{get_or-map}
 use Rattle.link_base.proofs.CallerLemmas.{first_below-some, first_below-none}
 use Rattle.link_base.proofs.RangeLemmas.{range_has, all_kept, all_joined}
@@ -15,7 +16,13 @@ use Rattle.section_group.specs.BarePieces.{bare}
 use Rattle.section_group.specs.SectionOrder.{no_piece}
 use Rattle.module_view.specs.Module.{ModuleView, module_at}
 use Rattle.module_view.specs.PlacedSection.{is_placed}
-use Rattle.link_pieces.specs.Pieces.{piece_of, pieces_in, link_pieces}
+use Rattle.module_view.specs.Opening.{opening_error}
+use Rattle.module_view.specs.SymbolLists.{definitions_of}
+use Rattle.module_view.specs.declared.definition.Definition.{Definition}
+use Rattle.module_view.specs.declared.definition.Place.{Place}
+use Rattle.module_view.specs.declared.definition.Place.TheVariants as place
+use Rattle.module_view.proofs.CallerLemmas.{IsPlaceIn, definitions_stand}
+use Rattle.link_pieces.specs.Pieces.{is_place_in, stands_in, is_named, piece_of, pieces_in, link_pieces}
 use Rattle.link_pieces.specs.PieceIndex.{is_piece_of, holds_section, piece_index}
 
 -- ---- what each piece is
@@ -107,3 +114,31 @@ unplaced modules m section within first last none = go (is_placed (module_at mod
         let other = first_below-none (length pieces) (holds_section pieces m section) none there.0 there.1 in
         let own : is_piece_of m section piece ≡ true = both_true (eq-eqb m m refl) (eq-eqb section section refl) in
         sym own ∙ ap (is_piece_of m section) read ∙ other
+
+-- ---- the piece that a definition stands in
+
+any_contains : {X : Type 0} (test : X → Bool) (xs : List X) (x : X) → Contains xs x → test x ≡ true → list_any test xs ≡ true
+any_contains test xs x there passes = list_any_at test xs there.0 x there.1 (ap test there.2 ∙ passes)
+
+-- a section is named where a definition stands in it
+pub named_by : (bytes : List ℕ) (definition : Definition) (section value : ℕ) → Contains (definitions_of bytes) definition → definition.place ≡ place.Section section value → is_named bytes section ≡ true
+unfolding is_named
+named_by bytes definition section value there is =
+    any_contains (stands_in section) (definitions_of bytes) definition there (ap (λ (p : Place). is_place_in section p) is ∙ eq-eqb section section refl)
+
+-- it is there and named, and the definition is in it or at its end
+pub record HoldsPlace (modules : List ModuleView) (value k : ℕ) : Type 0 where
+  pub within : k < length (link_pieces modules)
+  pub named : (get_or (link_pieces modules) k no_piece).named ≡ true
+  pub inside : value ≤ (get_or (link_pieces modules) k no_piece).size
+
+pub definition_held : (modules : List ModuleView) (position : ℕ) (definition : Definition) (section value k : ℕ) → opening_error (module_at modules position).bytes ≡ None → Contains (definitions_of (module_at modules position).bytes) definition → definition.place ≡ place.Section section value → piece_index modules position section ≡ Some k → HoldsPlace modules value k
+definition_held modules position definition section value k opened there is found =
+    let bytes = (module_at modules position).bytes in
+    let piece = found_piece modules position section k found in
+    let stands = subst (IsPlaceIn bytes) is (All-contains (λ (d : Definition). IsPlaceIn bytes d.place) (definitions_of bytes) definition (definitions_stand bytes opened) there) in
+    record {
+      within = piece.within;
+      named = ap (λ (p : Piece). p.named) piece.is ∙ named_by bytes definition section value there is;
+      inside = let size = ap (λ (p : Piece). p.size) piece.is in omega (arith, stands.value, size);
+    }

@@ -1,11 +1,17 @@
 -- The sections that definitions stand in, in a loop over definitions.
-use Rattle.std.proofs.Common.{◌≡◌, ℕ, ◌+◌, ◌<◌, ◌≤◌, Bool, true, false, ◌||◌, eqb, List, [], ◌∷◌, ◌++◌, length, take, get_or, set, inl, inr, refl, sym, ap, ◌∙◌, arith}
-use Rattle.std.specs.List.{list_any}
+use Rattle.std.proofs.Common.{◌≡◌, ℕ, ◌+◌, ◌<◌, ◌≤◌, Bool, true, false, ◌||◌, eqb, List, [], ◌∷◌, ◌++◌, length, take, get_or, set, None, inl, inr, refl, sym, ap, subst, ◌∙◌, arith}
+use Rattle.std.specs.List.{list_any, All}
 use Rattle.std.proofs.lemmas.Bool.Decides.{eqb_tells}
 use Rattle.std.proofs.lemmas.List.{get_or-set_same, get_or-set_other, take_more, take_all}
 use Rattle.std.proofs.lemmas.List.Folds.{list_any-append}
 use Rattle.std.proofs.Math.Seq.{take-append_seam}
+use Rattle.coff_object.specs.ObjectFile.{section_total}
 use Rattle.module_view.specs.declared.definition.Definition.{Definition}
+use Rattle.module_view.specs.declared.definition.Place.{Place}
+use Rattle.module_view.specs.declared.definition.Place.TheVariants as place
+use Rattle.module_view.specs.Opening.{opening_error}
+use Rattle.module_view.proofs.CallerLemmas.{IsPlaceIn, definitions_stand}
+use Rattle.link_pieces.specs.Steps.{IsWithin}
 use Rattle.link_pieces.specs.Pieces.{stands_in, is_named}
 use Rattle.module_view.specs.SymbolLists.{definitions_of}
 
@@ -50,3 +56,16 @@ pub all_marked : (bytes : List ℕ) (section i : ℕ) (definitions : List Defini
 unfolding is_named
 all_marked bytes section i definitions is all =
     ap (list_any (stands_in section)) (take_all i definitions all ∙ is)
+
+-- ---- a definition's section is one of the marks
+
+place_within : (bytes : List ℕ) (count : ℕ) (p : Place) → section_total bytes < count → IsPlaceIn bytes p → IsWithin count p
+place_within bytes count (place.Section section value) room stands = omega (arith, stands.last)
+place_within bytes count (place.Absolute value) room stands = absurd stands
+place_within bytes count place.Slot room stands = absurd stands
+place_within bytes count place.Thunk room stands = absurd stands
+
+pub within_marks : (bytes : List ℕ) (definitions : List Definition) (i : ℕ) (definition : Definition) (count : ℕ) → opening_error bytes ≡ None → definitions ≡ definitions_of bytes → i < length definitions → definition ≡ get_or definitions i definition → section_total bytes < count → IsWithin count definition.place
+within_marks bytes definitions i definition count opened is lt read room =
+    let all = subst (All (λ (d : Definition). IsPlaceIn bytes d.place)) (sym is) (definitions_stand bytes opened) in
+    place_within bytes count definition.place room (subst (λ (d : Definition). IsPlaceIn bytes d.place) (sym read) (all i definition lt))

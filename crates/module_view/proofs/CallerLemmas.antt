@@ -1,11 +1,24 @@
--- What callers may cite of a module: that its object is well formed.
-use Rattle.std.proofs.Common.{◌≡◌, ℕ, List, [], ◌∷◌, Option, Some, None, refl}
+-- What callers may cite of a module that opens: that its object is well formed, and where its definitions stand.
+use Rattle.std.proofs.Common.{◌≡◌, ℕ, suc, ◌≤◌, ℤ, pos, negsuc, Bool, true, false, cond, ◌||◌, eqb, List, [], ◌∷◌, filter, Option, Some, None, refl, sym, ap, subst, ◌∙◌, arith}
 use Rattle.std.specs.Prelude.{option_map}
 use Rattle.std.specs.Option.{option_or}
+use Rattle.std.specs.Cmp.Derive.{both_true}
+use Rattle.std.specs.Int.Signed.{lt_z}
+use Rattle.std.specs.List.{All, list_any}
+use Rattle.std.proofs.lemmas.Bool.{eqb-true, eq-eqb, ltb-true}
+use Rattle.std.proofs.lemmas.List.Elements.{All-nil, All-cons, All-map, All-weaker}
 use Rattle.link_base.specs.Refusals.{first_standing}
-use Rattle.coff_object.specs.ObjectFaults.{object_fault}
+use Rattle.link_base.proofs.TestLemmas.{and_both}
+use Rattle.coff_object.specs.SymbolRecord.{SymbolView, value_in, class_in, section_number_in, section_of_number}
+use Rattle.coff_object.specs.ObjectFile.{SymbolEntry, section_total, raw_size_of, symbol_at, symbol_entry, symbols_of, symbol_entries, starts_symbol}
+use Rattle.coff_object.specs.ObjectFaults.{object_fault, is_in_section}
 use Rattle.coff_object.specs.declared.error.ObjError.{ObjError}
+use Rattle.coff_object.proofs.CallerLemmas.{symbol_section_inside, symbol_value_inside}
+use Rattle.module_view.specs.declared.definition.Definition.{Definition}
+use Rattle.module_view.specs.declared.definition.Place.{Place}
+use Rattle.module_view.specs.declared.definition.Place.TheVariants as place
 use Rattle.module_view.specs.declared.error.ModuleError.TheVariants as error
+use Rattle.module_view.specs.SymbolLists.{is_definition, defines, definition_of, definitions_of}
 use Rattle.module_view.specs.Opening.{opening_error, form_error, object_error, content_error}
 
 -- ---- what does not stand
@@ -31,3 +44,87 @@ opened_sound bytes opened =
     no_fault (object_fault bytes)
     (no_first (object_error bytes) (first_standing (content_error bytes ∷ []))
     (no_later (form_error bytes) (first_standing (object_error bytes ∷ content_error bytes ∷ [])) opened))
+
+-- ---- where its definitions stand
+
+-- the section is one of the object's, and the value is in it or at its end
+pub record StandsIn (bytes : List ℕ) (section offset : ℕ) : Type 0 where
+  pub first : 1 ≤ section
+  pub last : section ≤ section_total bytes
+  pub value : offset ≤ raw_size_of bytes section
+
+abbrev pub IsPlaceIn : List ℕ → Place → Type 0
+IsPlaceIn bytes (place.Section section value) = StandsIn bytes section value
+IsPlaceIn bytes (place.Absolute value) = ⊥
+IsPlaceIn bytes place.Slot = ⊥
+IsPlaceIn bytes place.Thunk = ⊥
+
+-- a number above 0 is that of a section
+above : (number : ℤ) → lt_z (pos 0) number ≡ true → 1 ≤ section_of_number number
+above (pos n) e = lt_of n e
+  where
+    lt_of : (m : ℕ) → lt_z (pos 0) (pos m) ≡ true → 1 ≤ m
+    lt_of m h = omega (arith, ltb-true 0 m h)
+above (negsuc n) e = absurd cc
+
+means_place : (symbol : SymbolView) → class_in symbol ≡ 2 → lt_z (pos 0) (section_number_in symbol) ≡ true → is_in_section symbol ≡ true
+means_place symbol external inside = both_true inside (rw external refl)
+
+-- what the test of a symbol says of it
+definition_stands : (bytes : List ℕ) (index : ℕ) → object_fault bytes ≡ None → starts_symbol bytes index ≡ true → is_definition (symbol_at bytes index) ≡ true → StandsIn bytes (section_of_number (section_number_in (symbol_at bytes index))) (value_in (symbol_at bytes index))
+unfolding is_definition
+definition_stands bytes index sound starts e =
+    let symbol = symbol_at bytes index in
+    let parts = and_both (eqb (class_in symbol) 2) (lt_z (pos 0) (section_number_in symbol)) e in
+    let external = eqb-true (class_in symbol) 2 parts.0 in
+    record {
+      first = above (section_number_in symbol) parts.1;
+      last = symbol_section_inside bytes index sound starts;
+      value = symbol_value_inside bytes index sound starts (means_place symbol external parts.1);
+    }
+
+-- each index of a list stands in it
+all_starts : (indexes : List ℕ) → All (λ i. list_any (λ start. eqb start i) indexes ≡ true) indexes
+all_starts indexes = each indexes indexes (λ i h. h)
+  where
+    or_true : (b : Bool) {c : Bool} → c ≡ true → (b || c) ≡ true
+    or_true true e = refl
+    or_true false e = e
+
+    each : (whole rest : List ℕ) → ((i : ℕ) → list_any (λ start. eqb start i) rest ≡ true → list_any (λ start. eqb start i) whole ≡ true) → All (λ i. list_any (λ start. eqb start i) whole ≡ true) rest
+    each whole [] in_whole = All-nil (λ i. list_any (λ start. eqb start i) whole ≡ true)
+    each whole (i ∷ rest) in_whole =
+        All-cons (λ j. list_any (λ start. eqb start j) whole ≡ true) i rest (in_whole i (rw (eq-eqb i i refl) refl))
+        (each whole rest (λ j h. in_whole j (or_true (eqb i j) h)))
+
+pub symbols_start : (bytes : List ℕ) → All (λ i. starts_symbol bytes i ≡ true) (symbols_of bytes)
+unfolding starts_symbol
+symbols_start bytes = all_starts (symbols_of bytes)
+
+-- those of a list that pass a test
+all_filtered : {X : Type 0} (P : X → Type 0) (Q : X → Type 0) (test : X → Bool) (xs : List X) → All P xs → ((x : X) → P x → test x ≡ true → Q x) → All Q (filter test xs)
+all_filtered P Q test [] all passes = All-nil Q
+all_filtered {X} P Q test (x ∷ xs) all passes =
+    go (test x) refl (all_filtered P Q test xs (λ k d lt. all (suc k) d (omega arith)) passes)
+  where
+    go : (b : Bool) → test x ≡ b → All Q (filter test xs) → All Q (cond b (x ∷ filter test xs) (filter test xs))
+    go true e rest = All-cons Q x (filter test xs) (passes x (all 0 x (omega arith)) e) rest
+    go false e rest = rest
+
+-- an entry is a symbol of the object
+record IsEntryOf (bytes : List ℕ) (entry : SymbolEntry) : Type 0 where
+  starts : starts_symbol bytes entry.0 ≡ true
+  is : entry.1 ≡ symbol_at bytes entry.0
+
+entries_are : (bytes : List ℕ) → All (IsEntryOf bytes) (symbol_entries bytes)
+entries_are bytes =
+    All-map (IsEntryOf bytes) (symbol_entry bytes) (symbols_of bytes)
+    (All-weaker (λ i. starts_symbol bytes i ≡ true) (λ i. IsEntryOf bytes (symbol_entry bytes i)) (λ i h. record { starts = h; is = refl }) (symbols_of bytes) (symbols_start bytes))
+
+pub definitions_stand : (bytes : List ℕ) → opening_error bytes ≡ None → All (λ d. IsPlaceIn bytes d.place) (definitions_of bytes)
+unfolding definitions_of
+definitions_stand bytes opened =
+    All-map (λ (d : Definition). IsPlaceIn bytes d.place) definition_of (filter defines (symbol_entries bytes))
+    (all_filtered (IsEntryOf bytes) (λ (e : SymbolEntry). IsPlaceIn bytes (definition_of e).place) defines (symbol_entries bytes) (entries_are bytes) (λ e entry passes.
+    subst (λ (view : SymbolView). StandsIn bytes (section_of_number (section_number_in view)) (value_in view)) (sym entry.is)
+    (definition_stands bytes e.0 (opened_sound bytes opened) entry.starts (ap is_definition (sym entry.is) ∙ passes))))

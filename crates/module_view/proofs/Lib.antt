@@ -1,2 +1,4 @@
-pub mod OpeningLemmas
 pub mod CallerLemmas
+pub mod SectionLemmas
+pub mod SymbolLemmas
+pub mod OpeningLemmas

@@ -3,4 +3,5 @@ pub mod Opening
 pub mod PlacedSection
 pub mod SymbolLists
 pub mod Unbuilt
+pub mod Steps
 pub mod ModuleParts

@@ -1,8 +1,7 @@
 -- Which bytes do not open as a module, and why: the forms that the first bytes show, then the faults of the object, then
 -- the forms that its names show, then those that are not linked yet. The order is own.
-use Rattle.std.specs.Prelude.{◌≡◌, ℕ, Bool, ◌||◌, ◌&&◌, not, ◌==◌, nat_lt, List, [], ◌∷◌, length, drop, Option, Some, None, option_map, codes}
+use Rattle.std.specs.Prelude.{◌≡◌, ℕ, Bool, ◌||◌, ◌&&◌, not, ◌==◌, nat_lt, List, [], ◌∷◌, length, Option, Some, None, option_map, codes}
 use Rattle.std.specs.List.{list_any}
-use Rattle.std.specs.Option.{option_or}
 use Rattle.link_base.specs.Bytes.{u16_at, has_bytes}
 use Rattle.link_base.specs.Limits.{NAME_LIMIT}
 use Rattle.link_base.specs.NameText.{same_name, begins}
@@ -10,12 +9,11 @@ use Rattle.link_base.specs.Refusals.{shown, first_standing}
 use Rattle.link_base.specs.SectionName.{base_name}
 use Rattle.link_base.specs.declared.kinds.form.Kind.{Kind}
 use Rattle.link_base.specs.declared.kinds.form.Kind.TheVariants as form
-use Rattle.coff_object.specs.ObjectFile.{section_name_of, symbol_name_of}
+use Rattle.coff_object.specs.ObjectFile.{is_big_object, section_name_of, name_in, symbol_entries}
 use Rattle.coff_object.specs.ObjectFaults.{object_fault}
 use Rattle.module_view.specs.declared.error.ModuleError.{ModuleError}
 use Rattle.module_view.specs.declared.error.ModuleError.TheVariants as error
 use Rattle.module_view.specs.Module.{ModuleView}
-use Rattle.module_view.specs.SymbolLists.{symbols_in}
 use Rattle.module_view.specs.Unbuilt.{is_unread_form, sections_in, has_unbuilt_section, has_unbuilt_symbol}
 
 -- ---- the first bytes
@@ -41,18 +39,6 @@ resource_start =
 -- no machine, and 0xFFFF in the place of the count of sections (PE Format, "Import Header")
 abbrev pub anonymous_start : List ℕ
 anonymous_start = 0 ∷ 0 ∷ 0xFF ∷ 0xFF ∷ []
-
--- the same with the version of big objects
-abbrev pub big_object_start : List ℕ
-big_object_start = 0 ∷ 0 ∷ 0xFF ∷ 0xFF ∷ 2 ∷ 0 ∷ []
-
--- the class identifier of big objects (LLVM, `COFF::BigObjMagic`)
-unfoldable pub big_object_class : List ℕ
-big_object_class =
-    0xC7 ∷ 0xA1 ∷ 0xBA ∷ 0xD1 ∷ 0xEE ∷ 0xBA ∷ 0xA9 ∷ 0x4B ∷ 0xAF ∷ 0x20 ∷ 0xFA ∷ 0xF6 ∷ 0x6A ∷ 0xA4 ∷ 0xDC ∷ 0xB8 ∷ []
-
-abbrev pub is_big_object : List ℕ → Bool
-is_big_object bytes = begins bytes big_object_start && begins (drop 12 bytes) big_object_class
 
 -- a version follows, and is not 0, which is that of a short import; the object is not a big one
 abbrev pub is_anonymous : List ℕ → Bool
@@ -96,7 +82,7 @@ abbrev pub has_long_section_name : List ℕ → Bool
 has_long_section_name bytes = list_any (λ section. is_long (section_name_of bytes section)) (sections_in bytes)
 
 abbrev pub has_long_symbol_name : List ℕ → Bool
-has_long_symbol_name bytes = list_any (λ symbol. is_long (symbol_name_of bytes symbol)) (symbols_in bytes)
+has_long_symbol_name bytes = list_any (λ entry. is_long (name_in entry.1)) (symbol_entries bytes)
 
 -- of a well formed object
 unfoldable pub content_error : List ℕ → Option ModuleError

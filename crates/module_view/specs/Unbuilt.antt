@@ -6,9 +6,8 @@ use Rattle.link_base.specs.Bytes.{has_flag}
 use Rattle.link_base.specs.NameText.{same_name, begins, begins_import}
 use Rattle.link_base.specs.SectionName.{base_name}
 use Rattle.link_base.specs.PeFormat.{SCN_LNK_COMDAT, SYM_CLASS_EXTERNAL, SYM_CLASS_WEAK_EXTERNAL, SYM_UNDEFINED, SYM_ABSOLUTE}
-use Rattle.coff_object.specs.ObjectFile.{section_total, section_name_of, raw_size_of, flags_of, is_uninitialised, relocation_total, symbol_name_of, symbol_section_of, symbol_class_of}
+use Rattle.coff_object.specs.ObjectFile.{section_total, section_name_of, raw_size_of, flags_of, is_uninitialised, relocation_total, SymbolView, name_in, section_number_in, class_in, symbol_entries}
 use Rattle.module_view.specs.PlacedSection.{is_placed}
-use Rattle.module_view.specs.SymbolLists.{symbols_in}
 
 -- ---- files that have no reader yet
 
@@ -46,35 +45,33 @@ is_unbuilt_section bytes section =
 -- ---- symbols
 
 -- an external name: defined, undefined or weak
-abbrev pub is_external_name : List ℕ → ℕ → Bool
-is_external_name bytes symbol =
-    (symbol_class_of bytes symbol == SYM_CLASS_EXTERNAL) || (symbol_class_of bytes symbol == SYM_CLASS_WEAK_EXTERNAL)
+abbrev pub is_external_name : SymbolView → Bool
+is_external_name symbol = (class_in symbol == SYM_CLASS_EXTERNAL) || (class_in symbol == SYM_CLASS_WEAK_EXTERNAL)
 
-abbrev pub has_section_number : List ℕ → ℕ → ℤ → Bool
-has_section_number bytes symbol number = int_eq (symbol_section_of bytes symbol) number
+abbrev pub has_section_number : SymbolView → ℤ → Bool
+has_section_number symbol number = int_eq (section_number_in symbol) number
 
 -- an external symbol that is undefined, a common or absolute
-abbrev pub is_outside_sections : List ℕ → ℕ → Bool
-is_outside_sections bytes symbol =
-    (symbol_class_of bytes symbol == SYM_CLASS_EXTERNAL)
-    && (has_section_number bytes symbol SYM_UNDEFINED || has_section_number bytes symbol SYM_ABSOLUTE)
+abbrev pub is_outside_sections : SymbolView → Bool
+is_outside_sections symbol =
+    (class_in symbol == SYM_CLASS_EXTERNAL)
+    && (has_section_number symbol SYM_UNDEFINED || has_section_number symbol SYM_ABSOLUTE)
 
 -- an undefined symbol that names an entry of the import address table
-abbrev pub is_import_reference : List ℕ → ℕ → Bool
-is_import_reference bytes symbol =
-    has_section_number bytes symbol SYM_UNDEFINED && begins_import (symbol_name_of bytes symbol)
+abbrev pub is_import_reference : SymbolView → Bool
+is_import_reference symbol = has_section_number symbol SYM_UNDEFINED && begins_import (name_in symbol)
 
 -- a name that the loader of a program looks for (PE Format, "The .tls Section", "The Load Configuration Structure")
 abbrev pub is_loader_name : List ℕ → Bool
 is_loader_name name = same_name name (codes "_tls_used") || same_name name (codes "_load_config_used")
 
 -- a symbol that needs more than an address in its section
-unfoldable pub is_unbuilt_symbol : List ℕ → ℕ → Bool
-is_unbuilt_symbol bytes symbol =
-    (symbol_class_of bytes symbol == SYM_CLASS_WEAK_EXTERNAL)
-    || (is_outside_sections bytes symbol
-    || (is_import_reference bytes symbol
-    || (is_external_name bytes symbol && is_loader_name (symbol_name_of bytes symbol))))
+unfoldable pub is_unbuilt_symbol : SymbolView → Bool
+is_unbuilt_symbol symbol =
+    (class_in symbol == SYM_CLASS_WEAK_EXTERNAL)
+    || (is_outside_sections symbol
+    || (is_import_reference symbol
+    || (is_external_name symbol && is_loader_name (name_in symbol))))
 
 -- ---- objects
 
@@ -86,4 +83,4 @@ abbrev pub has_unbuilt_section : List ℕ → Bool
 has_unbuilt_section bytes = list_any (is_unbuilt_section bytes) (sections_in bytes)
 
 abbrev pub has_unbuilt_symbol : List ℕ → Bool
-has_unbuilt_symbol bytes = list_any (is_unbuilt_symbol bytes) (symbols_in bytes)
+has_unbuilt_symbol bytes = list_any (λ entry. is_unbuilt_symbol entry.1) (symbol_entries bytes)

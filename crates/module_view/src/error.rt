@@ -1,7 +1,7 @@
 //! Why bytes do not open as a module.
 
 use coff_object::ObjError;
-use link_base::Kind;
+use link_base::{Kind, Memory};
 use std::alloc::AllocError;
 
 /// Why bytes do not open as a module.
@@ -23,6 +23,17 @@ impl From<AllocError> for ModuleError {
     ghost from_gives = { λ _ e. e ≡ Memory };
 
     fn from(_error: AllocError) -> ModuleError {
+        ModuleError::Memory
+    }
+}
+
+impl From<Memory> for ModuleError {
+    ghost use Rattle.std.specs.Prelude.{◌≡◌};
+    ghost use Rattle.module_view.specs.declared.error.ModuleError.TheVariants.{Memory};
+
+    ghost from_gives = { λ _ e. e ≡ Memory };
+
+    fn from(_error: Memory) -> ModuleError {
         ModuleError::Memory
     }
 }

@@ -1,12 +1,11 @@
 //! The forms of files that their first bytes show.
 
-ghost use Rattle.std.specs.Prelude.{◌≡◌, ◌&&◌, ◌==◌, not, drop, option_map, Some, None};
-ghost use Rattle.link_base.specs.Bytes.{u16_at, has_bytes};
+ghost use Rattle.std.specs.Prelude.{◌≡◌, option_map, Some, None};
 ghost use Rattle.module_view.specs.declared.error.ModuleError.TheVariants.{Unsupported};
-ghost use Rattle.module_view.specs.Opening.{form_error, resource_start, is_anonymous, is_big_object, big_object_class};
-ghost use Rattle.link_base.specs.NameText.{begins};
+ghost use Rattle.module_view.specs.Opening.{form_error, resource_start, is_anonymous};
 ghost use Rattle.module_view.specs.Unbuilt.{is_unread_form};
 
+use coff_object::is_big_object;
 use link_base::{Kind, field_u16};
 
 /// The first form that the first bytes show, of those that are not read as an object.
@@ -62,31 +61,4 @@ fn is_anonymous(bytes: &[u8]) -> bool
         Some(version) => version != 0 && !is_big_object(bytes),
         None => false,
     }
-}
-
-/// The class identifier of big objects.
-#[tactic(auto, unfolding(crate::specs::Opening::big_object_class))]
-fn big_object_class() -> &'static [u8]
-    ensures { result.now ≡ big_object_class }
-{
-    b"\xc7\xa1\xba\xd1\xee\xba\xa9\x4b\xaf\x20\xfa\xf6\x6a\xa4\xdc\xb8"
-}
-
-/// Whether the bytes begin as those of a big object.
-fn is_big_object(bytes: &[u8]) -> bool
-    ensures { result ≡ is_big_object bytes.now }
-{
-    bytes.starts_with(b"\x00\x00\xff\xff\x02\x00") && has_big_object_class(bytes)
-}
-
-/// Whether the class identifier of big objects stands in its place.
-#[tactic(auto, using(crate::proofs::OpeningLemmas::no_class))]
-fn has_big_object_class(bytes: &[u8]) -> bool
-    ensures { result ≡ begins (drop 12 bytes.now) big_object_class }
-{
-    if bytes.len() < 12 {
-        return false;
-    }
-    let (_, rest) = bytes.split_at(12);
-    rest.starts_with(big_object_class())
 }

@@ -7,18 +7,20 @@
 mod definition;
 mod error;
 mod first_bytes;
-mod laws;
 mod input_module;
-
+mod laws;
+mod opening;
 mod placed_section;
-
-
-
+mod sections;
+mod symbols;
+mod unbuilt;
 
 pub use definition::{Definition, Place};
 pub use error::ModuleError;
-pub use laws::modules_are_shared;
 pub use input_module::{Module, Origin};
-
+pub use laws::modules_are_shared;
+pub use opening::open_module;
 pub use placed_section::comes_in;
 
+#[cfg(test)]
+mod tests;

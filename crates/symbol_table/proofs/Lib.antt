@@ -1,2 +1,3 @@
 pub mod NamingLemmas
 pub mod TableLemmas
+pub mod CallerLemmas

@@ -1,5 +1,5 @@
 -- One more definition: what its name was kept with, and the clash that it makes.
-use Rattle.std.proofs.Common.{◌≡◌, ℕ, zero, suc, ◌+◌, ◌<◌, ◌≤◌, Bool, true, false, cond, List, [], ◌∷◌, ◌++◌, length, map, take, get_or, Option, Some, None, refl, sym, ap, ◌∙◌, append_assoc, add-one, arith}
+use Rattle.std.proofs.Common.{◌≡◌, ℕ, zero, suc, ◌+◌, ◌<◌, Bool, true, false, cond, List, [], ◌∷◌, ◌++◌, length, map, take, get_or, Option, Some, None, refl, sym, ap, ◌∙◌, append_assoc, add-one, arith}
 use Rattle.std.specs.Prelude.{option_map}
 use Rattle.std.specs.Option.{option_or}
 use Rattle.std.specs.List.{find}
@@ -11,7 +11,7 @@ use Rattle.module_view.specs.declared.definition.Definition.{Definition}
 use Rattle.symbol_table.specs.declared.meaning.Clash.{Clash}
 use Rattle.symbol_table.specs.declared.source.Found.{Found}
 use Rattle.symbol_table.specs.Resolution.{Provided, provided, has_name}
-use Rattle.symbol_table.specs.Clash.{entry_at, no_definition, clash_with, clash_at, clash_in}
+use Rattle.symbol_table.specs.Clash.{entry_at, clash_with, clash_at, clash_in}
 use Rattle.symbol_table.specs.TableParts.{found_of, Names}
 
 -- ---- the first of two

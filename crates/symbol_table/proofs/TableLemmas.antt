@@ -18,7 +18,7 @@ use Rattle.symbol_table.specs.declared.meaning.Clash.{Clash}
 use Rattle.symbol_table.specs.declared.source.Found.{Found}
 use Rattle.symbol_table.specs.declared.source.Source.{Source}
 use Rattle.symbol_table.specs.Resolution.{Provided, provided, provided_by, all_definitions}
-use Rattle.symbol_table.specs.Clash.{clash_in, clash_of}
+use Rattle.symbol_table.specs.Clash.{clash_in}
 use Rattle.symbol_table.specs.TableParts.{Names, KeepsModules, source_view}
 
 module_before : (modules : List ModuleView) (m : ModuleView) (k : ℕ) → k < length modules → module_at (modules ++ m ∷ []) k ≡ module_at modules k
@@ -51,9 +51,9 @@ keeps_more modules after m old before new clash found clash' definitions positio
     let all = all_definitions modules in
     let was : Names all before = λ name. same name ∙ keeps.named name in
     let whole : all_definitions after ≡ all ++ map (provided position) definitions =
-        ap all_definitions is ∙ all_more modules m
-        ∙ ap (λ (k : ℕ). all ++ map (provided k) (definitions_of m.bytes)) (sym at)
-        ∙ ap (λ (ds : List Definition). all ++ map (provided position) ds) (sym defined) in
+    ap all_definitions is ∙ all_more modules m
+    ∙ ap (λ (k : ℕ). all ++ map (provided k) (definitions_of m.bytes)) (sym at)
+    ∙ ap (λ (ds : List Definition). all ++ map (provided position) ds) (sym defined) in
     record {
       named = subst (λ (es : List Provided). Names es new) (sym whole) (noted all was);
       clash_is = clash_is ∙ ap (λ (c : Option Clash). option_or c found) keeps.clash_is ∙ sym (clashes all was) ∙ ap clash_in (sym whole);

@@ -1,5 +1,5 @@
 -- What a name means in a list of modules, by their positions. Own.
-use Rattle.std.specs.Prelude.{ℕ, Bool, List, [], length, map, Option, Some, None, Result, Ok, Err}
+use Rattle.std.specs.Prelude.{ℕ, Bool, List, length, map, Option, Some, None, Result, Ok, Err}
 use Rattle.std.specs.List.{range_with_len, flat_map, find}
 use Rattle.link_base.specs.NameText.{same_name}
 use Rattle.module_view.specs.Module.{ModuleView, module_at}

@@ -12,11 +12,18 @@ pub enum Meaning<'a> {
         value: u32,
     },
     /// Zeroed memory that modules share, by the module and the symbol of the greatest size.
-    Common { module: u32, symbol: u32 },
+    Common {
+        module: u32,
+        symbol: u32,
+    },
     /// The entry of the import address table of an import, by its module.
-    Slot { module: u32 },
+    Slot {
+        module: u32,
+    },
     /// The code that jumps through it.
-    Thunk { module: u32 },
+    Thunk {
+        module: u32,
+    },
     /// A pointer to a name that is not imported.
     LocalSlot(Name<'a>),
     /// A number.

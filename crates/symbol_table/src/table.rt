@@ -56,7 +56,7 @@ impl<'a> SymbolTable<'a> {
     pub fn add_module(&mut self, module: &Module<'a>) -> Result<u32, Memory>
         requires { length self.old < limit.MODULE_LIMIT }
         ensures position { IfOk result (λ position. position ≡ length self.old) }
-        ensures added { OnOk result (self.new ≡ self.old ++ module.now ∷ []) }
+        ensures added { OnOk result (self.new ≡ self.old ++ «module».now ∷ []) }
         ensures unchanged { OnErr result (self.new ≡ self.old) }
     {
         let definitions = module.definitions();

@@ -1,13 +1,11 @@
-use Rattle.std.proofs.Common.{List, false, length, get_or, ap, sym, ◌∙◌, arith}
-use Rattle.std.specs.List.{list_any}
-use Rattle.std.proofs.lemmas.List.{take_all}
-use Rattle.module_view.specs.declared.definition.Definition.{Definition}
-use Rattle.link_pieces.specs.Pieces.{is_named, stands_in}
-use Rattle.link_pieces.proofs.NamedLemmas.{all_marked}
+use Rattle.std.proofs.Common.{length, ap, ◌∙◌, arith}
+use Rattle.link_pieces.proofs.NamedLemmas.{all_marked, within_marks}
 use Rattle.link_pieces.proofs.named.named_sections.Goals as goal
 
 pub mark-requires : goal.mark-requires
-mark-requires c = ?
+mark-requires c =
+    let bytes = c.args.«module».now.bytes in
+    within_marks bytes c.definitions-definition-items.result.now c.loop-definition.definition-index c.definition-item.result (length c.deref_mut.result.now) c.definitions-definition-items.ensures.opened c.definitions-definition-items.ensures.definitions (omega arith) c.definition-item.is (omega (arith, ap length c.deref_mut.ensures.value, c.loop-definition.invariant.count, c.requires))
 
 pub returns-clause-named : goal.returns-clause-named
 returns-clause-named c = λ section.

@@ -1,4 +1,4 @@
-use Rattle.std.proofs.Common.{◌≡◌, ◌∷◌, [], List, ℕ, map, length, ap, sym, ◌∙◌, arith}
+use Rattle.std.proofs.Common.{List, ℕ, map, length, ap, arith}
 use Rattle.std.specs.Map.{lookup}
 use Rattle.std.proofs.lemmas.List.{length-map}
 use Rattle.indexmap.specs.IndexMap.{get}

@@ -1,9 +1,8 @@
-use Rattle.std.proofs.Common.{List, ℕ, refl, ap, sym, ◌∙◌, arith, rules, map}
+use Rattle.std.proofs.Common.{List, ℕ, ap, map}
 use Rattle.std.specs.Map.{lookup}
 use Rattle.link_base.specs.NameText.{same_name}
 use Rattle.symbol_table.specs.declared.source.Found.{Found}
-use Rattle.symbol_table.specs.declared.source.Source.{Source}
-use Rattle.symbol_table.specs.TableParts.{source_view, KeepsModules}
+use Rattle.symbol_table.specs.TableParts.{source_view}
 use Rattle.symbol_table.proofs.TableLemmas.{keeps_none}
 use Rattle.symbol_table.proofs.table.SymbolTable.new.Goals as goal
 

@@ -1,0 +1,130 @@
+-- One more symbol in a loop over the symbols of an object.
+use Rattle.std.proofs.Common.{◌≡◌, ℕ, zero, suc, ◌<◌, ◌≢◌, ℤ, pos, negsuc, replicate, w32, FitsSigned, to_z, of_z, Bool, true, false, cond, ◌&&◌, ◌||◌, eqb, List, [], ◌∷◌, ◌++◌, length, map, filter, get_or, set, inl, inr, refl, sym, ap, ◌∙◌, append_assoc, arith}
+use Rattle.std.specs.Int.Signed.{lt_z}
+use lib.IntN.{nat_abs}
+use Rattle.std.specs.List.{list_any}
+use Rattle.std.specs.Cmp.Derive.{both_true}
+use Rattle.std.proofs.lemmas.Bool.{eq-eqb, ne_eqb}
+use Rattle.std.proofs.lemmas.Bool.Decides.{eqb_tells}
+use Rattle.std.proofs.lemmas.Int.{to_z-of_z}
+use Rattle.std.proofs.lemmas.List.{get_or-set_same, get_or-set_other}
+use Rattle.coff_object.specs.SymbolRecord.{SymbolView, name_in, value_in, class_in, section_number_in, section_of_number}
+use Rattle.coff_object.specs.ObjectFile.{SymbolEntry, symbols_of, symbol_entry, symbol_entries, starts_symbol}
+use Rattle.module_view.specs.declared.definition.Definition.{Definition}
+use Rattle.module_view.specs.SymbolLists.{is_definition, defines, definition_of, definitions_in}
+use Rattle.module_view.specs.declared.definition.Place.TheVariants.{Section}
+
+-- ---- what is told of symbols, after one more
+
+pub still_none : {X : Type 0} (test : X → Bool) (before after : List X) (x : X) (whole b : Bool) → before ≡ x ∷ after → list_any test before ≡ whole → b ≡ test x → b ≡ false → list_any test after ≡ whole
+still_none test before after x whole b is was said fails =
+    let here : test x ≡ false = sym said ∙ fails in
+    ap (λ (c : Bool). c || list_any test after) (sym here) ∙ sym (ap (list_any test) is) ∙ was
+
+-- one that passes is among all
+pub found_among : {X : Type 0} (test : X → Bool) (before after : List X) (x : X) (whole b : Bool) → before ≡ x ∷ after → list_any test before ≡ whole → b ≡ test x → b ≡ true → whole ≡ true
+found_among test before after x whole b is was said passes =
+    let here : test x ≡ true = sym said ∙ passes in
+    sym was ∙ ap (list_any test) is ∙ ap (λ (c : Bool). c || list_any test after) here
+
+or_or : (a b c : Bool) → ((a || b) || c) ≡ (a || (b || c))
+or_or true b c = refl
+or_or false b c = refl
+
+pub one_noted : {X : Type 0} (test : X → Bool) (before after : List X) (x : X) (noted b whole : Bool) → before ≡ x ∷ after → (noted || list_any test before) ≡ whole → b ≡ test x → ((noted || b) || list_any test after) ≡ whole
+one_noted {X} test before after x noted b whole is was said =
+    or_or noted b (list_any test after)
+    ∙ ap (λ (c : Bool). noted || (c || list_any test after)) said
+    ∙ ap (λ (xs : List X). noted || list_any test xs) (sym is)
+    ∙ was
+
+single : (entry : SymbolEntry) (rest : List SymbolEntry) → definitions_in (entry ∷ rest) ≡ cond (defines entry) (definition_of entry ∷ []) [] ++ definitions_in rest
+single entry rest = go (defines entry)
+  where
+    go : (b : Bool) → map definition_of (cond b (entry ∷ filter defines rest) (filter defines rest)) ≡ cond b (definition_of entry ∷ []) [] ++ definitions_in rest
+    go true = refl
+    go false = refl
+
+pub definitions_more : (before after : List SymbolEntry) (entry : SymbolEntry) (was now whole : List Definition) → before ≡ entry ∷ after → was ++ definitions_in before ≡ whole → now ≡ was ++ cond (defines entry) (definition_of entry ∷ []) [] → now ++ definitions_in after ≡ whole
+definitions_more before after entry was now whole is sum grown =
+    ap (λ (ds : List Definition). ds ++ definitions_in after) grown
+    ∙ append_assoc was (cond (defines entry) (definition_of entry ∷ []) []) (definitions_in after)
+    ∙ ap (λ (ds : List Definition). was ++ ds) (sym (single entry after) ∙ ap definitions_in (sym is))
+    ∙ sum
+
+-- ---- where symbols start
+
+or_true : (b : Bool) → true ≡ (b || true)
+or_true true = refl
+or_true false = refl
+
+or_false : (b : Bool) → b ≡ (b || false)
+or_false true = refl
+or_false false = refl
+
+mark : (marks : List Bool) (at j : ℕ) → at < length marks → get_or (set marks at true) j false ≡ (get_or marks j false || eqb at j)
+mark marks at j lt =
+    elim (eqb_tells at j) [
+      | inl here ↦
+          let same : j ≡ at = omega arith in
+          rw here.0 (ap (λ (k : ℕ). get_or (set marks at true) k false) same ∙ get_or-set_same marks at true false lt ∙ or_true (get_or marks j false))
+      | inr other ↦
+          rw other.0 (get_or-set_other marks at j true false (λ same. other.1 (sym same)) ∙ or_false (get_or marks j false))
+    ]
+
+pub marks_more : (before after : List SymbolEntry) (entry : SymbolEntry) (marks : List Bool) (j : ℕ) (whole : Bool) → before ≡ entry ∷ after → entry.0 < length marks → (get_or marks j false || list_any (λ e. eqb e.0 j) before) ≡ whole → (get_or (set marks entry.0 true) j false || list_any (λ e. eqb e.0 j) after) ≡ whole
+marks_more before after entry marks j whole is lt was =
+    ap (λ (b : Bool). b || list_any (λ (e : SymbolEntry). eqb e.0 j) after) (mark marks entry.0 j lt)
+    ∙ one_noted (λ (e : SymbolEntry). eqb e.0 j) before after entry (get_or marks j false) (eqb entry.0 j) whole is was refl
+
+any_entry : (f : ℕ → SymbolEntry) (j : ℕ) (indexes : List ℕ) → ((i : ℕ) → (f i).0 ≡ i) → list_any (λ e. eqb e.0 j) (map f indexes) ≡ list_any (λ i. eqb i j) indexes
+any_entry f j [] own = refl
+any_entry f j (i ∷ rest) own =
+    ap (λ (k : ℕ). eqb k j || list_any (λ (e : SymbolEntry). eqb e.0 j) (map f rest)) (own i)
+    ∙ ap (λ (b : Bool). eqb i j || b) (any_entry f j rest own)
+
+-- the symbols of an object tell where one starts
+pub starts_among : (bytes : List ℕ) (j : ℕ) → list_any (λ e. eqb e.0 j) (symbol_entries bytes) ≡ starts_symbol bytes j
+unfolding starts_symbol
+starts_among bytes j = any_entry (symbol_entry bytes) j (symbols_of bytes) (λ i. refl)
+
+-- nothing is marked at first
+pub unmarked : (marks : List Bool) (n j : ℕ) → marks ≡ replicate n false → get_or marks j false ≡ false
+unmarked marks n j is = ap (λ (ms : List Bool). get_or ms j false) is ∙ each n j
+  where
+    each : (n j : ℕ) → get_or (replicate n false) j false ≡ false
+    each zero j = refl
+    each (suc n) zero = refl
+    each (suc n) (suc j) = each n j
+
+-- ---- the section of a definition
+
+pub section_read : (number : ℤ) → FitsSigned w32 number → lt_z (pos 0) number ≡ true → nat_abs (to_z w32 (of_z w32 number)) ≡ section_of_number number
+section_read number fits above = ap nat_abs (to_z-of_z w32 number fits) ∙ go number above
+  where
+    go : (z : ℤ) → lt_z (pos 0) z ≡ true → nat_abs z ≡ section_of_number z
+    go (pos n) e = refl
+    go (negsuc n) e = absurd cc
+
+-- ---- which symbols are definitions
+
+pub is_defined : (symbol : SymbolView) (class : ℕ) (number : ℤ) → class ≡ class_in symbol → number ≡ section_number_in symbol → class ≡ 2 → lt_z (pos 0) number ≡ true → is_definition symbol ≡ true
+unfolding is_definition
+is_defined symbol class number class_is number_is external above =
+    both_true (eq-eqb (class_in symbol) 2 (sym class_is ∙ external)) (ap (lt_z (pos 0)) (sym number_is) ∙ above)
+
+pub is_undefined_class : (symbol : SymbolView) (class : ℕ) → class ≡ class_in symbol → class ≢ 2 → is_definition symbol ≡ false
+unfolding is_definition
+is_undefined_class symbol class is other =
+    rw (ne_eqb (class_in symbol) 2 (λ e. other (is ∙ e))) refl
+
+pub is_undefined_number : (symbol : SymbolView) (number : ℤ) → number ≡ section_number_in symbol → lt_z (pos 0) number ≡ false → is_definition symbol ≡ false
+unfolding is_definition
+is_undefined_number symbol number is low = second (eqb (class_in symbol) 2) (ap (lt_z (pos 0)) (sym is) ∙ low)
+  where
+    second : (a : Bool) {b : Bool} → b ≡ false → (a && b) ≡ false
+    second true e = e
+    second false e = refl
+
+pub same_definition : (index : ℕ) (symbol : SymbolView) (name : List ℕ) (section value : ℕ) → name ≡ name_in symbol → section ≡ section_of_number (section_number_in symbol) → value ≡ value_in symbol → record { name = name; symbol = index; place = Section section value } ≡ definition_of (index, symbol)
+same_definition index symbol name section value name_is section_is value_is = rw (name_is, section_is, value_is) refl

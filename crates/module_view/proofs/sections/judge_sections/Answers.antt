@@ -1,0 +1,27 @@
+use Rattle.std.proofs.Common.{◌+◌, ◌<◌, refl, sym, ◌∙◌, arith}
+use Rattle.coff_object.specs.ObjectFile.{section_total, section_name_of}
+use Rattle.link_base.proofs.TestLemmas.{or_left, or_right}
+use Rattle.module_view.specs.Unbuilt.{is_unbuilt_section}
+use Rattle.module_view.specs.Opening.{is_linker_section, is_long}
+use Rattle.module_view.specs.Steps.{section_form}
+use Rattle.module_view.proofs.SectionLemmas.{some_section, no_section, any_section}
+use Rattle.module_view.proofs.sections.judge_sections.Goals as goal
+
+pub returns-then-form-clause-refused : goal.returns-then-form-clause-refused
+unfolding section_form
+returns-then-form-clause-refused c =
+    let bytes = c.args.object.now in
+    let i = c.loop-index.index in
+    let within : i < section_total bytes = omega (arith, c.section_count-index-end.ensures) in
+    rw (some_section (λ section. is_linker_section (section_name_of bytes section)) i (section_total bytes) (i + 1) (omega arith) within (sym c.section_form-form.ensures.linker ∙ c.if-form.true)) refl
+
+pub loop-index-preserved : goal.loop-index-preserved
+loop-index-preserved c =
+    let bytes = c.args.object.now in
+    let i = c.loop-index.index in
+    let form = c.section_form-form.result in
+    record {
+      linker = no_section (λ section. is_linker_section (section_name_of bytes section)) i (i + 1) (omega arith) c.loop-index.invariant.linker (sym c.section_form-form.ensures.linker ∙ c.if-form.false);
+      long = any_section (λ section. is_long (section_name_of bytes section)) i (i + 1) c.loop-index.long form.is_long (omega arith) c.loop-index.invariant.long c.section_form-form.ensures.long;
+      unbuilt = λ short. any_section (is_unbuilt_section bytes) i (i + 1) c.loop-index.unbuilt form.is_unbuilt (omega arith) (c.loop-index.invariant.unbuilt (or_left c.loop-index.long form.is_long short)) (c.section_form-form.ensures.unbuilt (or_right c.loop-index.long form.is_long short));
+    }

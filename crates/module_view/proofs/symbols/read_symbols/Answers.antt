@@ -1,0 +1,63 @@
+use Rattle.std.proofs.Common.{◌<◌, List, Bool, eqb, ◌||◌, ◌++◌, length, sym, ap, ◌∙◌, arith}
+use Rattle.std.specs.List.{list_any}
+use Rattle.std.proofs.lemmas.List.{length-set}
+use Rattle.coff_object.specs.SymbolRecord.{name_in}
+use Rattle.coff_object.specs.ObjectFile.{SymbolEntry}
+use Rattle.coff_object.proofs.CallerLemmas.{symbols_left-all, symbols_left-step, symbol_strings}
+use Rattle.module_view.specs.declared.definition.Definition.{Definition}
+use Rattle.module_view.specs.SymbolLists.{definitions_in, definitions_of}
+use Rattle.module_view.specs.Unbuilt.{is_unbuilt_symbol}
+use Rattle.module_view.specs.Opening.{is_long}
+use Rattle.module_view.proofs.SymbolLemmas.{still_none, one_noted, definitions_more, marks_more, starts_among, unmarked}
+use Rattle.module_view.proofs.symbols.read_symbols.Goals as goal
+
+pub loop-index-init : goal.loop-index-init
+unfolding definitions_of
+loop-index-init c =
+    let bytes = c.args.object.now in
+    let all = c.into_iter-index-iterator.ensures.into_iter_gives ∙ c.symbols-index-items.ensures in
+    let entries = c.into_iter-index-iterator.result in
+    record {
+      can = tt;
+      ends = tt;
+      left = symbols_left-all bytes entries all;
+      long = ap (list_any (λ (entry : SymbolEntry). is_long (name_in entry.1))) all;
+      unbuilt = ap (λ (es : List SymbolEntry). c.args.unbuilt || list_any (λ (entry : SymbolEntry). is_unbuilt_symbol entry.1) es) all;
+      definitions = ap (λ (ds : List Definition). ds ++ definitions_in entries) c.new-definitions.ensures.items ∙ ap definitions_in all;
+      count = omega (arith, c.in_ok-starts.ensures.len, c.record_count.ensures);
+      starts = λ j.
+          ap (λ (b : Bool). b || list_any (λ (e : SymbolEntry). eqb e.0 j) entries) (unmarked c.in_ok-starts.starts.items _ j (c.in_ok-starts.ensures.items_if_clones_equal (λ y e. e)))
+          ∙ ap (list_any (λ (e : SymbolEntry). eqb e.0 j)) all ∙ starts_among bytes j;
+    }
+
+pub is_long_symbol-requires : goal.is_long_symbol-requires
+is_long_symbol-requires c =
+    let bytes = c.args.object.now in
+    let step = symbols_left-step bytes c.loop-index.index-iterator c.next.new.self c.in-Some.index c.in-Some.symbol c.loop-index.invariant.left c.in-Some.ensures.steps in
+    symbol_strings bytes c.in-Some.index c.in-Some.symbol step.is ∙ sym c.requires
+
+pub index_mut-requires : goal.index_mut-requires
+index_mut-requires c =
+    let step = symbols_left-step c.args.object.now c.loop-index.index-iterator c.next.new.self c.in-Some.index c.in-Some.symbol c.loop-index.invariant.left c.in-Some.ensures.steps in
+    omega (arith, step.below, c.loop-index.invariant.count)
+
+pub loop-index-preserved : goal.loop-index-preserved
+loop-index-preserved c =
+    let bytes = c.args.object.now in
+    let before = c.loop-index.index-iterator in
+    let after = c.next.new.self in
+    let entry : SymbolEntry = (c.in-Some.index, c.in-Some.symbol) in
+    let steps = c.in-Some.ensures.steps in
+    let step = symbols_left-step bytes before after c.in-Some.index c.in-Some.symbol c.loop-index.invariant.left steps in
+    let marks = c.loop-index.starts.items in
+    let within : c.in-Some.index < length marks = omega (arith, step.below, c.loop-index.invariant.count) in
+    record {
+      can = tt;
+      ends = tt;
+      left = step.left;
+      long = still_none (λ (e : SymbolEntry). is_long (name_in e.1)) before after entry _ c.is_long_symbol.result steps c.loop-index.invariant.long c.is_long_symbol.ensures c.if-is_long_symbol.false;
+      unbuilt = one_noted (λ (e : SymbolEntry). is_unbuilt_symbol e.1) before after entry c.loop-index.unbuilt c.is_unbuilt_symbol-unbuilt.result _ steps c.loop-index.invariant.unbuilt c.is_unbuilt_symbol-unbuilt.ensures;
+      definitions = definitions_more before after entry c.loop-index.definitions.items c.push_definition.new.definitions.items (definitions_of bytes) steps c.loop-index.invariant.definitions c.in_ok-push_definition.ensures;
+      count = length-set marks c.in-Some.index _ ∙ c.loop-index.invariant.count;
+      starts = λ j. marks_more before after entry marks j _ steps within (c.loop-index.invariant.starts j);
+    }

@@ -1,0 +1,54 @@
+//! How a file is opened as a module.
+
+ghost use Rattle.std.specs.Prelude.{◌≡◌, ◌<◌, ◌^◌, ◌-◌, length, None, IfOk, OnOk, IfErr};
+ghost use Rattle.module_view.specs.ModuleParts.{view_of};
+ghost use Rattle.module_view.specs.Opening.{opening_error, RefusesToOpen};
+
+use crate::error::ModuleError;
+use crate::first_bytes::form_shown;
+use crate::input_module::{Module, Origin};
+use crate::sections::judge_sections;
+use crate::symbols::{SymbolLists, read_symbols};
+use coff_object::{LongTexts, Object};
+use std::alloc::Global;
+
+/// The module with these bytes. They are refused for the first of: a form that the first bytes show (`Unsupported`), a fault
+/// of the object (`Object`), a section that the linker makes itself, a name of more than 32,000 bytes, and a form that is
+/// not linked yet (`Unsupported`).
+pub fn open_module<'a>(
+    alloc: Global,
+    origin: Origin<'a>,
+    bytes: &'a [u8],
+) -> Result<Module<'a>, ModuleError>
+    requires { length bytes.now < 2 ^ 32 - 1 }
+    ensures opened { IfOk result (λ m. m ≡ view_of origin.entry bytes.now) }
+    ensures accepted { OnOk result (opening_error bytes.now ≡ None) }
+    ensures refused { IfErr result (RefusesToOpen (opening_error bytes.now)) }
+{
+    if let Some(kind) = form_shown(bytes) {
+        return Err(ModuleError::Unsupported(kind));
+    }
+    let object = match Object::open(bytes) {
+        Ok(object) => object,
+        Err(error) => return Err(ModuleError::Object(error)),
+    };
+    let texts = LongTexts::of(alloc, object.string_table())?;
+    let unbuilt = match judge_sections(&object, &texts) {
+        Ok(unbuilt) => unbuilt,
+        Err(kind) => return Err(ModuleError::Unsupported(kind)),
+    };
+    let SymbolLists {
+        definitions,
+        starts,
+    } = match read_symbols(alloc, &object, &texts, unbuilt) {
+        Ok(lists) => lists,
+        Err(error) => return Err(error),
+    };
+    Ok(Module {
+        origin,
+        bytes,
+        object,
+        definitions,
+        starts,
+    })
+}

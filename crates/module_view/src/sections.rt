@@ -1,0 +1,93 @@
+//! What one pass over the sections of an object shows.
+
+ghost use Rattle.std.specs.Prelude.{◌≡◌, ◌≤◌, false, None, Some, IfOk, OnOk, IfErr, codes};
+ghost use Rattle.link_base.specs.NameText.{begins};
+ghost use Rattle.coff_object.specs.ObjectFile.{section_total, section_name_of, string_table};
+ghost use Rattle.module_view.specs.Unbuilt.{is_unbuilt_section, has_unbuilt_section};
+ghost use Rattle.module_view.specs.Opening.{is_linker_section, is_long};
+ghost use Rattle.module_view.specs.Steps.{section_form};
+
+use crate::unbuilt::is_unbuilt_section;
+use coff_object::{LongTexts, Object};
+use link_base::{Kind, Name};
+
+/// So many bytes of a section's name show whether the linker makes it itself.
+const LINKER_NAME_START: usize = 7;
+
+/// What a section shows.
+#[derive(Clone, Copy)]
+struct SectionForm {
+    is_linker: bool,
+    is_long: bool,
+    is_unbuilt: bool,
+}
+
+/// Whether a section of the object has a form that is not linked yet. The object is refused where one is a section that the
+/// linker makes itself, and else where one has a name that is too long.
+#[tactic(auto, unfolding(crate::specs::Steps::section_form))]
+pub(crate) fn judge_sections(object: &Object<'_>, texts: &LongTexts<'_>) -> Result<bool, Kind>
+    requires { texts.now ≡ string_table object.now }
+    ensures unbuilt { IfOk result (λ unbuilt. unbuilt ≡ has_unbuilt_section object.now) }
+    ensures accepted { OnOk result (section_form object.now ≡ None) }
+    ensures refused { IfErr result (λ kind. section_form object.now ≡ Some kind) }
+{
+    let mut long = false;
+    let mut unbuilt = false;
+    for index in 0..object.section_count() {
+        let form = section_form(object, texts, index + 1);
+        if form.is_linker {
+            return Err(Kind::LinkerSection);
+        }
+        long |= form.is_long;
+        unbuilt |= form.is_unbuilt;
+    }
+    if long {
+        return Err(Kind::LongName);
+    }
+    Ok(unbuilt)
+}
+
+/// What a section shows: of one whose name is too long not whether it has a form that is not linked yet.
+fn section_form(object: &Object<'_>, texts: &LongTexts<'_>, number: u32) -> SectionForm
+    requires table { texts.now ≡ string_table object.now }
+    requires first { 1 ≤ number }
+    requires last { number ≤ section_total object.now }
+    ensures linker { result.is_linker ≡ is_linker_section (section_name_of object.now number) }
+    ensures long { result.is_long ≡ is_long (section_name_of object.now number) }
+    ensures unbuilt { result.is_long ≡ false → result.is_unbuilt ≡ is_unbuilt_section object.now number }
+{
+    let name = object.section_name_start(number, LINKER_NAME_START);
+    let is_linker = is_linker_section(&name);
+    let is_long = texts.is_long_section(object, number);
+    if is_long {
+        return SectionForm {
+            is_linker,
+            is_long,
+            is_unbuilt: false,
+        };
+    }
+    let is_unbuilt = is_unbuilt_section(object, number);
+    SectionForm {
+        is_linker,
+        is_long,
+        is_unbuilt,
+    }
+}
+
+/// Whether a section of this name is one that the linker makes itself.
+#[tactic(auto, unfolding(crate::specs::Opening::is_linker_section))]
+fn is_linker_section(name: &Name<'_>) -> bool
+    ensures { result ≡ is_linker_section name.now }
+{
+    begins_import_table(name) || name.base_name() == Name::of(b".reloc")
+}
+
+/// Whether a section of this name is a part of the import tables.
+fn begins_import_table(name: &Name<'_>) -> bool
+    ensures { result ≡ begins name.now (codes ".idata$") }
+{
+    if name.is_import() {
+        return false;
+    }
+    name.rest().starts_with(b".idata$")
+}

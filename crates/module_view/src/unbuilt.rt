@@ -1,0 +1,90 @@
+//! Which sections and symbols have a form that is not linked yet.
+
+ghost use Rattle.std.specs.Prelude.{◌≡◌, ◌≤◌, ◌||◌, ◌&&◌, nat_lt, is_some, codes};
+ghost use Rattle.link_base.specs.NameText.{same_name};
+ghost use Rattle.link_base.specs.SectionName.{base_name};
+ghost use Rattle.coff_object.specs.ObjectFile.{section_total, name_in};
+ghost use Rattle.module_view.specs.PlacedSection.{comes_in};
+ghost use Rattle.module_view.specs.Unbuilt.{is_unbuilt_section, is_loader_name, is_outside_sections, is_import_reference, is_external_name, is_unbuilt_symbol};
+
+use crate::placed_section::comes_in;
+use coff_object::{Object, Section, SymbolRecord};
+use link_base::Name;
+use link_base::pe_format::{
+    SCN_LNK_COMDAT, SYM_ABSOLUTE, SYM_CLASS_EXTERNAL, SYM_CLASS_WEAK_EXTERNAL, SYM_UNDEFINED,
+};
+
+/// Whether a section needs more than a place.
+#[tactic(auto, unfolding(crate::specs::Unbuilt::is_unbuilt_section))]
+pub(crate) fn is_unbuilt_section(object: &Object<'_>, number: u32) -> bool
+    requires first { 1 ≤ number }
+    requires last { number ≤ section_total object.now }
+    ensures { result ≡ is_unbuilt_section object.now number }
+{
+    let section = object.section(number);
+    object.relocation_count(number) != 0
+        || section.flags & SCN_LNK_COMDAT != 0
+        || holds_directives(&section)
+        || is_special_section(&section)
+}
+
+/// Whether a section holds directives for the linker.
+fn holds_directives(section: &Section<'_>) -> bool
+    ensures { result ≡ (same_name section.now.name (codes ".drectve")
+        && (is_some section.now.body && nat_lt 0 section.now.size)) }
+{
+    section.name == Name::of(b".drectve") && section.body.is_some() && section.size > 0
+}
+
+/// Whether a section is an exception table that comes into the image, or holds resources.
+fn is_special_section(section: &Section<'_>) -> bool
+    ensures { result ≡ ((same_name (base_name section.now.name) (codes ".pdata")
+        && comes_in section.now.flags section.now.name)
+        || same_name (base_name section.now.name) (codes ".rsrc")) }
+{
+    let base = section.name.base_name();
+    (base == Name::of(b".pdata") && comes_in(section.flags, &section.name))
+        || base == Name::of(b".rsrc")
+}
+
+/// Whether a symbol needs more than an address in its section. Its name is read only where its class and its section ask
+/// for it.
+#[tactic(auto, unfolding(crate::specs::Unbuilt::is_unbuilt_symbol))]
+pub(crate) fn is_unbuilt_symbol(symbol: &SymbolRecord<'_>) -> bool
+    ensures { result ≡ is_unbuilt_symbol symbol.now }
+{
+    symbol.class() == SYM_CLASS_WEAK_EXTERNAL
+        || is_outside_sections(symbol)
+        || is_import_reference(symbol)
+        || is_loader_symbol(symbol)
+}
+
+/// Whether an external symbol is undefined, a common or absolute.
+fn is_outside_sections(symbol: &SymbolRecord<'_>) -> bool
+    ensures { result ≡ is_outside_sections symbol.now }
+{
+    let section = symbol.section();
+    symbol.class() == SYM_CLASS_EXTERNAL && (section == SYM_UNDEFINED || section == SYM_ABSOLUTE)
+}
+
+/// Whether an undefined symbol names an entry of the import address table.
+fn is_import_reference(symbol: &SymbolRecord<'_>) -> bool
+    ensures { result ≡ is_import_reference symbol.now }
+{
+    symbol.section() == SYM_UNDEFINED && symbol.name().is_import()
+}
+
+/// Whether an external or weak name is one that the loader of a program looks for.
+fn is_loader_symbol(symbol: &SymbolRecord<'_>) -> bool
+    ensures { result ≡ (is_external_name symbol.now && is_loader_name (name_in symbol.now)) }
+{
+    let class = symbol.class();
+    (class == SYM_CLASS_EXTERNAL || class == SYM_CLASS_WEAK_EXTERNAL)
+        && is_loader_name(&symbol.name())
+}
+
+fn is_loader_name(name: &Name<'_>) -> bool
+    ensures { result ≡ is_loader_name name.now }
+{
+    *name == Name::of(b"_tls_used") || *name == Name::of(b"_load_config_used")
+}
