@@ -1,158 +1,212 @@
 -- Words and files have one outcome.
-use Rattle.std.proofs.Common.{◌≡◌, ℕ, ◌+◌, false, List, length, get_or, Option, Some, None, refl, sym, ap, ◌∙◌, subst, inl, inr, ◌⊎◌, arith}
+use Rattle.std.proofs.Common.{◌≡◌, ℕ, ◌+◌, ◌<◌, Bool, true, false, List, length, Option, Some, None, Result, Ok, Err, refl, sym, ap, ◌∙◌, subst, inl, inr, ◌⊎◌, arith}
+use Rattle.std.proofs.lemmas.Bool.{cases_lt, false≢true}
 use Rattle.std.proofs.lemmas.List.{length-map}
 use Rattle.link_base.specs.declared.fault.Fault.{Fault}
-use Rattle.link_base.specs.declared.fault.Fault.TheVariants.{NotFound, FileTooLarge, InputLimit, BadObject, BadLibrary, BadImport, Unsupported, Duplicate, Undefined, BadTarget, BadMerge, TooManySections, ImageTooLarge}
+use Rattle.link_base.specs.declared.fault.Fault.TheVariants as faults
 use Rattle.link_files.specs.Store.{Store}
 use Rattle.section_group.specs.declared.piece.Piece.{Piece}
 use Rattle.section_group.specs.declared.piece.OutSection.{OutSection}
+use Rattle.section_group.specs.Merging.{IsFirstBadMerge, NamesFirstBad, merge_at}
 use Rattle.section_group.specs.Uniqueness.{SectionRow, row_of, rows_of}
 use Rattle.section_group.proofs.Theorems.{one_grouping}
 use Rattle.address_layout.specs.declared.layout.Placed.{Placed}
 use Rattle.address_layout.specs.declared.layout.Layout.{Layout}
+use Rattle.address_layout.specs.PermittedBase.{is_permitted}
 use Rattle.address_layout.specs.Places.{section_count}
 use Rattle.address_layout.specs.Layout.{IsLayout, HasImageSize, placed_at}
 use Rattle.address_layout.proofs.Theorems.{one_layout, one_image_size}
 use Rattle.address_layout.proofs.CallerLemmas.{layout_same_rows, size_same_rows}
 use Rattle.image_writer.specs.ExpectedImage.{ImagePlan}
-use Rattle.image_writer.specs.WrittenImage.{written_plan}
-use Rattle.linker_program.specs.LinkWords.{LinkRequest, requested}
-use Rattle.linker_program.specs.DefaultHeaders.{default_headers}
-use Rattle.linker_program.specs.Definitions.{all_definitions, definition_at}
-use Rattle.linker_program.specs.Pieces.{link_pieces, link_contents}
-use Rattle.linker_program.specs.Loading.{reading_fault, read_files}
-use Rattle.linker_program.specs.Outcome.{Plan, Outcome, Usage, Refused, Linked, link_input, files_fault, IsLayoutFault, IsRefusedLayout, IsImageOf, IsPlan, LayoutOutcome, OutcomeBehind, ReadOutcome, WordsOutcome, HasOutcome}
+use Rattle.image_writer.specs.WrittenImage.{written_plan, at_each_base}
+use Rattle.module_view.specs.Module.{ModuleView}
+use Rattle.link_pieces.specs.Pieces.{link_pieces, link_contents}
+use Rattle.link_words.specs.Outcome.{LinkOptions, CommandSaid, Link, At, Show, Gen, Refused as RefusedWord}
+use Rattle.link_words.specs.Commands.{words_say}
+use Rattle.link_plan.specs.Entry.{entry_place}
+use Rattle.link_image.specs.ImageHeaders.{headers_of}
+use Rattle.link_image.specs.LinkedImage.{link_input, base_rule, entry_rva, AreGrouped, IsImageOf}
+use Rattle.link_image.specs.BuildFaults.{IsBadMerge, HasTooManySections, IsTooLarge, HasBadBase, IsBuildFault}
+use Rattle.linker_program.specs.Loading.{reading_fault, read_files, joined}
+use Rattle.linker_program.specs.Unbuilt.{is_unbuilt_link}
+use Rattle.linker_program.specs.Outcome.{Plan, Outcome, Usage, Refused, Linked, inputs_fault, IsPlan, BuildOutcome, OutcomeAfter, InputsOutcome, LinkOutcome, AskedOutcome, CommandOutcome, WordsOutcome, HasOutcome}
 
-some_same : (a b : ℕ) → Some a ≡ Some b → a ≡ b
-some_same a b e = cc
+-- ---- the bad merge
 
--- ---- why there is no layout
+one_first : (given : List (List ℕ × List ℕ)) (first second : ℕ) → IsFirstBadMerge given first → IsFirstBadMerge given second → first ≡ second
+one_first given first second x y = elim (cases_lt first second) [
+  | inl lt ↦ absurd (y.before first lt x.bad)
+  | inr ge ↦ elim (cases_lt second first) [
+    | inl lt ↦ absurd (x.before second lt y.bad)
+    | inr le ↦ omega (arith, ge, le)
+  ]
+]
 
-abbrev pub LayoutFaultCases : List Piece → List OutSection → Fault → Type 0
-LayoutFaultCases pieces sections fault =
-    ((count : ℕ) × ((fault ≡ TooManySections count) × IsLayoutFault pieces sections (TooManySections count)))
-    ⊎ ((size : ℕ) × ((fault ≡ ImageTooLarge size) × IsLayoutFault pieces sections (ImageTooLarge size)))
+same_merge : (options : LinkOptions) (f g : Fault) → IsBadMerge options f → IsBadMerge options g → f ≡ g
+same_merge options f g x y =
+    let place = one_first options.merges x.named.place y.named.place x.named.first y.named.first in
+    let name : x.name ≡ y.name = x.named.named ∙ ap (λ (k : ℕ). (merge_at options.merges k).0) place ∙ sym y.named.named in
+    x.is ∙ ap (λ (n : List ℕ). faults.BadMerge n) name ∙ sym y.is
 
-pub layout_fault_cases : (pieces : List Piece) (sections : List OutSection) (fault : Fault) → IsLayoutFault pieces sections fault → LayoutFaultCases pieces sections fault
-layout_fault_cases pieces sections (TooManySections count) h = inl (count, (refl, h))
-layout_fault_cases pieces sections (ImageTooLarge size) h = inr (size, (refl, h))
-layout_fault_cases pieces sections (NotFound file member) h = absurd h
-layout_fault_cases pieces sections (FileTooLarge file member) h = absurd h
-layout_fault_cases pieces sections (InputLimit total) h = absurd h
-layout_fault_cases pieces sections (BadObject file member reason index) h = absurd h
-layout_fault_cases pieces sections (BadLibrary file member reason offset) h = absurd h
-layout_fault_cases pieces sections (BadImport file member reason) h = absurd h
-layout_fault_cases pieces sections (Unsupported file member reason) h = absurd h
-layout_fault_cases pieces sections (Duplicate name first second) h = absurd h
-layout_fault_cases pieces sections (Undefined name position) h = absurd h
-layout_fault_cases pieces sections (BadTarget reason position section relocation) h = absurd h
-layout_fault_cases pieces sections (BadMerge name) h = absurd h
+no_bad_merge : (options : LinkOptions) (pieces : List Piece) (sections : List OutSection) (fault : Fault) → IsBadMerge options fault → AreGrouped options pieces sections → ⊥
+no_bad_merge options pieces sections fault x grouped = grouped.merges x.named.place x.named.first.within x.named.first.bad
+
+-- ---- one layout
+
+same_rows : (options : LinkOptions) (pieces : List Piece) (xs ys : List OutSection) → AreGrouped options pieces xs → AreGrouped options pieces ys → rows_of xs ≡ rows_of ys
+same_rows options pieces xs ys x y = one_grouping (link_input options pieces) xs ys x.grouping y.grouping
 
 same_count : (xs ys : List OutSection) → rows_of xs ≡ rows_of ys → section_count xs false ≡ section_count ys false
 same_count xs ys rows = ap (λ (n : ℕ). n + 0) (sym (length-map xs row_of) ∙ ap length rows ∙ length-map ys row_of)
 
+-- grouped in two ways, there are as many sections
+counts : (options : LinkOptions) (pieces : List Piece) (xs ys : List OutSection) → AreGrouped options pieces xs → AreGrouped options pieces ys → section_count xs false ≡ section_count ys false
+counts options pieces xs ys x y = same_count xs ys (same_rows options pieces xs ys x y)
+
 has_size : (pieces : List Piece) (sections : List OutSection) (layout : Layout) → IsLayout pieces sections false layout → HasImageSize pieces sections false layout.image
-has_size pieces sections layout laid_out =
-    record { headers = layout.headers; placed = placed_at layout.sections.items; place = laid_out.place; arranged = laid_out.arranged }
+has_size pieces sections layout is =
+    record { headers = layout.headers; placed = placed_at layout.sections.items; place = is.standing.place; arranged = is.standing.arranged }
 
-same_refused : (modules : List (List ℕ)) (f g : Fault) → IsRefusedLayout modules f → IsRefusedLayout modules g → f ≡ g
-same_refused modules f g x y =
-    let pieces = link_pieces modules in
-    let rows = one_grouping (link_input modules) x.sections y.sections x.grouped y.grouped in
-    let count = same_count x.sections y.sections rows in
-    elim (layout_fault_cases pieces x.sections f x.refused) [
-      | inl a ↦ elim (layout_fault_cases pieces y.sections g y.refused) [
-        | inl b ↦ a.1.0 ∙ ap (λ (n : ℕ). TooManySections n) (a.1.1.0 ∙ count ∙ sym b.1.1.0) ∙ sym b.1.0
-        | inr b ↦ absurd (omega (arith, a.1.1.0, a.1.1.1, count, b.1.1.0))
-      ]
-      | inr a ↦ elim (layout_fault_cases pieces y.sections g y.refused) [
-        | inl b ↦ absurd (omega (arith, b.1.1.0, b.1.1.1, count, a.1.1.0))
-        | inr b ↦
-            a.1.0
-            ∙ ap (λ (n : ℕ). ImageTooLarge n) (one_image_size pieces y.sections false a.0 b.0 (size_same_rows pieces x.sections y.sections false a.0 rows a.1.1.1) b.1.1.1)
-            ∙ sym b.1.0
-      ]
-    ]
+-- grouped in two ways, the image has one size
+sizes : (options : LinkOptions) (pieces : List Piece) (xs ys : List OutSection) (size other : ℕ) → AreGrouped options pieces xs → AreGrouped options pieces ys → HasImageSize pieces xs false size → HasImageSize pieces ys false other → size ≡ other
+sizes options pieces xs ys size other x y has has_other =
+    one_image_size pieces ys false size other (size_same_rows pieces xs ys false size (same_rows options pieces xs ys x y) has) has_other
 
--- modules have no layout, or one
-refused_or_laid_out : (modules : List (List ℕ)) (f : Fault) (definition : ℕ) (image : ImagePlan) → IsRefusedLayout modules f → IsImageOf modules definition image → ⊥
-refused_or_laid_out modules f definition image x y =
+-- ---- one fault of what is built
+
+same_many : (options : LinkOptions) (modules : List ModuleView) (f g : Fault) → HasTooManySections options modules f → HasTooManySections options modules g → f ≡ g
+same_many options modules f g x y =
+    let count = counts options (link_pieces modules) x.sections y.sections x.grouped y.grouped in
+    x.is ∙ ap (λ (n : ℕ). faults.TooManySections n) (x.refused.0 ∙ count ∙ sym y.refused.0) ∙ sym y.is
+
+same_large : (options : LinkOptions) (modules : List ModuleView) (f g : Fault) → IsTooLarge options modules f → IsTooLarge options modules g → f ≡ g
+same_large options modules f g x y =
+    let size = sizes options (link_pieces modules) x.sections y.sections x.size y.size x.grouped y.grouped x.refused.1 y.refused.1 in
+    x.is ∙ ap (λ (n : ℕ). faults.ImageTooLarge n) size ∙ sym y.is
+
+many_or_large : (options : LinkOptions) (modules : List ModuleView) (f g : Fault) → HasTooManySections options modules f → IsTooLarge options modules g → ⊥
+many_or_large options modules f g x y =
+    let count = counts options (link_pieces modules) x.sections y.sections x.grouped y.grouped in
+    omega (arith, x.refused.0, x.refused.1, count, y.refused.0)
+
+many_or_base : (options : LinkOptions) (modules : List ModuleView) (f g : Fault) → HasTooManySections options modules f → HasBadBase options modules g → ⊥
+many_or_base options modules f g x y =
+    let count = counts options (link_pieces modules) x.sections y.sections x.grouped y.grouped in
+    omega (arith, x.refused.0, x.refused.1, count, y.placed.few)
+
+large_or_base : (options : LinkOptions) (modules : List ModuleView) (f g : Fault) → IsTooLarge options modules f → HasBadBase options modules g → ⊥
+large_or_base options modules f g x y =
     let pieces = link_pieces modules in
-    let rows = one_grouping (link_input modules) x.sections y.sections x.grouped y.grouped in
-    let count = same_count x.sections y.sections rows in
-    elim (layout_fault_cases pieces x.sections f x.refused) [
-      | inl a ↦ omega (arith, a.1.1.0, a.1.1.1, count, y.few)
-      | inr a ↦
-          let size = one_image_size pieces y.sections false a.0 y.layout.image (size_same_rows pieces x.sections y.sections false a.0 rows a.1.1.1) (has_size pieces y.sections y.layout y.laid_out) in
-          omega (arith, size, a.1.1.2, y.within)
-    ]
+    let size = sizes options pieces x.sections y.sections x.size y.layout.image x.grouped y.grouped x.refused.1 (has_size pieces y.sections y.layout y.placed.layout_of) in
+    omega (arith, size, x.refused.2, y.placed.within)
+
+same_fault : (options : LinkOptions) (modules : List ModuleView) (f g : Fault) → IsBuildFault options modules f → IsBuildFault options modules g → f ≡ g
+same_fault options modules f g (inl x) (inl y) = same_merge options f g x y
+same_fault options modules f g (inl x) (inr (inl y)) = absurd (no_bad_merge options (link_pieces modules) y.sections f x y.grouped)
+same_fault options modules f g (inl x) (inr (inr (inl y))) = absurd (no_bad_merge options (link_pieces modules) y.sections f x y.grouped)
+same_fault options modules f g (inl x) (inr (inr (inr y))) = absurd (no_bad_merge options (link_pieces modules) y.sections f x y.grouped)
+same_fault options modules f g (inr (inl x)) (inl y) = absurd (no_bad_merge options (link_pieces modules) x.sections g y x.grouped)
+same_fault options modules f g (inr (inl x)) (inr (inl y)) = same_many options modules f g x y
+same_fault options modules f g (inr (inl x)) (inr (inr (inl y))) = absurd (many_or_large options modules f g x y)
+same_fault options modules f g (inr (inl x)) (inr (inr (inr y))) = absurd (many_or_base options modules f g x y)
+same_fault options modules f g (inr (inr (inl x))) (inl y) = absurd (no_bad_merge options (link_pieces modules) x.sections g y x.grouped)
+same_fault options modules f g (inr (inr (inl x))) (inr (inl y)) = absurd (many_or_large options modules g f y x)
+same_fault options modules f g (inr (inr (inl x))) (inr (inr (inl y))) = same_large options modules f g x y
+same_fault options modules f g (inr (inr (inl x))) (inr (inr (inr y))) = absurd (large_or_base options modules f g x y)
+same_fault options modules f g (inr (inr (inr x))) (inl y) = absurd (no_bad_merge options (link_pieces modules) x.sections g y x.grouped)
+same_fault options modules f g (inr (inr (inr x))) (inr (inl y)) = absurd (many_or_base options modules g f y x)
+same_fault options modules f g (inr (inr (inr x))) (inr (inr (inl y))) = absurd (large_or_base options modules g f y x)
+same_fault options modules f g (inr (inr (inr x))) (inr (inr (inr y))) = x.is ∙ sym y.is
+
+-- modules have a fault, or an image
+fault_or_image : (options : LinkOptions) (modules : List ModuleView) (f : Fault) (image : ImagePlan) → IsBuildFault options modules f → IsImageOf options modules image → ⊥
+fault_or_image options modules f image (inl x) y = no_bad_merge options (link_pieces modules) y.sections f x y.grouped
+fault_or_image options modules f image (inr (inl x)) y =
+    let count = counts options (link_pieces modules) x.sections y.sections x.grouped y.grouped in
+    omega (arith, x.refused.0, x.refused.1, count, y.placed.few)
+fault_or_image options modules f image (inr (inr (inl x))) y =
+    let pieces = link_pieces modules in
+    let size = sizes options pieces x.sections y.sections x.size y.layout.image x.grouped y.grouped x.refused.1 (has_size pieces y.sections y.layout y.placed.layout_of) in
+    omega (arith, size, x.refused.2, y.placed.within)
+fault_or_image options modules f image (inr (inr (inr x))) y =
+    let pieces = link_pieces modules in
+    let size = sizes options pieces x.sections y.sections x.layout.image y.layout.image x.grouped y.grouped (has_size pieces x.sections x.layout x.placed.layout_of) (has_size pieces y.sections y.layout y.placed.layout_of) in
+    let same : is_permitted (base_rule options) x.layout.image options.base ≡ is_permitted (base_rule options) y.layout.image options.base = ap (λ (n : ℕ). is_permitted (base_rule options) n options.base) size in
+    false≢true (sym x.refused ∙ same ∙ y.permitted)
 
 -- ---- the plan
 
-same_image : (modules : List (List ℕ)) (definition : ℕ) (a b : ImagePlan) → IsImageOf modules definition a → IsImageOf modules definition b → a ≡ b
-same_image modules definition a b x y =
+same_image : (options : LinkOptions) (modules : List ModuleView) (a b : ImagePlan) → IsImageOf options modules a → IsImageOf options modules b → a ≡ b
+same_image options modules a b x y =
     let pieces = link_pieces modules in
-    let contents = link_contents modules in
-    let value = (definition_at (all_definitions modules) definition).value in
-    let rows = one_grouping (link_input modules) x.sections y.sections x.grouped y.grouped in
-    let same = one_layout pieces y.sections false x.layout y.layout (layout_same_rows pieces x.sections y.sections false x.layout rows x.laid_out) y.laid_out in
-    let piece = some_same x.is_entry.piece y.is_entry.piece (sym x.is_entry.stands ∙ y.is_entry.stands) in
-    let entry : x.entry ≡ y.entry =
-    x.is_entry.is
-    ∙ ap (λ (k : ℕ). get_or x.layout.pieces.items k 0 + value) piece
-    ∙ ap (λ (rvas : List ℕ). get_or rvas y.is_entry.piece 0 + value) (sym same.pieces)
-    ∙ sym y.is_entry.is
-    in
+    let contents = at_each_base (link_contents modules) in
+    let place = entry_place modules options.entry_name in
+    let rows = same_rows options pieces x.sections y.sections x.grouped y.grouped in
+    let same = one_layout pieces y.sections false x.layout y.layout (layout_same_rows pieces x.sections y.sections false x.layout rows x.placed.layout_of) y.placed.layout_of in
     x.is
-    ∙ ap (λ (e : ℕ). written_plan (default_headers e) (rows_of x.sections) x.layout.sections.items x.layout.pieces.items x.layout.image contents) entry
-    ∙ ap (λ (r : List SectionRow). written_plan (default_headers y.entry) r x.layout.sections.items x.layout.pieces.items x.layout.image contents) rows
-    ∙ ap (λ (p : List Placed). written_plan (default_headers y.entry) (rows_of y.sections) p x.layout.pieces.items x.layout.image contents) (sym same.sections)
-    ∙ ap (λ (r : List ℕ). written_plan (default_headers y.entry) (rows_of y.sections) y.layout.sections.items r x.layout.image contents) (sym same.pieces)
-    ∙ ap (λ (n : ℕ). written_plan (default_headers y.entry) (rows_of y.sections) y.layout.sections.items y.layout.pieces.items n contents) (sym same.image)
+    ∙ ap (λ (r : List SectionRow). written_plan (headers_of options (entry_rva x.layout.pieces.items place)) r x.layout.sections.items x.layout.pieces.items x.layout.image contents) rows
+    ∙ ap (λ (p : List Placed). written_plan (headers_of options (entry_rva x.layout.pieces.items place)) (rows_of y.sections) p x.layout.pieces.items x.layout.image contents) (sym same.sections)
+    ∙ ap (λ (r : List ℕ). written_plan (headers_of options (entry_rva r place)) (rows_of y.sections) y.layout.sections.items r x.layout.image contents) (sym same.pieces)
+    ∙ ap (λ (n : ℕ). written_plan (headers_of options (entry_rva y.layout.pieces.items place)) (rows_of y.sections) y.layout.sections.items y.layout.pieces.items n contents) (sym same.image)
     ∙ sym y.is
 
-plan_from : List ℕ → List (List ℕ) → ImagePlan → Plan
-plan_from output modules image = record { output = output; modules = modules; image = image }
+plan_from : LinkOptions → List ModuleView → ImagePlan → Plan
+plan_from options modules image = record { options = options; modules = modules; image = image }
 
-same_parts : (p q : Plan) → p.output ≡ q.output → p.modules ≡ q.modules → p.image ≡ q.image → p ≡ q
+same_parts : (p q : Plan) → p.options ≡ q.options → p.modules ≡ q.modules → p.image ≡ q.image → p ≡ q
 unfolding plan_from
-same_parts p q output modules image =
-    let start : p ≡ plan_from p.output p.modules p.image = refl in
-    let end : q ≡ plan_from q.output q.modules q.image = refl in
+same_parts p q options modules image =
+    let start : p ≡ plan_from p.options p.modules p.image = refl in
+    let end : q ≡ plan_from q.options q.modules q.image = refl in
     start
-    ∙ ap (λ (o : List ℕ). plan_from o p.modules p.image) output
-    ∙ ap (λ (m : List (List ℕ)). plan_from q.output m p.image) modules
-    ∙ ap (λ (i : ImagePlan). plan_from q.output q.modules i) image
+    ∙ ap (λ (o : LinkOptions). plan_from o p.modules p.image) options
+    ∙ ap (λ (m : List ModuleView). plan_from q.options m p.image) modules
+    ∙ ap (λ (i : ImagePlan). plan_from q.options q.modules i) image
     ∙ sym end
 
-same_plan : (request : LinkRequest) (modules : List (List ℕ)) (p q : Plan) → IsPlan request modules p → IsPlan request modules q → p ≡ q
-same_plan request modules p q x y =
-    let definition = some_same x.definition y.definition (sym x.defined ∙ y.defined) in
-    same_parts p q (x.output ∙ sym y.output) (x.joined ∙ sym y.joined)
-    (same_image modules y.definition p.image q.image (subst (λ (k : ℕ). IsImageOf modules k p.image) definition x.image) y.image)
+same_plan : (options : LinkOptions) (modules : List ModuleView) (p q : Plan) → IsPlan options modules p → IsPlan options modules q → p ≡ q
+same_plan options modules p q x y =
+    same_parts p q (x.options_are ∙ sym y.options_are) (x.modules_are ∙ sym y.modules_are) (same_image options modules p.image q.image x.image_is y.image_is)
 
 -- ---- the outcome
 
-same_layout : (request : LinkRequest) (modules : List (List ℕ)) (a b : Outcome) → LayoutOutcome request modules a → LayoutOutcome request modules b → a ≡ b
-same_layout request modules (Usage index reason) b x y = absurd x
-same_layout request modules (Refused f) (Usage index reason) x y = absurd y
-same_layout request modules (Refused f) (Refused g) x y = ap (λ (h : Fault). Refused h) (same_refused modules f g x y)
-same_layout request modules (Refused f) (Linked q) x y = absurd (refused_or_laid_out modules f y.definition q.image x y.image)
-same_layout request modules (Linked p) (Usage index reason) x y = absurd y
-same_layout request modules (Linked p) (Refused g) x y = absurd (refused_or_laid_out modules g x.definition p.image y x.image)
-same_layout request modules (Linked p) (Linked q) x y = ap (λ (r : Plan). Linked r) (same_plan request modules p q x y)
+same_built : (options : LinkOptions) (modules : List ModuleView) (a b : Outcome) → BuildOutcome options modules a → BuildOutcome options modules b → a ≡ b
+same_built options modules (Usage index kind) b x y = absurd x
+same_built options modules (Refused f) (Usage index kind) x y = absurd y
+same_built options modules (Refused f) (Refused g) x y = ap (λ (h : Fault). Refused h) (same_fault options modules f g x y)
+same_built options modules (Refused f) (Linked q) x y = absurd (fault_or_image options modules f q.image x y.image_is)
+same_built options modules (Linked p) (Usage index kind) x y = absurd y
+same_built options modules (Linked p) (Refused g) x y = absurd (fault_or_image options modules g p.image y x.image_is)
+same_built options modules (Linked p) (Linked q) x y = ap (λ (r : Plan). Linked r) (same_plan options modules p q x y)
 
-same_behind : (request : LinkRequest) (modules : List (List ℕ)) (fault : Option Fault) (a b : Outcome) → OutcomeBehind request modules fault a → OutcomeBehind request modules fault b → a ≡ b
-same_behind request modules None a b x y = same_layout request modules a b x y
-same_behind request modules (Some f) a b x y = x ∙ sym y
+-- a stage before a later one that has one outcome
+same_after : (fault : Option Fault) (later : Outcome → Type 0) (a b : Outcome) → ((c d : Outcome) → later c → later d → c ≡ d) → OutcomeAfter fault later a → OutcomeAfter fault later b → a ≡ b
+same_after None later a b one x y = one a b x y
+same_after (Some f) later a b one x y = x ∙ sym y
 
-same_read : (request : LinkRequest) (files : List (List ℕ)) (fault : Option Fault) (a b : Outcome) → ReadOutcome request files fault a → ReadOutcome request files fault b → a ≡ b
-same_read request files None a b x y = same_behind request files (files_fault request files) a b x y
-same_read request files (Some f) a b x y = x ∙ sym y
+same_inputs : (options : LinkOptions) (files : List (List ℕ)) (a b : Outcome) → InputsOutcome options files a → InputsOutcome options files b → a ≡ b
+same_inputs options files a b x y =
+    let modules = joined options.inputs files in
+    same_after (inputs_fault options files) (BuildOutcome options modules) a b (same_built options modules) x y
 
-same_words : (asked : Option LinkRequest) (store : Store) (a b : Outcome) → WordsOutcome asked store a → WordsOutcome asked store b → a ≡ b
-same_words None store a b x y = x ∙ sym y
-same_words (Some request) store a b x y = same_read request (read_files store request.inputs) (reading_fault store request.inputs) a b x y
+same_link : (options : LinkOptions) (store : Store) (a b : Outcome) → LinkOutcome options store a → LinkOutcome options store b → a ≡ b
+same_link options store a b x y =
+    let files = read_files store options.inputs in
+    same_after (reading_fault store options.inputs) (InputsOutcome options files) a b (same_inputs options files) x y
+
+same_asked : (asks : Bool) (options : LinkOptions) (store : Store) (a b : Outcome) → AskedOutcome asks options store a → AskedOutcome asks options store b → a ≡ b
+same_asked true options store a b x y = x ∙ sym y
+same_asked false options store a b x y = same_link options store a b x y
+
+same_command : (command : CommandSaid) (store : Store) (a b : Outcome) → CommandOutcome command store a → CommandOutcome command store b → a ≡ b
+same_command (Link options) store a b x y = same_asked (is_unbuilt_link options) options store a b x y
+same_command (At image base rva len) store a b x y = x ∙ sym y
+same_command (Show image pdb base symbol len) store a b x y = x ∙ sym y
+same_command (Gen n) store a b x y = x ∙ sym y
+
+same_words : (said : Result CommandSaid RefusedWord) (store : Store) (a b : Outcome) → WordsOutcome said store a → WordsOutcome said store b → a ≡ b
+same_words (Err refused) store a b x y = x ∙ sym y
+same_words (Ok command) store a b x y = same_command command store a b x y
 
 pub one_outcome : (words : List (List ℕ)) (store : Store) (first second : Outcome) → HasOutcome words store first → HasOutcome words store second → first ≡ second
-one_outcome words store first second x y = same_words (requested words) store first second x.is y.is
+one_outcome words store first second x y = same_words (words_say words) store first second x.is y.is

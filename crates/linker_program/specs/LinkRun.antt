@@ -9,7 +9,7 @@ use Rattle.link_files.specs.Store.{Store}
 use Rattle.link_files.specs.Outside.{FilesView, SinkView, AreUntouched, ReadFailed, LinePrinted, LineTorn, NothingPrinted}
 use Rattle.link_files.specs.Outputs.{NamedBytes, output_at, FirstWritten, NextTorn}
 use Rattle.image_writer.specs.ExpectedImage.{MeansPlan}
-use Rattle.link_words.specs.LinkWords.{Refused as RefusedWord}
+use Rattle.link_words.specs.Outcome.{Refused as RefusedWord}
 use Rattle.link_words.specs.Outcome.{CommandSaid, Link}
 use Rattle.link_words.specs.Commands.{words_say}
 use Rattle.linker_program.specs.declared.status.Status.{Status}

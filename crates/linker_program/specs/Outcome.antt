@@ -6,7 +6,7 @@ use Rattle.link_base.specs.declared.fault.Fault.{Fault}
 use Rattle.link_files.specs.Store.{Store}
 use Rattle.image_writer.specs.ExpectedImage.{ImagePlan}
 use Rattle.module_view.specs.Module.{ModuleView}
-use Rattle.link_words.specs.LinkWords.{Refused as RefusedWord}
+use Rattle.link_words.specs.Outcome.{Refused as RefusedWord}
 use Rattle.link_words.specs.Outcome.{LinkOptions, CommandSaid, Link, At, Show, Gen}
 use Rattle.link_words.specs.Commands.{words_say}
 use Rattle.link_words.specs.UsageWord.{usage_word}

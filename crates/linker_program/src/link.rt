@@ -81,10 +81,11 @@ fn make<'a>(
     ensures refused { IfErr result (RefusesInputs (options_said options.now) (file_bytes inputs.now)) }
 {
     let modules = open_modules(alloc, &options.inputs, inputs)?;
+    let count = modules.len();
     let plan = plan_of(alloc, modules, options)?;
     let built = build(alloc, &plan, options)?;
     Ok(Linked {
-        modules: plan.modules.len(),
+        modules: count,
         sections: built.sections,
         image: built.image,
     })

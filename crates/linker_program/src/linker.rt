@@ -79,9 +79,9 @@ fn answer<F: Files>(alloc: Global, files: &mut F, words: &[String]) -> Result<An
             }
             link(alloc, files, &options)
         }
-        Ok(Command::At { .. } | Command::Show { .. } | Command::Gen { .. }) => {
-            words_refused(alloc, 0, b"NotBuilt")
-        }
+        Ok(Command::At { .. }) => words_refused(alloc, 0, b"NotBuilt"),
+        Ok(Command::Show { .. }) => words_refused(alloc, 0, b"NotBuilt"),
+        Ok(Command::Gen { .. }) => words_refused(alloc, 0, b"NotBuilt"),
         Err(WordsError::Usage { index, kind }) => words_refused(alloc, index, usage_word(kind)),
         Err(WordsError::Memory) => Err(Memory),
     }

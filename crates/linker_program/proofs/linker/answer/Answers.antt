@@ -1,8 +1,65 @@
-use Rattle.std.proofs.Common.{map, string_bytes, sym}
-use Rattle.linker_program.specs.Steps.{files_of}
-use Rattle.linker_program.proofs.StepLemmas.{if_words_refused}
+use Rattle.std.proofs.Common.{◌≡◌, map, string_bytes, Ok, refl, sym, ap, ◌∙◌}
+use Rattle.link_files.specs.Outside.{files_of}
+use Rattle.link_words.specs.Outcome.{CommandSaid, Link, At, Show, Gen, options_said, command_said}
+use Rattle.link_words.specs.Commands.{words_say}
+use Rattle.linker_program.proofs.StepLemmas.{if_unbuilt, if_words_refused, if_linked, on_linked}
 use Rattle.linker_program.proofs.linker.answer.Goals as goal
 
-pub returns-in-None-clause-answered : goal.returns-in-None-clause-answered
-returns-in-None-clause-answered g c =
-    if_words_refused c.words_refused.result (files_of g.F.Files.store g.F.Files.read_faults g.F.Files.write_faults c.args.files.now) (map string_bytes c.args.words.now) (sym c.in-None.ensures) c.words_refused.ensures
+pub returns-then-is_unbuilt_link-clause-answered : goal.returns-then-is_unbuilt_link-clause-answered
+returns-then-is_unbuilt_link-clause-answered g c =
+    let files = files_of g.F.Files.store g.F.Files.read_faults g.F.Files.write_faults c.args.files.now in
+    let words = map string_bytes c.args.words.now in
+    let options = options_said c.in-Ok-Link.options in
+    let said : words_say words ≡ Ok (Link options) = rw c.in-Ok-Link.field-0-is at c.in-Ok-Link.ensures in
+    let asked = sym c.is_unbuilt_link.ensures ∙ c.if-is_unbuilt_link.true in
+    if_unbuilt c.words_refused.result words files (Link options) said (λ store. rw asked refl) c.words_refused.ensures
+
+pub returns-else-is_unbuilt_link-clause-answered : goal.returns-else-is_unbuilt_link-clause-answered
+returns-else-is_unbuilt_link-clause-answered g c =
+    let before = files_of g.F.Files.store g.F.Files.read_faults g.F.Files.write_faults c.args.files.now in
+    let after = files_of g.F.Files.store g.F.Files.read_faults g.F.Files.write_faults c.link.new.files in
+    let words = map string_bytes c.args.words.now in
+    let options = options_said c.in-Ok-Link.options in
+    let said : words_say words ≡ Ok (Link options) = rw c.in-Ok-Link.field-0-is at c.in-Ok-Link.ensures in
+    let built = sym c.is_unbuilt_link.ensures ∙ c.if-is_unbuilt_link.false in
+    if_linked c.link.result words before after options said built c.link.ensures.answered
+
+pub returns-else-is_unbuilt_link-clause-memory : goal.returns-else-is_unbuilt_link-clause-memory
+returns-else-is_unbuilt_link-clause-memory g c =
+    let before = files_of g.F.Files.store g.F.Files.read_faults g.F.Files.write_faults c.args.files.now in
+    let after = files_of g.F.Files.store g.F.Files.read_faults g.F.Files.write_faults c.link.new.files in
+    let words = map string_bytes c.args.words.now in
+    let options = options_said c.in-Ok-Link.options in
+    let said : words_say words ≡ Ok (Link options) = rw c.in-Ok-Link.field-0-is at c.in-Ok-Link.ensures in
+    let built = sym c.is_unbuilt_link.ensures ∙ c.if-is_unbuilt_link.false in
+    on_linked c.link.result words before after options said built c.link.ensures.memory
+
+pub returns-in-Ok-At-clause-answered : goal.returns-in-Ok-At-clause-answered
+returns-in-Ok-At-clause-answered g c =
+    let files = files_of g.F.Files.store g.F.Files.read_faults g.F.Files.write_faults c.args.files.now in
+    let words = map string_bytes c.args.words.now in
+    let command : CommandSaid = At c.in-Ok-At.field-0-0.now c.in-Ok-At.field-0-1 c.in-Ok-At.field-0-2 c.in-Ok-At.field-0-3 in
+    let said : words_say words ≡ Ok command = rw c.in-Ok-At.field-0-is at c.in-Ok-At.ensures in
+    if_unbuilt c.words_refused-in-Ok-At.result words files command said (λ store. refl) c.words_refused-in-Ok-At.ensures
+
+pub returns-in-Ok-Show-clause-answered : goal.returns-in-Ok-Show-clause-answered
+returns-in-Ok-Show-clause-answered g c =
+    let files = files_of g.F.Files.store g.F.Files.read_faults g.F.Files.write_faults c.args.files.now in
+    let words = map string_bytes c.args.words.now in
+    let command : CommandSaid = Show c.in-Ok-Show.field-0-0.now c.in-Ok-Show.field-0-1.now c.in-Ok-Show.field-0-2 c.in-Ok-Show.field-0-3.now c.in-Ok-Show.field-0-4 in
+    let said : words_say words ≡ Ok command = rw c.in-Ok-Show.field-0-is at c.in-Ok-Show.ensures in
+    if_unbuilt c.words_refused-in-Ok-Show.result words files command said (λ store. refl) c.words_refused-in-Ok-Show.ensures
+
+pub returns-in-Ok-Gen-clause-answered : goal.returns-in-Ok-Gen-clause-answered
+returns-in-Ok-Gen-clause-answered g c =
+    let files = files_of g.F.Files.store g.F.Files.read_faults g.F.Files.write_faults c.args.files.now in
+    let words = map string_bytes c.args.words.now in
+    let command : CommandSaid = Gen c.in-Ok-Gen.field-0-0 in
+    let said : words_say words ≡ Ok command = rw c.in-Ok-Gen.field-0-is at c.in-Ok-Gen.ensures in
+    if_unbuilt c.words_refused-in-Ok-Gen.result words files command said (λ store. refl) c.words_refused-in-Ok-Gen.ensures
+
+pub returns-in-Err-Usage-clause-answered : goal.returns-in-Err-Usage-clause-answered
+returns-in-Err-Usage-clause-answered g c =
+    let files = files_of g.F.Files.store g.F.Files.read_faults g.F.Files.write_faults c.args.files.now in
+    if_words_refused c.words_refused-in-Err-Usage.result (map string_bytes c.args.words.now) files c.in-Err-Usage.index c.in-Err-Usage.kind
+    (rw c.in-Err-Usage.field-0-is at c.in-Err-Usage.ensures) (rw c.usage_word.ensures at c.words_refused-in-Err-Usage.ensures)

@@ -1,5 +1,5 @@
 use Rattle.std.proofs.Common.{map, string_bytes}
-use Rattle.linker_program.specs.Steps.{files_of, printed_by}
+use Rattle.link_files.specs.Outside.{files_of, printed_by}
 use Rattle.linker_program.proofs.RunLemmas.{owed}
 use Rattle.linker_program.proofs.linker.run.Goals as goal
 

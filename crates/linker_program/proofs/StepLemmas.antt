@@ -1,0 +1,331 @@
+-- From what the steps of a run promise to what the run promises.
+use Rattle.std.proofs.Common.{◌≡◌, ℕ, ◌<◌, ◌≤◌, List, [], length, map, Option, Result, Ok, Err, refl, sym, ap, ◌∙◌, subst, arith, inl, inr}
+use Rattle.std.specs.Prelude.{IfOk, IfErr, OnErr, Some, None, false, codes}
+use Rattle.std.specs.Prelude.{Vec}
+use Rattle.std.specs.declared.alloc.Global.{Global}
+use Rattle.std.specs.Borrow.{Bor}
+use Rattle.std.specs.List.{All}
+use Rattle.std.proofs.lemmas.List.{length-map, get_or-map}
+use Rattle.link_base.specs.Limits.{FILE_LIMIT}
+use Rattle.link_base.specs.declared.fault.Fault.{Fault}
+use Rattle.link_base.specs.declared.memory.Memory.{Memory}
+use Rattle.link_base.specs.declared.stop.Refusal.{Refusal}
+use Rattle.link_base.specs.declared.stop.Refusal.TheVariants as refusal
+use Rattle.link_base.specs.Refusals.{RefusesFor}
+use Rattle.link_files.specs.Store.{Store}
+use Rattle.link_files.specs.Outside.{FilesView, AreUntouched, ReadFailed}
+use Rattle.link_files.specs.Outputs.{NamedBytes, output_at, FirstWritten, NextTorn}
+use Rattle.image_writer.specs.ExpectedImage.{ImagePlan}
+use Rattle.module_view.specs.Module.{ModuleView}
+use Rattle.link_words.specs.Outcome.{LinkOptions, CommandSaid, Link, texts_of, refuse}
+use Rattle.link_words.specs.declared.errors.UsageKind.{UsageKind}
+use Rattle.link_words.specs.UsageWord.{usage_word}
+use Rattle.link_words.specs.Commands.{words_say}
+use Rattle.link_plan.specs.declared.plan.LinkPlan.{LinkPlan}
+use Rattle.link_plan.specs.PlanFaults.{plan_fault}
+use Rattle.link_plan.specs.Plan.{IsPlanOf}
+use Rattle.link_image.specs.declared.make.Built.{Built}
+use Rattle.link_image.specs.LinkedImage.{IsBuilt}
+use Rattle.link_image.specs.BuildFaults.{IsBuildFault, RefusesBuild}
+use Rattle.linker_program.specs.declared.answer.Answer.{Answer}
+use Rattle.linker_program.specs.declared.linked.Linked.{Linked as LinkedBytes}
+use Rattle.linker_program.specs.declared.status.Status.{Status}
+use Rattle.linker_program.specs.declared.status.Status.TheVariants as status
+use Rattle.linker_program.specs.Loading.{reading_fault, read_files, opening_fault, joined}
+use Rattle.linker_program.specs.Outcome.{Outcome, Usage, Refused, Linked, Plan, inputs_fault, IsPlan, InputsOutcome, LinkOutcome, unbuilt, CommandOutcome, HasOutcome}
+use Rattle.linker_program.specs.Unbuilt.{is_unbuilt_link}
+use Rattle.linker_program.specs.RunLines.{read_failure_line, write_failure_line}
+use Rattle.linker_program.specs.LinkRun.{outputs_of, Expects, IsMade, LinkAnswers, LeftByMemory, NothingWritten, asked_inputs, Answers}
+use Rattle.linker_program.specs.ReadingSteps.{GivesInputs, FaultsInputs, FailsInputs, file_bytes}
+use Rattle.linker_program.specs.Steps.{Refuses, RefusesWords, TellsReadFailure, InputsHave, IsLinked, RefusesInputs, AnswersWrite, LeftByWrites}
+use Rattle.linker_program.specs.WriteSteps.{linked_outputs, linked_summary}
+
+pub untouched : (files : FilesView) → AreUntouched files files
+untouched files = record { store = refl; reads = refl; writes = refl }
+
+files_from : Option Store → ℕ → ℕ → FilesView
+files_from store reads writes = record { store = store; read_faults = reads; write_faults = writes }
+
+same_files : (before after : FilesView) → AreUntouched before after → after ≡ before
+unfolding files_from
+same_files before after kept =
+    let start : after ≡ files_from after.store after.read_faults after.write_faults = refl in
+    let end : before ≡ files_from before.store before.read_faults before.write_faults = refl in
+    start
+    ∙ ap (λ (s : Option Store). files_from s after.read_faults after.write_faults) kept.store
+    ∙ ap (λ (n : ℕ). files_from before.store n after.write_faults) kept.reads
+    ∙ ap (λ (n : ℕ). files_from before.store before.read_faults n) kept.writes
+    ∙ sym end
+
+-- ---- what is said of one outcome is said of another that follows
+
+-- where the files are told, one outcome follows from the other
+abbrev pub Follows : (Store → Outcome → Type 0) → (Store → Outcome → Type 0) → FilesView → Type 0
+Follows has later files = (store : Store) → files.store ≡ Some store → (outcome : Outcome) → has store outcome → later store outcome
+
+expects_later : (has later : Store → Outcome → Type 0) (files : FilesView) (outcome : Outcome) → Follows has later files → Expects has files outcome → Expects later files outcome
+expects_later has later files outcome follows expects = record { told = λ store is. follows store is outcome (expects.told store is) }
+
+made_later : (has later : Store → Outcome → Type 0) (files : FilesView) (plan : Plan) (image : List ℕ) → Follows has later files → IsMade has files plan image → IsMade later files plan image
+made_later has later files plan image follows made = record {
+  outcome = expects_later has later files (Linked plan) follows made.outcome;
+  means = made.means;
+}
+
+answers_later : (has later : Store → Outcome → Type 0) (inputs : List (List ℕ)) (before after : FilesView) (answer : Status) (line : List ℕ) → Follows has later before → LinkAnswers has inputs before after answer line → LinkAnswers later inputs before after answer line
+answers_later has later inputs before after status.Done line follows h = (
+  h.0,
+  (h.1.0, record { made = made_later has later before h.0 h.1.0 follows h.1.1.made; files = h.1.1.files; says = h.1.1.says }),
+)
+answers_later has later inputs before after status.Refused line follows h =
+    (h.0, record { outcome = expects_later has later before (Refused h.0) follows h.1.outcome; files = h.1.files; says = h.1.says })
+answers_later has later inputs before after status.ReadFailed line follows h = h
+answers_later has later inputs before after status.WriteFailed line follows h = (
+  h.0,
+  (
+    h.1.0,
+    (h.1.1.0, record { made = made_later has later before h.0 h.1.0 follows h.1.1.1.made; files = h.1.1.1.files; says = h.1.1.1.says }),
+  ),
+)
+answers_later has later inputs before after status.Usage line follows h = absurd h
+answers_later has later inputs before after status.OutOfMemory line follows h = absurd h
+answers_later has later inputs before after status.PutFailed line follows h = absurd h
+
+left_later : (has later : Store → Outcome → Type 0) (before after : FilesView) → Follows has later before → LeftByMemory has before after → LeftByMemory later before after
+left_later has later before after follows left = elim left [
+  | inl nothing ↦ inl nothing
+  | inr some ↦ inr (
+    some.0,
+    (some.1.0, record { made = made_later has later before some.0 some.1.0 follows some.1.1.made; count = some.1.1.count; files = some.1.1.files }),
+  )
+]
+
+-- ---- an input that is refused
+
+refused_answer : (has : Store → Outcome → Type 0) (inputs : List (List ℕ)) (before after : FilesView) (fault : Fault) (answer : Answer) → AreUntouched before after → Refuses answer fault → Expects has before (Refused fault) → LinkAnswers has inputs before after answer.status answer.line.items
+refused_answer has inputs before after fault answer kept refuses expects =
+    subst (λ (s : Status). LinkAnswers has inputs before after s answer.line.items) (sym refuses.status) (fault, record { outcome = expects; files = kept; says = refuses.line })
+
+pub if_refused : (r : Result Answer Memory) (has : Store → Outcome → Type 0) (inputs : List (List ℕ)) (before after : FilesView) (fault : Fault) → AreUntouched before after → Expects has before (Refused fault) → IfOk r (λ answer. Refuses answer fault) → IfOk r (λ answer. LinkAnswers has inputs before after answer.status answer.line.items)
+if_refused (Ok answer) has inputs before after fault kept expects refuses = refused_answer has inputs before after fault answer kept refuses expects
+if_refused (Err error) has inputs before after fault kept expects refuses = tt
+
+-- ---- outputs that are written
+
+written_answers : (options : LinkOptions) (files inputs : List (List ℕ)) (before after : FilesView) (linked : LinkedBytes) (answer : Status) (line : List ℕ) → IsLinked options files linked → AnswersWrite before after (linked_outputs options.out linked) (linked_summary options.out linked) answer line → LinkAnswers (InputsHave options files) inputs before after answer line
+written_answers options files inputs before after linked status.Done line is wrote = (
+  is.plan,
+  (
+    linked.image.items,
+    record {
+      made = record { outcome = record { told = λ store told. is.outcome }; means = is.means };
+      files = rw is.asked wrote.files;
+      says = rw (is.asked, ← is.modules_are, ← is.sections_are) wrote.says;
+    },
+  ),
+)
+written_answers options files inputs before after linked status.WriteFailed line is wrote = (
+  is.plan,
+  (
+    linked.image.items,
+    (
+      wrote.0,
+      record {
+        made = record { outcome = record { told = λ store told. is.outcome }; means = is.means };
+        files = rw is.asked wrote.1.files;
+        says = subst (λ (o : LinkOptions). line ≡ write_failure_line (output_at (linked_outputs o.out linked) wrote.0).name) (sym is.asked) wrote.1.says;
+      },
+    ),
+  ),
+)
+written_answers options files inputs before after linked status.Refused line is none = absurd none
+written_answers options files inputs before after linked status.Usage line is none = absurd none
+written_answers options files inputs before after linked status.OutOfMemory line is none = absurd none
+written_answers options files inputs before after linked status.ReadFailed line is none = absurd none
+written_answers options files inputs before after linked status.PutFailed line is none = absurd none
+
+pub if_written : (r : Result Answer Memory) (options : LinkOptions) (files inputs : List (List ℕ)) (before after : FilesView) (linked : LinkedBytes) → IsLinked options files linked
+    → IfOk r (λ answer. AnswersWrite before after (linked_outputs options.out linked) (linked_summary options.out linked) answer.status answer.line.items)
+    → IfOk r (λ answer. LinkAnswers (InputsHave options files) inputs before after answer.status answer.line.items)
+if_written (Ok answer) options files inputs before after linked is wrote = written_answers options files inputs before after linked answer.status answer.line.items is wrote
+if_written (Err error) options files inputs before after linked is wrote = tt
+
+pub on_left : (r : Result Answer Memory) (options : LinkOptions) (files : List (List ℕ)) (before after : FilesView) (linked : LinkedBytes) → IsLinked options files linked
+    → OnErr r (LeftByWrites before after (linked_outputs options.out linked))
+    → OnErr r (LeftByMemory (InputsHave options files) before after)
+on_left (Ok answer) options files before after linked is left = tt
+on_left (Err error) options files before after linked is left = elim left [
+  | inl nothing ↦ inl nothing
+  | inr some ↦ inr (
+    is.plan,
+    (
+      linked.image.items,
+      record {
+        made = record { outcome = record { told = λ store told. is.outcome }; means = is.means };
+        count = some.0;
+        files = rw is.asked some.1;
+      },
+    ),
+  )
+]
+
+-- ---- inputs that are read
+
+-- where the inputs were read, the outcome of a link is that of the inputs
+read_follows : (options : LinkOptions) (before later : FilesView) (files : List (List ℕ)) → GivesInputs options.inputs before later files → Follows (InputsHave options files) (LinkOutcome options) before
+read_follows options before later files given = λ store told outcome has. rw (given.no_fault store told, given.told store told) has
+
+pub if_read : (r : Result Answer Memory) (options : LinkOptions) (before later after : FilesView) (files : List (List ℕ)) → GivesInputs options.inputs before later files
+    → IfOk r (λ answer. LinkAnswers (InputsHave options files) options.inputs later after answer.status answer.line.items)
+    → IfOk r (λ answer. LinkAnswers (LinkOutcome options) options.inputs before after answer.status answer.line.items)
+if_read (Ok answer) options before later after files given goes_on =
+    answers_later (InputsHave options files) (LinkOutcome options) options.inputs before after answer.status answer.line.items (read_follows options before later files given)
+    (subst (λ (view : FilesView). LinkAnswers (InputsHave options files) options.inputs view after answer.status answer.line.items) (same_files before later given.files) goes_on)
+if_read (Err error) options before later after files given goes_on = tt
+
+pub on_left_read : (r : Result Answer Memory) (options : LinkOptions) (before later after : FilesView) (files : List (List ℕ)) → GivesInputs options.inputs before later files
+    → OnErr r (LeftByMemory (InputsHave options files) later after)
+    → OnErr r (LeftByMemory (LinkOutcome options) before after)
+on_left_read (Ok answer) options before later after files given left = tt
+on_left_read (Err error) options before later after files given left =
+    left_later (InputsHave options files) (LinkOutcome options) before after (read_follows options before later files given)
+    (subst (λ (view : FilesView). LeftByMemory (InputsHave options files) view after) (same_files before later given.files) left)
+
+-- an input is refused at its read
+pub unread : (options : LinkOptions) (before after : FilesView) (fault : Fault) → FaultsInputs options.inputs before after fault → Expects (LinkOutcome options) before (Refused fault)
+unread options before after fault faults = record { told = λ store told. rw (faults.told store told) refl }
+
+-- the read of an input failed
+pub if_read_failed : (r : Result Answer Memory) (has : Store → Outcome → Type 0) (inputs : List (List ℕ)) (before after : FilesView) (name : List ℕ) → FailsInputs inputs before after name → IfOk r (λ answer. TellsReadFailure answer name) → IfOk r (λ answer. LinkAnswers has inputs before after answer.status answer.line.items)
+if_read_failed (Ok answer) has inputs before after name fails tells =
+    subst (λ (s : Status). LinkAnswers has inputs before after s answer.line.items) (sym tells.status) (
+      fails.input,
+      record {
+        within = fails.within;
+        reached = fails.earlier;
+        files = fails.files;
+        says = tells.line ∙ ap read_failure_line fails.named;
+      },
+    )
+if_read_failed (Err error) has inputs before after name fails tells = tt
+
+pub nothing_written : (has : Store → Outcome → Type 0) (before after : FilesView) → AreUntouched before after → LeftByMemory has before after
+nothing_written has before after kept = inl (record { store = kept.store; writes = kept.writes })
+
+pub on_nothing : (r : Result Answer Memory) (has : Store → Outcome → Type 0) (before after : FilesView) → AreUntouched before after → OnErr r (LeftByMemory has before after)
+on_nothing (Ok answer) has before after kept = tt
+on_nothing (Err error) has before after kept = nothing_written has before after kept
+
+pub on_unread : (r : Result Answer Memory) (has : Store → Outcome → Type 0) (before after : FilesView) → ReadFailed before after → OnErr r (LeftByMemory has before after)
+on_unread (Ok answer) has before after failed = tt
+on_unread (Err error) has before after failed = inl (record { store = failed.store; writes = failed.writes })
+
+-- as many inputs as names, none too large
+pub given_count : (names : List (Bor (List ℕ))) (before later : FilesView) (inputs : List (Vec ℕ Global)) → GivesInputs (texts_of names) before later (file_bytes inputs) → length names ≡ length inputs
+given_count names before later inputs given =
+    sym (length-map names (λ (name : Bor (List ℕ)). name.now)) ∙ sym given.count ∙ length-map inputs (λ (file : Vec ℕ Global). file.items)
+
+pub given_small : (names : List (Bor (List ℕ))) (before later : FilesView) (inputs : List (Vec ℕ Global)) → GivesInputs (texts_of names) before later (file_bytes inputs) → All (λ file. length file.items ≤ FILE_LIMIT) inputs
+given_small names before later inputs given = λ k d lt.
+    let within : k < length (file_bytes inputs) = omega (arith, length-map inputs (λ (file : Vec ℕ Global). file.items), lt) in
+    let small = given.within k [] within in
+    subst (λ (bytes : List ℕ). length bytes ≤ FILE_LIMIT) (get_or-map (λ (file : Vec ℕ Global). file.items) inputs k d [] lt) small
+
+-- ---- the stages of a link
+
+-- files that do not open
+pub refused_opening : (options : LinkOptions) (files : List (List ℕ)) (r : Refusal) → RefusesFor (opening_fault options.inputs files) r → RefusesInputs options files r
+unfolding inputs_fault
+refused_opening options files (refusal.Fault fault) is = rw is refl
+refused_opening options files refusal.Memory is = tt
+
+-- modules that are not linked
+pub refused_plan : (options : LinkOptions) (files : List (List ℕ)) (modules : List ModuleView) (r : Refusal) → opening_fault options.inputs files ≡ None → modules ≡ joined options.inputs files → RefusesFor (plan_fault options modules) r → RefusesInputs options files r
+unfolding inputs_fault
+refused_plan options files modules (refusal.Fault fault) opened are is = rw (opened, ← are, is) refl
+refused_plan options files modules refusal.Memory opened are is = tt
+
+-- pieces that make no image
+pub refused_build : (options : LinkOptions) (files : List (List ℕ)) (modules : List ModuleView) (r : Refusal) → opening_fault options.inputs files ≡ None → modules ≡ joined options.inputs files → plan_fault options modules ≡ None → RefusesBuild options modules r → RefusesInputs options files r
+unfolding inputs_fault
+refused_build options files modules (refusal.Fault fault) opened are planned is = rw (opened, ← are, planned) is
+refused_build options files modules refusal.Memory opened are planned is = tt
+
+-- an image that is made
+pub linked : (options : LinkOptions) (files : List (List ℕ)) (modules : List ModuleView) (built : Built) (made : LinkedBytes) → opening_fault options.inputs files ≡ None → modules ≡ joined options.inputs files → plan_fault options modules ≡ None → IsBuilt options modules built → made.image ≡ built.image → made.sections ≡ built.sections → made.modules ≡ length modules → IsLinked options files made
+unfolding inputs_fault
+linked options files modules built made opened are planned is image sections count =
+    let plan : Plan = record { options = options; modules = modules; image = is.image } in
+    let made_plan : IsPlan options modules plan = record { options_are = refl; modules_are = refl; image_is = is.is_image } in
+    record {
+      plan = plan;
+      asked = refl;
+      outcome = rw (opened, ← are, planned) made_plan;
+      means = rw image is.means;
+      modules_are = count;
+      sections_are = sections ∙ is.count;
+    }
+
+-- ---- the words
+
+-- an answer of the link that the words ask for
+link_answers : (words inputs : List (List ℕ)) (before after : FilesView) (answer : Status) (line : List ℕ) → asked_inputs (words_say words) ≡ inputs → LinkAnswers (HasOutcome words) inputs before after answer line → Answers words before after answer line
+link_answers words inputs before after status.Done line asked h = h
+link_answers words inputs before after status.Refused line asked h = h
+link_answers words inputs before after status.ReadFailed line asked h =
+    subst (λ (names : List (List ℕ)). LinkAnswers (HasOutcome words) names before after status.ReadFailed line) (sym asked) h
+link_answers words inputs before after status.WriteFailed line asked h = h
+link_answers words inputs before after status.Usage line asked h = absurd h
+link_answers words inputs before after status.OutOfMemory line asked h = absurd h
+link_answers words inputs before after status.PutFailed line asked h = absurd h
+
+-- words that ask for what is not built
+unbuilt_outcome : (words : List (List ℕ)) (store : Store) (command : CommandSaid) → words_say words ≡ Ok command → CommandOutcome command store unbuilt → HasOutcome words store unbuilt
+unbuilt_outcome words store command said is = record { is = rw said is }
+
+usage_answers : (words : List (List ℕ)) (files : FilesView) (index : ℕ) (kind : List ℕ) (answer : Answer) → ((store : Store) → HasOutcome words store (Usage index kind)) → RefusesWords answer index kind → Answers words files files answer.status answer.line.items
+usage_answers words files index kind answer has refuses =
+    subst (λ (s : Status). Answers words files files s answer.line.items) (sym refuses.status)
+    (index, (kind, record { outcome = has; files = untouched files; says = refuses.line }))
+
+pub if_unbuilt : (r : Result Answer Memory) (words : List (List ℕ)) (files : FilesView) (command : CommandSaid) → words_say words ≡ Ok command → ((store : Store) → CommandOutcome command store unbuilt) → IfOk r (λ answer. RefusesWords answer 0 (codes "NotBuilt")) → IfOk r (λ answer. Answers words files files answer.status answer.line.items)
+if_unbuilt (Ok answer) words files command said is refuses =
+    usage_answers words files 0 (codes "NotBuilt") answer (λ store. unbuilt_outcome words store command said (is store)) refuses
+if_unbuilt (Err error) words files command said is refuses = tt
+
+-- words that are refused
+pub if_words_refused : (r : Result Answer Memory) (words : List (List ℕ)) (files : FilesView) (index : ℕ) (kind : UsageKind) → words_say words ≡ Err (refuse index kind) → IfOk r (λ answer. RefusesWords answer index (usage_word kind)) → IfOk r (λ answer. Answers words files files answer.status answer.line.items)
+if_words_refused (Ok answer) words files index kind said refuses =
+    usage_answers words files index (usage_word kind) answer (λ store. record { is = rw said refl }) refuses
+if_words_refused (Err error) words files index kind said refuses = tt
+
+-- the link that the words ask for, where all of it is built
+asked_follows : (words : List (List ℕ)) (files : FilesView) (options : LinkOptions) → words_say words ≡ Ok (Link options) → is_unbuilt_link options ≡ false → Follows (LinkOutcome options) (HasOutcome words) files
+asked_follows words files options said built = λ store told outcome has. record { is = rw (said, built) has }
+
+pub if_linked : (r : Result Answer Memory) (words : List (List ℕ)) (before after : FilesView) (options : LinkOptions) → words_say words ≡ Ok (Link options) → is_unbuilt_link options ≡ false
+    → IfOk r (λ answer. LinkAnswers (LinkOutcome options) options.inputs before after answer.status answer.line.items)
+    → IfOk r (λ answer. Answers words before after answer.status answer.line.items)
+if_linked (Ok answer) words before after options said built h =
+    link_answers words options.inputs before after answer.status answer.line.items (rw said refl)
+    (answers_later (LinkOutcome options) (HasOutcome words) options.inputs before after answer.status answer.line.items (asked_follows words before options said built) h)
+if_linked (Err error) words before after options said built h = tt
+
+pub on_linked : (r : Result Answer Memory) (words : List (List ℕ)) (before after : FilesView) (options : LinkOptions) → words_say words ≡ Ok (Link options) → is_unbuilt_link options ≡ false
+    → OnErr r (LeftByMemory (LinkOutcome options) before after)
+    → OnErr r (LeftByMemory (HasOutcome words) before after)
+on_linked (Ok answer) words before after options said built h = tt
+on_linked (Err error) words before after options said built h =
+    left_later (LinkOutcome options) (HasOutcome words) before after (asked_follows words before options said built) h
+
+-- what an answer left, where memory ran out before its line was printed
+pub left_by_answer : (words : List (List ℕ)) (before after : FilesView) (answer : Status) (line : List ℕ) → Answers words before after answer line → LeftByMemory (HasOutcome words) before after
+left_by_answer words before after status.Done line h =
+    inr (h.0, (h.1.0, record { made = h.1.1.made; count = length (outputs_of h.0 h.1.0); files = inl h.1.1.files }))
+left_by_answer words before after status.Refused line h = nothing_written (HasOutcome words) before after h.1.files
+left_by_answer words before after status.Usage line h = nothing_written (HasOutcome words) before after h.1.1.files
+left_by_answer words before after status.ReadFailed line h = inl (record { store = h.1.files.store; writes = h.1.files.writes })
+left_by_answer words before after status.WriteFailed line h =
+    inr (h.0, (h.1.0, record { made = h.1.1.1.made; count = h.1.1.0; files = inr h.1.1.1.files }))
+left_by_answer words before after status.OutOfMemory line h = absurd h
+left_by_answer words before after status.PutFailed line h = absurd h
