@@ -17,7 +17,8 @@ use Rattle.link_files.specs.Outside.{FilesView, AreUntouched, ReadFailed}
 use Rattle.link_files.specs.Outputs.{NamedBytes, output_at, FirstWritten, NextTorn}
 use Rattle.image_writer.specs.ExpectedImage.{ImagePlan}
 use Rattle.module_view.specs.Module.{ModuleView}
-use Rattle.link_words.specs.Outcome.{LinkOptions, CommandSaid, Link, texts_of, refuse}
+use Rattle.link_words.specs.Outcome.{LinkOptions, CommandSaid, Link, refuse}
+use Rattle.link_words.specs.SettingsView.{texts_of}
 use Rattle.link_words.specs.declared.errors.UsageKind.{UsageKind}
 use Rattle.link_words.specs.UsageWord.{usage_word}
 use Rattle.link_words.specs.Commands.{words_say}

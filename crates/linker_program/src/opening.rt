@@ -3,7 +3,7 @@
 ghost use Rattle.std.specs.Prelude.{◌≡◌, ◌≤◌, ◌<◌, length, map, All, None, Some, IfOk, OnOk, IfErr};
 ghost use Rattle.link_base.specs.Limits.{FILE_LIMIT as most_bytes, MODULE_LIMIT as most_modules};
 ghost use Rattle.link_base.specs.Refusals.{RefusesFor};
-ghost use Rattle.link_words.specs.Outcome.{texts_of};
+ghost use Rattle.link_words.specs.SettingsView.{texts_of};
 ghost use Rattle.module_view.specs.Opening.{opening_error};
 ghost use Rattle.linker_program.specs.Loading.{module_fault, joining_fault, opening_fault, joined};
 ghost use Rattle.linker_program.specs.ReadingSteps.{file_bytes};

@@ -3,7 +3,7 @@
 ghost use Rattle.std.specs.Prelude.{◌≡◌, ◌<◌, ◌≤◌, ◌-◌, ◌^◌, None};
 ghost use Rattle.link_base.specs.Limits.{INPUT_LIMIT as most};
 ghost use Rattle.link_files.specs.Outside.{files_of};
-ghost use Rattle.link_words.specs.Outcome.{texts_of};
+ghost use Rattle.link_words.specs.SettingsView.{texts_of};
 ghost use Rattle.linker_program.specs.ReadingSteps.{ReadsInput, ReadsInputs};
 
 use link_base::{FILE_LIMIT, Fault, INPUT_LIMIT, Name, Stop};

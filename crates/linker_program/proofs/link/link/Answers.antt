@@ -3,7 +3,8 @@ use Rattle.std.specs.Prelude.{Vec}
 use Rattle.std.specs.Borrow.{Bor}
 use Rattle.std.specs.declared.alloc.Global.{Global}
 use Rattle.link_files.specs.Outside.{files_of}
-use Rattle.link_words.specs.Outcome.{options_said, texts_of}
+use Rattle.link_words.specs.Outcome.{options_said}
+use Rattle.link_words.specs.SettingsView.{texts_of}
 use Rattle.linker_program.specs.Outcome.{LinkOutcome}
 use Rattle.linker_program.specs.ReadingSteps.{GivesInputs, FaultsInputs, FailsInputs, file_bytes}
 use Rattle.linker_program.proofs.StepLemmas.{if_refused, unread, if_read, on_left_read, if_read_failed, on_nothing, on_unread, given_count, given_small}

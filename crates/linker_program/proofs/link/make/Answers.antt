@@ -4,7 +4,8 @@ use Rattle.std.specs.Prelude.{ℕ, None}
 use Rattle.std.proofs.lemmas.Result.{err_from_is_err_and}
 use Rattle.link_base.specs.Refusals.{RefusesFor}
 use Rattle.module_view.specs.Module.{ModuleView}
-use Rattle.link_words.specs.Outcome.{options_said, texts_of}
+use Rattle.link_words.specs.Outcome.{options_said}
+use Rattle.link_words.specs.SettingsView.{texts_of}
 use Rattle.link_plan.specs.Plan.{IsPlanOf}
 use Rattle.link_plan.specs.PlanFaults.{plan_fault}
 use Rattle.linker_program.specs.Loading.{opening_fault, joined}

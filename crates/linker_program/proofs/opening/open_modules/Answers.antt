@@ -6,7 +6,7 @@ use Rattle.link_base.specs.Refusals.{first_refusal_below, RefusesFor}
 use Rattle.link_base.proofs.RefusalLemmas.{first_refusal_below-more}
 use Rattle.link_base.specs.declared.fault.Fault.{Fault}
 use Rattle.std.specs.Prelude.{Option}
-use Rattle.link_words.specs.Outcome.{text_of, texts_of}
+use Rattle.link_words.specs.SettingsView.{text_of, texts_of}
 use Rattle.linker_program.specs.Loading.{bytes_in, joining_fault_at, input_module}
 use Rattle.linker_program.specs.ReadingSteps.{file_bytes}
 use Rattle.linker_program.proofs.ReadingLemmas.{item_at}

@@ -2,7 +2,7 @@ use Rattle.std.proofs.Common.{◌≡◌, ◌≤◌, map, None}
 use Rattle.std.specs.List.{range_with_len}
 use Rattle.link_base.specs.Limits.{MODULE_LIMIT}
 use Rattle.link_base.specs.Refusals.{first_refusal_below}
-use Rattle.link_words.specs.Outcome.{texts_of}
+use Rattle.link_words.specs.SettingsView.{texts_of}
 use Rattle.linker_program.specs.Loading.{joining_fault_at, input_module}
 use Rattle.linker_program.specs.ReadingSteps.{file_bytes}
 use Rattle.linker_program.proofs.opening.open_modules.Given as goal

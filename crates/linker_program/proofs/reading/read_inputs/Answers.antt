@@ -1,7 +1,7 @@
 use Rattle.std.proofs.Common.{◌≡◌, ℕ, ◌+◌, ◌<◌, List, [], ◌∷◌, ◌++◌, length, map, Vec, Global, sym, subst, ◌∙◌, arith}
 use Rattle.std.proofs.lemmas.Result.{err_from_is_err_and}
 use Rattle.link_files.specs.Outside.{files_of}
-use Rattle.link_words.specs.Outcome.{text_of, texts_of}
+use Rattle.link_words.specs.SettingsView.{text_of, texts_of}
 use Rattle.linker_program.proofs.ReadingLemmas.{ReadSoFar, nothing_read, read_more, reading_stops, within_names, item_at, items_none, items_push}
 use Rattle.linker_program.proofs.reading.read_inputs.Goals as goal
 

@@ -1,6 +1,6 @@
 use Rattle.std.proofs.Common.{map}
 use Rattle.link_files.specs.Outside.{files_of}
-use Rattle.link_words.specs.Outcome.{texts_of}
+use Rattle.link_words.specs.SettingsView.{texts_of}
 use Rattle.linker_program.proofs.ReadingLemmas.{ReadSoFar}
 use Rattle.linker_program.proofs.reading.read_inputs.Given as goal
 
