@@ -5,7 +5,7 @@ ghost use Rattle.std.specs.Prelude.{◌≤◌, length};
 
 use crate::build_error::BuildError;
 use crate::object::{Aux, Contents, Places, Relocation, Section, Symbol};
-use diagnostics::{push_number};
+use diagnostics::push_number;
 use link_base::{LeNumber, push_fields};
 use std::alloc::Global;
 

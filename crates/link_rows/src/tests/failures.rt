@@ -64,7 +64,7 @@ fn a_refusal_that_cannot_be_printed_writes_nothing(rt: HostRuntime) -> Result<()
             6,
             b"fault 2 Not",
         ),
-        refusal(&["link", "a.obj", "/ENTRY:main"], 6, b"usage 0 "),
+        refusal(&["link", "a.obj", "/DLL"], 6, b"usage 0 "),
     ] {
         case.failing_put = 1;
         assert_case(&rt, rt.alloc(), b"", &case)?;
