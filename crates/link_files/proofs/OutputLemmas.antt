@@ -32,10 +32,12 @@ one_written before now later outputs k output lt is first put reads = record {
 pub next_torn : (before now later : FilesView) (outputs : List NamedBytes) (k : ℕ) (output : NamedBytes) → k < length outputs → output ≡ output_at outputs k → FirstWritten before now outputs k → TearsFile now.store later.store output.name output.bytes now.write_faults later.write_faults → later.read_faults ≡ now.read_faults → NextTorn before later outputs k
 next_torn before now later outputs k output lt is first torn reads = record {
   within = lt;
-  store = (torn.torn.0,
+  store = (
+    torn.torn.0,
     torn.torn.1
-    ∙ ap (λ (s : Option Store). told_with_file s output.name (take torn.torn.0 output.bytes)) first.store
-    ∙ ap (λ (o : NamedBytes). told_with_file (told_with_files before.store (take k outputs)) o.name (take torn.torn.0 o.bytes)) is);
+        ∙ ap (λ (s : Option Store). told_with_file s output.name (take torn.torn.0 output.bytes)) first.store
+        ∙ ap (λ (o : NamedBytes). told_with_file (told_with_files before.store (take k outputs)) o.name (take torn.torn.0 o.bytes)) is,
+  );
   reads = reads ∙ first.reads;
   writes = let same : now.write_faults ≡ before.write_faults = first.writes in omega (arith, torn.failed);
 }

@@ -1,15 +1,13 @@
 -- From what grouping and placing say of the pieces of a plan to what they say of the modules.
-use Rattle.std.proofs.Common.{◌≡◌, ℕ, suc, ◌+◌, ◌<◌, ◌≤◌, ◌^◌, Bool, true, false, List, [], ◌∷◌, length, map, replicate, get_or, Option, Some, None, refl, sym, ap, ◌∙◌, subst, inl, inr, arith}
-use Rattle.std.specs.Option.{ForSome}
+use Rattle.std.proofs.Common.{◌≡◌, ℕ, suc, ◌+◌, ◌<◌, ◌^◌, Bool, true, false, List, [], ◌∷◌, length, map, replicate, get_or, refl, sym, ap, ◌∙◌, subst, inl, inr, arith}
 use Rattle.std.proofs.lemmas.Bool.{lt-ltb, and_from, or_right}
 use Rattle.std.proofs.lemmas.List.{length-map, get_or-replicate}
-use Rattle.link_base.specs.declared.fault.Fault.{Fault}
 use Rattle.link_base.specs.declared.fault.Fault.TheVariants as faults
 use Rattle.section_group.specs.declared.piece.Piece.{Piece}
 use Rattle.section_group.specs.declared.piece.OutSection.{OutSection}
 use Rattle.section_group.specs.BarePieces.{bare}
 use Rattle.section_group.specs.Placement.{IsGrouping, needs_place}
-use Rattle.section_group.specs.SectionOrder.{input_from, is_used, no_piece}
+use Rattle.section_group.specs.SectionOrder.{input_from, is_used}
 use Rattle.section_group.specs.Merging.{NamesFirstBad}
 use Rattle.section_group.specs.Uniqueness.{SectionRow as OutRow, row_of, rows_of}
 use Rattle.section_group.proofs.CallerLemmas.{grouping_bare}

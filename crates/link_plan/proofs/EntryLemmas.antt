@@ -1,10 +1,9 @@
 -- An entry that has a place stands in a piece that is named.
-use Rattle.std.proofs.Common.{◌≡◌, ℕ, List, length, map, get_or, Option, Some, None, Result, Ok, Err, refl, sym, ap, ◌∙◌, subst, arith}
+use Rattle.std.proofs.Common.{◌≡◌, ℕ, List, length, map, Option, Some, None, Result, Ok, Err, refl, ap, ◌∙◌, subst, arith}
 use Rattle.std.specs.Option.{ForSome}
 use Rattle.std.specs.List.{All}
 use Rattle.std.proofs.lemmas.List.{length-map}
 use Rattle.section_group.specs.declared.piece.Piece.{Piece}
-use Rattle.section_group.specs.SectionOrder.{no_piece}
 use Rattle.section_group.specs.BarePieces.{bare}
 use Rattle.module_view.specs.Module.{ModuleView}
 use Rattle.module_view.specs.Opening.{IsOpened}

@@ -53,11 +53,13 @@ pub(crate) fn entry_place<'a>(
 {
     match meaning {
         None => Ok(None),
-        Some(Meaning::Section {
-            module,
-            section,
-            value,
-        }) => match index.of(*module, *section) {
+        Some(
+            Meaning::Section {
+                module,
+                section,
+                value,
+            },
+        ) => match index.of(*module, *section) {
             Some(piece) => Ok(Some(EntryPlace {
                 piece,
                 value: *value,

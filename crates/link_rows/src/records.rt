@@ -87,7 +87,11 @@ fn push_relocation(
 ) -> Result<(), BuildError> {
     push_fields(
         bodies,
-        &[LeNumber::U32(offset), LeNumber::U32(index), LeNumber::U16(kind)],
+        &[
+            LeNumber::U32(offset),
+            LeNumber::U32(index),
+            LeNumber::U16(kind),
+        ],
     )?;
     Ok(())
 }
@@ -146,7 +150,10 @@ fn push_aux(
             number,
             selection,
         } => {
-            push_fields(records, &[LeNumber::U32(*len), LeNumber::U32(0), LeNumber::U32(0)])?;
+            push_fields(
+                records,
+                &[LeNumber::U32(*len), LeNumber::U32(0), LeNumber::U32(0)],
+            )?;
             push_fields(records, &[LeNumber::U16(*number), LeNumber::U8(*selection)])?;
             records.extend_from_slice(&[0; 3])?;
         }

@@ -1,5 +1,5 @@
 -- Words and files have one outcome.
-use Rattle.std.proofs.Common.{◌≡◌, ℕ, ◌+◌, ◌<◌, Bool, true, false, List, length, Option, Some, None, Result, Ok, Err, refl, sym, ap, ◌∙◌, subst, inl, inr, ◌⊎◌, arith}
+use Rattle.std.proofs.Common.{◌≡◌, ℕ, ◌+◌, Bool, true, false, List, length, Option, Some, None, Result, Ok, Err, refl, sym, ap, ◌∙◌, inl, inr, arith}
 use Rattle.std.proofs.lemmas.Bool.{cases_lt, false≢true}
 use Rattle.std.proofs.lemmas.List.{length-map}
 use Rattle.link_base.specs.declared.fault.Fault.{Fault}
@@ -7,7 +7,7 @@ use Rattle.link_base.specs.declared.fault.Fault.TheVariants as faults
 use Rattle.link_files.specs.Store.{Store}
 use Rattle.section_group.specs.declared.piece.Piece.{Piece}
 use Rattle.section_group.specs.declared.piece.OutSection.{OutSection}
-use Rattle.section_group.specs.Merging.{IsFirstBadMerge, NamesFirstBad, merge_at}
+use Rattle.section_group.specs.Merging.{IsFirstBadMerge, merge_at}
 use Rattle.section_group.specs.Uniqueness.{SectionRow, row_of, rows_of}
 use Rattle.section_group.proofs.Theorems.{one_grouping}
 use Rattle.address_layout.specs.declared.layout.Placed.{Placed}

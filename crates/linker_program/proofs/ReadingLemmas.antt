@@ -1,11 +1,9 @@
 -- Why one input is not read, and what is read so far.
-use Rattle.std.proofs.Common.{◌≡◌, ℕ, zero, suc, ◌+◌, ◌<◌, ◌≤◌, List, [], ◌∷◌, ◌++◌, length, get_or, map, take, Option, Some, None, Err, Vec, refl, sym, ap, ◌∙◌, inl, inr, add-one, arith, le-ltb}
+use Rattle.std.proofs.Common.{◌≡◌, ℕ, ◌+◌, ◌<◌, ◌≤◌, List, [], ◌∷◌, ◌++◌, length, get_or, map, take, Option, Some, None, Err, Vec, refl, sym, ap, ◌∙◌, add-one, arith, le-ltb}
 use Rattle.std.specs.Prelude.{All, unwrap_or}
 use Rattle.std.specs.Option.{ForSome}
-use Rattle.std.proofs.lemmas.Bool.{cases_lt}
 use Rattle.std.proofs.lemmas.List.{length-map, map-append, take_more, length_push, get_or-map}
 use Rattle.std.proofs.lemmas.List.Elements.{All-nil, All-same, All-push}
-use Rattle.link_base.specs.declared.fault.Fault.{Fault}
 use Rattle.link_files.specs.Store.{Store, file_of}
 use Rattle.link_base.specs.declared.stop.Stop.{Stop}
 use Rattle.link_base.specs.declared.stop.Stop.TheVariants as stop

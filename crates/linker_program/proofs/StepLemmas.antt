@@ -1,6 +1,6 @@
 -- From what the steps of a run promise to what the run promises.
-use Rattle.std.proofs.Common.{◌≡◌, ℕ, ◌<◌, ◌≤◌, List, [], length, map, Option, Result, Ok, Err, refl, sym, ap, ◌∙◌, subst, arith, inl, inr}
-use Rattle.std.specs.Prelude.{IfOk, IfErr, OnErr, Some, None, false, codes}
+use Rattle.std.proofs.Common.{◌≡◌, ℕ, ◌<◌, ◌≤◌, List, [], length, Option, Result, Ok, Err, refl, sym, ap, ◌∙◌, subst, arith, inl, inr}
+use Rattle.std.specs.Prelude.{IfOk, OnErr, Some, None, false, codes}
 use Rattle.std.specs.Prelude.{Vec}
 use Rattle.std.specs.declared.alloc.Global.{Global}
 use Rattle.std.specs.Borrow.{Bor}
@@ -14,29 +14,26 @@ use Rattle.link_base.specs.declared.stop.Refusal.TheVariants as refusal
 use Rattle.link_base.specs.Refusals.{RefusesFor}
 use Rattle.link_files.specs.Store.{Store}
 use Rattle.link_files.specs.Outside.{FilesView, AreUntouched, ReadFailed}
-use Rattle.link_files.specs.Outputs.{NamedBytes, output_at, FirstWritten, NextTorn}
-use Rattle.image_writer.specs.ExpectedImage.{ImagePlan}
+use Rattle.link_files.specs.Outputs.{output_at}
 use Rattle.module_view.specs.Module.{ModuleView}
 use Rattle.link_words.specs.Outcome.{LinkOptions, CommandSaid, Link, refuse}
 use Rattle.link_words.specs.SettingsView.{texts_of}
 use Rattle.link_words.specs.declared.errors.UsageKind.{UsageKind}
 use Rattle.link_words.specs.UsageWord.{usage_word}
 use Rattle.link_words.specs.Commands.{words_say}
-use Rattle.link_plan.specs.declared.plan.LinkPlan.{LinkPlan}
 use Rattle.link_plan.specs.PlanFaults.{plan_fault}
-use Rattle.link_plan.specs.Plan.{IsPlanOf}
 use Rattle.link_image.specs.declared.make.Built.{Built}
 use Rattle.link_image.specs.LinkedImage.{IsBuilt}
-use Rattle.link_image.specs.BuildFaults.{IsBuildFault, RefusesBuild}
+use Rattle.link_image.specs.BuildFaults.{RefusesBuild}
 use Rattle.linker_program.specs.declared.answer.Answer.{Answer}
 use Rattle.linker_program.specs.declared.linked.Linked.{Linked as LinkedBytes}
 use Rattle.linker_program.specs.declared.status.Status.{Status}
 use Rattle.linker_program.specs.declared.status.Status.TheVariants as status
-use Rattle.linker_program.specs.Loading.{reading_fault, read_files, opening_fault, joined}
-use Rattle.linker_program.specs.Outcome.{Outcome, Usage, Refused, Linked, Plan, inputs_fault, IsPlan, InputsOutcome, LinkOutcome, unbuilt, CommandOutcome, HasOutcome}
+use Rattle.linker_program.specs.Loading.{opening_fault, joined}
+use Rattle.linker_program.specs.Outcome.{Outcome, Usage, Refused, Linked, Plan, inputs_fault, IsPlan, LinkOutcome, unbuilt, CommandOutcome, HasOutcome}
 use Rattle.linker_program.specs.Unbuilt.{is_unbuilt_link}
 use Rattle.linker_program.specs.RunLines.{read_failure_line, write_failure_line}
-use Rattle.linker_program.specs.LinkRun.{outputs_of, Expects, IsMade, LinkAnswers, LeftByMemory, NothingWritten, asked_inputs, Answers}
+use Rattle.linker_program.specs.LinkRun.{outputs_of, Expects, IsMade, LinkAnswers, LeftByMemory, asked_inputs, Answers}
 use Rattle.linker_program.specs.ReadingSteps.{GivesInputs, FaultsInputs, FailsInputs, file_bytes}
 use Rattle.linker_program.specs.Steps.{Refuses, RefusesWords, TellsReadFailure, InputsHave, IsLinked, RefusesInputs, AnswersWrite, LeftByWrites}
 use Rattle.linker_program.specs.WriteSteps.{linked_outputs, linked_summary}

@@ -1,6 +1,6 @@
 -- What a run of the linker promises, by the status that it ends with: what is printed, what the files hold
 -- afterwards, and where each status comes from. Own.
-use Rattle.std.specs.Prelude.{◌≡◌, ◌<◌, ℕ, List, [], ◌∷◌, length, Option, Some, None, Result, Ok, Err, ◌⊎◌}
+use Rattle.std.specs.Prelude.{◌≡◌, ◌<◌, ℕ, List, [], ◌∷◌, length, Some, None, Result, Ok, ◌⊎◌}
 use Rattle.std.specs.Option.{ForSome}
 use Rattle.link_base.specs.Refusals.{first_refusal_below}
 use Rattle.link_base.specs.declared.fault.Fault.{Fault}

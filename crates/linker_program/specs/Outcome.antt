@@ -1,13 +1,13 @@
 -- The expected outcome of a run: what its words and files decide, stage by stage. The first stage that has a fault ends it,
 -- and where none has, the plan is linked. The order of the stages is own.
-use Rattle.std.specs.Prelude.{◌≡◌, ℕ, List, Option, Some, None, Result, Ok, Err, Bool, true, false, if◌then◌else◌, codes}
+use Rattle.std.specs.Prelude.{◌≡◌, ℕ, List, Option, Some, None, Result, Ok, Err, Bool, true, false, codes}
 use Rattle.std.specs.Option.{option_or}
 use Rattle.link_base.specs.declared.fault.Fault.{Fault}
 use Rattle.link_files.specs.Store.{Store}
 use Rattle.image_writer.specs.ExpectedImage.{ImagePlan}
 use Rattle.module_view.specs.Module.{ModuleView}
 use Rattle.link_words.specs.Outcome.{Refused as RefusedWord}
-use Rattle.link_words.specs.Outcome.{LinkOptions, CommandSaid, Link, At, Show, Gen}
+use Rattle.link_words.specs.Outcome.{LinkOptions, CommandSaid, Link}
 use Rattle.link_words.specs.Commands.{words_say}
 use Rattle.link_words.specs.UsageWord.{usage_word}
 use Rattle.link_plan.specs.PlanFaults.{plan_fault}

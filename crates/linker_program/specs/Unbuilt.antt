@@ -1,8 +1,8 @@
 -- Commands and options that are read and not carried out yet. Own; each goes as it is built.
-use Rattle.std.specs.Prelude.{ℕ, Bool, true, false, ◌||◌, not, ◌==◌, nat_eq, List, [], ◌∷◌, length, Option, Some, None, is_some, codes}
+use Rattle.std.specs.Prelude.{ℕ, Bool, false, ◌||◌, not, ◌==◌, List, [], ◌∷◌, length, Option, Some, None, is_some, codes}
 use Rattle.std.specs.List.{list_any}
 use Rattle.link_base.specs.NameText.{same_name, begins_import}
-use Rattle.link_words.specs.Outcome.{LinkOptions, CommandSaid, Link, At, Show, Gen}
+use Rattle.link_words.specs.Outcome.{LinkOptions}
 
 -- names that the linker gives a meaning itself (MSVC linker reference, "__ImageBase"; the others are those of the load
 -- configuration, PE Format, "Load Configuration Layout")

@@ -39,7 +39,11 @@ fn each_refusal_has_its_status_and_line_and_writes_nothing(rt: HostRuntime) -> R
             1,
             b"fault 13 Undefined main_of_the_program -\n",
         ),
-        refusal(&["link", "a.obj", "/ENTRY:main", "/DLL"], 2, b"usage 0 NotBuilt\n"),
+        refusal(
+            &["link", "a.obj", "/ENTRY:main", "/DLL"],
+            2,
+            b"usage 0 NotBuilt\n",
+        ),
         refusal(
             &["link", "/ENTRY:main", "/OUT:a.exe"],
             2,

@@ -1,14 +1,12 @@
 use Rattle.std.proofs.Common.{◌≡◌, List, map, ap, ◌∙◌, subst, arith}
-use Rattle.section_group.specs.declared.piece.Piece.{Piece}
 use Rattle.section_group.specs.declared.piece.OutSection.{OutSection}
 use Rattle.address_layout.specs.declared.layout.Layout.{Layout}
 use Rattle.image_writer.specs.ExpectedImage.{image_file}
-use Rattle.image_writer.specs.WrittenImage.{piece_contents, layout_plan, at_each_base, IsLaidOut, HasContents}
+use Rattle.image_writer.specs.WrittenImage.{piece_contents, layout_plan, at_each_base}
 use Rattle.link_words.specs.Outcome.{LinkOptions, options_said}
 use Rattle.link_plan.specs.declared.plan.LinkPlan.{LinkPlan}
-use Rattle.link_plan.specs.Plan.{IsPlanOf}
 use Rattle.link_image.specs.ImageHeaders.{headers_of}
-use Rattle.link_image.specs.LinkedImage.{base_rule, entry_rva, ArePlaced}
+use Rattle.link_image.specs.LinkedImage.{entry_rva, ArePlaced}
 use Rattle.link_image.proofs.SectionLemmas.{laid, has_its_bytes, built}
 use Rattle.link_image.proofs.make.build.Goals as goal
 

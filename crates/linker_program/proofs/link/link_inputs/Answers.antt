@@ -1,9 +1,8 @@
 use Rattle.link_files.specs.Outside.{files_of}
 use Rattle.link_words.specs.Outcome.{options_said}
-use Rattle.linker_program.specs.Outcome.{Refused}
 use Rattle.linker_program.specs.ReadingSteps.{file_bytes}
 use Rattle.linker_program.specs.Steps.{InputsHave}
-use Rattle.linker_program.proofs.StepLemmas.{untouched, if_refused, if_written, on_left, nothing_written}
+use Rattle.linker_program.proofs.StepLemmas.{untouched, if_refused, if_written, on_left}
 use Rattle.linker_program.proofs.link.link_inputs.Goals as goal
 
 pub returns-in-Ok-clause-answered : goal.returns-in-Ok-clause-answered

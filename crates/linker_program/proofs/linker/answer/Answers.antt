@@ -1,6 +1,6 @@
-use Rattle.std.proofs.Common.{◌≡◌, map, string_bytes, Ok, refl, sym, ap, ◌∙◌}
+use Rattle.std.proofs.Common.{◌≡◌, map, string_bytes, Ok, refl, sym, ◌∙◌}
 use Rattle.link_files.specs.Outside.{files_of}
-use Rattle.link_words.specs.Outcome.{CommandSaid, Link, At, Show, Gen, options_said, command_said}
+use Rattle.link_words.specs.Outcome.{CommandSaid, Link, At, Show, Gen, options_said}
 use Rattle.link_words.specs.Commands.{words_say}
 use Rattle.linker_program.proofs.StepLemmas.{if_unbuilt, if_words_refused, if_linked, on_linked}
 use Rattle.linker_program.proofs.linker.answer.Goals as goal

@@ -1,4 +1,4 @@
-use Rattle.std.proofs.Common.{◌≡◌, ℕ, ◌<◌, List, length, map, Vec, Global, refl, sym, ap, subst, ◌∙◌, arith}
+use Rattle.std.proofs.Common.{◌≡◌, ℕ, ◌<◌, length, map, Vec, Global, refl, sym, ap, subst, ◌∙◌, arith}
 use Rattle.std.specs.List.{range_with_len}
 use Rattle.std.proofs.lemmas.List.{length-map}
 use Rattle.std.proofs.lemmas.Result.{err_from_is_err_and}
@@ -7,7 +7,7 @@ use Rattle.link_base.proofs.RefusalLemmas.{first_refusal_below-more}
 use Rattle.link_base.specs.declared.fault.Fault.{Fault}
 use Rattle.std.specs.Prelude.{Option}
 use Rattle.link_words.specs.SettingsView.{text_of, texts_of}
-use Rattle.linker_program.specs.Loading.{bytes_in, joining_fault_at, input_module}
+use Rattle.linker_program.specs.Loading.{joining_fault_at, input_module}
 use Rattle.linker_program.specs.ReadingSteps.{file_bytes}
 use Rattle.linker_program.proofs.ReadingLemmas.{item_at}
 use Rattle.linker_program.proofs.OpeningLemmas.{bytes_read, joins_here, module_here, opened_more, opening_stops, opened_count}
