@@ -3,3 +3,4 @@ pub mod OutcomeLemmas
 pub mod StepLemmas
 pub mod RunLemmas
 pub mod OpeningLemmas
+mod WorkedLink

@@ -1,0 +1,116 @@
+-- The definitions on the smallest link: one object with a section `.text` of three bytes, and the symbol `main` at its
+-- start.
+use Rattle.std.proofs.Common.{◌≡◌, ℕ, List, [], ◌∷◌, ◌++◌, true, false, refl}
+use Rattle.std.specs.Prelude.{Some, None, Ok, codes}
+use Rattle.directives.specs.Text.{is_text}
+use Rattle.directives.specs.Names.{is_word}
+use Rattle.link_words.specs.Known.{known}
+use Rattle.link_words.specs.Setting.{word_says}
+use Rattle.link_words.specs.Extension.{stem, with_extension}
+use Rattle.link_words.specs.Options.{default_entry, options_of, outputs_clash}
+use Rattle.link_words.specs.Outcome.{LinkOptions, Link}
+use Rattle.link_words.specs.LinkWords.{word_refusal, settings, line_refusal, link_refusal, link_says}
+use Rattle.link_words.specs.Commands.{words_say}
+use Rattle.link_plan.specs.Entry.{entry_place}
+use Rattle.link_base.specs.Bytes.{number_at, first_below}
+use Rattle.link_base.specs.Decimal.{decimal_number}
+use Rattle.link_base.specs.Refusals.{first_refusal_below}
+use Rattle.coff_object.specs.ObjectFaults.{first_section, first_of, is_truncated, is_other_machine, body_leaves, counted_leave, relocations_leave, first_torn_record, symbol_range_fault, table_leaves, lacks_section_name, lacks_symbol_name, string_table_fault, has_no_alignment, has_no_section, value_exceeds, object_fault}
+use Rattle.coff_object.specs.ObjectFile.{section_at, record_offset, record_at, symbol_at, starts_within, symbols_of}
+use Rattle.coff_object.specs.ObjectHeader.{big_object_class, is_big_object, header_size, symbol_size, machine_of, section_total, section_headers_offset, symbols_offset, record_total}
+use Rattle.coff_object.specs.Relocations.{relocations_place, relocation_count_in, relocations_from}
+use Rattle.coff_object.specs.SectionHeader.{short_name_in, name_offset, long_section_name, section_name_in, is_uninitialised_in, has_overflow_count_in}
+use Rattle.coff_object.specs.StringTable.{string_table_offset, string_table_size, string_table, text_in}
+use Rattle.coff_object.specs.SymbolRecord.{long_name_offset_in, name_in, section_number_in, class_in, aux_count_in}
+use Rattle.module_view.specs.Opening.{resource_start, form_error, is_linker_section, content_error, opening_error}
+use Rattle.module_view.specs.PlacedSection.{comes_in}
+use Rattle.module_view.specs.SymbolLists.{is_definition, definitions_of}
+use Rattle.module_view.specs.Unbuilt.{is_unbuilt_section, is_unbuilt_symbol}
+use Rattle.link_pieces.specs.Pieces.{is_named, link_pieces, link_contents}
+use Rattle.link_plan.specs.PlanFaults.{plan_fault}
+use Rattle.linker_program.specs.Loading.{joined}
+use Rattle.linker_program.specs.Outcome.{inputs_fault}
+use Rattle.linker_program.specs.Unbuilt.{is_unbuilt_link}
+
+file_header : List ℕ
+file_header =
+    0x64 ∷ 0x86 ∷ 0x01 ∷ 0x00 ∷ 0x00 ∷ 0x00 ∷ 0x00 ∷ 0x00 ∷ 0x3F ∷ 0x00 ∷ 0x00 ∷ 0x00 ∷ 0x01 ∷ 0x00 ∷ 0x00 ∷ 0x00 ∷ 0x00 ∷ 0x00 ∷ 0x00 ∷ 0x00 ∷ []
+
+section_header : List ℕ
+section_header =
+    0x2E ∷ 0x74 ∷ 0x65 ∷ 0x78 ∷ 0x74 ∷ 0x00 ∷ 0x00 ∷ 0x00 ∷ 0x00 ∷ 0x00 ∷ 0x00 ∷ 0x00 ∷ 0x00 ∷ 0x00 ∷ 0x00 ∷ 0x00 ∷ 0x03 ∷ 0x00 ∷ 0x00 ∷ 0x00
+    ∷ 0x3C ∷ 0x00 ∷ 0x00 ∷ 0x00 ∷ 0x00 ∷ 0x00 ∷ 0x00 ∷ 0x00 ∷ 0x00 ∷ 0x00 ∷ 0x00 ∷ 0x00 ∷ 0x00 ∷ 0x00 ∷ 0x00 ∷ 0x00 ∷ 0x20 ∷ 0x00 ∷ 0x50 ∷ 0x60 ∷ []
+
+code : List ℕ
+code =
+    0x31 ∷ 0xC0 ∷ 0xC3 ∷ []
+
+symbol_record : List ℕ
+symbol_record =
+    0x6D ∷ 0x61 ∷ 0x69 ∷ 0x6E ∷ 0x00 ∷ 0x00 ∷ 0x00 ∷ 0x00 ∷ 0x00 ∷ 0x00 ∷ 0x00 ∷ 0x00 ∷ 0x01 ∷ 0x00 ∷ 0x20 ∷ 0x00 ∷ 0x02 ∷ 0x00 ∷ []
+
+string_row : List ℕ
+string_row =
+    0x04 ∷ 0x00 ∷ 0x00 ∷ 0x00 ∷ []
+
+object : List ℕ
+object = file_header ++ (section_header ++ (code ++ (symbol_record ++ string_row)))
+
+abbrev options : LinkOptions
+options = record {
+  inputs = codes "a.obj" ∷ [];
+  alternates = [];
+  merges = [];
+  default_libs = [];
+  exports = [];
+  includes = [];
+  base = 0x140000000;
+  debug = false;
+  dll = false;
+  noentry = false;
+  dynamic = true;
+  entropy = true;
+  nx = true;
+  large = true;
+  entry_name = Some (codes "main");
+  fixed = false;
+  heap = (0x100000, 0x1000);
+  stack = (0x100000, 0x1000);
+  lib_paths = [];
+  map_file = None;
+  no_default = [];
+  no_default_all = false;
+  refs = None;
+  out = codes "a.exe";
+  pdb = codes "a.pdb";
+  subsystem = 3;
+  time = 0;
+  version = (0, 0);
+}
+
+words_ask : words_say (codes "link" ∷ codes "a.obj" ∷ codes "/ENTRY:main" ∷ codes "/OUT:a.exe" ∷ []) ≡ Ok (Link options)
+unfolding words_say link_says link_refusal word_refusal first_refusal_below settings line_refusal options_of outputs_clash default_entry with_extension stem word_says known is_word is_text
+words_ask = refl
+
+built : is_unbuilt_link options ≡ false
+unfolding is_unbuilt_link
+built = refl
+
+-- no stage before the tables has a fault
+accepted : inputs_fault options (object ∷ []) ≡ None
+unfolding object file_header section_header code symbol_record string_row number_at first_below decimal_number first_refusal_below first_section first_of is_truncated is_other_machine body_leaves counted_leave relocations_leave first_torn_record symbol_range_fault table_leaves lacks_section_name lacks_symbol_name string_table_fault has_no_alignment has_no_section value_exceeds object_fault section_at record_offset record_at symbol_at starts_within big_object_class is_big_object header_size symbol_size machine_of section_total section_headers_offset symbols_offset record_total relocations_place relocation_count_in relocations_from short_name_in name_offset long_section_name section_name_in is_uninitialised_in has_overflow_count_in string_table_offset string_table_size string_table text_in long_name_offset_in name_in section_number_in class_in aux_count_in resource_start form_error is_linker_section content_error opening_error comes_in is_definition definitions_of is_unbuilt_section is_unbuilt_symbol is_named plan_fault inputs_fault
+accepted = refl
+
+-- what is laid out
+pieces : link_pieces (joined options.inputs (object ∷ [])) ≡ record { «module» = 0; number = 1; name = codes ".text"; flags = 0x60500020; size = 3; align = 16; body = None; init = true; named = true } ∷ []
+unfolding object file_header section_header code symbol_record string_row number_at first_below decimal_number first_refusal_below first_section first_of is_truncated is_other_machine body_leaves counted_leave relocations_leave first_torn_record symbol_range_fault table_leaves lacks_section_name lacks_symbol_name string_table_fault has_no_alignment has_no_section value_exceeds object_fault section_at record_offset record_at symbol_at starts_within big_object_class is_big_object header_size symbol_size machine_of section_total section_headers_offset symbols_offset record_total relocations_place relocation_count_in relocations_from short_name_in name_offset long_section_name section_name_in is_uninitialised_in has_overflow_count_in string_table_offset string_table_size string_table text_in long_name_offset_in name_in section_number_in class_in aux_count_in resource_start form_error is_linker_section content_error opening_error comes_in is_definition definitions_of is_unbuilt_section is_unbuilt_symbol is_named plan_fault inputs_fault
+pieces = refl
+
+contents : link_contents (joined options.inputs (object ∷ [])) ≡ code ∷ []
+unfolding object file_header section_header code symbol_record string_row number_at first_below decimal_number first_refusal_below first_section first_of is_truncated is_other_machine body_leaves counted_leave relocations_leave first_torn_record symbol_range_fault table_leaves lacks_section_name lacks_symbol_name string_table_fault has_no_alignment has_no_section value_exceeds object_fault section_at record_offset record_at symbol_at starts_within big_object_class is_big_object header_size symbol_size machine_of section_total section_headers_offset symbols_offset record_total relocations_place relocation_count_in relocations_from short_name_in name_offset long_section_name section_name_in is_uninitialised_in has_overflow_count_in string_table_offset string_table_size string_table text_in long_name_offset_in name_in section_number_in class_in aux_count_in resource_start form_error is_linker_section content_error opening_error comes_in is_definition definitions_of is_unbuilt_section is_unbuilt_symbol is_named plan_fault inputs_fault
+contents = refl
+
+-- where the image begins
+entry : entry_place (joined options.inputs (object ∷ [])) options.entry_name ≡ Some (record { piece = 0; value = 0 })
+unfolding object file_header section_header code symbol_record string_row number_at first_below decimal_number first_refusal_below first_section first_of is_truncated is_other_machine body_leaves counted_leave relocations_leave first_torn_record symbol_range_fault table_leaves lacks_section_name lacks_symbol_name string_table_fault has_no_alignment has_no_section value_exceeds object_fault section_at record_offset record_at symbol_at starts_within big_object_class is_big_object header_size symbol_size machine_of section_total section_headers_offset symbols_offset record_total relocations_place relocation_count_in relocations_from short_name_in name_offset long_section_name section_name_in is_uninitialised_in has_overflow_count_in string_table_offset string_table_size string_table text_in long_name_offset_in name_in section_number_in class_in aux_count_in resource_start form_error is_linker_section content_error opening_error comes_in is_definition definitions_of is_unbuilt_section is_unbuilt_symbol is_named plan_fault inputs_fault
+entry = refl
