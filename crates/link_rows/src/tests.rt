@@ -1,5 +1,6 @@
 //! What the linker makes of its words and files.
 
+mod big_objects;
 mod builder;
 mod case;
 mod failures;
@@ -9,4 +10,5 @@ mod many_objects;
 mod objects;
 mod one_object;
 mod opening;
+mod options;
 mod refusals;

@@ -65,7 +65,7 @@ fn bytes_without_initial_values_take_no_place_in_the_file(rt: HostRuntime) -> Re
 }
 
 /// Code of one byte, at any address.
-const RETURN: Section<'static> = Section {
+pub(super) const RETURN: Section<'static> = Section {
     name: ".text",
     flags: 0x6010_0020,
     contents: Contents::Initialised(b"\xc3"),
