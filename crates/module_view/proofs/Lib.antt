@@ -1,3 +1,4 @@
+pub mod BaseNameLemmas
 pub mod CallerLemmas
 pub mod SectionLemmas
 pub mod SymbolLemmas

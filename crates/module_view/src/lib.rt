@@ -4,6 +4,7 @@
 //! mean across modules is left to others.
 #![tactic(auto)]
 
+mod base_name;
 mod definition;
 mod error;
 mod first_bytes;

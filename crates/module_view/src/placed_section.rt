@@ -37,8 +37,18 @@ fn is_left_out(flags: u32) -> bool
 fn is_debug_section(name: &Name<'_>) -> bool
     ensures { result ≡ is_debug_section name.now }
 {
+    if !begins_debug(name) {
+        return false;
+    }
     let base = name.base_name();
     base == Name::of(b".debug") || is_debug_part(&base)
+}
+
+/// Whether a name begins as those of tables for debuggers.
+fn begins_debug(name: &Name<'_>) -> bool
+    ensures { result ≡ begins name.now (codes ".debug") }
+{
+    !name.is_import() && name.rest().starts_with(b".debug")
 }
 
 /// Whether a base name begins as those of DWARF tables.
@@ -54,5 +64,12 @@ fn is_debug_part(base: &Name<'_>) -> bool
 fn is_linker_table(name: &Name<'_>) -> bool
     ensures { result ≡ is_linker_table name.now }
 {
-    LINKER_TABLES.iter().any(|table| *name == Name::of(table))
+    !name.is_import() && is_table_name(name.rest())
+}
+
+/// Whether the text is the name of a table that is meant for the linker alone.
+fn is_table_name(text: &[u8]) -> bool
+    ensures { result ≡ is_linker_table text.now }
+{
+    LINKER_TABLES.iter().any(|table| text == *table)
 }

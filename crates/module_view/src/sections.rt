@@ -7,6 +7,7 @@ ghost use Rattle.module_view.specs.Unbuilt.{is_unbuilt_section, has_unbuilt_sect
 ghost use Rattle.module_view.specs.Opening.{is_linker_section, is_long};
 ghost use Rattle.module_view.specs.Steps.{section_form};
 
+use crate::base_name::has_base_name;
 use crate::unbuilt::is_unbuilt_section;
 use coff_object::{LongTexts, Object};
 use link_base::{Kind, Name};
@@ -79,7 +80,7 @@ fn section_form(object: &Object<'_>, texts: &LongTexts<'_>, number: u32) -> Sect
 fn is_linker_section(name: &Name<'_>) -> bool
     ensures { result ≡ is_linker_section name.now }
 {
-    begins_import_table(name) || name.base_name() == Name::of(b".reloc")
+    begins_import_table(name) || has_base_name(name, b".reloc")
 }
 
 /// Whether a section of this name is a part of the import tables.

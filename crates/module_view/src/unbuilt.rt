@@ -7,6 +7,7 @@ ghost use Rattle.coff_object.specs.ObjectFile.{section_total, name_in};
 ghost use Rattle.module_view.specs.PlacedSection.{comes_in};
 ghost use Rattle.module_view.specs.Unbuilt.{is_unbuilt_section, is_loader_name, is_outside_sections, is_import_reference, is_external_name, is_unbuilt_symbol};
 
+use crate::base_name::has_base_name;
 use crate::placed_section::comes_in;
 use coff_object::{Object, Section, SymbolRecord};
 use link_base::Name;
@@ -42,9 +43,8 @@ fn is_special_section(section: &Section<'_>) -> bool
         && comes_in section.now.flags section.now.name)
         || same_name (base_name section.now.name) (codes ".rsrc")) }
 {
-    let base = section.name.base_name();
-    (base == Name::of(b".pdata") && comes_in(section.flags, &section.name))
-        || base == Name::of(b".rsrc")
+    (has_base_name(&section.name, b".pdata") && comes_in(section.flags, &section.name))
+        || has_base_name(&section.name, b".rsrc")
 }
 
 /// Whether a symbol needs more than an address in its section. Its name is read only where its class and its section ask

@@ -1,9 +1,0 @@
-use Rattle.std.proofs.Common.{rules, tests}
-use Rattle.std.proofs.lemmas.Iterator.{YieldsList-from_slice}
-use Rattle.std.proofs.lemmas.Iterator.Search.{any_from_yields_List}
-use Rattle.link_base.specs.NameText.{same_name}
-use Rattle.module_view.proofs.placed_section.is_linker_table.Goals as goal
-
-pub returns : goal.returns
-returns c =
-    any_from_yields_List (λ table. same_name c.args.name.now table.now) _ _ c.any.result c.any.ensures.ran (YieldsList-from_slice _ c.iter.ensures.rest) (λ x b q k. search (rules, tests))
