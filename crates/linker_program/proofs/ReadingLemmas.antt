@@ -1,8 +1,9 @@
 -- Why one input is not read, and what is read so far.
-use Rattle.std.proofs.Common.{◌≡◌, ℕ, ◌+◌, ◌<◌, ◌≤◌, List, [], ◌∷◌, ◌++◌, length, get_or, map, take, Option, Some, None, Err, Vec, refl, sym, ap, ◌∙◌, add-one, arith, le-ltb}
-use Rattle.std.specs.Prelude.{All, unwrap_or}
+use Rattle.std.proofs.Common.{◌≡◌, ℕ, ◌+◌, ◌<◌, ◌≤◌, List, [], ◌∷◌, ◌++◌, length, get_or, map, take, Option, Some, None, Err, Vec, refl, sym, ap, ◌∙◌, arith, le-ltb}
+use Rattle.std.specs.Prelude.{All, unwrap_or, sum_by}
 use Rattle.std.specs.Option.{ForSome}
 use Rattle.std.proofs.lemmas.List.{length-map, map-append, take_more, length_push, get_or-map}
+use Rattle.std.proofs.lemmas.List.Sums.{sum_by_push}
 use Rattle.std.proofs.lemmas.List.Elements.{All-nil, All-same, All-push}
 use Rattle.link_files.specs.Store.{Store, file_of}
 use Rattle.link_base.specs.declared.stop.Stop.{Stop}
@@ -35,7 +36,7 @@ pub record ReadSoFar (names : List (List ℕ)) (index : ℕ) (before after : Fil
   pub sum : ForSome before.store (λ store. total ≡ total_before store names index)
 
 pub nothing_read : (names : List (List ℕ)) (files : FilesView) (contents : List (List ℕ)) → contents ≡ [] → ReadSoFar names 0 files files contents 0
-unfolding first_refusal_below total_before
+unfolding first_refusal_below
 nothing_read names files contents empty = record {
   files = record { store = refl; reads = refl; writes = refl };
   count = ap length empty;
@@ -70,12 +71,13 @@ contents_more names index store contents bytes lt so_far here =
     ∙ sym (map-append (contents_of store) (take index names) (bytes_in names index ∷ []))
     ∙ ap (map (contents_of store)) (sym (take_more names index [] lt))
 
-total_more : (names : List (List ℕ)) (index : ℕ) (store : Store) (total : ℕ) (bytes : List ℕ) → total ≡ total_before store names index → bytes ≡ contents_of store (bytes_in names index) → total + length bytes ≡ total_before store names (index + 1)
-unfolding total_before
-total_more names index store total bytes so_far here =
+total_more : (names : List (List ℕ)) (index : ℕ) (store : Store) (total : ℕ) (bytes : List ℕ) → index < length names → total ≡ total_before store names index → bytes ≡ contents_of store (bytes_in names index) → total + length bytes ≡ total_before store names (index + 1)
+total_more names index store total bytes lt so_far here =
+    let size = λ (name : List ℕ). length (contents_of store name) in
     ap (λ (before : ℕ). before + length bytes) so_far
     ∙ ap (λ (last : List ℕ). total_before store names index + length last) here
-    ∙ sym (ap (total_before store names) (add-one index))
+    ∙ sym (sum_by_push size (take index names) (bytes_in names index))
+    ∙ ap (sum_by size) (sym (take_more names index [] lt))
 
 -- the next input was read too
 pub read_more : (names : List (List ℕ)) (index : ℕ) (before after later : FilesView) (contents : List (List ℕ)) (total : ℕ) (name bytes : List ℕ) → index < length names → name ≡ bytes_in names index → ReadSoFar names index before after contents total → GivesInput name total after later bytes → ReadSoFar names (index + 1) before later (contents ++ bytes ∷ []) (total + length bytes)
@@ -92,7 +94,7 @@ read_more names index before after later contents total name bytes lt named so_f
           (fault_here names index store name total named (so_far.sum store is)
           ∙ kept_no_fault name total bytes (file_of store name) (file store is) gives.within gives.together);
       told = λ store is. contents_more names index store contents bytes lt (so_far.told store is) (here store is);
-      sum = λ store is. total_more names index store total bytes (so_far.sum store is) (here store is);
+      sum = λ store is. total_more names index store total bytes lt (so_far.sum store is) (here store is);
     }
 
 -- the next input stops the reading

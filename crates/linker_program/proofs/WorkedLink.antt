@@ -56,61 +56,39 @@ string_row =
 object : List ℕ
 object = file_header ++ (section_header ++ (code ++ (symbol_record ++ string_row)))
 
-abbrev options : LinkOptions
-options = record {
-  inputs = codes "a.obj" ∷ [];
-  alternates = [];
-  merges = [];
-  default_libs = [];
-  exports = [];
-  includes = [];
-  base = 0x140000000;
-  debug = false;
-  dll = false;
-  noentry = false;
-  dynamic = true;
-  entropy = true;
-  nx = true;
-  large = true;
-  entry_name = Some (codes "main");
-  fixed = false;
-  heap = (0x100000, 0x1000);
-  stack = (0x100000, 0x1000);
-  lib_paths = [];
-  map_file = None;
-  no_default = [];
-  no_default_all = false;
-  refs = None;
-  out = codes "a.exe";
-  pdb = codes "a.pdb";
-  subsystem = 3;
-  time = 0;
-  version = (0, 0);
-}
+abbrev words : List (List ℕ)
+words = codes "a.obj" ∷ codes "/ENTRY:main" ∷ codes "/OUT:a.exe" ∷ []
 
-words_ask : words_say (codes "link" ∷ codes "a.obj" ∷ codes "/ENTRY:main" ∷ codes "/OUT:a.exe" ∷ []) ≡ Ok (Link options)
+abbrev options : LinkOptions
+options = options_of (settings words)
+
+asked : words_say (codes "link" ∷ words) ≡ Ok (Link options)
 unfolding words_say link_says link_refusal word_refusal first_refusal_below settings line_refusal options_of outputs_clash default_entry with_extension stem word_says known is_word is_text
-words_ask = refl
+asked = refl
+
+entry_asked : options.entry_name ≡ Some (codes "main")
+unfolding settings options_of word_says known is_word is_text
+entry_asked = refl
 
 built : is_unbuilt_link options ≡ false
-unfolding is_unbuilt_link
+unfolding is_unbuilt_link settings options_of word_says known is_word is_text default_entry with_extension stem
 built = refl
 
 -- no stage before the tables has a fault
 accepted : inputs_fault options (object ∷ []) ≡ None
-unfolding object file_header section_header code symbol_record string_row number_at first_below decimal_number first_refusal_below first_section first_of is_truncated is_other_machine body_leaves counted_leave relocations_leave first_torn_record symbol_range_fault table_leaves lacks_section_name lacks_symbol_name string_table_fault has_no_alignment has_no_section value_exceeds object_fault section_at record_offset record_at symbol_at starts_within big_object_class is_big_object header_size symbol_size machine_of section_total section_headers_offset symbols_offset record_total relocations_place relocation_count_in relocations_from short_name_in name_offset long_section_name section_name_in is_uninitialised_in has_overflow_count_in string_table_offset string_table_size string_table text_in long_name_offset_in name_in section_number_in class_in aux_count_in resource_start form_error is_linker_section content_error opening_error comes_in is_definition definitions_of is_unbuilt_section is_unbuilt_symbol is_named plan_fault inputs_fault
+unfolding settings options_of word_says known is_word is_text object file_header section_header code symbol_record string_row number_at first_below decimal_number first_refusal_below first_section first_of is_truncated is_other_machine body_leaves counted_leave relocations_leave first_torn_record symbol_range_fault table_leaves lacks_section_name lacks_symbol_name string_table_fault has_no_alignment has_no_section value_exceeds object_fault section_at record_offset record_at symbol_at starts_within big_object_class is_big_object header_size symbol_size machine_of section_total section_headers_offset symbols_offset record_total relocations_place relocation_count_in relocations_from short_name_in name_offset long_section_name section_name_in is_uninitialised_in has_overflow_count_in string_table_offset string_table_size string_table text_in long_name_offset_in name_in section_number_in class_in aux_count_in resource_start form_error is_linker_section content_error opening_error comes_in is_definition definitions_of is_unbuilt_section is_unbuilt_symbol is_named plan_fault inputs_fault
 accepted = refl
 
 -- what is laid out
 pieces : link_pieces (joined options.inputs (object ∷ [])) ≡ record { «module» = 0; number = 1; name = codes ".text"; flags = 0x60500020; size = 3; align = 16; body = None; init = true; named = true } ∷ []
-unfolding object file_header section_header code symbol_record string_row number_at first_below decimal_number first_refusal_below first_section first_of is_truncated is_other_machine body_leaves counted_leave relocations_leave first_torn_record symbol_range_fault table_leaves lacks_section_name lacks_symbol_name string_table_fault has_no_alignment has_no_section value_exceeds object_fault section_at record_offset record_at symbol_at starts_within big_object_class is_big_object header_size symbol_size machine_of section_total section_headers_offset symbols_offset record_total relocations_place relocation_count_in relocations_from short_name_in name_offset long_section_name section_name_in is_uninitialised_in has_overflow_count_in string_table_offset string_table_size string_table text_in long_name_offset_in name_in section_number_in class_in aux_count_in resource_start form_error is_linker_section content_error opening_error comes_in is_definition definitions_of is_unbuilt_section is_unbuilt_symbol is_named plan_fault inputs_fault
+unfolding settings options_of word_says known is_word is_text object file_header section_header code symbol_record string_row number_at first_below decimal_number first_refusal_below first_section first_of is_truncated is_other_machine body_leaves counted_leave relocations_leave first_torn_record symbol_range_fault table_leaves lacks_section_name lacks_symbol_name string_table_fault has_no_alignment has_no_section value_exceeds object_fault section_at record_offset record_at symbol_at starts_within big_object_class is_big_object header_size symbol_size machine_of section_total section_headers_offset symbols_offset record_total relocations_place relocation_count_in relocations_from short_name_in name_offset long_section_name section_name_in is_uninitialised_in has_overflow_count_in string_table_offset string_table_size string_table text_in long_name_offset_in name_in section_number_in class_in aux_count_in resource_start form_error is_linker_section content_error opening_error comes_in is_definition definitions_of is_unbuilt_section is_unbuilt_symbol is_named plan_fault inputs_fault
 pieces = refl
 
 contents : link_contents (joined options.inputs (object ∷ [])) ≡ code ∷ []
-unfolding object file_header section_header code symbol_record string_row number_at first_below decimal_number first_refusal_below first_section first_of is_truncated is_other_machine body_leaves counted_leave relocations_leave first_torn_record symbol_range_fault table_leaves lacks_section_name lacks_symbol_name string_table_fault has_no_alignment has_no_section value_exceeds object_fault section_at record_offset record_at symbol_at starts_within big_object_class is_big_object header_size symbol_size machine_of section_total section_headers_offset symbols_offset record_total relocations_place relocation_count_in relocations_from short_name_in name_offset long_section_name section_name_in is_uninitialised_in has_overflow_count_in string_table_offset string_table_size string_table text_in long_name_offset_in name_in section_number_in class_in aux_count_in resource_start form_error is_linker_section content_error opening_error comes_in is_definition definitions_of is_unbuilt_section is_unbuilt_symbol is_named plan_fault inputs_fault
+unfolding settings options_of word_says known is_word is_text object file_header section_header code symbol_record string_row number_at first_below decimal_number first_refusal_below first_section first_of is_truncated is_other_machine body_leaves counted_leave relocations_leave first_torn_record symbol_range_fault table_leaves lacks_section_name lacks_symbol_name string_table_fault has_no_alignment has_no_section value_exceeds object_fault section_at record_offset record_at symbol_at starts_within big_object_class is_big_object header_size symbol_size machine_of section_total section_headers_offset symbols_offset record_total relocations_place relocation_count_in relocations_from short_name_in name_offset long_section_name section_name_in is_uninitialised_in has_overflow_count_in string_table_offset string_table_size string_table text_in long_name_offset_in name_in section_number_in class_in aux_count_in resource_start form_error is_linker_section content_error opening_error comes_in is_definition definitions_of is_unbuilt_section is_unbuilt_symbol is_named plan_fault inputs_fault
 contents = refl
 
 -- where the image begins
 entry : entry_place (joined options.inputs (object ∷ [])) options.entry_name ≡ Some (record { piece = 0; value = 0 })
-unfolding object file_header section_header code symbol_record string_row number_at first_below decimal_number first_refusal_below first_section first_of is_truncated is_other_machine body_leaves counted_leave relocations_leave first_torn_record symbol_range_fault table_leaves lacks_section_name lacks_symbol_name string_table_fault has_no_alignment has_no_section value_exceeds object_fault section_at record_offset record_at symbol_at starts_within big_object_class is_big_object header_size symbol_size machine_of section_total section_headers_offset symbols_offset record_total relocations_place relocation_count_in relocations_from short_name_in name_offset long_section_name section_name_in is_uninitialised_in has_overflow_count_in string_table_offset string_table_size string_table text_in long_name_offset_in name_in section_number_in class_in aux_count_in resource_start form_error is_linker_section content_error opening_error comes_in is_definition definitions_of is_unbuilt_section is_unbuilt_symbol is_named plan_fault inputs_fault
+unfolding settings options_of word_says known is_word is_text object file_header section_header code symbol_record string_row number_at first_below decimal_number first_refusal_below first_section first_of is_truncated is_other_machine body_leaves counted_leave relocations_leave first_torn_record symbol_range_fault table_leaves lacks_section_name lacks_symbol_name string_table_fault has_no_alignment has_no_section value_exceeds object_fault section_at record_offset record_at symbol_at starts_within big_object_class is_big_object header_size symbol_size machine_of section_total section_headers_offset symbols_offset record_total relocations_place relocation_count_in relocations_from short_name_in name_offset long_section_name section_name_in is_uninitialised_in has_overflow_count_in string_table_offset string_table_size string_table text_in long_name_offset_in name_in section_number_in class_in aux_count_in resource_start form_error is_linker_section content_error opening_error comes_in is_definition definitions_of is_unbuilt_section is_unbuilt_symbol is_named plan_fault inputs_fault
 entry = refl

@@ -1,7 +1,7 @@
 -- The first stage of a link. Its inputs are read in the order of the words, and the first that cannot be read, or that
 -- makes the inputs too large together, is the fault; then they are opened in that order, and the first that is no module,
 -- or one too many, is the fault. Own.
-use Rattle.std.specs.Prelude.{ℕ, zero, suc, ◌+◌, nat_le, nat_lt, if◌then◌else◌, List, [], length, map, slice_index_or, Option, Some, None, unwrap_or}
+use Rattle.std.specs.Prelude.{ℕ, ◌+◌, nat_le, nat_lt, if◌then◌else◌, List, [], length, map, take, sum_by, slice_index_or, Option, Some, None, unwrap_or}
 use Rattle.std.specs.List.{range_with_len}
 use Rattle.std.specs.Option.{option_or}
 use Rattle.link_base.specs.Limits.{FILE_LIMIT, INPUT_LIMIT, MODULE_LIMIT}
@@ -24,9 +24,8 @@ abbrev pub contents_of : Store → List ℕ → List ℕ
 contents_of store name = unwrap_or (file_of store name) []
 
 -- how many bytes the first inputs have together
-unfoldable pub total_before : Store → List (List ℕ) → ℕ → ℕ
-total_before store names zero = 0
-total_before store names (suc k) = total_before store names k + length (contents_of store (bytes_in names k))
+abbrev pub total_before : Store → List (List ℕ) → ℕ → ℕ
+total_before store names k = sum_by (λ name. length (contents_of store name)) (take k names)
 
 -- why a file with this name is not read, where `total` bytes were read before it
 abbrev pub read_fault : List ℕ → ℕ → Option (List ℕ) → Option Fault
