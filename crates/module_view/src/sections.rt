@@ -57,21 +57,19 @@ fn section_form(object: &Object<'_>, texts: &LongTexts<'_>, number: u32) -> Sect
     ensures long { result.is_long ≡ is_long (section_name_of object.now number) }
     ensures unbuilt { result.is_long ≡ false → result.is_unbuilt ≡ is_unbuilt_section object.now number }
 {
-    let name = object.section_name_start(number, LINKER_NAME_START);
-    let is_linker = is_linker_section(&name);
-    let is_long = texts.is_long_section(object, number);
-    if is_long {
+    if texts.is_long_section(object, number) {
+        let name = object.section_name_start(number, LINKER_NAME_START);
         return SectionForm {
-            is_linker,
-            is_long,
+            is_linker: is_linker_section(&name),
+            is_long: true,
             is_unbuilt: false,
         };
     }
-    let is_unbuilt = is_unbuilt_section(object, number);
+    let section = object.section(number);
     SectionForm {
-        is_linker,
-        is_long,
-        is_unbuilt,
+        is_linker: is_linker_section(&section.name),
+        is_long: false,
+        is_unbuilt: is_unbuilt_section(object, number, &section),
     }
 }
 

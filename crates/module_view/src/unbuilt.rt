@@ -1,9 +1,10 @@
 //! Which sections and symbols have a form that is not linked yet.
 
 ghost use Rattle.std.specs.Prelude.{◌≡◌, ◌≤◌, ◌||◌, ◌&&◌, nat_lt, is_some, codes};
+ghost use Rattle.std.specs.Option.{option_copied};
 ghost use Rattle.link_base.specs.NameText.{same_name};
 ghost use Rattle.link_base.specs.SectionName.{base_name};
-ghost use Rattle.coff_object.specs.ObjectFile.{section_total, name_in};
+ghost use Rattle.coff_object.specs.ObjectFile.{section_total, section_name_of, flags_of, raw_size_of, body_of, name_in};
 ghost use Rattle.module_view.specs.PlacedSection.{comes_in};
 ghost use Rattle.module_view.specs.Unbuilt.{is_unbuilt_section, is_loader_name, is_outside_sections, is_import_reference, is_external_name, is_unbuilt_symbol};
 
@@ -15,18 +16,21 @@ use link_base::pe_format::{
     SCN_LNK_COMDAT, SYM_ABSOLUTE, SYM_CLASS_EXTERNAL, SYM_CLASS_WEAK_EXTERNAL, SYM_UNDEFINED,
 };
 
-/// Whether a section needs more than a place.
+/// Whether a section of this number, which was read, needs more than a place.
 #[tactic(auto, unfolding(crate::specs::Unbuilt::is_unbuilt_section))]
-pub(crate) fn is_unbuilt_section(object: &Object<'_>, number: u32) -> bool
+pub(crate) fn is_unbuilt_section(object: &Object<'_>, number: u32, section: &Section<'_>) -> bool
     requires first { 1 ≤ number }
     requires last { number ≤ section_total object.now }
+    requires name { section.now.name ≡ section_name_of object.now number }
+    requires flags { section.now.flags ≡ flags_of object.now number }
+    requires size { section.now.size ≡ raw_size_of object.now number }
+    requires body { option_copied section.now.body ≡ body_of object.now number }
     ensures { result ≡ is_unbuilt_section object.now number }
 {
-    let section = object.section(number);
     object.relocation_count(number) != 0
         || section.flags & SCN_LNK_COMDAT != 0
-        || holds_directives(&section)
-        || is_special_section(&section)
+        || holds_directives(section)
+        || is_special_section(section)
 }
 
 /// Whether a section holds directives for the linker.
