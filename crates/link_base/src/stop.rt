@@ -57,36 +57,3 @@ impl<'a> From<Fault<'a>> for Refusal<'a> {
         Refusal::Fault(fault)
     }
 }
-
-impl<'a> From<AllocError> for Stop<'a> {
-    ghost use Rattle.std.specs.Prelude.{◌≡◌};
-    ghost use Rattle.link_base.specs.declared.stop.Stop.TheVariants.{Memory};
-
-    ghost from_gives = { λ _ e. e ≡ Memory };
-
-    fn from(_error: AllocError) -> Stop<'a> {
-        Stop::Memory
-    }
-}
-
-impl<'a> From<Memory> for Stop<'a> {
-    ghost use Rattle.std.specs.Prelude.{◌≡◌};
-    ghost use Rattle.link_base.specs.declared.stop.Stop.TheVariants.{Memory};
-
-    ghost from_gives = { λ _ e. e ≡ Memory };
-
-    fn from(_error: Memory) -> Stop<'a> {
-        Stop::Memory
-    }
-}
-
-impl<'a> From<Fault<'a>> for Stop<'a> {
-    ghost use Rattle.std.specs.Prelude.{◌≡◌};
-    ghost use Rattle.link_base.specs.declared.stop.Stop.TheVariants as stop;
-
-    ghost from_gives = { λ fault e. e ≡ stop.Fault fault };
-
-    fn from(fault: Fault<'a>) -> Stop<'a> {
-        Stop::Fault(fault)
-    }
-}
