@@ -4,27 +4,16 @@ use Rattle.std.specs.declared.alloc.Global.{Global}
 use Rattle.std.specs.List.{range_with_len}
 use Rattle.std.proofs.Math.ListN.{length-set}
 use Rattle.std.proofs.lemmas.Bool.{eqb-true, eqb-false}
-use Rattle.std.proofs.lemmas.List.{get_or-set_other, get_or-set_same}
+use Rattle.std.proofs.lemmas.List.{append-nil, get_or-set_other, get_or-set_same}
 use Rattle.std.proofs.lemmas.List.Elements.{filter-append}
+use Rattle.link_base.proofs.RangeLemmas.{range_more}
 use Rattle.section_group.specs.Gathering.{has_number, members_of, AreMembers}
 
-range_more : (a n : ℕ) → range_with_len a (suc n) ≡ range_with_len a n ++ (a + n) ∷ []
-range_more a zero = ap (λ (k : ℕ). k ∷ []) (omega arith)
-range_more a (suc n) =
-    let next : (a + 1) + n ≡ a + suc n = omega arith in
-    ap (λ (ks : List ℕ). a ∷ ks) (range_more (a + 1) n ∙ ap (λ (k : ℕ). range_with_len (a + 1) n ++ k ∷ []) next)
+pub filter_more : (p : ℕ → Bool) (n : ℕ) → filter p (range_with_len 0 (n + 1)) ≡ filter p (range_with_len 0 n) ++ cond (p n) (n ∷ []) []
+filter_more p n = ap (filter p) (range_more 0 n n (omega arith)) ∙ filter-append p (range_with_len 0 n) (n ∷ [])
 
 members_more : (numbers : List (Option ℕ)) (count number : ℕ) → members_of numbers (count + 1) number ≡ members_of numbers count number ++ cond (has_number number (get_or numbers count None)) (count ∷ []) []
-members_more numbers count number =
-    let p = λ (k : ℕ). has_number number (get_or numbers k None) in
-    let next : count + 1 ≡ suc count = omega arith in
-    let last : 0 + count ≡ count = omega arith in
-    ap (λ (n : ℕ). filter p (range_with_len 0 n)) next ∙ ap (filter p) (range_more 0 count ∙ ap (λ (k : ℕ). range_with_len 0 count ++ k ∷ []) last)
-    ∙ filter-append p (range_with_len 0 count) (count ∷ [])
-
-pub append-nil : (xs : List ℕ) → xs ++ [] ≡ xs
-append-nil [] = refl
-append-nil (x ∷ xs) = ap (λ (ys : List ℕ). x ∷ ys) (append-nil xs)
+members_more numbers count number = filter_more (λ k. has_number number (get_or numbers k None)) count
 
 -- an unused piece
 pub more_unused : (numbers : List (Option ℕ)) (count sections : ℕ) (members : List (Vec ℕ Global)) → AreMembers numbers count sections members → get_or numbers count None ≡ None → AreMembers numbers (count + 1) sections members
@@ -66,10 +55,3 @@ more_used numbers count sections at members old more are some lt is_old is_more 
         go : (b : Bool) → eqb number at ≡ b → (number ≡ at) ⊎ (number ≢ at)
         go true e = inl (eqb-true number at e)
         go false e = inr (eqb-false number at e)
-
-pub filter_more : (p : ℕ → Bool) (n : ℕ) → filter p (range_with_len 0 (n + 1)) ≡ filter p (range_with_len 0 n) ++ cond (p n) (n ∷ []) []
-filter_more p n =
-    let next : n + 1 ≡ suc n = omega arith in
-    let last : 0 + n ≡ n = omega arith in
-    ap (λ (k : ℕ). filter p (range_with_len 0 k)) next ∙ ap (filter p) (range_more 0 n ∙ ap (λ (k : ℕ). range_with_len 0 n ++ k ∷ []) last)
-    ∙ filter-append p (range_with_len 0 n) (n ∷ [])

@@ -8,7 +8,7 @@ use Rattle.std.specs.Cmp.Rules.{comparing}
 use Rattle.std.specs.declared.alloc.Global.{Global}
 use Rattle.std.specs.declared.cmp.Ordering.TheVariants.{Equal}
 use Rattle.std.proofs.lemmas.Bool.{false≢true, cases_lt}
-use Rattle.std.proofs.lemmas.List.{length-map, get_or_default}
+use Rattle.std.proofs.lemmas.List.{append-nil, length-map, get_or_default}
 use Rattle.std.proofs.lemmas.List.Elements.{All-push, All-nil}
 use Rattle.std.proofs.lemmas.List.Sorted.{All-permutation, Contains-permutation, IsPermutation-map}
 use Rattle.std.proofs.lemmas.Map.Keys.{apart_from_distinct, IsDistinct-IsPermutation}
@@ -22,7 +22,7 @@ use Rattle.section_group.specs.Keys.{section_cmp}
 use Rattle.section_group.specs.Sections.{IsKey, AreKeys, OrdersSections, IsBuilt, AreBuilt, home_at, pieces_at, is_needed}
 use Rattle.section_group.proofs.OrderLemmas.{ascends, then_level, level_numbers}
 use Rattle.section_group.proofs.KeyLemmas.{eqb_flip}
-use Rattle.section_group.proofs.GatherLemmas.{filter_more, append-nil}
+use Rattle.section_group.proofs.GatherLemmas.{filter_more}
 use Rattle.link_base.proofs.RangeLemmas.{range_has, range_distinct}
 
 pub section_total : IsTotalOrder section_cmp

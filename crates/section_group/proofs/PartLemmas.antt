@@ -1,19 +1,33 @@
 -- What the parts of a piece's name say of the input.
-use Rattle.std.proofs.Common.{◌≡◌, ℕ, ◌<◌, Bool, true, false, ◌&&◌, ltb, lt-ltb, IsTrue, List, length, map, get_or, refl, ap, ◌∙◌, arith}
+use Rattle.std.proofs.Common.{◌≡◌, ℕ, ◌<◌, Bool, true, false, ◌&&◌, ltb, lt-ltb, IsTrue, List, length, map, get_or, take, ◌-◌, ◌≤◌, refl, sym, ap, subst, ◌∙◌, arith}
 use Rattle.std.proofs.lemmas.Bool.{ltb-true, false≢true}
-use Rattle.std.proofs.lemmas.List.{get_or_default, length-map}
+use Rattle.std.proofs.lemmas.List.{get_or_default, get_or-take, length-map, length-take-le}
 use Rattle.std.proofs.Math.ListN.{get_or-map}
 use Rattle.section_group.specs.declared.piece.Piece.{Piece}
 use Rattle.section_group.specs.declared.cut.Cut.{Cut}
 use Rattle.section_group.specs.Merging.{final_name}
-use Rattle.section_group.specs.SectionOrder.{Input, no_piece, piece_at, is_used, base_name}
+use Rattle.section_group.specs.SectionOrder.{Input, input_from, no_piece, piece_at, is_used, base_name, suffix}
 use Rattle.section_group.specs.Steps.{cut_of, no_cut, cut_at, AreCuts}
-use Rattle.section_group.specs.SectionOrder.{input_from}
+
+abbrev named_cut : (List ℕ → List ℕ) → List ℕ → Cut
+named_cut lead name =
+    record { base = base_name name; suffix = suffix name; section = lead (base_name name) }
 
 cut_is : (lead : List ℕ → List ℕ) (pieces : List Piece) (k : ℕ) → k < length pieces → get_or (map (cut_of lead) pieces) k no_cut ≡ cut_of lead (get_or pieces k no_piece)
 cut_is lead pieces k lt =
     let in' : k < length (map (cut_of lead) pieces) = omega (arith, length-map pieces (cut_of lead)) in
     get_or_default (map (cut_of lead) pieces) k no_cut (cut_of lead no_piece) in' ∙ get_or-map (cut_of lead) pieces k no_piece
+
+-- a piece that has the name of the one before it has its cut
+pub cut_again : (lead : List ℕ → List ℕ) (pieces : List Piece) (cuts : List Cut) (k : ℕ) (cut : Cut) (piece before : Piece) → k < length pieces → 0 < k → cuts ≡ map (cut_of lead) (take k pieces) → cut ≡ get_or cuts (k - 1) cut → (get_or pieces k piece).name ≡ (get_or pieces (k - 1) before).name → cut ≡ cut_of lead (get_or pieces k no_piece)
+cut_again lead pieces cuts k cut piece before lt above are is same =
+    let in' : k - 1 < length (take k pieces) = omega (arith, length-take-le k pieces (omega (arith, lt)), above) in
+    let within : k - 1 < length cuts = subst (λ (cs : List Cut). k - 1 < length cs) (sym are) (omega (arith, in', length-map (take k pieces) (cut_of lead))) in
+    is ∙ get_or_default cuts (k - 1) cut no_cut within
+    ∙ ap (λ (cs : List Cut). get_or cs (k - 1) no_cut) are ∙ cut_is lead (take k pieces) (k - 1) in'
+    ∙ ap (cut_of lead) (get_or-take k pieces (k - 1) no_piece (omega (arith, above)) ∙ get_or_default pieces (k - 1) no_piece before (omega (arith, lt)))
+    ∙ ap (named_cut lead) (sym same)
+    ∙ ap (cut_of lead) (get_or_default pieces k piece no_piece lt)
 
 pub cuts_are : (pieces : List Piece) (used : List Bool) (merges : List (List ℕ × List ℕ)) (lead : List ℕ → List ℕ) (cuts : List Cut) → cuts ≡ map (cut_of lead) pieces → ((name : List ℕ) → lead name ≡ final_name merges name) → AreCuts (input_from pieces used merges) cuts
 cuts_are pieces used merges lead cuts is leads =

@@ -21,7 +21,3 @@ pub record AreCuts (input : Input) (cuts : List Cut) : Type 0 where
   pub base : (k : ℕ) → k < length input.pieces → (cut_at cuts k).base ≡ base_name (piece_at input k).name
   pub suffix : (k : ℕ) → k < length input.pieces → (cut_at cuts k).suffix ≡ suffix (piece_at input k).name
   pub section : (k : ℕ) → k < length input.pieces → (cut_at cuts k).section ≡ section_name input k
-
--- what `group` is given
-abbrev pub input_from : List Piece → List Bool → List (List ℕ × List ℕ) → Input
-input_from pieces used merges = record { pieces = pieces; used = used; merges = merges }

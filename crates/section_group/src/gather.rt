@@ -1,6 +1,6 @@
 //! The pieces of each section.
 
-ghost use Rattle.std.specs.Prelude.{◌≡◌, ℕ, ◌<◌, ◌^◌, length, slice_get, slice_index_or, Some, None, OnOk, IfOk, []};
+ghost use Rattle.std.specs.Prelude.{◌≡◌, ℕ, ◌<◌, ◌^◌, IsTrue, length, slice_get, slice_index_or, Some, None, OnOk, IfOk, []};
 ghost use Rattle.std.specs.List.{IsDistinct};
 ghost use Rattle.section_group.specs.Sections.{same_home};
 ghost use Rattle.section_group.specs.Gathering.{input_of, home_of, AreOwners, AreNumbers, IsNumberOf, KeepsHomes, AreMembers};
@@ -24,19 +24,22 @@ pub(crate) fn number_pieces<'a>(
 {
     let mut homes = IndexSet::new(alloc);
     let mut numbers = Vec::with_capacity(alloc, parts.pieces.len())?;
+    let mut last = 0;
     for index in 0..parts.pieces.len() {
-        let number = piece_number(&mut homes, parts, owners, index)?;
+        let number = piece_number(&mut homes, parts, owners, index, last)?;
+        last = number.unwrap_or(last);
         numbers.push(number)?;
     }
     Ok((homes, numbers))
 }
 
-/// The number of a piece's section, where the piece is used.
+/// The number of a piece's section, where the piece is used. `last` is that of a piece before it.
 fn piece_number<'a>(
     homes: &mut IndexSet<Home<'a>>,
     parts: &Parts<'_, 'a>,
     owners: &IndexMap<Name<'a>, usize>,
     index: usize,
+    last: usize,
 ) -> Result<Option<usize>, Memory>
     requires within { index < length parts.now.pieces.now }
     requires owners { AreOwners (input_of parts.now) owners.now.entries }
@@ -45,18 +48,20 @@ fn piece_number<'a>(
     ensures distinct { OnOk result (IsDistinct same_home homes.old.keys → IsDistinct same_home homes.new.keys) }
 {
     if parts.used[index] {
-        let number = home_number(homes, parts, owners, index)?;
+        let number = home_number(homes, parts, owners, index, last)?;
         return Ok(Some(number));
     }
     Ok(None)
 }
 
-/// The number of a used piece's section, which is a new one where the section has none.
+/// The number of a used piece's section, which is a new one where the section has none. That of a piece before it,
+/// `last`, is tried first, which spares a search.
 fn home_number<'a>(
     homes: &mut IndexSet<Home<'a>>,
     parts: &Parts<'_, 'a>,
     owners: &IndexMap<Name<'a>, usize>,
     index: usize,
+    last: usize,
 ) -> Result<usize, Memory>
     requires within { index < length parts.now.pieces.now }
     requires owners { AreOwners (input_of parts.now) owners.now.entries }
@@ -68,8 +73,21 @@ fn home_number<'a>(
         name: parts.cuts[index].section.again(),
         attributes: attributes(parts, owners, index),
     };
+    if stands_at(homes, last, &home) {
+        return Ok(last);
+    }
     let (number, _) = homes.insert_full(home)?;
     Ok(number)
+}
+
+/// Whether the section of a number is this one.
+fn stands_at<'a>(homes: &IndexSet<Home<'a>>, number: usize, home: &Home<'a>) -> bool
+    ensures { IsTrue result → slice_get homes.now.keys number ≡ Some home.now }
+{
+    match homes.get_index(number) {
+        Some(other) => other == home,
+        None => false,
+    }
 }
 
 /// The pieces of each number, in their order.

@@ -1,9 +1,8 @@
 //! The output sections of some pieces.
 
 ghost use Rattle.std.specs.Prelude.{◌<◌, ◌≤◌, ◌^◌, length, IfOk, OnOk, IfErr};
-ghost use Rattle.section_group.specs.Merging.{HasNoBadMerge};
+ghost use Rattle.section_group.specs.Merging.{HasNoBadMerge, IsRefusal};
 ghost use Rattle.section_group.specs.Placement.{IsGrouping};
-ghost use Rattle.section_group.specs.Merging.{IsRefusal};
 ghost use Rattle.section_group.specs.SectionOrder.{input_from};
 ghost use Rattle.section_group.specs.Gathering.{input_of};
 

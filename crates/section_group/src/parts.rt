@@ -1,8 +1,7 @@
 //! What is put into sections, with each piece's name cut.
 
 ghost use Rattle.std.specs.Prelude.{◌≡◌, ◌≤◌, ◌^◌, ◌<◌, length, IfOk, OnOk, IfErr};
-ghost use Rattle.section_group.specs.Merging.{HasNoBadMerge};
-ghost use Rattle.section_group.specs.Merging.{IsRefusal};
+ghost use Rattle.section_group.specs.Merging.{HasNoBadMerge, IsRefusal};
 ghost use Rattle.section_group.specs.Steps.{AreCuts};
 ghost use Rattle.section_group.specs.SectionOrder.{input_from};
 

@@ -4,6 +4,6 @@ use Rattle.section_group.specs.Chains.{led_by}
 use Rattle.section_group.specs.Steps.{cut_of}
 use Rattle.section_group.proofs.cut.cut_all.Given as goal
 
-abbrev pub invariant-loop-piece : goal.invariant-loop-piece
-invariant-loop-piece l =
-    l.cuts.items ≡ map (cut_of (led_by (keys l.renames.targets) l.renames.ends.items)) (take l.piece-index l.pieces)
+abbrev pub invariant-loop-index : goal.invariant-loop-index
+invariant-loop-index l =
+    l.cuts.items ≡ map (cut_of (led_by (keys l.renames.targets) l.renames.ends.items)) (take l.index l.pieces)
