@@ -9,11 +9,11 @@ use Rattle.link_base.specs.Bytes.{u32_at, is_nul, text_at, bytes_at}
 use Rattle.link_base.specs.Decimal.{decimal_number}
 use Rattle.memchr.specs.Find.{IsFirstByte, IsLastByte}
 use Rattle.coff_object.specs.declared.long_texts.LongSpan.{LongSpan}
-use Rattle.coff_object.specs.StringTable.{text_in, is_long_text}
-use Rattle.coff_object.specs.SectionHeader.{short_name_in, names_an_offset, name_offset, long_section_name, section_name_in}
-use Rattle.coff_object.specs.SymbolRecord.{SymbolView, name_in, long_name_offset_in}
+use Rattle.coff_records.specs.StringTable.{text_in, is_long_text}
+use Rattle.coff_records.specs.SectionHeader.{short_name_in, names_an_offset, name_offset, long_section_name, section_name_in}
+use Rattle.coff_records.specs.SymbolRecord.{SymbolView, name_in, long_name_offset_in}
 use Rattle.coff_object.specs.LongText.{is_long_at, IsNextNul, IsAfterLastNul, IsLongSpan}
-use Rattle.coff_object.proofs.TextLemmas.{first_is_near}
+use Rattle.coff_records.proofs.CallerLemmas.{first_is_near}
 
 -- ---- one text
 

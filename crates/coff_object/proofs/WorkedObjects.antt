@@ -4,12 +4,13 @@ use Rattle.std.specs.Prelude.{codes}
 use Rattle.link_base.specs.Bytes.{number_at, first_below}
 use Rattle.link_base.specs.Decimal.{decimal_number}
 use Rattle.link_base.specs.declared.kinds.object.ObjFault.TheVariants as kind
-use Rattle.coff_object.specs.ObjectHeader.{big_object_class, is_big_object, header_size, symbol_size, machine_of, section_total, section_headers_offset, symbols_offset, record_total}
-use Rattle.coff_object.specs.StringTable.{string_table_offset, string_table_size, string_table, text_in}
-use Rattle.coff_object.specs.SectionHeader.{short_name_in, name_offset, long_section_name, section_name_in, is_uninitialised_in, has_overflow_count_in, alignment_of}
-use Rattle.coff_object.specs.SymbolRecord.{long_name_offset_in, name_in, section_number_in, class_in, aux_count_in}
-use Rattle.coff_object.specs.ObjectFile.{section_at, section_name_of, flags_of, body_of, record_offset, record_at, symbol_at, symbol_name_of, symbol_section_of, symbol_class_of, starts_within, symbols_of}
-use Rattle.coff_object.specs.ObjectFaults.{first_section, first_of, is_truncated, is_other_machine, body_leaves, counted_leave, relocations_leave, first_torn_record, symbol_range_fault, table_leaves, lacks_section_name, lacks_symbol_name, string_table_fault, has_no_alignment, has_no_section, value_exceeds, object_fault}
+use Rattle.coff_records.specs.ObjectHeader.{big_object_class, is_big_object, header_size, symbol_size, machine_of, section_total, section_headers_offset, symbols_offset, record_total}
+use Rattle.coff_records.specs.StringTable.{string_table_offset, string_table_size, string_table, text_in}
+use Rattle.coff_records.specs.SectionHeader.{short_name_in, name_offset, long_section_name, section_name_in, is_uninitialised_in, has_overflow_count_in, alignment_of, lacks_section_name}
+use Rattle.coff_records.specs.SymbolRecord.{long_name_offset_in, name_in, section_number_in, class_in, aux_count_in, lacks_symbol_name}
+use Rattle.coff_records.specs.ObjectFile.{section_at, section_name_of, flags_of, body_of, record_offset, record_at, symbol_at, symbol_name_of, symbol_section_of, symbol_class_of, starts_within, symbols_of}
+use Rattle.coff_records.specs.FileRanges.{is_truncated, body_leaves, counted_leave, relocations_leave, table_leaves}
+use Rattle.coff_object.specs.ObjectFaults.{first_section, first_of, is_other_machine, first_torn_record, symbol_range_fault, string_table_fault, has_no_alignment, has_no_section, value_exceeds, object_fault}
 
 plain_header : List ℕ
 plain_header =

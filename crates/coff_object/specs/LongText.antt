@@ -3,7 +3,7 @@ use Rattle.std.specs.Prelude.{◌≡◌, ℕ, ◌+◌, ◌-◌, ◌*◌, ◌<◌
 use Rattle.link_base.specs.Bytes.{is_nul}
 use Rattle.link_base.specs.Limits.{NAME_LIMIT}
 use Rattle.coff_object.specs.declared.long_texts.LongSpan.{LongSpan}
-use Rattle.coff_object.specs.StringTable.{is_long_text}
+use Rattle.coff_records.specs.StringTable.{is_long_text}
 
 -- a name whose text stands at such an offset is too long; one that does not stand in the table is not
 abbrev pub is_long_at : List ℕ → Option ℕ → Bool

@@ -1,13 +1,13 @@
 //! Which texts of a string table are longer than a name may be.
 
 ghost use Rattle.std.specs.Prelude.{◌≡◌, ◌<◌, ◌≤◌, ◌+◌, ℕ, length, false, nat_lt, IfOk};
-ghost use Rattle.coff_object.specs.StringTable.{is_long_text};
-ghost use Rattle.coff_object.specs.SymbolRecord.{name_in};
-ghost use Rattle.coff_object.specs.ObjectFile.{section_total, section_name_of, string_table};
+ghost use Rattle.coff_records.specs.StringTable.{is_long_text};
+ghost use Rattle.coff_records.specs.SymbolRecord.{name_in};
+ghost use Rattle.coff_records.specs.ObjectFile.{section_total, section_name_of, string_table};
 ghost use Rattle.coff_object.specs.LongText.{IsNextNul, IsAfterLastNul, IsLongSpan};
 
 use crate::object::Object;
-use crate::symbol_record::SymbolRecord;
+use coff_records::SymbolRecord;
 use link_base::{Memory, NAME_LIMIT, slice_in};
 use memchr::{memchr, memrchr};
 use std::alloc::Global;

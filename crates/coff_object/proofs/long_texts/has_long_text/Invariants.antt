@@ -1,5 +1,5 @@
 use Rattle.std.proofs.Common.{◌≡◌, ℕ, ◌*◌, ◌<◌, false}
-use Rattle.coff_object.specs.StringTable.{is_long_text}
+use Rattle.coff_records.specs.StringTable.{is_long_text}
 use Rattle.coff_object.specs.LongText.{IsNextNul}
 use Rattle.coff_object.proofs.long_texts.has_long_text.Given as goal
 

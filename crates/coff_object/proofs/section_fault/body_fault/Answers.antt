@@ -1,5 +1,5 @@
 use Rattle.std.proofs.Common.{arith, sym}
-use Rattle.coff_object.specs.ObjectFaults.{body_leaves}
+use Rattle.coff_records.specs.FileRanges.{body_leaves}
 use Rattle.coff_object.proofs.LoopLemmas.{section_start, section_more, section_found, section_none}
 use Rattle.coff_object.proofs.section_fault.body_fault.Goals as goal
 

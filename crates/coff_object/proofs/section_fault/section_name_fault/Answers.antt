@@ -1,5 +1,5 @@
 use Rattle.std.proofs.Common.{arith, sym}
-use Rattle.coff_object.specs.ObjectFaults.{lacks_section_name}
+use Rattle.coff_records.specs.SectionHeader.{lacks_section_name}
 use Rattle.coff_object.proofs.LoopLemmas.{section_start, section_more, section_found, section_none}
 use Rattle.coff_object.proofs.section_fault.section_name_fault.Goals as goal
 
