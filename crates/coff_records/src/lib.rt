@@ -1,8 +1,8 @@
 //! The records of an object file, plain or big, read at their places (PE Format, "COFF File Header (Object and Image)" and the
-//! tables after it). It takes a file's bytes, whatever they are, and gives the numbers of the header, section headers,
-//! relocations, symbol records and the texts of the string table to `coff_object`, which says what is wrong with an object. Its
-//! contracts promise that each field is the number at its place, and say which records and ranges are in the file. Whether
-//! an object is well formed is left to `coff_object`.
+//! tables after it). It takes a file's bytes, which may be anything, and gives `coff_object` the numbers of the header, section
+//! headers, relocations, symbol records and the texts of the string table. Its contracts promise that each is what stands at
+//! its place, where the file is known to hold it, and say of any bytes whether it does. What is wrong with an object, and
+//! which fault counts, is left to `coff_object`.
 #![tactic(auto)]
 
 mod file;
