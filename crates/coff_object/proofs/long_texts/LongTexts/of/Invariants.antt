@@ -1,4 +1,4 @@
-use Rattle.std.proofs.Common.{ℕ, ◌*◌}
+use Rattle.std.proofs.Common.{◌*◌}
 use Rattle.coff_object.specs.LongText.{IsNextNul, HoldsBlocks}
 use Rattle.coff_object.proofs.long_texts.LongTexts.of.Given as goal
 
