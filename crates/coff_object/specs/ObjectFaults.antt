@@ -1,7 +1,8 @@
 -- What is wrong with an object, as a table of kinds. Each kind says of which sections, or of which symbol records, it stands;
 -- it is judged where no earlier kind stands, and the least place counts. Own; the fields are those of the PE Format
 -- specification. What leaves the file, and which names are missing, is defined with the records of coff_records.
-use Rattle.std.specs.Prelude.{ℕ, ◌+◌, pos, Bool, ◌||◌, ◌&&◌, not, ◌==◌, nat_lt, if◌then◌else◌, List, [], ◌∷◌, Option, Some, None, option_map}
+use Rattle.std.specs.Prelude.{◌≡◌, ℕ, ◌+◌, pos, Bool, ◌||◌, ◌&&◌, not, ◌==◌, nat_lt, if◌then◌else◌, List, [], ◌∷◌, Option, Some, None, option_map}
+use Rattle.std.specs.Borrow.{Bor}
 use Rattle.std.specs.Option.{option_or}
 use Rattle.std.specs.Int.Signed.{lt_z}
 use Rattle.link_base.specs.Bytes.{has_flag, first_below}
@@ -29,6 +30,10 @@ of_section file fails index = fails (section_at file (index + 1))
 -- the least section that fails
 unfoldable pub first_section : List ℕ → (List ℕ → Bool) → Option ℕ
 first_section file fails = option_map (λ index. index + 1) (first_below (section_total file) (of_section file fails))
+
+-- what the code answers of a header is what a test says of it
+abbrev pub Decides : (Bor (List ℕ) → Bool → Type 0) → (List ℕ → Bool) → Type 0
+Decides answers test = (header : Bor (List ℕ)) (answer : Bool) → answers header answer → answer ≡ test header.now
 
 -- the index of the first of some symbols that fails
 unfoldable pub first_of : (SymbolEntry → Bool) → List SymbolEntry → Option ℕ

@@ -1,12 +1,11 @@
 //! Sections, as their headers describe them.
 
-ghost use Rattle.std.specs.Prelude.{◌≡◌, ◌≤◌, ◌+◌, length, take, false};
+ghost use Rattle.std.specs.Prelude.{◌≡◌, false};
 ghost use Rattle.std.specs.Option.{option_copied};
-ghost use Rattle.coff_records.specs.SectionHeader.{section_name_in, size_in, flags_in, alignment_of, lacks_section_name};
+ghost use Rattle.coff_records.specs.SectionHeader.{section_name_in, size_in, flags_in, alignment_of};
 ghost use Rattle.coff_records.specs.ObjectFile.{data_in};
 ghost use Rattle.coff_records.specs.FileRanges.{body_leaves};
 ghost use Rattle.coff_object.specs.ObjectFaults.{has_no_alignment};
-ghost use Rattle.coff_records.specs.TextEnd.{EndsTexts};
 
 use coff_records::{SectionHeader, data_in, section_name};
 use link_base::Name;

@@ -3,14 +3,14 @@
 ghost use Rattle.std.specs.Prelude.{◌≡◌, ◌<◌, false, true, None};
 ghost use Rattle.coff_records.specs.ObjectHeader.{record_total};
 ghost use Rattle.coff_records.specs.StringTable.{string_table};
-ghost use Rattle.coff_records.specs.ObjectFile.{symbol_entries, section_at};
+ghost use Rattle.coff_records.specs.ObjectFile.{symbol_entries};
 ghost use Rattle.coff_records.specs.FileRanges.{is_truncated, HasRecords};
 ghost use Rattle.coff_object.specs.ObjectFaults.{first_section, first_of, object_fault};
 ghost use Rattle.coff_object.specs.AnyFault.{section_fails, symbol_fails};
 ghost use Rattle.coff_records.specs.TextEnd.{EndsTexts};
 
 use crate::section::has_no_alignment;
-use crate::section_fault::is_other_machine;
+use crate::section_fault::{first_section, is_other_machine};
 use crate::symbol_fault::{aux_leave, has_no_section, value_exceeds, whole_records};
 use coff_records::{
     CoffFile, SectionHeader, SymbolRecord, Symbols, body_leaves, is_truncated, lacks_section_name,
@@ -42,13 +42,11 @@ fn sections_pass(file: &CoffFile<'_>, strings: &[u8], texts_end: usize) -> bool
     requires texts { EndsTexts strings.now texts_end }
     ensures { result ≡ true → first_section file.now (section_fails file.now strings.now) ≡ None }
 {
-    for index in 0..file.section_count() {
-        let header = file.section_header(index + 1);
-        if section_fails(file, strings, &header, texts_end) {
-            return false;
-        }
-    }
-    true
+    first_section(
+        file,
+        |header| section_fails(file, strings, header, texts_end),
+    )
+    .is_none()
 }
 
 /// Whether a section fails for some kind.

@@ -1,8 +1,7 @@
-//! The string table, and the names that stand in it (PE Format, "COFF String Table").
+//! The string table, and the texts that stand in it (PE Format, "COFF String Table").
 
-ghost use Rattle.std.specs.Prelude.{◌≡◌, ◌<◌, ◌≤◌, ◌+◌, ◌^◌, [], length, take, drop, true, false, is_some, is_none, unwrap_or};
+ghost use Rattle.std.specs.Prelude.{◌≡◌, ◌<◌, ◌+◌, ◌^◌, [], take, false, is_some, is_none, unwrap_or};
 ghost use Rattle.coff_records.specs.StringTable.{string_table_offset, string_table_size, string_table, text_in};
-ghost use Rattle.coff_records.specs.SectionHeader.{names_an_offset, name_offset, long_section_name};
 ghost use Rattle.coff_records.specs.FileRanges.{table_leaves};
 ghost use Rattle.coff_records.specs.TextEnd.{EndsTexts};
 
