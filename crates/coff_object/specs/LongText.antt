@@ -32,12 +32,12 @@ pub record IsLongSpan (strings : List ℕ) (start : ℕ) (span : LongSpan) : Typ
 abbrev pub no_text : LongSpan
 no_text = record { from = 0; until = 0 }
 
--- the spans of the first blocks and that of a block after them; one in which no text is long has none where no span is after it
+-- the spans of the first blocks with that of a later one: those between hold no offset, and nothing is put where no text is long
 abbrev pub with_span : List LongSpan → ℕ → LongSpan → List LongSpan
 with_span spans index span =
     if nat_lt span.from span.until then spans ++ replicate (index - length spans) no_text ++ span ∷ [] else spans
 
--- so many blocks have the span that stands for each, and no text is long that begins in the others of them
+-- of so many blocks the first have their spans, and no text is long that begins in the others
 pub record HoldsBlocks (strings : List ℕ) (spans : List LongSpan) (count : ℕ) : Type 0 where
   pub within : length spans ≤ count
   pub each : (index : ℕ) (span : LongSpan) → index < length spans → IsLongSpan strings (NAME_LIMIT * index) (get_or spans index span)
