@@ -8,21 +8,20 @@ use Rattle.std.proofs.lemmas.List.FromFn.{length-map-range_with_len}
 use Rattle.link_base.specs.Bytes.{bytes_at, has_flag}
 use Rattle.link_base.specs.PeFormat.{SCN_TYPE_NO_PAD}
 use Rattle.link_base.proofs.TestLemmas.{and_second, ltb_false}
-use Rattle.coff_object.specs.Relocations.{relocations_from}
-use Rattle.coff_object.specs.SymbolRecord.{SymbolView, section_number_in, section_of_number, value_in}
-use Rattle.coff_object.specs.ObjectFile.{section_total, section_at, flags_of, alignment_value, alignment_of, raw_size_of, raw_offset_of, is_uninitialised, relocation_total, relocations_of, record_total, symbol_at, symbol_size, symbol_section_of, symbol_value_of, starts_symbol}
-use Rattle.coff_object.specs.ObjectFaults.{leaves_file, body_leaves, of_symbol, has_no_alignment, has_no_section, value_exceeds, is_in_section, object_fault}
-use Rattle.coff_object.proofs.WholeLemmas.{range_whole}
+use Rattle.coff_records.specs.Relocations.{relocations_from}
+use Rattle.coff_records.specs.SymbolRecord.{SymbolView, section_number_in, section_of_number, value_in}
+use Rattle.coff_records.specs.ObjectFile.{section_total, section_at, flags_of, alignment_value, alignment_of, raw_size_of, raw_offset_of, is_uninitialised, relocation_total, relocations_of, record_total, symbol_at, symbol_size, symbol_section_of, symbol_value_of, starts_symbol}
+use Rattle.coff_records.specs.FileRanges.{leaves_file, body_leaves}
+use Rattle.coff_object.specs.ObjectFaults.{of_symbol, has_no_alignment, has_no_section, value_exceeds, is_in_section, object_fault}
+use Rattle.coff_records.proofs.CallerLemmas.{range_whole, records_fit-whole, size_cases}
 use Rattle.coff_object.proofs.LoopLemmas.{section_passes}
 use Rattle.coff_object.proofs.NumberLemmas.{number_inside}
-use Rattle.coff_object.proofs.RecordLemmas.{records_fit-whole, size_cases}
 use Rattle.coff_object.proofs.StartLemmas.{each_passes}
 use Rattle.coff_object.proofs.WellFormedLemmas.{no_fault, range_holds}
 use Rattle.coff_object.proofs.Readable.{readable_section, relocation_whole}
-pub use Rattle.coff_object.proofs.TextStartLemmas.{before_first-take}
+pub use Rattle.coff_records.proofs.CallerLemmas.{before_first-take, SymbolsLeft, SymbolStep, symbols_left-all, symbols_left-step, symbol_strings}
 pub use Rattle.coff_object.proofs.StartLemmas.{starts_first, starts_next, starts_only, starts_below, symbol_room}
 pub use Rattle.coff_object.proofs.LoopLemmas.{symbol_found, symbol_more, symbol_none, symbol_passes}
-pub use Rattle.coff_object.proofs.SymbolsLemmas.{SymbolsLeft, SymbolStep, symbols_left-all, symbols_left-step, symbol_strings}
 
 -- ---- symbols
 

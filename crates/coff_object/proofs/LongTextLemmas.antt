@@ -1,19 +1,19 @@
 -- Where long texts begin, by the NULs around them.
-use Rattle.std.proofs.Common.{◌≡◌, ℕ, ◌+◌, ◌-◌, ◌<◌, ◌≤◌, Bool, true, false, cond, ◌&&◌, eqb, leb, ltb, List, [], drop, length, slice_index, max, Option, Some, None, refl, sym, ap, ◌∙◌, ◌⊎◌, inl, inr, le-ltb, lt-ltb, le-leb, arith}
+use Rattle.std.proofs.Common.{◌≡◌, ℕ, ◌+◌, ◌-◌, ◌<◌, ◌≤◌, Bool, true, false, cond, ◌&&◌, eqb, leb, ltb, List, [], drop, length, slice_index, max, Option, Some, None, ◌*◌, ◌∷◌, ◌++◌, get_or, replicate, refl, sym, ap, ◌∙◌, subst, ◌⊎◌, inl, inr, le-ltb, lt-ltb, le-leb, arith}
 use Rattle.std.specs.Prelude.{unwrap_or, option_and_then}
 use Rattle.std.specs.List.{position_or_len, before_first}
 use Rattle.std.proofs.lemmas.Bool.{cases_lt, lt-leb}
-use Rattle.std.proofs.lemmas.List.{length-take, length-take-le, length-drop, get_or-drop, get_or-take}
+use Rattle.std.proofs.lemmas.List.{length-take, length-take-le, length-drop, length-append, length-replicate, get_or-drop, get_or-take, get_or-append-add, get_or_append_left, get_or-replicate}
 use Rattle.std.proofs.lemmas.List.Sums.{passes_at_first}
 use Rattle.link_base.specs.Bytes.{u32_at, is_nul, text_at, bytes_at}
 use Rattle.link_base.specs.Decimal.{decimal_number}
 use Rattle.memchr.specs.Find.{IsFirstByte, IsLastByte}
 use Rattle.coff_object.specs.declared.long_texts.LongSpan.{LongSpan}
-use Rattle.coff_object.specs.StringTable.{text_in, is_long_text}
-use Rattle.coff_object.specs.SectionHeader.{short_name_in, names_an_offset, name_offset, long_section_name, section_name_in}
-use Rattle.coff_object.specs.SymbolRecord.{SymbolView, name_in, long_name_offset_in}
-use Rattle.coff_object.specs.LongText.{is_long_at, IsNextNul, IsAfterLastNul, IsLongSpan}
-use Rattle.coff_object.proofs.TextLemmas.{first_is_near}
+use Rattle.coff_records.specs.StringTable.{text_in, is_long_text}
+use Rattle.coff_records.specs.SectionHeader.{short_name_in, names_an_offset, name_offset, long_section_name, section_name_in}
+use Rattle.coff_records.specs.SymbolRecord.{SymbolView, name_in, long_name_offset_in}
+use Rattle.coff_object.specs.LongText.{is_long_at, no_text, with_span, IsNextNul, IsAfterLastNul, IsLongSpan, HoldsBlocks, HoldsSpans}
+use Rattle.coff_records.proofs.CallerLemmas.{first_is_near}
 
 -- ---- one text
 
@@ -145,6 +145,92 @@ span_is table start end after nul span short within reaches last next from until
         at_end : (end < start + 32000) ⊎ (start + 32000 ≤ end) → offset < end
         at_end (inl less) = omega (arith, reaches less)
         at_end (inr full) = omega arith
+
+-- ---- the spans of all blocks
+
+-- a span without offsets: no text is long
+none_between : (from until offset : ℕ) → until ≤ from → (leb from offset && ltb offset until) ≡ false
+none_between from until offset le = elim (cases_lt offset from) [
+  | inl lt ↦ rw (lt-leb from offset lt) refl
+  | inr ge ↦ rw (le-leb from offset ge) (le-ltb offset until (omega arith))
+]
+
+-- the next NUL at the end of a block is that at the start of the one after it, also where the table ends in the block
+pub next_at : (table : List ℕ) (end start nul : ℕ) → end ≤ start → (end < start → end ≡ length table) → IsNextNul table end nul → IsNextNul table start nul
+next_at table end start nul le reaches next = record {
+  low = λ inside. elim (cases_lt end start) [
+    | inl lt ↦ absurd (omega (arith, reaches lt))
+    | inr ge ↦ omega (arith, next.low (omega arith))
+  ];
+  within = next.within;
+  none = λ k low high here. next.none k (omega arith) high here;
+  here = next.here;
+}
+
+-- a block in which no text is long
+passed_block : (table : List ℕ) (spans : List LongSpan) (index : ℕ) (span : LongSpan) → HoldsBlocks table spans index → IsLongSpan table (32000 * index) span → span.until ≤ span.from → HoldsBlocks table spans (index + 1)
+passed_block table spans index span before is none = record {
+  within = omega (arith, before.within);
+  each = before.each;
+  others = λ offset low high. elim (cases_lt offset (32000 * index)) [
+    | inl lt ↦ before.others offset low lt
+    | inr ge ↦ is.holds offset ge (omega arith) ∙ none_between span.from span.until offset none
+  ];
+}
+
+-- a block with a span, behind those without a long text
+put_block : (table : List ℕ) (spans : List LongSpan) (index : ℕ) (span : LongSpan) → HoldsBlocks table spans index → IsLongSpan table (32000 * index) span → HoldsBlocks table (spans ++ replicate (index - length spans) no_text ++ span ∷ []) (index + 1)
+put_block table spans index span before is = record {
+  within = omega (arith, all);
+  each = λ i d lt. each i d (omega (arith, lt, all)) (cases_lt i (length spans)) (cases_lt i index);
+  others = λ offset low high. absurd (omega (arith, low, high, all));
+}
+  where
+    gap : List LongSpan
+    gap = replicate (index - length spans) no_text
+
+    len : length (spans ++ gap) ≡ index
+    len = omega (arith, length-append spans gap, length-replicate (index - length spans) no_text, before.within)
+
+    all : length (spans ++ gap ++ span ∷ []) ≡ index + 1
+    all = omega (arith, length-append (spans ++ gap) (span ∷ []), len)
+
+    empty : (i : ℕ) → length spans ≤ i → i < index → IsLongSpan table (32000 * i) no_text
+    empty i low high = record {
+      holds = λ offset from below. before.others offset (omega arith) (omega arith) ∙ sym (none_between 0 0 offset (omega arith));
+    }
+
+    in_gap : (i : ℕ) (d : LongSpan) → length spans ≤ i → i < index → get_or (spans ++ gap) i d ≡ no_text
+    in_gap i d low high = let place : length spans + (i - length spans) ≡ i = omega arith in
+        ap (λ (k : ℕ). get_or (spans ++ gap) k d) (sym place)
+        ∙ get_or-append-add spans gap (i - length spans) d
+        ∙ get_or-replicate (index - length spans) (i - length spans) no_text d (omega arith)
+
+    each : (i : ℕ) (d : LongSpan) → i < index + 1 → (i < length spans) ⊎ (length spans ≤ i) → (i < index) ⊎ (index ≤ i) → IsLongSpan table (32000 * i) (get_or (spans ++ gap ++ span ∷ []) i d)
+    each i d lt (inl old) within =
+        subst (IsLongSpan table (32000 * i)) (sym (get_or_append_left (spans ++ gap) (span ∷ []) d i (omega (arith, len, before.within)) ∙ get_or_append_left spans gap d i old)) (before.each i d old)
+    each i d lt (inr new) (inl between) =
+        subst (IsLongSpan table (32000 * i)) (sym (get_or_append_left (spans ++ gap) (span ∷ []) d i (omega (arith, len)) ∙ in_gap i d new between)) (empty i new between)
+    each i d lt (inr new) (inr last) =
+        let same : index ≡ i = omega arith in
+        let place : length (spans ++ gap) + 0 ≡ i = omega (arith, len) in
+        subst (IsLongSpan table (32000 * i)) (sym (ap (λ (k : ℕ). get_or (spans ++ gap ++ span ∷ []) k d) (sym place) ∙ get_or-append-add (spans ++ gap) (span ∷ []) 0 d)) (subst (λ (k : ℕ). IsLongSpan table (32000 * k) span) same is)
+
+pub more_blocks : (table : List ℕ) (spans after : List LongSpan) (index : ℕ) (span : LongSpan) → HoldsBlocks table spans index → IsLongSpan table (32000 * index) span → after ≡ with_span spans index span → HoldsBlocks table after (index + 1)
+more_blocks table spans after index span before is put =
+    subst (λ (items : List LongSpan). HoldsBlocks table items (index + 1)) (sym put) (elim (cases_lt span.from span.until) [
+      | inl some ↦ rw (lt-ltb _ _ some) (put_block table spans index span before is)
+      | inr none ↦ rw (le-ltb _ _ none) (passed_block table spans index span before is none)
+    ])
+
+pub all_blocks : (table : List ℕ) (spans : List LongSpan) (count : ℕ) → length table < 32000 * count → HoldsBlocks table spans count → HoldsSpans table spans
+all_blocks table spans count all blocks = record {
+  each = blocks.each;
+  beyond = λ offset le. elim (cases_lt offset (32000 * count)) [
+    | inl lt ↦ blocks.others offset le lt
+    | inr past ↦ beyond_table table offset (omega arith)
+  ];
+}
 
 -- ---- NULs of a part of the table
 

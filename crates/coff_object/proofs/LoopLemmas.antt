@@ -3,9 +3,9 @@ use Rattle.std.proofs.Common.{◌≡◌, ℕ, ◌+◌, ◌-◌, ◌<◌, ◌≤�
 use Rattle.std.specs.Prelude.{option_map}
 use Rattle.link_base.specs.Bytes.{first_below}
 use Rattle.link_base.proofs.CallerLemmas.{first_below-more, first_below-found, first_below-none, first_below-all_fail}
-use Rattle.coff_object.specs.ObjectHeader.{section_total}
-use Rattle.coff_object.specs.SymbolRecord.{SymbolView}
-use Rattle.coff_object.specs.ObjectFile.{section_at, SymbolEntry}
+use Rattle.coff_records.specs.ObjectHeader.{section_total}
+use Rattle.coff_records.specs.SymbolRecord.{SymbolView}
+use Rattle.coff_records.specs.ObjectFile.{section_at, SymbolEntry}
 use Rattle.coff_object.specs.ObjectFaults.{of_section, first_section, first_of}
 
 -- ---- sections

@@ -3,8 +3,8 @@ use Rattle.std.proofs.Common.{◌≡◌, ℕ, ◌≤◌, false, List, ℤ, pos, 
 use Rattle.std.specs.Int.Signed.{lt_z}
 use Rattle.link_base.proofs.TestLemmas.{or_right, ltb_false}
 use Rattle.link_base.specs.PeFormat.{SYM_DEBUG}
-use Rattle.coff_object.specs.ObjectHeader.{section_total}
-use Rattle.coff_object.specs.SymbolRecord.{SymbolView, section_number_in, section_of_number}
+use Rattle.coff_records.specs.ObjectHeader.{section_total}
+use Rattle.coff_records.specs.SymbolRecord.{SymbolView, section_number_in, section_of_number}
 use Rattle.coff_object.specs.ObjectFaults.{has_no_section}
 
 number_low : (total : ℕ) (number : ℤ) → lt_z (pos total) number ≡ false → section_of_number number ≤ total

@@ -3,13 +3,14 @@ use Rattle.std.proofs.Common.{◌≡◌, ℕ, ◌+◌, ◌-◌, ◌*◌, ◌<◌
 use Rattle.std.proofs.lemmas.Bool.{false≢true}
 use Rattle.link_base.specs.Bytes.{u32_at}
 use Rattle.link_base.proofs.TestLemmas.{or_left, or_right}
-use Rattle.coff_object.specs.ObjectHeader.{section_total, symbol_size}
-use Rattle.coff_object.specs.StringTable.{string_table}
-use Rattle.coff_object.specs.SectionHeader.{relocation_field_in, relocations_offset_in, has_overflow_count_in}
-use Rattle.coff_object.specs.Relocations.{relocations_place, relocation_count_in}
-use Rattle.coff_object.specs.ObjectFile.{section_at, record_offset, aux_total_of, starts_symbol}
-use Rattle.coff_object.specs.ObjectFaults.{leaves_file, body_leaves, counted_leave, relocations_leave, lacks_section_name, object_fault}
-use Rattle.coff_object.proofs.WholeLemmas.{range_whole}
+use Rattle.coff_records.specs.ObjectHeader.{section_total, symbol_size}
+use Rattle.coff_records.specs.StringTable.{string_table}
+use Rattle.coff_records.specs.SectionHeader.{relocation_field_in, relocations_offset_in, has_overflow_count_in, lacks_section_name}
+use Rattle.coff_records.specs.Relocations.{relocations_place, relocation_count_in}
+use Rattle.coff_records.specs.ObjectFile.{section_at, record_offset, aux_total_of, starts_symbol}
+use Rattle.coff_records.specs.FileRanges.{leaves_file, body_leaves, counted_leave, relocations_leave}
+use Rattle.coff_object.specs.ObjectFaults.{object_fault}
+use Rattle.coff_records.proofs.CallerLemmas.{range_whole}
 use Rattle.coff_object.proofs.LoopLemmas.{section_passes}
 use Rattle.coff_object.proofs.StartLemmas.{starts_below, symbol_room}
 use Rattle.coff_object.proofs.WellFormedLemmas.{no_fault, range_holds, names_stay}

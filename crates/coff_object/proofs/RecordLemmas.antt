@@ -2,23 +2,14 @@
 use Rattle.std.proofs.Common.{◌≡◌, ℕ, zero, suc, ◌+◌, ◌-◌, ◌*◌, ◌/◌, ◌<◌, ◌≤◌, Bool, true, false, cond, ltb, List, [], ◌∷◌, length, map, Option, Some, None, refl, ap, ◌∙◌, ◌⊎◌, inl, inr, lt-ltb, le-ltb, arith}
 use Rattle.std.proofs.lemmas.Bool.{cases_lt}
 use Rattle.link_base.proofs.CallerLemmas.{first_below-found, first_below-all_fail}
-use Rattle.coff_object.specs.ObjectHeader.{is_big_object, symbols_offset, symbol_size, record_total}
-use Rattle.coff_object.specs.SymbolRecord.{SymbolView, aux_count_in}
-use Rattle.coff_object.specs.ObjectFile.{record_offset, record_at, symbol_at, aux_total_of, starts_within, starts_from, SymbolEntry, symbol_entry, symbol_entries}
-use Rattle.coff_object.specs.ObjectFaults.{record_leaves, first_torn_record, aux_leave, first_of, least_place, symbol_range_fault}
-use Rattle.coff_object.specs.OpenObject.{HasRecords}
+use Rattle.coff_records.specs.ObjectHeader.{symbols_offset, symbol_size, record_total}
+use Rattle.coff_records.specs.ObjectFile.{record_offset, symbol_at, aux_total_of, starts_within, starts_from, SymbolEntry, symbol_entry, symbol_entries}
+use Rattle.coff_records.specs.FileRanges.{record_leaves}
+use Rattle.coff_object.specs.ObjectFaults.{first_torn_record, aux_leave, first_of, least_place, symbol_range_fault}
 use Rattle.coff_object.proofs.LoopLemmas.{symbol_found, symbol_more}
-use Rattle.coff_object.proofs.SymbolsLemmas.{starts_from-end, starts_from-step, entries_step}
+use Rattle.coff_records.proofs.CallerLemmas.{size_cases, starts_from-end, starts_from-step, entries_step}
 
 -- ---- whole records
-
-chosen : (b : Bool) (x y : ℕ) → (cond b x y ≡ y) ⊎ (cond b x y ≡ x)
-chosen true x y = inr refl
-chosen false x y = inl refl
-
-pub size_cases : (file : List ℕ) → (symbol_size file ≡ 18) ⊎ (symbol_size file ≡ 20)
-unfolding symbol_size
-size_cases file = chosen (is_big_object file) 20 18
 
 fits : (len start size index : ℕ) → (size ≡ 18) ⊎ (size ≡ 20) → start ≤ len → index < (len - start) / size → start + size * index + size ≤ len
 fits len start size index (inl plain) le lt = let small = rw plain at lt in rw plain (omega (arith, small))
@@ -45,32 +36,6 @@ pub beyond_file : (file : List ℕ) → length file < symbols_offset file → le
 unfolding record_offset
 beyond_file file lt = omega arith
 
-after : (start size index place : ℕ) → (size ≡ 18) ⊎ (size ≡ 20) → start + size * index + size * (1 + place) ≡ start + size * (index + 1 + place)
-after start size index place (inl plain) = rw plain (omega arith)
-after start size index place (inr big) = rw big (omega arith)
-
--- an auxiliary record stands so many records after its symbol
-pub place_after : (file : List ℕ) (start size index place : ℕ) → start ≡ record_offset file index → size ≡ symbol_size file → start + size * (1 + place) ≡ record_offset file (index + 1 + place)
-unfolding record_offset
-place_after file start size index place starts sizes =
-    rw (starts, sizes) (after (symbols_offset file) (symbol_size file) index place (size_cases file))
-
--- no more records than the file holds
-fit : (total start size len : ℕ) → (size ≡ 18) ⊎ (size ≡ 20) → (0 < total → start + size * (total - 1) + size ≤ len) → 18 * total ≤ len
-fit total start size len sizes last =
-    elim (cases_lt 0 total) [
-      | inr none ↦ omega arith
-      | inl some ↦ elim sizes [
-        | inl plain ↦ let whole = rw plain at (last some) in omega (arith, whole)
-        | inr big ↦ let whole = rw big at (last some) in omega (arith, whole)
-      ]
-    ]
-
-pub records_fit-whole : (file : List ℕ) → HasRecords file → 18 * record_total file ≤ length file
-unfolding record_offset
-records_fit-whole file records =
-    fit (record_total file) (symbols_offset file) (symbol_size file) (length file) (size_cases file) (λ some. records.whole (record_total file - 1) (omega arith))
-
 -- ---- the first record that is torn
 
 pub torn_none : (file : List ℕ) → ((index : ℕ) → index < record_total file → record_offset file index + symbol_size file ≤ length file) → first_torn_record file ≡ None
@@ -81,12 +46,6 @@ pub torn_some : (file : List ℕ) (whole : ℕ) → whole < record_total file �
 unfolding first_torn_record
 torn_some file whole lt before here =
     first_below-found whole (record_total file) (record_leaves file) lt (first_below-all_fail whole (record_leaves file) (λ index below. le-ltb _ _ (before index below))) (lt-ltb _ _ here)
-
--- ---- auxiliary records of a record, whatever the string table
-
-pub aux_is : (inside file part : List ℕ) (is_big : Bool) (index aux : ℕ) (symbol : SymbolView) → inside ≡ file → is_big ≡ is_big_object inside → part ≡ record_at file index → symbol ≡ record { is_big = is_big; bytes = part; strings = [] } → aux ≡ aux_count_in symbol → aux ≡ aux_total_of file index
-unfolding symbol_at aux_count_in
-aux_is inside file part is_big index aux symbol same form parts is said = said ∙ rw (is, form, parts, same) refl
 
 -- ---- the lesser of the two places
 

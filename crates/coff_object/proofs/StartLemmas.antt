@@ -4,8 +4,8 @@ use Rattle.std.proofs.Common.{◌≡◌, ℕ, zero, suc, ◌+◌, ◌-◌, ◌<�
 use Rattle.std.specs.List.{list_any}
 use Rattle.std.proofs.lemmas.Bool.{false≢true, eqb-true, eq-eqb, ltb-true}
 use Rattle.link_base.proofs.TestLemmas.{ltb_false}
-use Rattle.coff_object.specs.ObjectHeader.{record_total}
-use Rattle.coff_object.specs.ObjectFile.{aux_total_of, starts_within, symbols_of, starts_symbol, SymbolEntry, symbol_entry, symbol_entries}
+use Rattle.coff_records.specs.ObjectHeader.{record_total}
+use Rattle.coff_records.specs.ObjectFile.{aux_total_of, starts_within, symbols_of, starts_symbol, SymbolEntry, symbol_entry, symbol_entries}
 use Rattle.coff_object.specs.ObjectFaults.{aux_leave, first_of, object_fault}
 use Rattle.coff_object.proofs.LoopLemmas.{symbol_passes}
 use Rattle.coff_object.proofs.WellFormedLemmas.{no_fault, aux_hold}

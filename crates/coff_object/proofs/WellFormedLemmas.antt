@@ -1,16 +1,19 @@
 -- What an object is in which no kind of fault stands, and what shows that none does.
-use Rattle.std.proofs.Common.{◌≡◌, ℕ, Bool, true, false, cond, ltb, List, Option, Some, None, refl, sym, ap, ◌∙◌}
+use Rattle.std.proofs.Common.{◌≡◌, ℕ, ◌+◌, Bool, true, false, cond, ltb, List, length, Option, Some, None, refl, sym, ap, ◌∙◌}
 use Rattle.std.specs.Option.{option_or}
-use Rattle.link_base.proofs.TestLemmas.{or_left, or_right}
+use Rattle.link_base.proofs.TestLemmas.{or_left, or_right, ltb_false}
+use Rattle.link_base.proofs.CallerLemmas.{first_below-none}
 use Rattle.link_base.specs.declared.kinds.object.ObjFault.{ObjFault}
 use Rattle.coff_object.specs.declared.error.ObjError.{ObjError}
-use Rattle.coff_object.specs.StringTable.{string_table}
-use Rattle.coff_object.specs.ObjectFile.{SymbolEntry, symbol_entries}
-use Rattle.coff_object.specs.ObjectFaults.{at_start, first_section, first_of, first_symbol, of_symbol, is_truncated, is_other_machine, body_leaves, relocations_leave, first_torn_record, aux_leave, least_place, symbol_range_fault, table_leaves, string_table_fault, lacks_section_name, lacks_symbol_name, has_no_alignment, has_no_section, value_exceeds, row, object_fault}
-use Rattle.coff_object.specs.OpenObject.{HasRecords}
+use Rattle.coff_records.specs.ObjectHeader.{record_total, symbol_size}
+use Rattle.coff_records.specs.StringTable.{string_table}
+use Rattle.coff_records.specs.ObjectFile.{record_offset, SymbolEntry, symbol_entries}
+use Rattle.coff_records.specs.FileRanges.{is_truncated, body_leaves, relocations_leave, record_leaves, table_leaves, HasRecords}
+use Rattle.coff_records.specs.SectionHeader.{lacks_section_name}
+use Rattle.coff_records.specs.SymbolRecord.{lacks_symbol_name}
+use Rattle.coff_object.specs.ObjectFaults.{at_start, first_section, first_of, first_symbol, of_symbol, is_other_machine, first_torn_record, aux_leave, least_place, symbol_range_fault, string_table_fault, has_no_alignment, has_no_section, value_exceeds, row, object_fault}
 use Rattle.coff_object.specs.AnyFault.{section_fails, symbol_fails}
 use Rattle.coff_object.proofs.LoopLemmas.{section_weaker, first_of-weaker}
-use Rattle.coff_object.proofs.WholeLemmas.{records_whole}
 
 -- ---- rows that do not stand
 
@@ -80,6 +83,12 @@ faultless file none =
     rw (none.headers, none.machine, none.bodies, none.relocations, none.symbols, none.strings, none.alignments, none.numbers, none.values) refl
 
 -- ---- of what passes, what is whole
+
+records_whole : (file : List ℕ) → first_torn_record file ≡ None → HasRecords file
+unfolding first_torn_record
+records_whole file none = record {
+  whole = λ index lt. ltb_false (length file) (record_offset file index + symbol_size file) (first_below-none (record_total file) (record_leaves file) none index lt);
+}
 
 pub range_holds : (file : List ℕ) → symbol_range_fault file ≡ None → HasRecords file
 unfolding symbol_range_fault

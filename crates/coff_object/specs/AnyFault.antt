@@ -1,7 +1,10 @@
 -- Whether a section, or a symbol, fails for any kind of fault that is judged of it. Own.
 use Rattle.std.specs.Prelude.{ℕ, Bool, ◌||◌, List}
-use Rattle.coff_object.specs.ObjectFile.{SymbolEntry}
-use Rattle.coff_object.specs.ObjectFaults.{body_leaves, relocations_leave, lacks_section_name, has_no_alignment, aux_leave, lacks_symbol_name, has_no_section, value_exceeds}
+use Rattle.coff_records.specs.ObjectFile.{SymbolEntry}
+use Rattle.coff_records.specs.FileRanges.{body_leaves, relocations_leave}
+use Rattle.coff_records.specs.SectionHeader.{lacks_section_name}
+use Rattle.coff_records.specs.SymbolRecord.{lacks_symbol_name}
+use Rattle.coff_object.specs.ObjectFaults.{has_no_alignment, aux_leave, has_no_section, value_exceeds}
 
 -- a section fails for one of the kinds that are judged of its header
 unfoldable pub section_fails : List ℕ → List ℕ → List ℕ → Bool

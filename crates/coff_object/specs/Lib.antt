@@ -1,12 +1,4 @@
-pub mod Offsets
-pub mod ObjectHeader
-pub mod StringTable
-pub mod SectionHeader
-pub mod Relocations
-pub mod SymbolRecord
-pub mod ObjectFile
 pub mod ObjectFaults
 pub mod OpenObject
-pub mod TextEnd
 pub mod AnyFault
 pub mod LongText

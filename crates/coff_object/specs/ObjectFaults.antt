@@ -1,26 +1,24 @@
 -- What is wrong with an object, as a table of kinds. Each kind says of which sections, or of which symbol records, it stands;
 -- it is judged where no earlier kind stands, and the least place counts. Own; the fields are those of the PE Format
--- specification.
-use Rattle.std.specs.Prelude.{ℕ, ◌+◌, ◌*◌, pos, Bool, false, ◌||◌, ◌&&◌, not, ◌==◌, nat_lt, if◌then◌else◌, List, [], ◌∷◌, length, Option, Some, None, option_map, is_none}
+-- specification. What leaves the file, and which names are missing, is defined with the records of coff_records.
+use Rattle.std.specs.Prelude.{◌≡◌, ℕ, ◌+◌, pos, Bool, ◌||◌, ◌&&◌, not, ◌==◌, nat_lt, if◌then◌else◌, List, [], ◌∷◌, Option, Some, None, option_map}
+use Rattle.std.specs.Borrow.{Bor}
 use Rattle.std.specs.Option.{option_or}
 use Rattle.std.specs.Int.Signed.{lt_z}
-use Rattle.link_base.specs.Bytes.{u32_at, has_flag, first_below}
-use Rattle.link_base.specs.PeFormat.{FILE_MACHINE_AMD64, FILE_MACHINE_UNKNOWN, SIZEOF_SECTION_HEADER, SIZEOF_RELOCATION, SCN_TYPE_NO_PAD, SYM_CLASS_EXTERNAL, SYM_CLASS_STATIC, SYM_CLASS_LABEL, SYM_UNDEFINED, SYM_DEBUG}
+use Rattle.link_base.specs.Bytes.{has_flag, first_below}
+use Rattle.link_base.specs.PeFormat.{FILE_MACHINE_AMD64, FILE_MACHINE_UNKNOWN, SCN_TYPE_NO_PAD, SYM_CLASS_EXTERNAL, SYM_CLASS_STATIC, SYM_CLASS_LABEL, SYM_UNDEFINED, SYM_DEBUG}
 use Rattle.link_base.specs.Refusals.{first_standing}
 use Rattle.link_base.specs.declared.kinds.object.ObjFault.{ObjFault}
 use Rattle.link_base.specs.declared.kinds.object.ObjFault.TheVariants as kind
+use Rattle.coff_records.specs.ObjectHeader.{machine_of, section_total, record_total}
+use Rattle.coff_records.specs.StringTable.{string_table}
+use Rattle.coff_records.specs.SectionHeader.{size_in, flags_in, alignment_value, lacks_section_name}
+use Rattle.coff_records.specs.SymbolRecord.{SymbolView, lacks_symbol_name, value_in, section_number_in, section_of_number, class_in, aux_count_in}
+use Rattle.coff_records.specs.ObjectFile.{section_at, SymbolEntry, symbol_entries}
+use Rattle.coff_records.specs.FileRanges.{is_truncated, body_leaves, relocations_leave, record_leaves, table_leaves}
 use Rattle.coff_object.specs.declared.error.ObjError.{ObjError}
-use Rattle.coff_object.specs.ObjectHeader.{header_size, machine_of, section_total, section_headers_offset, record_total, symbol_size}
-use Rattle.coff_object.specs.StringTable.{string_table_offset, string_table_size, string_table, text_in}
-use Rattle.coff_object.specs.SectionHeader.{size_in, data_offset_in, relocations_offset_in, relocation_field_in, flags_in, short_name_in, names_an_offset, long_section_name, alignment_value, is_uninitialised_in, has_overflow_count_in}
-use Rattle.coff_object.specs.SymbolRecord.{SymbolView, long_name_offset_in, value_in, section_number_in, section_of_number, class_in, aux_count_in}
-use Rattle.coff_object.specs.ObjectFile.{section_at, record_offset, SymbolEntry, symbol_entries}
 
 -- ---- places
-
--- a range of bytes goes beyond the end of the file; an empty one never does
-abbrev pub leaves_file : List ℕ → ℕ → ℕ → Bool
-leaves_file file offset count = nat_lt 0 count && nat_lt (length file) (offset + count)
 
 abbrev pub at_start : Bool → Option ℕ
 at_start fails = if fails then Some 0 else None
@@ -32,6 +30,10 @@ of_section file fails index = fails (section_at file (index + 1))
 -- the least section that fails
 unfoldable pub first_section : List ℕ → (List ℕ → Bool) → Option ℕ
 first_section file fails = option_map (λ index. index + 1) (first_below (section_total file) (of_section file fails))
+
+-- what the code answers of a header is what a test says of it
+abbrev pub Decides : (Bor (List ℕ) → Bool → Type 0) → (List ℕ → Bool) → Type 0
+Decides answers test = (header : Bor (List ℕ)) (answer : Bool) → answers header answer → answer ≡ test header.now
 
 -- the index of the first of some symbols that fails
 unfoldable pub first_of : (SymbolEntry → Bool) → List SymbolEntry → Option ℕ
@@ -45,47 +47,14 @@ of_symbol fails entry = fails entry.1
 abbrev pub first_symbol : List ℕ → (SymbolView → Bool) → Option ℕ
 first_symbol file fails = first_of (of_symbol fails) (symbol_entries file)
 
--- ---- 1 Truncated
-
--- the file header or the section headers leave the file
-unfoldable pub is_truncated : List ℕ → Bool
-is_truncated file =
-    nat_lt (length file) (header_size file)
-    || leaves_file file (section_headers_offset file) (SIZEOF_SECTION_HEADER * section_total file)
-
--- ---- 2 Machine
+-- ---- Machine
 
 -- neither x86-64 nor any machine
 unfoldable pub is_other_machine : List ℕ → Bool
 is_other_machine file =
     not (machine_of file == FILE_MACHINE_AMD64) && not (machine_of file == FILE_MACHINE_UNKNOWN)
 
--- ---- 3 SectionRange
-
--- the data of an initialised section leave the file
-unfoldable pub body_leaves : List ℕ → List ℕ → Bool
-body_leaves file header =
-    not (is_uninitialised_in header) && leaves_file file (data_offset_in header) (size_in header)
-
--- ---- 4 RelocationRange
-
--- the first record leaves the file, counts nothing, or counts more than there are
-unfoldable pub counted_leave : List ℕ → ℕ → Bool
-counted_leave file offset =
-    leaves_file file offset SIZEOF_RELOCATION
-    || ((u32_at file offset == 0) || leaves_file file offset (SIZEOF_RELOCATION * u32_at file offset))
-
--- the relocations leave the file, or the first record, where it has their count, has none
-unfoldable pub relocations_leave : List ℕ → List ℕ → Bool
-relocations_leave file header =
-    if has_overflow_count_in header then counted_leave file (relocations_offset_in header)
-    else leaves_file file (relocations_offset_in header) (SIZEOF_RELOCATION * relocation_field_in header)
-
--- ---- 5 SymbolRange
-
--- a record goes beyond the end of the file
-abbrev pub record_leaves : List ℕ → ℕ → Bool
-record_leaves file index = nat_lt (length file) (record_offset file index + symbol_size file)
+-- ---- SymbolRange
 
 -- the first record that is not whole in the file
 unfoldable pub first_torn_record : List ℕ → Option ℕ
@@ -105,25 +74,7 @@ least_place (Some place) (Some other) = if nat_lt other place then Some other el
 unfoldable pub symbol_range_fault : List ℕ → Option ℕ
 symbol_range_fault file = least_place (first_torn_record file) (first_of (aux_leave file) (symbol_entries file))
 
--- ---- 6 StringTable
-
--- the table itself goes beyond the end of the file
-unfoldable pub table_leaves : List ℕ → Bool
-table_leaves file = leaves_file file (string_table_offset file) (string_table_size file)
-
--- a section's name refers to no text of the string table
-unfoldable pub lacks_section_name : List ℕ → List ℕ → Bool
-lacks_section_name strings header =
-    names_an_offset (short_name_in header) && is_none (long_section_name strings (short_name_in header))
-
--- an offset that is written is that of no text
-abbrev pub lacks_text : List ℕ → Option ℕ → Bool
-lacks_text strings None = false
-lacks_text strings (Some offset) = is_none (text_in strings offset)
-
--- a symbol's name refers to no text of the string table
-unfoldable pub lacks_symbol_name : SymbolView → Bool
-lacks_symbol_name symbol = lacks_text symbol.strings (long_name_offset_in symbol)
+-- ---- StringTable
 
 -- the table itself, then sections, then records after the sections' numbers
 unfoldable pub string_table_fault : List ℕ → Option ℕ
@@ -132,21 +83,21 @@ string_table_fault file =
     (option_or (first_section file (lacks_section_name (string_table file)))
     (option_map (λ index. section_total file + index) (first_symbol file lacks_symbol_name)))
 
--- ---- 7 Alignment
+-- ---- Alignment
 
 -- the one value that the format leaves free
 unfoldable pub has_no_alignment : List ℕ → Bool
 has_no_alignment header =
     not (has_flag (flags_in header) SCN_TYPE_NO_PAD) && (alignment_value (flags_in header) == 15)
 
--- ---- 8 SectionNumber
+-- ---- SectionNumber
 
 -- below those for debuggers, or above the sections
 unfoldable pub has_no_section : List ℕ → SymbolView → Bool
 has_no_section file symbol =
     lt_z (section_number_in symbol) SYM_DEBUG || lt_z (pos (section_total file)) (section_number_in symbol)
 
--- ---- 9 SymbolValue
+-- ---- SymbolValue
 
 -- symbols of these classes mean places where they have a section
 abbrev pub means_a_place : ℕ → Bool

@@ -1,19 +1,17 @@
 //! The first fault of an object: the kinds in their order, each judged where no earlier one stands.
 
 ghost use Rattle.std.specs.Prelude.{◌≡◌, ◌<◌, ◌^◌, length, false, None, Some};
-ghost use Rattle.coff_object.specs.ObjectFaults.{is_truncated, string_table_fault, object_fault};
-ghost use Rattle.coff_object.specs.OpenObject.{HasRecords};
+ghost use Rattle.coff_records.specs.FileRanges.{is_truncated, HasRecords};
+ghost use Rattle.coff_object.specs.ObjectFaults.{string_table_fault, object_fault};
 
 use crate::error::ObjError;
-use crate::file::File;
 use crate::section_fault::{
-    alignment_fault, body_fault, is_other_machine, is_truncated, relocation_fault,
-    section_name_fault,
+    alignment_fault, body_fault, is_other_machine, relocation_fault, section_name_fault,
 };
-use crate::strings::{string_table, table_leaves, texts_end};
 use crate::symbol_fault::{
     section_number_fault, symbol_name_fault, symbol_range_fault, value_fault,
 };
+use coff_records::{CoffFile, is_truncated, string_table, table_leaves, texts_end};
 use link_base::ObjFault;
 
 /// The first fault, or none where the object is well formed.
@@ -25,7 +23,7 @@ pub(crate) fn object_fault(bytes: &[u8]) -> Option<ObjError>
     if is_truncated(bytes) {
         return refusal(ObjFault::Truncated, 0);
     }
-    let file = File::read(bytes);
+    let file = CoffFile::read(bytes);
     if is_other_machine(&file) {
         return refusal(ObjFault::Machine, 0);
     }
@@ -63,7 +61,7 @@ fn refusal(kind: ObjFault, index: u32) -> Option<ObjError>
 /// The string table leaves the file (0), or does not have the text that a section (its number) or a symbol
 /// (its record and the number of sections together) is named by.
 #[tactic(auto, unfolding(crate::specs::ObjectFaults::string_table_fault))]
-fn string_table_fault(file: &File<'_>) -> Option<u32>
+fn string_table_fault(file: &CoffFile<'_>) -> Option<u32>
     requires headers { is_truncated file.now ≡ false }
     requires records { HasRecords file.now }
     requires indexed { length file.now < 2 ^ 32 }

@@ -1,13 +1,13 @@
 //! Which texts of a string table are longer than a name may be.
 
-ghost use Rattle.std.specs.Prelude.{◌≡◌, ◌<◌, ◌≤◌, ◌+◌, ℕ, length, false, nat_lt, IfOk};
-ghost use Rattle.coff_object.specs.StringTable.{is_long_text};
-ghost use Rattle.coff_object.specs.SymbolRecord.{name_in};
-ghost use Rattle.coff_object.specs.ObjectFile.{section_total, section_name_of, string_table};
-ghost use Rattle.coff_object.specs.LongText.{IsNextNul, IsAfterLastNul, IsLongSpan};
+ghost use Rattle.std.specs.Prelude.{◌≡◌, ◌<◌, ◌≤◌, ◌+◌, length, nat_lt, IfOk, OnOk};
+ghost use Rattle.coff_records.specs.StringTable.{is_long_text};
+ghost use Rattle.coff_records.specs.SymbolRecord.{name_in};
+ghost use Rattle.coff_records.specs.ObjectFile.{section_total, section_name_of, string_table};
+ghost use Rattle.coff_object.specs.LongText.{with_span, IsNextNul, IsAfterLastNul, IsLongSpan};
 
 use crate::object::Object;
-use crate::symbol_record::SymbolRecord;
+use coff_records::SymbolRecord;
 use link_base::{Memory, NAME_LIMIT, slice_in};
 use memchr::{memchr, memrchr};
 use std::alloc::Global;
@@ -15,6 +15,9 @@ use std::marker::Model;
 
 /// The least offset of a text: the size of the table stands before it.
 const FIRST_TEXT: usize = 4;
+
+/// The span of a block in which no text is long.
+const NO_TEXT: LongSpan = LongSpan { from: 0, until: 0 };
 
 /// The offsets of a block at which long texts begin: those from `from` on, before `until`.
 #[derive(Clone, Copy)]
@@ -54,15 +57,12 @@ impl<'a> LongTexts<'a> {
         ensures { IfOk result (λ texts. texts ≡ strings.now) }
     {
         let mut spans = Vec::new(alloc);
-        if !has_long_text(strings) {
-            return Ok(LongTexts { strings, spans });
-        }
         let mut nul = first_nul(strings, 0);
         for index in 0..strings.len() / NAME_LIMIT + 1 {
             let start = NAME_LIMIT * index;
             let end = block_end(strings, start);
             nul = next_nul(strings, start, end, nul);
-            spans.push(long_span(strings, start, end, nul))?;
+            put_span(&mut spans, index, long_span(strings, start, end, nul))?;
         }
         Ok(LongTexts { strings, spans })
     }
@@ -104,21 +104,17 @@ impl<'a> LongTexts<'a> {
     }
 }
 
-/// Whether some text of a string table is long.
-fn has_long_text(strings: &[u8]) -> bool
-    ensures { result ≡ false → (offset : ℕ) → is_long_text strings.now offset ≡ false }
+/// Puts the span of a block, where a text is long in it, behind those of the blocks before it. Blocks between them have none.
+fn put_span(spans: &mut Vec<LongSpan>, index: usize, span: LongSpan) -> Result<(), Memory>
+    requires { length spans.old.items ≤ index }
+    ensures { OnOk result (spans.new.items ≡ with_span spans.old.items index span) }
 {
-    let mut nul = first_nul(strings, 0);
-    for index in 0..strings.len() / NAME_LIMIT + 1 {
-        let start = NAME_LIMIT * index;
-        let end = block_end(strings, start);
-        nul = next_nul(strings, start, end, nul);
-        let span = long_span(strings, start, end, nul);
-        if span.from < span.until {
-            return true;
-        }
+    if span.from >= span.until {
+        return Ok(());
     }
-    false
+    spans.resize(index, NO_TEXT)?;
+    spans.push(span)?;
+    Ok(())
 }
 
 /// Where the block that begins at a place ends: after as many bytes as a name may have, or with the table.

@@ -2,20 +2,18 @@
 
 ghost use Rattle.std.specs.Prelude.{◌≡◌, ◌<◌, ◌≤◌, ◌^◌, length, take, IfOk, OnOk, IfErr, is_ok, is_none, true, None, Some};
 ghost use Rattle.std.specs.Option.{option_copied};
-ghost use Rattle.coff_object.specs.ObjectFile.{section_total, section_name_of, name_offset_of, raw_size_of, flags_of, alignment_of, body_of, relocation_total, relocation_of, relocations_of, record_total, symbol_size, string_table, starts_symbol, symbol_name_of, symbol_value_of, symbol_section_of, symbol_kind_of, symbol_class_of, aux_total_of, aux_record, symbol_entries};
+ghost use Rattle.coff_records.specs.ObjectFile.{section_total, section_name_of, name_offset_of, raw_size_of, flags_of, alignment_of, body_of, relocation_total, relocation_of, relocations_of, record_total, symbol_size, string_table, starts_symbol, symbol_name_of, symbol_value_of, symbol_section_of, symbol_kind_of, symbol_class_of, aux_total_of, aux_record, symbol_entries};
 ghost use Rattle.coff_object.specs.ObjectFaults.{object_fault};
 
 use crate::error::ObjError;
 use crate::fault::object_fault;
-use crate::file::File;
-use crate::relocation::{
-    Relocation, Relocations, relocation_at, relocation_count, relocations_place,
-};
-use crate::section::{Section, section_in, section_name_start};
-use crate::strings::{name_offset, string_table};
+use crate::section::{Section, section_in};
 use crate::symbol::{Symbol, symbol_in};
-use crate::symbols::Symbols;
 use crate::well_formed::is_well_formed;
+use coff_records::{
+    CoffFile, Relocation, Relocations, Symbols, name_offset, relocation_at, relocation_count,
+    relocations_place, section_name_start, string_table,
+};
 use link_base::Name;
 use link_base::pe_format::SIZEOF_RELOCATION;
 use std::marker::Model;
@@ -24,7 +22,7 @@ use std::marker::Model;
 /// numbered from 1, and symbol records from 0; a symbol stands at record 0, and after each symbol and its auxiliary records.
 #[derive(Drop)]
 pub struct Object<'a> {
-    file: File<'a>,
+    file: CoffFile<'a>,
     strings: &'a [u8],
 }
 
@@ -63,7 +61,7 @@ impl<'a> Object<'a> {
         requires { object_fault bytes.now ≡ None }
         ensures { result ≡ bytes.now }
     {
-        let file = File::read(bytes);
+        let file = CoffFile::read(bytes);
         let strings = string_table(&file);
         Object { file, strings }
     }

@@ -1,9 +1,9 @@
 //! Symbols, with all their fields read.
 
 ghost use Rattle.std.specs.Prelude.{◌≡◌};
-ghost use Rattle.coff_object.specs.SymbolRecord.{name_in, value_in, section_number_in, kind_in, class_in, aux_count_in};
+ghost use Rattle.coff_records.specs.SymbolRecord.{name_in, value_in, section_number_in, kind_in, class_in, aux_count_in};
 
-use crate::symbol_record::SymbolRecord;
+use coff_records::SymbolRecord;
 use link_base::Name;
 
 /// A symbol: its name, its value (mostly an offset in its section), its section (from 1; 0 is undefined, -1

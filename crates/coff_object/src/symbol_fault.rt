@@ -2,17 +2,15 @@
 
 ghost use Rattle.std.specs.Prelude.{◌≡◌, ◌<◌, ◌≤◌, ◌+◌, ◌*◌, ℕ, pos, length, true, false, None, Some, IfSome, nat_lt};
 ghost use Rattle.std.specs.Int.Signed.{◌<ℤ◌};
-ghost use Rattle.coff_object.specs.ObjectHeader.{record_total, symbol_size};
-ghost use Rattle.coff_object.specs.StringTable.{string_table};
-ghost use Rattle.coff_object.specs.SymbolRecord.{section_of_number};
-ghost use Rattle.coff_object.specs.ObjectFile.{record_offset};
-ghost use Rattle.coff_object.specs.ObjectFaults.{is_truncated, first_symbol, first_torn_record, symbol_range_fault, lacks_symbol_name, has_no_section, value_exceeds, means_a_place};
-ghost use Rattle.coff_object.specs.OpenObject.{HasRecords};
-ghost use Rattle.coff_object.specs.TextEnd.{EndsTexts};
+ghost use Rattle.coff_records.specs.ObjectHeader.{record_total, symbol_size};
+ghost use Rattle.coff_records.specs.StringTable.{string_table};
+ghost use Rattle.coff_records.specs.SymbolRecord.{section_of_number, lacks_symbol_name};
+ghost use Rattle.coff_records.specs.ObjectFile.{record_offset};
+ghost use Rattle.coff_records.specs.FileRanges.{is_truncated, HasRecords};
+ghost use Rattle.coff_object.specs.ObjectFaults.{first_symbol, first_torn_record, symbol_range_fault, has_no_section, value_exceeds, means_a_place};
+ghost use Rattle.coff_records.specs.TextEnd.{EndsTexts};
 
-use crate::file::File;
-use crate::symbol_record::SymbolRecord;
-use crate::symbols::{Symbols, next_start};
+use coff_records::{CoffFile, SymbolRecord, Symbols, next_start};
 use link_base::pe_format::{
     SYM_CLASS_EXTERNAL, SYM_CLASS_LABEL, SYM_CLASS_STATIC, SYM_DEBUG, SYM_UNDEFINED,
 };
@@ -20,7 +18,7 @@ use link_base::pe_format::{
 // ---- records
 
 /// How many of the symbol records are whole in the file.
-pub(crate) fn whole_records(file: &File<'_>) -> u32
+pub(crate) fn whole_records(file: &CoffFile<'_>) -> u32
     ensures within { result ≤ record_total file.now }
     ensures whole { (index : ℕ) → index < result → record_offset file.now index + symbol_size file.now ≤ length file.now }
     ensures torn { result < record_total file.now → first_torn_record file.now ≡ Some result }
@@ -50,7 +48,7 @@ pub(crate) fn aux_leave(index: u32, aux: u8, count: u32) -> bool
 
 /// The first record that leaves the file, or the first symbol whose auxiliary records leave the table: the lesser of them.
 /// It stops at the end of the file, however many records the header counts.
-pub(crate) fn symbol_range_fault(file: &File<'_>) -> Option<u32>
+pub(crate) fn symbol_range_fault(file: &CoffFile<'_>) -> Option<u32>
     ensures { result ≡ symbol_range_fault file.now }
 {
     let count = file.record_count();
@@ -70,7 +68,7 @@ pub(crate) fn symbol_range_fault(file: &File<'_>) -> Option<u32>
 
 /// Whether a symbol's section number is above the sections, or below those for debuggers.
 #[tactic(auto, unfolding(crate::specs::ObjectFaults::has_no_section))]
-pub(crate) fn has_no_section(file: &File<'_>, symbol: &SymbolRecord<'_>) -> bool
+pub(crate) fn has_no_section(file: &CoffFile<'_>, symbol: &SymbolRecord<'_>) -> bool
     ensures { result ≡ has_no_section file.now symbol.now }
 {
     let section = symbol.section();
@@ -79,7 +77,7 @@ pub(crate) fn has_no_section(file: &File<'_>, symbol: &SymbolRecord<'_>) -> bool
 
 /// Whether a symbol means a place in a section, and lies above the section's size.
 #[tactic(auto, unfolding(crate::specs::ObjectFaults::value_exceeds))]
-pub(crate) fn value_exceeds(file: &File<'_>, symbol: &SymbolRecord<'_>) -> bool
+pub(crate) fn value_exceeds(file: &CoffFile<'_>, symbol: &SymbolRecord<'_>) -> bool
     requires headers { is_truncated file.now ≡ false }
     requires number { has_no_section file.now symbol.now ≡ false }
     ensures { result ≡ value_exceeds file.now symbol.now }
@@ -111,7 +109,7 @@ fn means_a_place(class: u8) -> bool
 
 /// The first symbol whose name is missing in the string table.
 pub(crate) fn symbol_name_fault<'a>(
-    file: &File<'a>,
+    file: &CoffFile<'a>,
     strings: &'a [u8],
     texts_end: usize,
 ) -> Option<u32>
@@ -130,7 +128,7 @@ pub(crate) fn symbol_name_fault<'a>(
 }
 
 /// The first symbol whose section number is none.
-pub(crate) fn section_number_fault<'a>(file: &File<'a>, strings: &'a [u8]) -> Option<u32>
+pub(crate) fn section_number_fault<'a>(file: &CoffFile<'a>, strings: &'a [u8]) -> Option<u32>
     requires records { HasRecords file.now }
     requires table { strings.now ≡ string_table file.now }
     ensures { result ≡ first_symbol file.now (has_no_section file.now) }
@@ -144,7 +142,7 @@ pub(crate) fn section_number_fault<'a>(file: &File<'a>, strings: &'a [u8]) -> Op
 }
 
 /// The first symbol whose value is above its section's size.
-pub(crate) fn value_fault<'a>(file: &File<'a>, strings: &'a [u8]) -> Option<u32>
+pub(crate) fn value_fault<'a>(file: &CoffFile<'a>, strings: &'a [u8]) -> Option<u32>
     requires headers { is_truncated file.now ≡ false }
     requires records { HasRecords file.now }
     requires table { strings.now ≡ string_table file.now }

@@ -1,23 +1,21 @@
 //! Whether an object is well formed, by one walk over its sections and one over its symbols.
 
 ghost use Rattle.std.specs.Prelude.{◌≡◌, ◌<◌, false, true, None};
-ghost use Rattle.coff_object.specs.ObjectHeader.{record_total};
-ghost use Rattle.coff_object.specs.StringTable.{string_table};
-ghost use Rattle.coff_object.specs.ObjectFile.{symbol_entries, section_at};
-ghost use Rattle.coff_object.specs.ObjectFaults.{is_truncated, first_section, first_of, object_fault};
-ghost use Rattle.coff_object.specs.OpenObject.{HasRecords};
+ghost use Rattle.coff_records.specs.ObjectHeader.{record_total};
+ghost use Rattle.coff_records.specs.StringTable.{string_table};
+ghost use Rattle.coff_records.specs.ObjectFile.{symbol_entries};
+ghost use Rattle.coff_records.specs.FileRanges.{is_truncated, HasRecords};
+ghost use Rattle.coff_object.specs.ObjectFaults.{first_section, first_of, object_fault};
 ghost use Rattle.coff_object.specs.AnyFault.{section_fails, symbol_fails};
-ghost use Rattle.coff_object.specs.TextEnd.{EndsTexts};
+ghost use Rattle.coff_records.specs.TextEnd.{EndsTexts};
 
-use crate::file::File;
-use crate::relocation::relocations_leave;
-use crate::section::{body_leaves, has_no_alignment, lacks_section_name};
-use crate::section_fault::{is_other_machine, is_truncated};
-use crate::section_header::SectionHeader;
-use crate::strings::{string_table, table_leaves, texts_end};
+use crate::section::has_no_alignment;
+use crate::section_fault::{first_section, is_other_machine};
 use crate::symbol_fault::{aux_leave, has_no_section, value_exceeds, whole_records};
-use crate::symbol_record::SymbolRecord;
-use crate::symbols::Symbols;
+use coff_records::{
+    CoffFile, SectionHeader, SymbolRecord, Symbols, body_leaves, is_truncated, lacks_section_name,
+    relocations_leave, string_table, table_leaves, texts_end,
+};
 
 /// Whether no kind of fault stands. Where this says no, the kinds have to be judged in their order.
 pub(crate) fn is_well_formed(bytes: &[u8]) -> bool
@@ -26,7 +24,7 @@ pub(crate) fn is_well_formed(bytes: &[u8]) -> bool
     if is_truncated(bytes) {
         return false;
     }
-    let file = File::read(bytes);
+    let file = CoffFile::read(bytes);
     if is_other_machine(&file)
         || whole_records(&file) < file.record_count()
         || table_leaves(&file)
@@ -39,24 +37,22 @@ pub(crate) fn is_well_formed(bytes: &[u8]) -> bool
 }
 
 /// Whether no section fails for any kind.
-fn sections_pass(file: &File<'_>, strings: &[u8], texts_end: usize) -> bool
+fn sections_pass(file: &CoffFile<'_>, strings: &[u8], texts_end: usize) -> bool
     requires headers { is_truncated file.now ≡ false }
     requires texts { EndsTexts strings.now texts_end }
     ensures { result ≡ true → first_section file.now (section_fails file.now strings.now) ≡ None }
 {
-    for index in 0..file.section_count() {
-        let header = file.section_header(index + 1);
-        if section_fails(file, strings, &header, texts_end) {
-            return false;
-        }
-    }
-    true
+    first_section(
+        file,
+        |header| section_fails(file, strings, header, texts_end),
+    )
+    .is_none()
 }
 
 /// Whether a section fails for some kind.
 #[tactic(auto, unfolding(crate::specs::AnyFault::section_fails))]
 fn section_fails(
-    file: &File<'_>,
+    file: &CoffFile<'_>,
     strings: &[u8],
     header: &SectionHeader<'_>,
     texts_end: usize,
@@ -71,7 +67,7 @@ fn section_fails(
 }
 
 /// Whether no symbol fails for any kind.
-fn symbols_pass<'a>(file: &File<'a>, strings: &'a [u8], texts_end: usize) -> bool
+fn symbols_pass<'a>(file: &CoffFile<'a>, strings: &'a [u8], texts_end: usize) -> bool
     requires headers { is_truncated file.now ≡ false }
     requires records { HasRecords file.now }
     requires table { strings.now ≡ string_table file.now }
@@ -88,7 +84,12 @@ fn symbols_pass<'a>(file: &File<'a>, strings: &'a [u8], texts_end: usize) -> boo
 
 /// Whether a symbol fails for some kind.
 #[tactic(auto, unfolding(crate::specs::AnyFault::symbol_fails))]
-fn symbol_fails(file: &File<'_>, index: u32, symbol: &SymbolRecord<'_>, texts_end: usize) -> bool
+fn symbol_fails(
+    file: &CoffFile<'_>,
+    index: u32,
+    symbol: &SymbolRecord<'_>,
+    texts_end: usize,
+) -> bool
     requires headers { is_truncated file.now ≡ false }
     requires below { index < record_total file.now }
     requires texts { EndsTexts symbol.now.strings texts_end }

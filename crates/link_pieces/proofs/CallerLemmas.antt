@@ -10,7 +10,7 @@ use Rattle.std.proofs.Math.ListN.{get_or-map}
 use Rattle.link_base.proofs.CallerLemmas.{first_below-some, first_below-none}
 use Rattle.link_base.proofs.RangeLemmas.{range_has, all_kept, all_joined}
 use Rattle.link_base.proofs.TestLemmas.{and_both}
-use Rattle.coff_object.specs.ObjectFile.{section_total}
+use Rattle.coff_records.specs.ObjectFile.{section_total}
 use Rattle.section_group.specs.declared.piece.Piece.{Piece}
 use Rattle.section_group.specs.BarePieces.{bare}
 use Rattle.section_group.specs.SectionOrder.{no_piece}

@@ -5,7 +5,7 @@ use Rattle.std.proofs.lemmas.Bool.Decides.{eqb_tells}
 use Rattle.std.proofs.lemmas.List.{get_or-set_same, get_or-set_other, take_more, take_all}
 use Rattle.std.proofs.lemmas.List.Folds.{list_any-append}
 use Rattle.std.proofs.Math.Seq.{take-append_seam}
-use Rattle.coff_object.specs.ObjectFile.{section_total}
+use Rattle.coff_records.specs.ObjectFile.{section_total}
 use Rattle.module_view.specs.declared.definition.Definition.{Definition}
 use Rattle.module_view.specs.declared.definition.Place.{Place}
 use Rattle.module_view.specs.declared.definition.Place.TheVariants as place

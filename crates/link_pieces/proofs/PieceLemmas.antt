@@ -12,7 +12,7 @@ use Rattle.std.proofs.Math.Nat.{mul-mod_left}
 use Rattle.link_base.specs.Bytes.{bytes_at}
 use Rattle.link_base.proofs.RangeLemmas.{all_kept, all_joined}
 use Rattle.coff_object.specs.ObjectFaults.{object_fault}
-use Rattle.coff_object.specs.ObjectFile.{section_total, flags_of, alignment_of, raw_size_of, raw_offset_of, is_uninitialised}
+use Rattle.coff_records.specs.ObjectFile.{section_total, flags_of, alignment_of, raw_size_of, raw_offset_of, is_uninitialised}
 use Rattle.coff_object.proofs.CallerLemmas.{body_length, section_alignment, IsAlignment as IsPower}
 use Rattle.section_group.specs.declared.piece.Piece.{Piece}
 use Rattle.section_group.specs.BarePieces.{bare}

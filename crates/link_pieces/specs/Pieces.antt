@@ -2,7 +2,7 @@
 -- section headers, and what they hold. Own.
 use Rattle.std.specs.Prelude.{ℕ, Bool, false, not, ◌==◌, List, [], length, map, filter, None, unwrap_or}
 use Rattle.std.specs.List.{range_with_len, flat_map, list_any}
-use Rattle.coff_object.specs.ObjectFile.{section_total, section_name_of, raw_size_of, flags_of, alignment_of, is_uninitialised, body_of}
+use Rattle.coff_records.specs.ObjectFile.{section_total, section_name_of, raw_size_of, flags_of, alignment_of, is_uninitialised, body_of}
 use Rattle.section_group.specs.declared.piece.Piece.{Piece}
 use Rattle.module_view.specs.Module.{ModuleView, module_at}
 use Rattle.module_view.specs.PlacedSection.{is_placed}

@@ -2,7 +2,7 @@
 -- nothing.
 use Rattle.std.specs.Prelude.{◌≡◌, ℕ, ◌+◌, ◌<◌, List, [], length, map, slice_index_or, Option, None, Vec}
 use Rattle.std.specs.Global.{Global}
-use Rattle.coff_object.specs.ObjectFile.{section_total}
+use Rattle.coff_records.specs.ObjectFile.{section_total}
 use Rattle.module_view.specs.Module.{ModuleView, module_at}
 
 abbrev pub items_of : List (Vec (Option ℕ) Global) → List (List (Option ℕ))

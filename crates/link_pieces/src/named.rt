@@ -1,7 +1,7 @@
 //! Which sections definitions stand in.
 
 ghost use Rattle.std.specs.Prelude.{◌≡◌, ◌+◌, ◌<◌, ◌≤◌, ◌||◌, ℕ, false, length, slice_index_or, IfOk};
-ghost use Rattle.coff_object.specs.ObjectFile.{section_total};
+ghost use Rattle.coff_records.specs.ObjectFile.{section_total};
 ghost use Rattle.link_pieces.specs.Pieces.{is_place_in, is_named};
 ghost use Rattle.link_pieces.specs.Steps.{IsWithin};
 

@@ -4,7 +4,7 @@ ghost use Rattle.std.specs.Prelude.{◌≡◌, ◌<◌, ◌^◌, ◌==◌, ◌&&
 ghost use Rattle.std.specs.Option.{option_or};
 ghost use Rattle.section_group.specs.BarePieces.{bare};
 ghost use Rattle.link_pieces.specs.Pieces.{link_pieces};
-ghost use Rattle.coff_object.specs.ObjectFile.{section_total};
+ghost use Rattle.coff_records.specs.ObjectFile.{section_total};
 ghost use Rattle.link_pieces.specs.PieceIndex.{indexed, IsPieceIndex};
 ghost use Rattle.link_pieces.specs.Rows.{items_of, HasRows};
 

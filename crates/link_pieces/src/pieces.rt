@@ -2,7 +2,7 @@
 
 ghost use Rattle.std.specs.Prelude.{◌≡◌, ◌≤◌, ◌<◌, ◌+◌, ◌++◌, ◌∷◌, ◌^◌, [], ℕ, false, length, slice_index_or, map, All, IfOk, OnOk, if◌then◌else◌};
 ghost use Rattle.link_base.specs.Limits as limit;
-ghost use Rattle.coff_object.specs.ObjectFile.{section_total};
+ghost use Rattle.coff_records.specs.ObjectFile.{section_total};
 ghost use Rattle.section_group.specs.BarePieces.{bare};
 ghost use Rattle.address_layout.specs.Layout.{IsAlignment};
 ghost use Rattle.image_writer.specs.WrittenImage.{piece_contents, HasItsBytes};

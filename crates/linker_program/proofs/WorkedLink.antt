@@ -15,13 +15,14 @@ use Rattle.link_plan.specs.Entry.{entry_place}
 use Rattle.link_base.specs.Bytes.{number_at, first_below}
 use Rattle.link_base.specs.Decimal.{decimal_number}
 use Rattle.link_base.specs.Refusals.{first_refusal_below}
-use Rattle.coff_object.specs.ObjectFaults.{first_section, first_of, is_truncated, is_other_machine, body_leaves, counted_leave, relocations_leave, first_torn_record, symbol_range_fault, table_leaves, lacks_section_name, lacks_symbol_name, string_table_fault, has_no_alignment, has_no_section, value_exceeds, object_fault}
-use Rattle.coff_object.specs.ObjectFile.{section_at, record_offset, record_at, symbol_at, starts_within, symbols_of}
-use Rattle.coff_object.specs.ObjectHeader.{big_object_class, is_big_object, header_size, symbol_size, machine_of, section_total, section_headers_offset, symbols_offset, record_total}
-use Rattle.coff_object.specs.Relocations.{relocations_place, relocation_count_in, relocations_from}
-use Rattle.coff_object.specs.SectionHeader.{short_name_in, name_offset, long_section_name, section_name_in, is_uninitialised_in, has_overflow_count_in}
-use Rattle.coff_object.specs.StringTable.{string_table_offset, string_table_size, string_table, text_in}
-use Rattle.coff_object.specs.SymbolRecord.{long_name_offset_in, name_in, section_number_in, class_in, aux_count_in}
+use Rattle.coff_records.specs.FileRanges.{is_truncated, body_leaves, counted_leave, relocations_leave, table_leaves}
+use Rattle.coff_records.specs.SectionHeader.{lacks_section_name, short_name_in, name_offset, long_section_name, section_name_in, is_uninitialised_in, has_overflow_count_in}
+use Rattle.coff_records.specs.SymbolRecord.{lacks_symbol_name, long_name_offset_in, name_in, section_number_in, class_in, aux_count_in}
+use Rattle.coff_object.specs.ObjectFaults.{first_section, first_of, is_other_machine, first_torn_record, symbol_range_fault, string_table_fault, has_no_alignment, has_no_section, value_exceeds, object_fault}
+use Rattle.coff_records.specs.ObjectFile.{section_at, record_offset, record_at, symbol_at, starts_within, symbols_of}
+use Rattle.coff_records.specs.ObjectHeader.{big_object_class, is_big_object, header_size, symbol_size, machine_of, section_total, section_headers_offset, symbols_offset, record_total}
+use Rattle.coff_records.specs.Relocations.{relocations_place, relocation_count_in, relocations_from}
+use Rattle.coff_records.specs.StringTable.{string_table_offset, string_table_size, string_table, text_in}
 use Rattle.module_view.specs.Opening.{resource_start, form_error, is_linker_section, content_error, opening_error}
 use Rattle.module_view.specs.PlacedSection.{comes_in}
 use Rattle.module_view.specs.SymbolLists.{is_definition, definitions_of}

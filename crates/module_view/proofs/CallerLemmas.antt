@@ -9,8 +9,8 @@ use Rattle.std.proofs.lemmas.Bool.{eqb-true, eq-eqb, ltb-true}
 use Rattle.std.proofs.lemmas.List.Elements.{All-nil, All-cons, All-map, All-weaker}
 use Rattle.link_base.specs.Refusals.{first_standing}
 use Rattle.link_base.proofs.TestLemmas.{and_both}
-use Rattle.coff_object.specs.SymbolRecord.{SymbolView, value_in, class_in, section_number_in, section_of_number}
-use Rattle.coff_object.specs.ObjectFile.{SymbolEntry, section_total, raw_size_of, symbol_at, symbol_entry, symbols_of, symbol_entries, starts_symbol}
+use Rattle.coff_records.specs.SymbolRecord.{SymbolView, value_in, class_in, section_number_in, section_of_number}
+use Rattle.coff_records.specs.ObjectFile.{SymbolEntry, section_total, raw_size_of, symbol_at, symbol_entry, symbols_of, symbol_entries, starts_symbol}
 use Rattle.coff_object.specs.ObjectFaults.{object_fault, is_in_section}
 use Rattle.coff_object.specs.declared.error.ObjError.{ObjError}
 use Rattle.coff_object.proofs.CallerLemmas.{symbol_section_inside, symbol_value_inside}

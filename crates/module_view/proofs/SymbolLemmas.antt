@@ -8,8 +8,8 @@ use Rattle.std.proofs.lemmas.Bool.{eq-eqb, ne_eqb}
 use Rattle.std.proofs.lemmas.Bool.Decides.{eqb_tells}
 use Rattle.std.proofs.lemmas.Int.{to_z-of_z}
 use Rattle.std.proofs.lemmas.List.{get_or-set_same, get_or-set_other}
-use Rattle.coff_object.specs.SymbolRecord.{SymbolView, name_in, value_in, class_in, section_number_in, section_of_number}
-use Rattle.coff_object.specs.ObjectFile.{SymbolEntry, symbols_of, symbol_entry, symbol_entries, starts_symbol}
+use Rattle.coff_records.specs.SymbolRecord.{SymbolView, name_in, value_in, class_in, section_number_in, section_of_number}
+use Rattle.coff_records.specs.ObjectFile.{SymbolEntry, symbols_of, symbol_entry, symbol_entries, starts_symbol}
 use Rattle.module_view.specs.declared.definition.Definition.{Definition}
 use Rattle.module_view.specs.SymbolLists.{is_definition, defines, definition_of, definitions_in}
 use Rattle.module_view.specs.declared.definition.Place.TheVariants.{Section}

@@ -1,6 +1,6 @@
 -- What a module keeps beside its bytes. Own.
 use Rattle.std.specs.Prelude.{◌≡◌, ℕ, Bool, false, List, slice_index_or, None}
-use Rattle.coff_object.specs.ObjectFile.{starts_symbol}
+use Rattle.coff_records.specs.ObjectFile.{starts_symbol}
 use Rattle.module_view.specs.declared.definition.Definition.{Definition}
 use Rattle.module_view.specs.declared.input_module.Origin.{Origin}
 use Rattle.module_view.specs.Module.{ModuleView}

@@ -9,7 +9,7 @@ use Rattle.link_base.specs.Refusals.{shown, first_standing}
 use Rattle.link_base.specs.SectionName.{base_name}
 use Rattle.link_base.specs.declared.kinds.form.Kind.{Kind}
 use Rattle.link_base.specs.declared.kinds.form.Kind.TheVariants as form
-use Rattle.coff_object.specs.ObjectFile.{is_big_object, section_name_of, name_in, symbol_entries}
+use Rattle.coff_records.specs.ObjectFile.{is_big_object, section_name_of, name_in, symbol_entries}
 use Rattle.coff_object.specs.ObjectFaults.{object_fault}
 use Rattle.module_view.specs.declared.error.ModuleError.{ModuleError}
 use Rattle.module_view.specs.declared.error.ModuleError.TheVariants as error

@@ -6,7 +6,7 @@ use Rattle.link_base.specs.Bytes.{has_flag}
 use Rattle.link_base.specs.NameText.{same_name, begins}
 use Rattle.link_base.specs.SectionName.{base_name}
 use Rattle.link_base.specs.PeFormat.{SCN_LNK_INFO, SCN_LNK_REMOVE}
-use Rattle.coff_object.specs.ObjectFile.{section_name_of, flags_of}
+use Rattle.coff_records.specs.ObjectFile.{section_name_of, flags_of}
 
 -- tables that say something to the linker alone
 abbrev pub linker_tables : List (List ℕ)

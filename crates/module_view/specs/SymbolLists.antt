@@ -3,7 +3,7 @@
 use Rattle.std.specs.Prelude.{ℕ, Bool, ◌&&◌, ◌==◌, List, map, filter}
 use Rattle.std.specs.Int.Signed.{lt_z}
 use Rattle.link_base.specs.PeFormat.{SYM_CLASS_EXTERNAL, SYM_UNDEFINED}
-use Rattle.coff_object.specs.ObjectFile.{SymbolView, SymbolEntry, name_in, value_in, section_number_in, section_of_number, class_in, symbol_entries}
+use Rattle.coff_records.specs.ObjectFile.{SymbolView, SymbolEntry, name_in, value_in, section_number_in, section_of_number, class_in, symbol_entries}
 use Rattle.module_view.specs.declared.definition.Definition.{Definition}
 use Rattle.module_view.specs.declared.definition.Place.TheVariants.{Section}
 

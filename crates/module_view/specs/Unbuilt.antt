@@ -6,7 +6,7 @@ use Rattle.link_base.specs.Bytes.{has_flag}
 use Rattle.link_base.specs.NameText.{same_name, begins, begins_import}
 use Rattle.link_base.specs.SectionName.{base_name}
 use Rattle.link_base.specs.PeFormat.{SCN_LNK_COMDAT, SYM_CLASS_EXTERNAL, SYM_CLASS_WEAK_EXTERNAL, SYM_UNDEFINED, SYM_ABSOLUTE}
-use Rattle.coff_object.specs.ObjectFile.{section_total, section_name_of, raw_size_of, flags_of, is_uninitialised, relocation_total, SymbolView, name_in, section_number_in, class_in, symbol_entries}
+use Rattle.coff_records.specs.ObjectFile.{section_total, section_name_of, raw_size_of, flags_of, is_uninitialised, relocation_total, SymbolView, name_in, section_number_in, class_in, symbol_entries}
 use Rattle.module_view.specs.PlacedSection.{is_placed}
 
 -- ---- files that have no reader yet

@@ -2,7 +2,7 @@
 
 ghost use Rattle.std.specs.Prelude.{◌≡◌, None, Some, option_map};
 ghost use Rattle.std.specs.Option.{option_copied};
-ghost use Rattle.coff_object.specs.ObjectFile.{starts_symbol};
+ghost use Rattle.coff_records.specs.ObjectFile.{starts_symbol};
 ghost use Rattle.module_view.specs.SymbolLists.{definitions_of};
 ghost use Rattle.module_view.specs.Opening.{IsOpened};
 

@@ -2,7 +2,7 @@
 
 ghost use Rattle.std.specs.Prelude.{◌≡◌, ◌≤◌, false, None, Some, IfOk, OnOk, IfErr, codes};
 ghost use Rattle.link_base.specs.NameText.{begins};
-ghost use Rattle.coff_object.specs.ObjectFile.{section_total, section_name_of, string_table};
+ghost use Rattle.coff_records.specs.ObjectFile.{section_total, section_name_of, string_table};
 ghost use Rattle.module_view.specs.Unbuilt.{is_unbuilt_section, has_unbuilt_section};
 ghost use Rattle.module_view.specs.Opening.{is_linker_section, is_long};
 ghost use Rattle.module_view.specs.Steps.{section_form};

@@ -1,7 +1,7 @@
 //! The lists that one pass over the symbols of an object makes.
 
 ghost use Rattle.std.specs.Prelude.{◌≡◌, ◌<◌, ◌++◌, ◌∷◌, [], ℕ, false, None, slice_index_or, IfOk, OnOk, IfErr, if◌then◌else◌};
-ghost use Rattle.coff_object.specs.ObjectFile.{starts_symbol, string_table};
+ghost use Rattle.coff_records.specs.ObjectFile.{starts_symbol, string_table};
 ghost use Rattle.module_view.specs.SymbolLists.{is_definition, definition_of, definitions_of};
 ghost use Rattle.module_view.specs.Opening.{RefusesToOpen};
 ghost use Rattle.module_view.specs.Steps.{symbol_error};

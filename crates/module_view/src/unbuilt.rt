@@ -4,7 +4,7 @@ ghost use Rattle.std.specs.Prelude.{◌≡◌, ◌≤◌, ◌||◌, ◌&&◌, na
 ghost use Rattle.std.specs.Option.{option_copied};
 ghost use Rattle.link_base.specs.NameText.{same_name};
 ghost use Rattle.link_base.specs.SectionName.{base_name};
-ghost use Rattle.coff_object.specs.ObjectFile.{section_total, section_name_of, flags_of, raw_size_of, body_of, name_in};
+ghost use Rattle.coff_records.specs.ObjectFile.{section_total, section_name_of, flags_of, raw_size_of, body_of, name_in};
 ghost use Rattle.module_view.specs.PlacedSection.{comes_in};
 ghost use Rattle.module_view.specs.Unbuilt.{is_unbuilt_section, is_loader_name, is_outside_sections, is_import_reference, is_external_name, is_unbuilt_symbol};
 

@@ -1,5 +1,5 @@
 use Rattle.std.proofs.Common.{sym, ◌∙◌}
-use Rattle.coff_object.proofs.WholeLemmas.{file_whole}
+use Rattle.coff_records.proofs.CallerLemmas.{file_whole}
 use Rattle.coff_object.proofs.WellFormedLemmas.{range_holds, table_stays}
 use Rattle.coff_object.proofs.fault.object_fault.Goals as goal
 

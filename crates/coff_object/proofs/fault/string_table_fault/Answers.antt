@@ -1,6 +1,5 @@
 use Rattle.std.proofs.Common.{arith}
-use Rattle.coff_object.proofs.WholeLemmas.{sections_fit}
-use Rattle.coff_object.proofs.RecordLemmas.{records_fit-whole}
+use Rattle.coff_records.proofs.CallerLemmas.{sections_fit, records_fit-whole}
 use Rattle.coff_object.proofs.fault.string_table_fault.Goals as goal
 
 pub overflow_add-result : goal.overflow_add-result

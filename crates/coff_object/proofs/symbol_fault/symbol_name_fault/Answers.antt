@@ -1,7 +1,8 @@
 use Rattle.std.proofs.Common.{sym, ◌∙◌}
-use Rattle.coff_object.specs.ObjectFaults.{of_symbol, first_symbol, lacks_symbol_name}
+use Rattle.coff_records.specs.SymbolRecord.{lacks_symbol_name}
+use Rattle.coff_object.specs.ObjectFaults.{of_symbol, first_symbol}
 use Rattle.coff_object.proofs.LoopLemmas.{symbol_found, symbol_more, symbol_none}
-use Rattle.coff_object.proofs.SymbolsLemmas.{symbols_left-step, symbol_strings}
+use Rattle.coff_records.proofs.CallerLemmas.{symbols_left-step, symbol_strings}
 use Rattle.coff_object.proofs.symbol_fault.symbol_name_fault.Goals as goal
 
 pub lacks_name-requires : goal.lacks_name-requires

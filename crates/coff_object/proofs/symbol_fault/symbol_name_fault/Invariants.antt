@@ -1,6 +1,7 @@
 use Rattle.std.proofs.Common.{◌≡◌}
-use Rattle.coff_object.specs.ObjectFaults.{of_symbol, first_of, first_symbol, lacks_symbol_name}
-use Rattle.coff_object.proofs.SymbolsLemmas.{SymbolsLeft}
+use Rattle.coff_records.specs.SymbolRecord.{lacks_symbol_name}
+use Rattle.coff_object.specs.ObjectFaults.{of_symbol, first_of, first_symbol}
+use Rattle.coff_records.proofs.CallerLemmas.{SymbolsLeft}
 use Rattle.coff_object.proofs.symbol_fault.symbol_name_fault.Given as goal
 
 abbrev pub invariant-loop-index : goal.invariant-loop-index

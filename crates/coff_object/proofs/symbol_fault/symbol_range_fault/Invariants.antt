@@ -1,5 +1,5 @@
 use Rattle.std.proofs.Common.{◌≡◌, ◌-◌, map}
-use Rattle.coff_object.specs.ObjectFile.{starts_from, symbol_entry, symbol_entries}
+use Rattle.coff_records.specs.ObjectFile.{starts_from, symbol_entry, symbol_entries}
 use Rattle.coff_object.specs.ObjectFaults.{aux_leave, first_of}
 use Rattle.coff_object.proofs.symbol_fault.symbol_range_fault.Given as goal
 

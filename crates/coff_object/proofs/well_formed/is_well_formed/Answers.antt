@@ -1,6 +1,7 @@
 use Rattle.std.proofs.Common.{List, ℕ, sym, ap, ◌∙◌, arith}
-use Rattle.coff_object.specs.ObjectFaults.{is_truncated, object_fault}
-use Rattle.coff_object.proofs.WholeLemmas.{file_whole}
+use Rattle.coff_records.specs.FileRanges.{is_truncated}
+use Rattle.coff_object.specs.ObjectFaults.{object_fault}
+use Rattle.coff_records.proofs.CallerLemmas.{file_whole}
 use Rattle.coff_object.proofs.WellFormedLemmas.{well_formed}
 use Rattle.coff_object.proofs.well_formed.is_well_formed.Goals as goal
 

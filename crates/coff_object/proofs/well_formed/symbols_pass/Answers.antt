@@ -1,9 +1,9 @@
 use Rattle.std.proofs.Common.{sym, ◌∙◌}
-use Rattle.coff_object.specs.ObjectFile.{symbol_entries}
+use Rattle.coff_records.specs.ObjectFile.{symbol_entries}
 use Rattle.coff_object.specs.ObjectFaults.{first_of}
 use Rattle.coff_object.specs.AnyFault.{symbol_fails}
 use Rattle.coff_object.proofs.LoopLemmas.{symbol_more, symbol_none}
-use Rattle.coff_object.proofs.SymbolsLemmas.{symbols_left-step, symbol_strings}
+use Rattle.coff_records.proofs.CallerLemmas.{symbols_left-step, symbol_strings}
 use Rattle.coff_object.proofs.well_formed.symbols_pass.Goals as goal
 
 pub symbol_fails-requires-clause-below : goal.symbol_fails-requires-clause-below

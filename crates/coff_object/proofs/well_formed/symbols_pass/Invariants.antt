@@ -1,8 +1,8 @@
 use Rattle.std.proofs.Common.{◌≡◌}
-use Rattle.coff_object.specs.ObjectFile.{symbol_entries}
+use Rattle.coff_records.specs.ObjectFile.{symbol_entries}
 use Rattle.coff_object.specs.ObjectFaults.{first_of}
 use Rattle.coff_object.specs.AnyFault.{symbol_fails}
-use Rattle.coff_object.proofs.SymbolsLemmas.{SymbolsLeft}
+use Rattle.coff_records.proofs.CallerLemmas.{SymbolsLeft}
 use Rattle.coff_object.proofs.well_formed.symbols_pass.Given as goal
 
 abbrev pub invariant-loop-index : goal.invariant-loop-index

@@ -1,5 +1,5 @@
 use Rattle.std.proofs.Common.{◌≡◌, ◌<◌, ◌+◌, ℕ, [], None, length, get_or}
-use Rattle.coff_object.specs.ObjectFile.{section_total}
+use Rattle.coff_records.specs.ObjectFile.{section_total}
 use Rattle.module_view.specs.Module.{module_at}
 use Rattle.link_pieces.specs.PieceIndex.{indexed}
 use Rattle.link_pieces.specs.Rows.{items_of}

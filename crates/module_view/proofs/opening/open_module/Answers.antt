@@ -1,5 +1,5 @@
 use Rattle.std.proofs.Common.{ℕ, List, subst, sym, ap, ◌∙◌}
-use Rattle.coff_object.specs.ObjectFile.{starts_symbol}
+use Rattle.coff_records.specs.ObjectFile.{starts_symbol}
 use Rattle.module_view.specs.SymbolLists.{definitions_of}
 use Rattle.module_view.specs.Unbuilt.{has_unbuilt_section}
 use Rattle.module_view.specs.Opening.{RefusesToOpen}

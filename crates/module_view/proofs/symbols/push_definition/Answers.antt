@@ -1,7 +1,7 @@
 use Rattle.std.proofs.Common.{◌≡◌, pos, w32, FitsSigned, true, false, sym, ap, ◌∙◌, rules}
 use Rattle.std.specs.Int.Signed.{lt_z}
 use Rattle.std.proofs.lemmas.Int.{to_z-of_z}
-use Rattle.coff_object.specs.SymbolRecord.{section_of_number}
+use Rattle.coff_records.specs.SymbolRecord.{section_of_number}
 use Rattle.link_base.proofs.RangeLemmas.{one_added, none_added}
 use Rattle.module_view.specs.SymbolLists.{is_definition, definition_of}
 use Rattle.module_view.proofs.SymbolLemmas.{section_read, is_defined, is_undefined_class, is_undefined_number, same_definition}

@@ -1,8 +1,8 @@
 use Rattle.std.proofs.Common.{◌<◌, List, Bool, eqb, ◌||◌, ◌++◌, length, sym, ap, ◌∙◌, arith}
 use Rattle.std.specs.List.{list_any}
 use Rattle.std.proofs.lemmas.List.{length-set}
-use Rattle.coff_object.specs.SymbolRecord.{name_in}
-use Rattle.coff_object.specs.ObjectFile.{SymbolEntry}
+use Rattle.coff_records.specs.SymbolRecord.{name_in}
+use Rattle.coff_records.specs.ObjectFile.{SymbolEntry}
 use Rattle.coff_object.proofs.CallerLemmas.{symbols_left-all, symbols_left-step, symbol_strings}
 use Rattle.module_view.specs.declared.definition.Definition.{Definition}
 use Rattle.module_view.specs.SymbolLists.{definitions_in, definitions_of}

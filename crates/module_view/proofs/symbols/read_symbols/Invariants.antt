@@ -1,6 +1,6 @@
 use Rattle.std.proofs.Common.{◌≡◌, ◌++◌, ℕ, false, ◌||◌, eqb, length, get_or}
 use Rattle.std.specs.List.{list_any}
-use Rattle.coff_object.specs.ObjectFile.{record_total, starts_symbol, name_in}
+use Rattle.coff_records.specs.ObjectFile.{record_total, starts_symbol, name_in}
 use Rattle.coff_object.proofs.CallerLemmas.{SymbolsLeft}
 use Rattle.module_view.specs.SymbolLists.{definitions_in, definitions_of}
 use Rattle.module_view.specs.Unbuilt.{is_unbuilt_symbol, has_unbuilt_symbol}

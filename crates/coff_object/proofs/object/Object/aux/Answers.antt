@@ -1,5 +1,5 @@
 use Rattle.std.proofs.Common.{sym, subst, List, ℕ, ◌<◌}
-use Rattle.coff_object.specs.ObjectFile.{aux_total_of}
+use Rattle.coff_records.specs.ObjectFile.{aux_total_of}
 use Rattle.coff_object.proofs.Readable.{start_of, aux_whole}
 use Rattle.coff_object.proofs.object.Object.aux.Goals as goal
 

@@ -1,6 +1,6 @@
 use Rattle.std.proofs.Common.{List, ℕ, ap, ◌∙◌}
 use Rattle.coff_object.specs.ObjectFaults.{object_fault}
-use Rattle.coff_object.proofs.WholeLemmas.{file_whole}
+use Rattle.coff_records.proofs.CallerLemmas.{file_whole}
 use Rattle.coff_object.proofs.WellFormedLemmas.{no_fault, table_stays}
 use Rattle.coff_object.proofs.object.Object.of.Goals as goal
 

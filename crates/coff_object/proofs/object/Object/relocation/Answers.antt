@@ -1,5 +1,5 @@
 use Rattle.std.proofs.Common.{sym, subst, List, ℕ, ◌<◌}
-use Rattle.coff_object.specs.ObjectFile.{relocation_total}
+use Rattle.coff_records.specs.ObjectFile.{relocation_total}
 use Rattle.coff_object.proofs.WellFormedLemmas.{no_fault}
 use Rattle.coff_object.proofs.Readable.{section_of, relocation_in_file}
 use Rattle.coff_object.proofs.object.Object.relocation.Goals as goal

@@ -1,6 +1,6 @@
 use Rattle.std.proofs.Common.{◌≡◌, ◌<◌, ◌+◌, ℕ, [], length, map, get_or}
 use Rattle.link_base.specs.Bytes.{first_below}
-use Rattle.coff_object.specs.ObjectFile.{section_total}
+use Rattle.coff_records.specs.ObjectFile.{section_total}
 use Rattle.section_group.specs.BarePieces.{bare}
 use Rattle.module_view.specs.Module.{module_at}
 use Rattle.link_pieces.specs.PieceIndex.{indexed, holds_section}

@@ -1,7 +1,0 @@
-use Rattle.std.proofs.Common.{◌≡◌, None}
-use Rattle.link_base.specs.Bytes.{first_below}
-use Rattle.coff_object.specs.ObjectFaults.{of_section, lacks_section_name}
-use Rattle.coff_object.proofs.section_fault.section_name_fault.Given as goal
-
-abbrev pub invariant-loop-index : goal.invariant-loop-index
-invariant-loop-index l = first_below l.index (of_section l.file (lacks_section_name l.strings)) ≡ None

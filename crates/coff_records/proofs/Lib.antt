@@ -1,0 +1,9 @@
+pub mod HeaderLemmas
+pub mod NameLemmas
+pub mod TextLemmas
+pub mod TextStartLemmas
+pub mod WholeLemmas
+pub mod SymbolsLemmas
+pub mod PlaceLemmas
+pub mod RelocationLemmas
+pub mod CallerLemmas

@@ -1,0 +1,10 @@
+use Rattle.std.proofs.Common.{sym, ◌∙◌}
+use Rattle.coff_records.proofs.HeaderLemmas.{size_of_form, symbol_is}
+use Rattle.coff_records.proofs.file.CoffFile.symbol.Goals as goal
+
+pub of-requires : goal.of-requires
+of-requires c = c.record.ensures.len ∙ sym (size_of_form _ _ _ c.self.view_is c.self.invariant.form)
+
+pub returns : goal.returns
+returns c =
+    symbol_is _ c.args.self.now c.record.result.now c.args.strings.now c.self.inside.header.is_big c.args.index _ c.self.view_is c.self.invariant.form c.record.ensures.part c.requires.table c.of.ensures

@@ -1,0 +1,10 @@
+pub mod Offsets
+pub mod ObjectHeader
+pub mod StringTable
+pub mod SectionHeader
+pub mod Relocations
+pub mod SymbolRecord
+pub mod ObjectFile
+pub mod FileRanges
+pub mod FileParts
+pub mod TextEnd
