@@ -1,0 +1,4 @@
+pub mod FaultLemmas
+pub mod JudgeLemmas
+pub mod TakenLemmas
+pub mod PatchableLemmas

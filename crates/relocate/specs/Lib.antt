@@ -1,0 +1,4 @@
+pub mod Field
+pub mod FieldFaults
+pub mod Judged
+pub mod Taken
