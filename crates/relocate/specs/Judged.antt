@@ -1,16 +1,12 @@
 -- What the fields of a section are once they are judged. Own.
-use Rattle.std.specs.Prelude.{◌≡◌, ℕ, ◌<◌, ◌≤◌, false, List, length, map, Option, Some, None, option_map}
+use Rattle.std.specs.Prelude.{◌≡◌, ℕ, ◌<◌, ◌≤◌, false, List, length, Option, Some, None, option_map}
 use Rattle.std.specs.Borrow.{Bor}
 use Rattle.std.specs.List.{All, AllPairs, filter}
-use Rattle.std.specs.List.Sorted.{IsPermutation, IsStrictlyIncreasing}
+use Rattle.std.specs.List.Sorted.{IsPermutation}
 use Rattle.link_base.specs.Refusals.{first_standing}
 use Rattle.relocate.specs.declared.fix.Fix.{Fix}
 use Rattle.relocate.specs.Field.{field_width, field_end, has_field}
 use Rattle.relocate.specs.FieldFaults.{place_faults, target_faults}
-
--- the indexes of relocations ascend
-abbrev pub AreNumbered : List Fix → Type 0
-AreNumbered fixes = IsStrictlyIncreasing (map (λ fix. fix.index) fixes)
 
 -- the bytes of a section that may have none
 abbrev pub size_of : Option ℕ → ℕ

@@ -2,3 +2,5 @@ pub mod Field
 pub mod FieldFaults
 pub mod Judged
 pub mod Taken
+pub mod Value
+pub mod Written

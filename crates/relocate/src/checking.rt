@@ -2,7 +2,7 @@
 
 ghost use Rattle.std.specs.Prelude.{◌≡◌, None, length, IfOk, IfErr};
 ghost use Rattle.relocate.specs.FieldFaults.{field_fault, RefusesFor};
-ghost use Rattle.relocate.specs.Judged.{AreNumbered, AreTheFields, ArePatchable, size_of, len_of};
+ghost use Rattle.relocate.specs.Judged.{AreTheFields, ArePatchable, size_of, len_of};
 
 use crate::any_order::sorted_fields;
 use crate::ascending::ascending_fields;
@@ -11,7 +11,7 @@ use crate::fix::Fix;
 use crate::fixups::Fixups;
 use std::alloc::Global;
 
-/// The fields of a section's relocations, where none has a fault. `large` says that the image may stand above 2 GiB,
+/// The fields of a section's relocations, given in the order of their indexes, where none has a fault. `large` says that the image may stand above 2 GiB,
 /// and `pdata` that the section is one of the exception table. A relocation of type ABSOLUTE has no field and no fault.
 ///
 /// # Errors
@@ -25,7 +25,6 @@ pub fn check(
     large: bool,
     pdata: bool,
 ) -> Result<Fixups, FieldError>
-    requires { AreNumbered fixes.now }
     ensures accepted { IfOk result (λ _. field_fault (len_of body.entry) large pdata fixes.now ≡ None) }
     ensures fields { IfOk result (λ fixups. AreTheFields fixes.now fixups) }
     ensures patchable { IfOk result (λ fixups. ArePatchable (size_of (len_of body.entry)) fixups) }
