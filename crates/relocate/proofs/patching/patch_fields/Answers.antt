@@ -1,0 +1,23 @@
+use Rattle.std.proofs.Common.{length, arith, subst}
+use Rattle.relocate.specs.Field.{no_fix, fix_at}
+use Rattle.relocate.proofs.PatchLemmas.{PatchedTo, within_at, step, all_in_range, all_patched}
+use Rattle.relocate.proofs.patching.patch_fields.Goals as goal
+
+pub patch_field-outside-requires-clause-within : goal.patch_field-outside-requires-clause-within
+patch_field-outside-requires-clause-within c =
+    let len = c.loop-fix.invariant.len in
+    let end = within_at (length c.args.part.now) (fix_at c.args.fixes.now c.loop-fix.fix-index) (c.requires.patchable.each c.loop-fix.fix-index no_fix c.loop-fix-test.true) in
+    omega arith
+
+pub loop-fix-preserved : goal.loop-fix-preserved
+loop-fix-preserved c =
+    rw (c.patch_field-outside.ensures.patched, c.least_range-least.ensures, c.patch_field-outside.ensures.outside)
+    (step _ _ _ _ _ _ _ _ _ c.loop-fix-test.true c.requires.patchable c.loop-fix.invariant)
+
+pub returns-in-None-clause-patched : goal.returns-in-None-clause-patched
+returns-in-None-clause-patched c =
+    all_patched _ _ _ _ _ _ _ _ c.loop-fix-test.false c.loop-fix.auto.fix-index-end (subst (PatchedTo c.args.base c.args.rva c.args.layout.now c.args.owner.now c.args.fixes.now c.loop-fix.fix-index c.args.part.now c.loop-fix.part) c.in-None.is c.loop-fix.invariant)
+
+pub returns-in-None-clause-in_range : goal.returns-in-None-clause-in_range
+returns-in-None-clause-in_range c =
+    all_in_range _ _ _ _ _ _ _ c.loop-fix.part c.loop-fix-test.false (subst (PatchedTo c.args.base c.args.rva c.args.layout.now c.args.owner.now c.args.fixes.now c.loop-fix.fix-index c.args.part.now c.loop-fix.part) c.in-None.is c.loop-fix.invariant)

@@ -1,0 +1,6 @@
+pub mod Field
+pub mod FieldFaults
+pub mod Judged
+pub mod Taken
+pub mod Value
+pub mod Written

@@ -1,0 +1,82 @@
+//! The fields of relocations in any order.
+
+ghost use Rattle.std.specs.Prelude.{◌≡◌, ℕ, ◌+◌, ◌≤◌, None, Some, true, false, IfOk, IfErr};
+ghost use Rattle.std.specs.Bool.{MatchBool};
+ghost use Rattle.std.specs.List.{filter};
+ghost use Rattle.relocate.specs.Field.{has_field, field_width, ranges_meet, field_end};
+ghost use Rattle.relocate.specs.FieldFaults.{field_fault, RefusesFor};
+ghost use Rattle.relocate.specs.Judged.{AreTheFields, ArePatchable, size_of};
+ghost use Rattle.relocate.specs.Taken.{width_at, AreNarrow};
+
+use crate::error::FieldError;
+use crate::fix::Fix;
+use crate::judge::fault_of;
+use crate::place::{field_end, field_width};
+use link_base::pe_format::REL_AMD64_ABSOLUTE;
+use std::alloc::Global;
+use std::collections::BTreeMap;
+
+/// The fields of relocations, by their places.
+pub(crate) fn sorted_fields(
+    alloc: Global,
+    body_len: Option<usize>,
+    fixes: &[Fix],
+    large: bool,
+    pdata: bool,
+) -> Result<Vec<Fix>, FieldError>
+    ensures accepted { IfOk result (λ _. field_fault body_len large pdata fixes.now ≡ None) }
+    ensures fields { IfOk result (λ fields. AreTheFields fixes.now fields.items) }
+    ensures patchable { IfOk result (λ fields. ArePatchable (size_of body_len) fields.items) }
+    ensures refused { IfErr result (RefusesFor (field_fault body_len large pdata fixes.now)) }
+{
+    let mut fields = judged_fields(alloc, body_len, fixes, large, pdata)?;
+    fields.sort_by_key(|fix| fix.at)?;
+    Ok(fields)
+}
+
+/// The fields of relocations, in their order.
+fn judged_fields(
+    alloc: Global,
+    body_len: Option<usize>,
+    fixes: &[Fix],
+    large: bool,
+    pdata: bool,
+) -> Result<Vec<Fix>, FieldError>
+    ensures accepted { IfOk result (λ _. field_fault body_len large pdata fixes.now ≡ None) }
+    ensures fields { IfOk result (λ fields. fields.items ≡ filter has_field fixes.now) }
+    ensures refused { IfErr result (RefusesFor (field_fault body_len large pdata fixes.now)) }
+{
+    let mut fields = Vec::with_capacity(alloc, fixes.len())?;
+    let mut taken = BTreeMap::new(alloc);
+    for fix in fixes {
+        if fix.kind == REL_AMD64_ABSOLUTE {
+            continue;
+        }
+        if let Some(error) = fault_of(body_len, large, pdata, fix, overlaps(&taken, fix)) {
+            return Err(error);
+        }
+        taken.insert(u64::from(fix.at), u64::from(field_width(fix.kind)))?;
+        fields.push(*fix)?;
+    }
+    Ok(fields)
+}
+
+/// Whether a field shares a byte with one of those that are taken, each with its width at its place. A field begins at
+/// most seven bytes before another that it shares a byte with.
+fn overlaps(taken: &BTreeMap<u64, u64>, fix: &Fix) -> bool
+    requires narrow { AreNarrow taken.now }
+    ensures { MatchBool result
+        ((place width : ℕ) × (width_at taken.now place ≡ Some width) × (ranges_meet place (place + width) fix.now.at (field_end fix.now) ≡ true))
+        ((place width : ℕ) → width_at taken.now place ≡ Some width → ranges_meet place (place + width) fix.now.at (field_end fix.now) ≡ false) }
+{
+    let at = u64::from(fix.at);
+    let end = field_end(fix);
+    for place in at.saturating_sub(7)..end {
+        if let Some(width) = taken.get(&place) {
+            if place.max(at) < (place + *width).min(end) {
+                return true;
+            }
+        }
+    }
+    false
+}

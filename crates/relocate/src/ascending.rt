@@ -1,0 +1,45 @@
+//! The fields of relocations that ascend by their places, as compilers write them.
+
+ghost use Rattle.std.specs.Prelude.{◌≡◌, None, IfOk, IfErr, IfSome};
+ghost use Rattle.std.specs.List.{filter};
+ghost use Rattle.relocate.specs.Field.{has_field};
+ghost use Rattle.relocate.specs.FieldFaults.{field_fault, RefusesFor};
+ghost use Rattle.relocate.specs.Judged.{ArePatchable, size_of};
+
+use crate::error::FieldError;
+use crate::fix::Fix;
+use crate::judge::fault_of;
+use crate::place::field_end;
+use link_base::pe_format::REL_AMD64_ABSOLUTE;
+use std::alloc::Global;
+
+/// The fields of relocations, or nothing where one begins before the end of an earlier one.
+pub(crate) fn ascending_fields(
+    alloc: Global,
+    body_len: Option<usize>,
+    fixes: &[Fix],
+    large: bool,
+    pdata: bool,
+) -> Result<Option<Vec<Fix>>, FieldError>
+    ensures accepted { IfOk result (λ fields. IfSome fields (λ _. field_fault body_len large pdata fixes.now ≡ None)) }
+    ensures fields { IfOk result (λ fields. IfSome fields (λ list. list.items ≡ filter has_field fixes.now)) }
+    ensures patchable { IfOk result (λ fields. IfSome fields (λ list. ArePatchable (size_of body_len) list.items)) }
+    ensures refused { IfErr result (RefusesFor (field_fault body_len large pdata fixes.now)) }
+{
+    let mut fields = Vec::with_capacity(alloc, fixes.len())?;
+    let mut end = 0;
+    for fix in fixes {
+        if fix.kind == REL_AMD64_ABSOLUTE {
+            continue;
+        }
+        if u64::from(fix.at) < end {
+            return Ok(None);
+        }
+        if let Some(error) = fault_of(body_len, large, pdata, fix, false) {
+            return Err(error);
+        }
+        fields.push(*fix)?;
+        end = field_end(fix);
+    }
+    Ok(Some(fields))
+}

@@ -1,0 +1,32 @@
+//! The fields of a section's relocations: judged before anything is laid out, and patched in the section's bytes behind
+//! it. It takes fixes, each a relocation with what its symbol means, and gives fixups, which are the fields in ascending
+//! order; it patches them by a layout of `address_layout`.
+//! Its contracts promise the first fault of the written order, that the fields lie in the section's bytes and share none,
+//! and that each is left with the value of its type and every other byte as it was. What a symbol means, and which
+//! sections are judged, is left to the crates above.
+#![tactic(auto)]
+
+mod any_order;
+mod ascending;
+mod checking;
+mod error;
+mod fix;
+mod fixups;
+mod judge;
+mod laws;
+mod parts;
+mod patching;
+mod place;
+mod range;
+mod target;
+mod value;
+mod writing;
+
+pub use checking::check;
+pub use error::FieldError;
+pub use fix::{Fix, Target};
+pub use fixups::Fixups;
+pub use laws::fixups_are_shared;
+pub use link_base::{RelocKind, TargetFault};
+pub use patching::patch;
+pub use range::RelocRange;
