@@ -1,9 +1,11 @@
 -- Where the walk ends, and what a library is by its end.
-use Rattle.std.proofs.Common.{◌≡◌, ℕ, ◌+◌, ◌<◌, ◌≤◌, Bool, true, false, ◌||◌, not, leb, List, [], length, Some, None, unwrap_or, refl, sym, ap, ◌∙◌, add-one, le-leb}
+use Rattle.std.proofs.Common.{◌≡◌, ℕ, ◌+◌, ◌<◌, ◌≤◌, Bool, true, false, ◌||◌, not, leb, List, [], length, Option, Some, None, unwrap_or, refl, sym, ap, ◌∙◌, add-one, le-leb}
 use Rattle.std.specs.Prelude.{is_some}
+use Rattle.std.specs.Option.{option_or}
 use Rattle.std.proofs.lemmas.Bool.{lt-leb}
 use Rattle.link_base.specs.Bytes.{first_below}
 use Rattle.link_base.proofs.CallerLemmas.{first_below-found, first_below-more}
+use Rattle.link_base.proofs.TestLemmas.{or_left}
 use Rattle.link_base.specs.declared.kinds.library.LibFault.TheVariants as kind
 use Rattle.lib_reader.specs.declared.error.LibError.{LibError}
 use Rattle.lib_reader.specs.ArchiveMember.{next_header}
@@ -39,10 +41,14 @@ pub record EndsAt (bytes : List ℕ) (position : ℕ) : Type 0 where
   pub listings : listing_of bytes ≡ unwrap_or (second_listed bytes position) (unwrap_or (first_listed bytes position) [])
   pub long_names : long_names_of bytes ≡ long_names_among bytes position
 
+alone : (fault : Option LibError) → option_or fault None ≡ fault
+alone None = refl
+alone (Some error) = refl
+
 pub ended : (bytes : List ℕ) (position : ℕ) → has_magic bytes ≡ true → walk_end bytes ≡ Some position → EndsAt bytes position
 unfolding library_fault listing_of long_names_of
 ended bytes position magic is = record {
-  fault = rw (magic, is) refl;
+  fault = rw (magic, is) (alone (end_fault bytes position));
   listings = rw is refl;
   long_names = rw is refl;
 }
@@ -88,15 +94,11 @@ there_well bytes at position place lt none =
     rw (inside, none) refl
 
 -- a member that the walk does not go on behind is no directory
-not_special : (a b : Bool) → (a || b) ≡ false → a ≡ false
-not_special true b e = absurd cc
-not_special false b e = refl
-
 pub no_directory : (bytes : List ℕ) (position : ℕ) → names_special (text_at_position bytes position) ≡ false → is_directory bytes position ≡ false
 unfolding names_special
 no_directory bytes position other =
     let text = text_at_position bytes position in
-    not_special (names_directory text) (names_long_names text || names_other text) other
+    or_left (names_directory text) (names_long_names text || names_other text) other
 
 -- ---- a file that is no library
 

@@ -1,6 +1,5 @@
 -- The first byte of a text that passes a test, and what stands before it.
-use Rattle.std.specs.Prelude.{IfSome, position}
-use Rattle.std.proofs.Common.{◌≡◌, ℕ, ◌<◌, ◌≤◌, Bool, Option, Some, None, List, length, take, refl, lt-ltb, le-ltb, inl, inr, sym, ap, ◌∙◌, arith}
+use Rattle.std.proofs.Common.{◌≡◌, ℕ, ◌≤◌, Bool, Some, None, List, length, take, inl, inr, sym, ap, ◌∙◌, arith}
 use Rattle.std.specs.List.{position_or_len, before_first}
 use Rattle.std.proofs.lemmas.List.{take_all}
 use Rattle.std.proofs.lemmas.List.Sums.{passes_at_first, fails_before_first}
@@ -32,16 +31,3 @@ before_place test text k h = ap (λ (n : ℕ). take n text) (sym (first_place te
 
 pub before_none : (test : ℕ → Bool) (text : List ℕ) → IsFirstByte test text None → text ≡ before_first test text
 before_none test text none = sym (take_all (position_or_len test text) text (no_place test text none))
-
--- ---- the search's answer as a whole
-
-pub place_is : (test : ℕ → Bool) (text : List ℕ) (r : Option ℕ) → IsFirstByte test text r → r ≡ position test text
-place_is test text None none = rw (le-ltb _ _ (no_place test text none)) refl
-place_is test text (Some k) h =
-    let same = first_place test text k h in
-    let lt : k < length text = h.0.high in
-    rw (same, lt-ltb _ _ lt) refl
-
-pub place_len : (test : ℕ → Bool) (text : List ℕ) (r : Option ℕ) → IsFirstByte test text r → IfSome r (λ len. position_or_len test text ≡ len)
-place_len test text None none = tt
-place_len test text (Some k) h = first_place test text k h

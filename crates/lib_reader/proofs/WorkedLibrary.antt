@@ -2,7 +2,8 @@
 use Rattle.std.proofs.Common.{◌≡◌, ℕ, List, [], ◌∷◌, ◌++◌, ◌∙◌, None, lit<, refl}
 use Rattle.std.specs.Prelude.{codes}
 use Rattle.link_base.specs.Bytes.{number_at, first_below}
-use Rattle.lib_reader.specs.ArchiveMember.{trimmed_length, trimmed, decimal_number, name_text, size_number, header_is_bad, data_of, size_is_bad, next_header}
+use Rattle.link_base.specs.Decimal.{decimal_number}
+use Rattle.lib_reader.specs.ArchiveMember.{trimmed_length, trimmed, name_text, size_number, header_is_bad, data_of, size_is_bad, next_header}
 use Rattle.lib_reader.specs.MemberName.{names_special, names_an_offset, without_slash, member_name}
 use Rattle.lib_reader.specs.MemberFault.{lacks_long_name, member_fault}
 use Rattle.lib_reader.specs.Texts.{texts_end}

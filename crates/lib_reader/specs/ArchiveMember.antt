@@ -1,9 +1,9 @@
 -- A member of a library, by the header of 60 bytes at an offset: its name field, its size and its data (PE Format,
 -- "Archive Member Headers").
-use Rattle.std.specs.Prelude.{ℕ, zero, suc, ◌+◌, ◌-◌, ◌*◌, ◌%◌, Bool, ◌||◌, ◌&&◌, not, ◌==◌, nat_lt, nat_le, nat_eq, if◌then◌else◌, List, length, take, slice_index, Option, Some, None, is_none, unwrap_or, fold}
-use Rattle.std.specs.List.{list_all}
+use Rattle.std.specs.Prelude.{ℕ, zero, suc, ◌+◌, ◌%◌, Bool, ◌||◌, not, ◌==◌, nat_lt, nat_eq, if◌then◌else◌, List, length, take, slice_index, Option, is_none, unwrap_or}
 use lib.Pointwise.{pointwise}
 use Rattle.link_base.specs.Bytes.{bytes_at}
+use Rattle.link_base.specs.Decimal.{decimal_number}
 use Rattle.lib_reader.specs.Constants.{SIZEOF_ARCHIVE_MEMBER_HDR, ARCHIVE_END}
 
 -- ---- a field of text
@@ -16,16 +16,6 @@ trimmed_length text (suc n) = if slice_index text n == 32 then trimmed_length te
 -- a text without the blanks at its end
 unfoldable pub trimmed : List ℕ → List ℕ
 trimmed text = take (trimmed_length text (length text)) text
-
-abbrev pub is_digit : ℕ → Bool
-is_digit byte = nat_le 48 byte && nat_le byte 57
-
-abbrev pub decimal_value : List ℕ → ℕ
-decimal_value digits = fold (λ value digit. 10 * value + (digit - 48)) 0 digits
-
--- the number that a text of digits writes, zeros before it allowed; an empty text, or one with another byte, writes none
-unfoldable pub decimal_number : List ℕ → Option ℕ
-decimal_number text = if nat_lt 0 (length text) && list_all is_digit text then Some (decimal_value text) else None
 
 -- ---- the header
 

@@ -1,9 +1,10 @@
 -- The walk along the members at the start of a library: the directories, the member of long names and those for other
 -- machines. It ends at the first member that is none of these, or at the end of the file (PE Format, "Archive (Library)
 -- File Format"; that the header at its end is judged with the others is own).
-use Rattle.std.specs.Prelude.{ℕ, zero, suc, Bool, ◌||◌, ◌&&◌, not, ◌==◌, nat_le, nat_eq, true, false, if◌then◌else◌, List, [], length, Option, Some, None, is_some, is_none, option_map, option_and_then, unwrap_or}
+use Rattle.std.specs.Prelude.{ℕ, zero, suc, Bool, ◌||◌, ◌&&◌, not, ◌==◌, nat_le, nat_eq, true, false, if◌then◌else◌, List, [], ◌∷◌, length, Option, None, is_some, is_none, option_map, option_and_then, unwrap_or}
 use Rattle.std.specs.List.{starts_with}
 use Rattle.link_base.specs.Bytes.{first_below}
+use Rattle.link_base.specs.Refusals.{shown, first_standing}
 use Rattle.link_base.specs.declared.kinds.library.LibFault.TheVariants as kind
 use Rattle.lib_reader.specs.declared.error.LibError.{LibError}
 use Rattle.lib_reader.specs.Constants.{ARCHIVE_START, ARCHIVE_START_SIZE}
@@ -73,15 +74,13 @@ unfoldable pub has_directory_fault : List ℕ → ℕ → Bool
 has_directory_fault bytes position =
     if is_directory bytes position then directory_fails bytes position else position == 0
 
-abbrev pub first_fault : Option LibError → Option LibError → Option LibError
-first_fault None later = later
-first_fault (Some error) later = Some error
-
 -- the header, the size, the long name, and then the directory
 unfoldable pub position_fault : List ℕ → ℕ → Option LibError
 position_fault bytes position =
-    first_fault (member_fault (long_names_among bytes position) bytes (header_at bytes position))
-    (if has_directory_fault bytes position then fault kind.Directory (header_at bytes position) else None)
+    first_standing
+    (member_fault (long_names_among bytes position) bytes (header_at bytes position)
+    ∷ shown (has_directory_fault bytes position) (fault kind.Directory (header_at bytes position))
+    ∷ [])
 
 -- ---- the end of the walk
 
@@ -109,7 +108,8 @@ end_fault bytes position = if is_past_end bytes position then None else position
 -- the first fault in the order of the walk: none where the library is well formed
 unfoldable pub library_fault : List ℕ → Option LibError
 library_fault bytes =
-    if has_magic bytes then option_and_then (end_fault bytes) (walk_end bytes) else fault kind.Magic 0
+    first_standing
+    (shown (not (has_magic bytes)) (fault kind.Magic 0) ∷ option_and_then (end_fault bytes) (walk_end bytes) ∷ [])
 
 -- the long names of the library
 unfoldable pub long_names_of : List ℕ → List ℕ

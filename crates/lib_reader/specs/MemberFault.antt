@@ -1,13 +1,14 @@
 -- What is wrong with one header, in the order of the tests. Own; the fields are those of the PE Format specification.
-use Rattle.std.specs.Prelude.{ℕ, Bool, ◌&&◌, if◌then◌else◌, List, Option, Some, None, is_none}
+use Rattle.std.specs.Prelude.{ℕ, Bool, ◌&&◌, List, [], ◌∷◌, Option, is_none}
 use Rattle.link_base.specs.declared.kinds.library.LibFault.{LibFault}
 use Rattle.link_base.specs.declared.kinds.library.LibFault.TheVariants as kind
+use Rattle.link_base.specs.Refusals.{shown, first_standing}
 use Rattle.lib_reader.specs.declared.error.LibError.{LibError}
 use Rattle.lib_reader.specs.ArchiveMember.{name_text, header_is_bad, size_is_bad}
 use Rattle.lib_reader.specs.MemberName.{names_an_offset, long_name}
 
-abbrev pub fault : LibFault → ℕ → Option LibError
-fault kind at = Some (record { kind = kind; at = at })
+abbrev pub fault : LibFault → ℕ → LibError
+fault kind at = record { kind = kind; at = at }
 
 -- the name refers to an offset that is none of the long names
 unfoldable pub lacks_long_name : List ℕ → List ℕ → Bool
@@ -16,6 +17,8 @@ lacks_long_name long_names text = names_an_offset text && is_none (long_name lon
 -- the first that stands: the header, the size, the long name
 unfoldable pub member_fault : List ℕ → List ℕ → ℕ → Option LibError
 member_fault long_names bytes at =
-    if header_is_bad bytes at then fault kind.Header at
-    else (if size_is_bad bytes at then fault kind.Size at
-    else (if lacks_long_name long_names (name_text bytes at) then fault kind.LongName at else None))
+    first_standing
+    (shown (header_is_bad bytes at) (fault kind.Header at)
+    ∷ shown (size_is_bad bytes at) (fault kind.Size at)
+    ∷ shown (lacks_long_name long_names (name_text bytes at)) (fault kind.LongName at)
+    ∷ [])

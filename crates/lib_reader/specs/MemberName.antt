@@ -4,7 +4,7 @@ use Rattle.std.specs.Prelude.{ℕ, ◌-◌, Bool, ◌||◌, ◌&&◌, not, ◌==
 use Rattle.std.specs.List.{before_first, starts_with}
 use lib.Pointwise.{pointwise}
 use Rattle.lib_reader.specs.Constants.{ARCHIVE_LINKER_MEMBER, ARCHIVE_LONGNAMES_MEMBER, ARCHIVE_OTHER_MEMBER}
-use Rattle.lib_reader.specs.ArchiveMember.{decimal_number}
+use Rattle.link_base.specs.Decimal.{decimal_number}
 
 -- ---- special members
 

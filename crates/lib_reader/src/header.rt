@@ -2,10 +2,10 @@
 //! Headers").
 
 ghost use Rattle.std.specs.Prelude.{◌≡◌, ◌<◌, ◌≤◌, ◌+◌, ◌^◌, length, false, IfSome};
-ghost use Rattle.lib_reader.specs.ArchiveMember.{trimmed, decimal_number, name_text, size_number, size_of, header_is_bad, size_is_bad, data_of, next_header};
+ghost use Rattle.lib_reader.specs.ArchiveMember.{trimmed, name_text, size_number, size_of, header_is_bad, size_is_bad, data_of, next_header};
 
 use crate::constants::{ARCHIVE_END, SIZEOF_ARCHIVE_MEMBER_HDR};
-use crate::fields::slice_in;
+use link_base::{decimal_number, slice_in};
 
 /// The text of a field: what stands before the blanks at its end.
 #[tactic(auto, unfolding(crate::specs::ArchiveMember::trimmed))]
@@ -19,26 +19,6 @@ fn trimmed(text: &[u8]) -> &[u8]
     }
     let (front, _) = text.split_at(len);
     front
-}
-
-/// The number that a text of at most 15 digits writes, zeros before it allowed.
-#[tactic(auto, unfolding(crate::specs::ArchiveMember::decimal_number))]
-pub(crate) fn decimal_number(text: &[u8]) -> Option<usize>
-    requires { length text.now < 16 }
-    ensures number { result ≡ decimal_number text.now }
-    ensures bound { IfSome result (λ number. number < 10 ^ 15) }
-{
-    if text.is_empty() {
-        return None;
-    }
-    let mut value = 0;
-    for digit in text {
-        if *digit < b'0' || *digit > b'9' {
-            return None;
-        }
-        value = 10 * value + usize::from(*digit - b'0');
-    }
-    Some(value)
 }
 
 /// Whether the header leaves the file, or does not end as a header does.

@@ -7,7 +7,6 @@
 
 mod constants;
 mod error;
-mod fields;
 mod first_directory;
 mod header;
 mod library;

@@ -168,6 +168,6 @@ impl<'a> Iterator for Listings<'a> {
         self.index += 1;
         self.left -= 1;
         self.names = names;
-        Some((Name::of(name), at))
+        Some((name, at))
     }
 }

@@ -5,9 +5,8 @@ ghost use Rattle.std.specs.Prelude.{◌≡◌, ◌<◌, ◌≤◌, drop, length,
 ghost use Rattle.std.specs.List.{before_first};
 ghost use Rattle.lib_reader.specs.MemberName.{ends_long_name, without_slash, long_offset, long_name};
 
-use crate::header::decimal_number;
 use crate::member_name::without_slash;
-use link_base::Name;
+use link_base::{Name, decimal_number};
 use memchr::memchr2;
 
 /// The text from an offset on, up to its end byte, or whole where none comes.

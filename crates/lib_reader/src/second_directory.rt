@@ -5,7 +5,7 @@ ghost use Rattle.std.specs.Prelude.{◌≡◌, ◌<◌, ◌≤◌, ◌+◌, ◌^
 ghost use Rattle.link_base.specs.Bytes.{all_below};
 ghost use Rattle.lib_reader.specs.SecondDirectory.{member_count, name_count_place, second_count, member_index, second_offset, second_names_place, second_counts_leave, has_member, second_table_leaves};
 
-use crate::fields::{u16_in, u32_in};
+use link_base::{u16_in, u32_in};
 
 /// Where the count of names stands: behind the count of members and their offsets.
 fn name_count_place(directory: &[u8]) -> usize

@@ -1,15 +1,19 @@
 -- What callers may cite of bytes that are a short import.
 use Rattle.std.proofs.Common.{◌≡◌, ℕ, ◌+◌, ◌<◌, ◌≤◌, Bool, true, false, not, eqb, List, length, slice_index, Option, None, Some, inl, inr, refl, sym, ap, ◌∙◌, arith}
+use Rattle.std.specs.Option.{option_or}
 use Rattle.std.proofs.lemmas.Bool.{false≢true, eqb-true}
 use Rattle.std.proofs.lemmas.Bool.Decides.{eqb_tells}
 use Rattle.std.proofs.lemmas.List.{length-take-le, length-drop}
 use Rattle.link_base.specs.Bytes.{bytes_at, is_nul}
 use Rattle.link_base.specs.declared.kinds.import.ImpFault.{ImpFault}
 use Rattle.link_base.specs.declared.kinds.import.ImpFault.TheVariants as fault
-use Rattle.short_import.specs.Constants.{FILE_MACHINE_AMD64, IMPORT_CONST, IMPORT_NAME_UNDECORATE}
+use Rattle.link_base.specs.PeFormat.{FILE_MACHINE_AMD64}
+use Rattle.link_base.specs.Refusals.{shown}
+use Rattle.link_base.proofs.TestLemmas.{or_left, or_right, ltb_false}
+use Rattle.short_import.specs.Constants.{IMPORT_CONST, IMPORT_NAME_UNDECORATE}
 use Rattle.short_import.specs.ShortImport.{machine_of, data_size, import_type, name_type, import_data, symbol_of, dll_of}
-use Rattle.short_import.specs.ImportFaults.{is_cut, is_other_machine, has_other_type, has_other_name_type, lacks_text, row, first_row, header_fault, import_fault}
-use Rattle.short_import.proofs.WholeLemmas.{or_left, or_right, ltb_false, data_whole}
+use Rattle.short_import.specs.ImportFaults.{is_cut, is_other_machine, has_other_type, has_other_name_type, lacks_text, header_fault, import_fault}
+use Rattle.short_import.proofs.WholeLemmas.{data_whole}
 use Rattle.short_import.proofs.SpanLemmas.{text_from-span, bytes_at-bytes_at}
 
 pub record IsShortImport (bytes : List ℕ) : Type 0 where
@@ -29,11 +33,11 @@ pub record IsShortImport (bytes : List ℕ) : Type 0 where
 
 -- ---- the rows that do not stand
 
-stands_not : (stands : Bool) (which : ImpFault) (later : Option ImpFault) → first_row (row stands which) later ≡ None → (stands ≡ false) × (later ≡ None)
+stands_not : (stands : Bool) (which : ImpFault) (later : Option ImpFault) → option_or (shown stands which) later ≡ None → (stands ≡ false) × (later ≡ None)
 stands_not true which later e = absurd cc
 stands_not false which later e = (refl, e)
 
-no_row : (earlier : Option ImpFault) (stands : Bool) → first_row earlier (row stands fault.Text) ≡ None → (earlier ≡ None) × (stands ≡ false)
+no_row : (earlier : Option ImpFault) (stands : Bool) → option_or earlier (option_or (shown stands fault.Text) None) ≡ None → (earlier ≡ None) × (stands ≡ false)
 no_row None true e = absurd cc
 no_row None false e = (refl, refl)
 no_row (Some which) stands e = absurd cc

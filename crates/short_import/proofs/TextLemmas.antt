@@ -1,32 +1,10 @@
--- A text up to its first NUL, and one up to its first `@`, by what the search answered.
-use Rattle.std.proofs.Common.{◌≡◌, ℕ, ◌<◌, ◌≤◌, Bool, Some, None, List, [], length, take, drop, inl, inr, sym, ap, ◌∙◌, arith}
-use Rattle.std.specs.Prelude.{unwrap_or}
+-- What stands before the first byte of a text that passes a test, by what the search answered.
+use Rattle.std.proofs.Common.{◌≡◌, ℕ, ◌≤◌, Bool, Some, None, List, length, take, inl, inr, sym, ap, ◌∙◌, arith}
 use Rattle.std.specs.List.{position_or_len, before_first}
 use Rattle.std.proofs.lemmas.List.Sums.{passes_at_first, fails_before_first}
 use Rattle.std.proofs.lemmas.Bool.{cases_lt, false≢true}
 use Rattle.std.proofs.lemmas.List.{take_all}
 use Rattle.memchr.specs.Find.{IsFirstByte}
-use Rattle.link_base.proofs.Bytes as base
-use Rattle.link_base.specs.Bytes.{is_nul}
-use Rattle.short_import.specs.ShortImport.{text_from}
-
--- ---- a text that ends with a NUL
-
-pub text_there : (bytes rest : List ℕ) (offset len : ℕ) → rest ≡ drop offset bytes → IsFirstByte is_nul rest (Some len) → take len rest ≡ text_from bytes offset
-unfolding text_from
-text_there bytes rest offset len e found =
-    ap (λ text. unwrap_or text []) (base.text_there bytes rest offset len e found)
-
-pub text_missing : (bytes rest : List ℕ) (offset : ℕ) → rest ≡ drop offset bytes → IsFirstByte is_nul rest None → text_from bytes offset ≡ []
-unfolding text_from
-text_missing bytes rest offset e none =
-    ap (λ text. unwrap_or text []) (base.text_missing bytes rest offset e none)
-
-pub text_beyond : (bytes : List ℕ) (offset : ℕ) → length bytes < offset → text_from bytes offset ≡ []
-unfolding text_from
-text_beyond bytes offset lt = ap (λ text. unwrap_or text []) (base.text_beyond bytes offset lt)
-
--- ---- what stands before the first byte that passes a test
 
 first_at : (test : ℕ → Bool) (text : List ℕ) (k : ℕ) → IsFirstByte test text (Some k) → position_or_len test text ≡ k
 first_at test text k h =

@@ -1,25 +1,12 @@
 -- What is whole in bytes that are not cut.
-use Rattle.std.proofs.Common.{◌≡◌, ℕ, ◌+◌, ◌≤◌, Bool, true, false, ◌||◌, ltb, List, length, Option, None, refl, sym, ◌∙◌, inl, inr, lt-ltb}
-use Rattle.std.proofs.lemmas.Bool.{false≢true, cases_lt}
-use Rattle.short_import.specs.ShortImport.{data_size}
+use Rattle.std.proofs.Common.{◌≡◌, ℕ, ◌+◌, ◌≤◌, Bool, true, false, ltb, List, length, Option, None, refl}
+use Rattle.std.specs.Option.{option_or}
 use Rattle.link_base.specs.declared.kinds.import.ImpFault.{ImpFault}
 use Rattle.link_base.specs.declared.kinds.import.ImpFault.TheVariants as fault
-use Rattle.short_import.specs.ImportFaults.{is_cut, row, first_row, header_fault}
-
-pub or_left : (a b : Bool) → (a || b) ≡ false → a ≡ false
-or_left true b e = absurd (false≢true (sym e))
-or_left false b e = refl
-
-pub or_right : (a b : Bool) → (a || b) ≡ false → b ≡ false
-or_right true b e = absurd (false≢true (sym e))
-or_right false b e = e
-
-pub ltb_false : (m n : ℕ) → ltb m n ≡ false → n ≤ m
-ltb_false m n e =
-    elim (cases_lt m n) [
-      | inl lt ↦ absurd (false≢true (sym e ∙ lt-ltb m n lt))
-      | inr le ↦ le
-    ]
+use Rattle.link_base.specs.Refusals.{shown}
+use Rattle.link_base.proofs.TestLemmas.{or_left, or_right, ltb_false}
+use Rattle.short_import.specs.ShortImport.{data_size}
+use Rattle.short_import.specs.ImportFaults.{is_cut, header_fault}
 
 pub header_whole : (bytes : List ℕ) → is_cut bytes ≡ false → 20 ≤ length bytes
 unfolding is_cut
@@ -29,7 +16,7 @@ pub data_whole : (bytes : List ℕ) → is_cut bytes ≡ false → 20 + data_siz
 unfolding is_cut
 data_whole bytes e = ltb_false (length bytes) (20 + data_size bytes) (or_right (ltb (length bytes) 20) _ e)
 
-uncut : (cut : Bool) (later : Option ImpFault) → first_row (row cut fault.Length) later ≡ None → cut ≡ false
+uncut : (cut : Bool) (later : Option ImpFault) → option_or (shown cut fault.Length) later ≡ None → cut ≡ false
 uncut true later e = absurd cc
 uncut false later e = refl
 

@@ -1,11 +1,6 @@
 -- The numbers of the import library format, with the names of the PE Format specification less `IMAGE_`.
 use Rattle.std.specs.Prelude.{ℕ}
 
--- ---- "Machine Types"
-
-abbrev pub FILE_MACHINE_AMD64 : ℕ
-FILE_MACHINE_AMD64 = 0x8664
-
 -- ---- "Import Type"
 
 abbrev pub IMPORT_CODE : ℕ

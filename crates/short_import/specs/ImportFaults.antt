@@ -1,9 +1,11 @@
 -- What is wrong with a short import, as a table of conditions: the first that stands counts. Own; the fields
 -- are those of the PE Format specification.
-use Rattle.std.specs.Prelude.{ℕ, ◌+◌, Bool, ◌||◌, not, ◌==◌, nat_lt, if◌then◌else◌, List, [], ◌∷◌, length, Option, Some, None}
+use Rattle.std.specs.Prelude.{ℕ, ◌+◌, Bool, ◌||◌, not, ◌==◌, nat_lt, List, [], ◌∷◌, length, Option}
 use Rattle.link_base.specs.declared.kinds.import.ImpFault.{ImpFault}
 use Rattle.link_base.specs.declared.kinds.import.ImpFault.TheVariants as fault
-use Rattle.short_import.specs.Constants.{FILE_MACHINE_AMD64, IMPORT_CONST, IMPORT_NAME_UNDECORATE}
+use Rattle.link_base.specs.PeFormat.{FILE_MACHINE_AMD64}
+use Rattle.link_base.specs.Refusals.{shown, first_standing}
+use Rattle.short_import.specs.Constants.{IMPORT_CONST, IMPORT_NAME_UNDECORATE}
 use Rattle.short_import.specs.ShortImport.{machine_of, data_size, import_type, name_type, symbol_of, dll_of}
 
 -- the header or the data leave the file; bytes behind the data are allowed
@@ -23,30 +25,18 @@ has_other_name_type bytes = nat_lt IMPORT_NAME_UNDECORATE (name_type bytes)
 abbrev pub lacks_text : List ℕ → Bool
 lacks_text bytes = (length (symbol_of bytes) == 0) || (length (dll_of bytes) == 0)
 
--- ---- the table
-
-abbrev pub row : Bool → ImpFault → Option ImpFault
-row stands fault = if stands then Some fault else None
-
--- the first of two rows that stands
-abbrev pub first_row : Option ImpFault → Option ImpFault → Option ImpFault
-first_row None later = later
-first_row (Some fault) later = Some fault
-
-abbrev pub first_standing : List (Option ImpFault) → Option ImpFault
-first_standing [] = None
-first_standing (earlier ∷ later) = first_row earlier (first_standing later)
+-- ---- the tables
 
 -- the rows that the header decides
 unfoldable pub header_fault : List ℕ → Option ImpFault
 header_fault bytes =
     first_standing
-    (row (is_cut bytes) fault.Length
-    ∷ row (is_other_machine bytes) fault.Machine
-    ∷ row (has_other_type bytes) fault.Kind
-    ∷ row (has_other_name_type bytes) fault.NameType
+    (shown (is_cut bytes) fault.Length
+    ∷ shown (is_other_machine bytes) fault.Machine
+    ∷ shown (has_other_type bytes) fault.Kind
+    ∷ shown (has_other_name_type bytes) fault.NameType
     ∷ [])
 
--- none where the bytes are a short import
+-- and those that the texts do; none where the bytes are a short import
 unfoldable pub import_fault : List ℕ → Option ImpFault
-import_fault bytes = first_row (header_fault bytes) (row (lacks_text bytes) fault.Text)
+import_fault bytes = first_standing (header_fault bytes ∷ shown (lacks_text bytes) fault.Text ∷ [])

@@ -1,8 +1,5 @@
 //! The numbers of the import library format, with the names of the PE Format specification less `IMAGE_`.
 
-// "Machine Types"
-pub(crate) const FILE_MACHINE_AMD64: u16 = 0x8664;
-
 // "Import Type"
 pub(crate) const IMPORT_CODE: u16 = 0;
 

@@ -3,9 +3,10 @@
 ghost use Rattle.std.specs.Prelude.{◌≡◌};
 ghost use Rattle.short_import.specs.ImportFaults.{is_cut, header_fault};
 
-use crate::constants::{FILE_MACHINE_AMD64, IMPORT_CONST, IMPORT_NAME_UNDECORATE};
+use crate::constants::{IMPORT_CONST, IMPORT_NAME_UNDECORATE};
 use crate::fields::{HEADER_SIZE, data_size, import_type, machine, name_type};
 use link_base::ImpFault;
+use link_base::pe_format::FILE_MACHINE_AMD64;
 
 /// Whether the header or the data leave the file.
 #[tactic(auto, unfolding(crate::specs::ImportFaults::is_cut))]

@@ -6,8 +6,7 @@ ghost use Rattle.short_import.specs.ImportFaults.{is_cut, import_fault};
 
 use crate::fault::header_fault;
 use crate::fields::{HEADER_SIZE, data_size};
-use link_base::ImpFault;
-use memchr::memchr;
+use link_base::{ImpFault, cstr, slice_in};
 
 /// The symbol and the name of the DLL.
 #[derive(Drop)]
@@ -38,26 +37,21 @@ pub(crate) fn texts_in(bytes: &[u8]) -> Result<Texts<'_>, ImpFault>
 }
 
 /// The bytes behind the header that the header counts.
+#[tactic(auto, using(crate::proofs::WholeLemmas::header_whole, crate::proofs::WholeLemmas::data_whole))]
 fn import_data(bytes: &[u8]) -> &[u8]
     requires { is_cut bytes.now ≡ false }
     ensures { result.now ≡ import_data bytes.now }
 {
-    let (_, rest) = bytes.split_at(HEADER_SIZE);
-    let (part, _) = rest.split_at(data_size(bytes));
-    part
+    slice_in(bytes, HEADER_SIZE, data_size(bytes))
 }
 
 /// The text from `at` up to the first NUL at or after it, empty where there is none.
-#[tactic(auto, using(crate::proofs::TextLemmas::text_beyond))]
+#[tactic(auto, unfolding(crate::specs::ShortImport::text_from))]
 fn text_from(bytes: &[u8], at: usize) -> &[u8]
     ensures { result.now ≡ text_from bytes.now at }
 {
-    if at > bytes.len() {
-        return &[];
-    }
-    let (_, rest) = bytes.split_at(at);
-    match memchr(0, rest) {
-        Some(len) => &rest[..len],
+    match cstr(bytes, at) {
+        Some(text) => slice_in(bytes, at, text.len()),
         None => &[],
     }
 }
