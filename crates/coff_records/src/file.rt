@@ -33,6 +33,7 @@ impl<'a> Model for CoffFile<'a> {
 }
 
 impl<'a> CoffFile<'a> {
+    /// The file with these bytes, which have its header.
     pub fn read(bytes: &'a [u8]) -> CoffFile<'a>
         requires { header_size bytes.now ≤ length bytes.now }
         ensures { result ≡ bytes.now }
@@ -53,18 +54,21 @@ impl<'a> CoffFile<'a> {
         }
     }
 
+    /// The file's bytes.
     pub fn bytes(&self) -> &'a [u8]
         ensures { result.now ≡ self.now }
     {
         self.bytes
     }
 
+    /// The machine that the object is for.
     pub fn machine(&self) -> u16
         ensures { result ≡ machine_of self.now }
     {
         self.header.machine
     }
 
+    /// How many sections the header counts.
     pub fn section_count(&self) -> u32
         ensures { result ≡ section_total self.now }
     {

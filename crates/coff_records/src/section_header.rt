@@ -67,6 +67,7 @@ impl<'a> SectionHeader<'a> {
         u16_in(self.bytes, SECTION_NUMBER_OF_RELOCATIONS)
     }
 
+    /// The section's flags.
     pub fn flags(&self) -> u32
         ensures { result ≡ flags_in self.now }
     {
