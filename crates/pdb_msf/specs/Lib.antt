@@ -1,0 +1,3 @@
+pub mod BlockFile
+pub mod Streams
+pub mod WrittenFile
