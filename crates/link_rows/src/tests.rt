@@ -1,14 +1,17 @@
 //! What the linker makes of its words and files.
 
 mod big_objects;
+mod build_error;
 mod builder;
 mod case;
 mod failures;
 mod limits;
 mod links;
 mod many_objects;
+mod object;
 mod objects;
 mod one_object;
 mod opening;
 mod options;
+mod records;
 mod refusals;

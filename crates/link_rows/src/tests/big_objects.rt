@@ -1,11 +1,11 @@
 //! Big objects: their header and symbol records have wider fields, for more sections.
 
-use super::links::{OPTIONAL_HEADER, assert_refused, image_of};
+use super::links::{assert_refused, entry_and_size, image_of};
 use super::many_objects::RETURN;
+use super::object::Places;
 use super::one_object::{SUMMARY, image};
-use crate::object::Places;
-use crate::records::push_section_header;
-use link_base::{LeNumber, field_u32, push_fields};
+use super::records::push_section_header;
+use link_base::{LeNumber, push_fields};
 use std::alloc::Global;
 use std::test::Fail;
 
@@ -92,9 +92,6 @@ fn the_entry_may_stand_in_a_section_whose_number_needs_17_bits(
         b"linked a.exe: 1 modules, 1 sections, 70656 bytes\n",
     )?;
     assert_eq!(rt; image.len(), 70_656);
-    let entry = field_u32(&image, OPTIONAL_HEADER + 16);
-    assert_eq!(rt; entry, Some(0x1216f));
-    let size = field_u32(&image, OPTIONAL_HEADER + 56);
-    assert_eq!(rt; size, Some(0x13000));
+    assert_eq!(rt; entry_and_size(&image), Some((0x1216f, 0x13000)));
     Ok(())
 }

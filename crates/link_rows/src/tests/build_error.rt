@@ -5,7 +5,7 @@ use std::alloc::AllocError;
 
 /// A mistake in the tables of an object that is to be made, or want of memory.
 #[derive(Clone, Copy, Debug, PartialEq, Eq)]
-pub enum BuildError {
+pub(super) enum BuildError {
     /// A relocation or an auxiliary record names a symbol that is not there.
     UnknownSymbol,
     /// A count, a size or a place in the file is too great for its field.

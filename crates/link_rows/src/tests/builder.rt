@@ -1,7 +1,8 @@
 //! The files that the builder makes.
 
+use super::build_error::BuildError;
+use super::object::{Aux, Contents, Relocation, Section, Symbol, object_file};
 use super::objects::PLAIN;
-use crate::{Aux, BuildError, Contents, Relocation, Section, Symbol, object_file};
 use link_base::{field_u16, field_u32};
 use std::alloc::Global;
 use std::test::Fail;

@@ -1,8 +1,9 @@
 //! The most sections and modules, and the greatest image.
 
 use super::links::{VIRTUAL_ADDRESS, assert_refused, image_of, section_field};
+use super::object::{Section, Symbol};
 use super::objects::{PLAIN, plain_with};
-use crate::{Section, Symbol, run_without_failures};
+use crate::run_without_failures;
 use std::alloc::Global;
 use std::test::Fail;
 

@@ -28,6 +28,13 @@ pub(super) fn section_field(image: &[u8], index: u8, field: usize) -> Option<u32
     field_u32(image, header.saturating_add(field))
 }
 
+/// The RVA of the entry, and the size in the address space, by the image's headers.
+pub(super) fn entry_and_size(image: &[u8]) -> Option<(u32, u32)> {
+    let entry = field_u32(image, OPTIONAL_HEADER + 16)?;
+    let size = field_u32(image, OPTIONAL_HEADER + 56)?;
+    Some((entry, size))
+}
+
 fn link_of(alloc: Global, files: &[NamedFile<'_>]) -> Result<Ended<NeverFails>, Fail> {
     let mut words = Vec::new(alloc);
     words.push("link")?;

@@ -1,12 +1,11 @@
 //! Several sections and several objects, and where they stand in the image.
 
 use super::links::{
-    OPTIONAL_HEADER, RAW_PLACE, RAW_SIZE, VIRTUAL_ADDRESS, VIRTUAL_SIZE, assert_refused, image_of,
+    RAW_PLACE, RAW_SIZE, VIRTUAL_ADDRESS, VIRTUAL_SIZE, assert_refused, entry_and_size, image_of,
     section_field,
 };
+use super::object::{Contents, Section, Symbol, object_file};
 use super::objects::{PLAIN, plain_with};
-use crate::{Contents, Section, Symbol, object_file};
-use link_base::field_u32;
 use std::test::Fail;
 
 #[test]
@@ -83,10 +82,7 @@ fn the_entry_may_stand_in_one_of_very_many_sections(rt: HostRuntime) -> Result<(
         &[("a.obj", &object)],
         b"linked a.exe: 1 modules, 1 sections, 40960 bytes\n",
     )?;
-    let entry = field_u32(&image, OPTIONAL_HEADER + 16);
-    assert_eq!(rt; entry, Some(0xac3f));
-    let size = field_u32(&image, OPTIONAL_HEADER + 56);
-    assert_eq!(rt; size, Some(0xb000));
+    assert_eq!(rt; entry_and_size(&image), Some((0xac3f, 0xb000)));
     Ok(())
 }
 

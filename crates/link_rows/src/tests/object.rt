@@ -2,32 +2,28 @@
 //! Table": the headers, then for each section its data and its relocations, then the symbol records and the
 //! string table.
 
-use crate::build_error::BuildError;
-use crate::records::{count_u16, count_u32, push_relocations, push_section_header, push_symbol};
+use super::build_error::BuildError;
+use super::records::{count_u16, count_u32, push_relocations, push_section_header, push_symbol};
+use link_base::pe_format::{
+    FILE_MACHINE_AMD64, SIZEOF_FILE_HEADER, SIZEOF_SECTION_HEADER, SIZEOF_SYMBOL,
+    SYM_CLASS_EXTERNAL,
+};
 use link_base::{LeNumber, push_fields};
 use std::alloc::Global;
 
-const FILE_MACHINE_AMD64: u16 = 0x8664;
-
 const SYM_TYPE_FUNCTION: u16 = 0x20;
-
-const SYM_CLASS_EXTERNAL: u8 = 2;
-
-const FILE_HEADER_LEN: u32 = 20;
-
-const SECTION_HEADER_LEN: u32 = 40;
 
 /// A reference to a symbol: the field's offset in the section, and its type.
 #[derive(Clone, Copy)]
-pub struct Relocation<'a> {
-    pub offset: u32,
-    pub symbol: &'a str,
-    pub kind: u16,
+pub(super) struct Relocation<'a> {
+    pub(super) offset: u32,
+    pub(super) symbol: &'a str,
+    pub(super) kind: u16,
 }
 
 /// What a section holds.
 #[derive(Clone, Copy)]
-pub enum Contents<'a> {
+pub(super) enum Contents<'a> {
     /// Bytes that stand in the file. A section of no bytes has a place in the file too.
     Initialised(&'a [u8]),
     /// So many bytes, which have no place in the file.
@@ -36,16 +32,16 @@ pub enum Contents<'a> {
 
 /// A section. Its flags, which hold the alignment too, stand in the header as they are.
 #[derive(Clone, Copy)]
-pub struct Section<'a> {
-    pub name: &'a str,
-    pub flags: u32,
-    pub contents: Contents<'a>,
-    pub relocations: &'a [Relocation<'a>],
+pub(super) struct Section<'a> {
+    pub(super) name: &'a str,
+    pub(super) flags: u32,
+    pub(super) contents: Contents<'a>,
+    pub(super) relocations: &'a [Relocation<'a>],
 }
 
 impl<'a> Section<'a> {
     /// Code in `.text`, at a multiple of 16.
-    pub fn text(code: &'a [u8], relocations: &'a [Relocation<'a>]) -> Section<'a> {
+    pub(super) fn text(code: &'a [u8], relocations: &'a [Relocation<'a>]) -> Section<'a> {
         Section {
             name: ".text",
             flags: 0x6050_0020,
@@ -55,7 +51,7 @@ impl<'a> Section<'a> {
     }
 
     /// Initialised data that is only read, at any address.
-    pub fn data(name: &'a str, bytes: &'a [u8]) -> Section<'a> {
+    pub(super) fn data(name: &'a str, bytes: &'a [u8]) -> Section<'a> {
         Section {
             name,
             flags: 0x4010_0040,
@@ -65,7 +61,7 @@ impl<'a> Section<'a> {
     }
 
     /// So many bytes without initial values in `.bss`, at any address.
-    pub fn zeros(size: u32) -> Section<'a> {
+    pub(super) fn zeros(size: u32) -> Section<'a> {
         Section {
             name: ".bss",
             flags: 0xc010_0080,
@@ -77,7 +73,7 @@ impl<'a> Section<'a> {
 
 /// An auxiliary record.
 #[derive(Clone, Copy)]
-pub enum Aux<'a> {
+pub(super) enum Aux<'a> {
     /// The default of a weak external, and how it is searched.
     Weak {
         default: &'a str,
@@ -90,23 +86,23 @@ pub enum Aux<'a> {
         selection: u8,
     },
     /// A record as it stands.
-    Plain([u8; 18]),
+    Plain([u8; SIZEOF_SYMBOL]),
 }
 
 /// A symbol. Section 0 is undefined, 0xFFFF absolute, 0xFFFE for debugging.
 #[derive(Clone, Copy)]
-pub struct Symbol<'a> {
-    pub name: &'a str,
-    pub value: u32,
-    pub section: u16,
-    pub kind: u16,
-    pub class: u8,
-    pub aux: &'a [Aux<'a>],
+pub(super) struct Symbol<'a> {
+    pub(super) name: &'a str,
+    pub(super) value: u32,
+    pub(super) section: u16,
+    pub(super) kind: u16,
+    pub(super) class: u8,
+    pub(super) aux: &'a [Aux<'a>],
 }
 
 impl<'a> Symbol<'a> {
     /// A function that other objects can name. In section 0 it is one that others define.
-    pub fn function(name: &'a str, section: u16, value: u32) -> Symbol<'a> {
+    pub(super) fn function(name: &'a str, section: u16, value: u32) -> Symbol<'a> {
         Symbol {
             name,
             value,
@@ -119,13 +115,13 @@ impl<'a> Symbol<'a> {
 }
 
 /// The bytes of the object file with these sections, which are numbered from 1, and symbols.
-pub fn object_file(
+pub(super) fn object_file(
     alloc: Global,
     sections: &[Section<'_>],
     symbols: &[Symbol<'_>],
 ) -> Result<Vec<u8>, BuildError> {
     let count = count_u16(sections.len())?;
-    let start = FILE_HEADER_LEN + SECTION_HEADER_LEN * u32::from(count);
+    let start = count_u32(SIZEOF_FILE_HEADER + SIZEOF_SECTION_HEADER * usize::from(count))?;
     let mut headers = Vec::new(alloc);
     let mut bodies = Vec::new(alloc);
     let mut records = Vec::new(alloc);
@@ -138,7 +134,7 @@ pub fn object_file(
         push_symbol(&mut records, &mut strings, symbol, symbols)?;
     }
     let mut file = Vec::new(alloc);
-    let record_count = count_u32(records.len() / 18)?;
+    let record_count = count_u32(records.len() / SIZEOF_SYMBOL)?;
     push_file_header(
         &mut file,
         count,
@@ -176,9 +172,9 @@ fn push_file_header(
 
 /// The places in the file of a section's data and relocations: 0 where it has none.
 #[derive(Clone, Copy)]
-pub(crate) struct Places {
-    pub(crate) body: u32,
-    pub(crate) relocations: u32,
+pub(super) struct Places {
+    pub(super) body: u32,
+    pub(super) relocations: u32,
 }
 
 /// Appends the section's data and its relocations to what stands from `start` on.

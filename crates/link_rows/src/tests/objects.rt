@@ -1,6 +1,7 @@
 //! The object that most tests link, and the words that link it.
 
-use crate::{NamedFile, Section, Symbol, object_file};
+use super::object::{Section, Symbol, object_file};
+use crate::NamedFile;
 use std::alloc::Global;
 use std::test::Fail;
 

@@ -1,9 +1,9 @@
 //! One small object and the image that is made of it.
 
-use super::links::OPTIONAL_HEADER;
+use super::links::entry_and_size;
+use super::object::{Section, Symbol, object_file};
 use super::objects::{FILES, PLAIN, WORDS};
-use crate::{Section, Symbol, object_file, run_with_failures, run_without_failures};
-use link_base::field_u32;
+use crate::{run_with_failures, run_without_failures};
 use link_files::{FileError, Files, MemFiles};
 use std::alloc::Global;
 use std::test::Fail;
@@ -43,16 +43,7 @@ fn has_an_image_with_its_code_at_the_entry(rt: HostRuntime) -> Result<(), Fail> 
     let image = image(rt.alloc())?;
     assert_eq!(rt; image.len(), 1024);
     assert!(rt; image.starts_with(b"MZ"));
-    assert_eq!(rt;
-        field_u32(&image, OPTIONAL_HEADER + 16),
-        Some(0x1000),
-        "entry"
-    );
-    assert_eq!(rt;
-        field_u32(&image, OPTIONAL_HEADER + 56),
-        Some(0x2000),
-        "size"
-    );
+    assert_eq!(rt; entry_and_size(&image), Some((0x1000, 0x2000)));
     let code = &image[0x200..];
     assert!(rt; code.starts_with(b"\x31\xc0\xc3"));
     assert!(rt; code[3..].iter().all(|byte| *byte == 0));
@@ -98,8 +89,7 @@ fn takes_whole_blocks_of_the_file_and_whole_pages(rt: HostRuntime) -> Result<(),
     for (len, last, image_len, entry, size) in LENGTHS {
         let image = image_of_code(rt.alloc(), len, last)?;
         assert_eq!(rt; image.len(), image_len, "{len} bytes");
-        assert_eq!(rt; field_u32(&image, OPTIONAL_HEADER + 16), Some(entry));
-        assert_eq!(rt; field_u32(&image, OPTIONAL_HEADER + 56), Some(size));
+        assert_eq!(rt; entry_and_size(&image), Some((entry, size)));
     }
     Ok(())
 }

@@ -1,8 +1,10 @@
 //! Inputs that are no objects, malformed ones, and forms that are not linked yet.
 
 use super::links::{assert_refused, image_of};
+use super::object::{Aux, Contents, Section, Symbol};
 use super::objects::{PLAIN, plain_with};
-use crate::{Aux, Contents, Section, Symbol};
+use std::alloc::Global;
+use std::process::Abort;
 use std::test::Fail;
 
 /// An object whose `main` calls `g`, with its one relocation last in the file.
@@ -79,17 +81,27 @@ const SYMBOLS: [(&str, u16, u8, u32); 7] = [
     ("_load_config_used", 1, 2, 0),
 ];
 
+/// Asserts that the small object with these sections and this symbol is one that is not linked yet.
+fn assert_not_built(
+    rt: &impl Abort,
+    alloc: Global,
+    sections: &[Section<'_>],
+    symbol: Symbol<'_>,
+) -> Result<(), Fail> {
+    let object = plain_with(alloc, sections, &[symbol])?;
+    assert_refused(
+        rt,
+        alloc,
+        &[("a.obj", &object)],
+        b"fault 9 Unsupported a.obj NotBuilt\n",
+    )
+}
+
 #[test]
 fn symbols_that_need_more_than_a_place_are_refused(rt: HostRuntime) -> Result<(), Fail> {
     for (name, section, class, value) in SYMBOLS {
         let symbol = symbol_of(name, section, class, value);
-        let object = plain_with(rt.alloc(), &[], &[symbol])?;
-        assert_refused(
-            &rt,
-            rt.alloc(),
-            &[("a.obj", &object)],
-            b"fault 9 Unsupported a.obj NotBuilt\n",
-        )?;
+        assert_not_built(&rt, rt.alloc(), &[], symbol)?;
     }
     Ok(())
 }
@@ -136,13 +148,7 @@ const LEFT_OUT: [(&str, u32, &[u8]); 2] = [(".drectve", 0xa00, b""), (".pdata", 
 fn sections_that_need_more_than_a_place_are_refused(rt: HostRuntime) -> Result<(), Fail> {
     for (name, flags, bytes) in UNBUILT {
         let section = section_of(name, flags, bytes);
-        let object = plain_with(rt.alloc(), &[section], &[COMDAT])?;
-        assert_refused(
-            &rt,
-            rt.alloc(),
-            &[("a.obj", &object)],
-            b"fault 9 Unsupported a.obj NotBuilt\n",
-        )?;
+        assert_not_built(&rt, rt.alloc(), &[section], COMDAT)?;
     }
     for (name, flags, bytes) in LEFT_OUT {
         let section = section_of(name, flags, bytes);

@@ -2,9 +2,10 @@
 
 use super::case::{Case, assert_case, refusal};
 use super::links::OPTIONAL_HEADER;
+use super::object::{Section, object_file};
 use super::objects::PLAIN;
 use super::one_object::{SUMMARY, image};
-use crate::{Section, object_file, run_without_failures};
+use crate::run_without_failures;
 use link_base::field_u64;
 use std::alloc::Global;
 use std::test::Fail;

@@ -3,26 +3,25 @@
 
 ghost use Rattle.std.specs.Prelude.{◌≤◌, length};
 
-use crate::build_error::BuildError;
-use crate::object::{Aux, Contents, Places, Relocation, Section, Symbol};
+use super::build_error::BuildError;
+use super::object::{Aux, Contents, Places, Relocation, Section, Symbol};
 use diagnostics::push_number;
+use link_base::pe_format::SCN_LNK_NRELOC_OVFL;
 use link_base::{LeNumber, push_fields};
 use std::alloc::Global;
 
 /// The count in a section header that stands for a greater one, which the first relocation holds.
 const MANY_RELOCATIONS: u16 = 0xffff;
 
-const SCN_LNK_NRELOC_OVFL: u32 = 0x0100_0000;
-
-pub(crate) fn count_u32(count: usize) -> Result<u32, BuildError> {
+pub(super) fn count_u32(count: usize) -> Result<u32, BuildError> {
     u32::try_from(count).map_err(|_| BuildError::TooLarge)
 }
 
-pub(crate) fn count_u16(count: usize) -> Result<u16, BuildError> {
+pub(super) fn count_u16(count: usize) -> Result<u16, BuildError> {
     u16::try_from(count).map_err(|_| BuildError::TooLarge)
 }
 
-pub(crate) fn push_section_header(
+pub(super) fn push_section_header(
     alloc: Global,
     headers: &mut Vec<u8>,
     strings: &mut Vec<u8>,
@@ -61,7 +60,7 @@ fn has_many(relocations: &[Relocation<'_>]) -> bool {
 }
 
 /// Appends the relocations, behind a record with their count and its own where the header can't hold it.
-pub(crate) fn push_relocations(
+pub(super) fn push_relocations(
     bodies: &mut Vec<u8>,
     relocations: &[Relocation<'_>],
     symbols: &[Symbol<'_>],
@@ -110,7 +109,7 @@ fn record_of(symbols: &[Symbol<'_>], name: &str) -> Result<u32, BuildError> {
 }
 
 /// Appends a symbol's record and its auxiliary records.
-pub(crate) fn push_symbol(
+pub(super) fn push_symbol(
     records: &mut Vec<u8>,
     strings: &mut Vec<u8>,
     symbol: &Symbol<'_>,
