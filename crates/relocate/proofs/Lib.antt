@@ -6,3 +6,4 @@ pub mod ValueLemmas
 pub mod WriteLemmas
 pub mod PatchLemmas
 mod WorkedFields
+mod TestLemmas

@@ -30,3 +30,6 @@ pub use laws::fixups_are_shared;
 pub use link_base::{RelocKind, TargetFault};
 pub use patching::patch;
 pub use range::RelocRange;
+
+#[cfg(test)]
+mod tests;
