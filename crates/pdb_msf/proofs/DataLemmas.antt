@@ -1,19 +1,16 @@
 -- The blocks of data of a written file, and the numbers in them.
-use Rattle.std.proofs.Common.{◌≡◌, ℕ, zero, suc, ◌+◌, ◌-◌, ◌*◌, ◌/◌, ◌%◌, ◌^◌, ◌<◌, ◌≤◌, List, [], ◌∷◌, ◌++◌, length, get_or, take, drop, map, refl, sym, ap, ◌∙◌, inl, inr, arith, append_assoc, length-append, length-drop, min}
+use Rattle.std.proofs.Common.{◌≡◌, ℕ, zero, suc, ◌+◌, ◌-◌, ◌*◌, ◌/◌, ◌%◌, ◌<◌, List, [], ◌∷◌, ◌++◌, length, get_or, take, drop, map, refl, sym, ap, ◌∙◌, arith, append_assoc, length-append, length-drop, min}
 use Rattle.std.specs.List.{flat_map, range_with_len}
-use Rattle.std.proofs.lemmas.Bool.{cases_lt}
 use Rattle.std.proofs.lemmas.List.{append-nil, length-take, get_or-take, get_or-drop, get_or_append_left, get_or-append_right}
 use Rattle.std.proofs.Math.Seq.{drop-append_seam}
 use Rattle.std.proofs.lemmas.Grind.{flat_map-append}
-use Rattle.std.proofs.lemmas.List.FromFn.{get_or-map-range_with_len, length-map-range_with_len, length-range_with_len}
-use Rattle.std.proofs.lemmas.List.Sums.{sum_by-cons}
-use Rattle.link_base.specs.Bytes.{number_at, number_bytes, bytes_at}
-use Rattle.link_base.specs.Fields.{fields}
+use Rattle.std.proofs.lemmas.List.FromFn.{get_or-map-range_with_len, length-map-range_with_len}
+use Rattle.link_base.specs.Bytes.{number_at, number_bytes}
 use Rattle.link_base.proofs.CallerLemmas.{number_at-number_bytes, length-number_bytes, number_at-drop}
-use Rattle.pdb_msf.specs.BlockFile.{signature, blocks_for}
-use Rattle.pdb_msf.specs.WrittenFile.{block_number, stream_total, directory_extent, directory_total, block_total, superblock, block_numbers, directory, cut_block, in_blocks, data_blocks}
-use Rattle.pdb_msf.proofs.WritingLemmas.{length_in_blocks_of, length_directory, length_numbers, more_total}
-use Rattle.pdb_msf.proofs.PlaceLemmas.{AreSmall, number_same}
+use Rattle.pdb_msf.specs.BlockFile.{blocks_for}
+use Rattle.pdb_msf.specs.WrittenFile.{block_number, stream_total, directory_total, block_numbers, directory, cut_block, in_blocks}
+use Rattle.pdb_msf.proofs.WritingLemmas.{length_in_blocks_of, length_directory, more_total}
+use Rattle.pdb_msf.proofs.PlaceLemmas.{number_same}
 
 -- ---- numbers one behind the other
 

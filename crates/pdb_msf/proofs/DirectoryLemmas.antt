@@ -1,9 +1,9 @@
 -- What the tests of a file say of the numbers that are read from it.
-use Rattle.std.proofs.Common.{◌≡◌, ℕ, ◌+◌, ◌-◌, ◌*◌, ◌/◌, ◌<◌, ◌≤◌, Bool, true, false, ◌&&◌, cond, ltb, leb, List, length, refl, sym, ap, ◌∙◌, add-one, arith, min}
-use Rattle.std.proofs.lemmas.Bool.{and_parts, leb-true, ltb-true, cases_Bool, false≢true}
-use Rattle.link_base.specs.Bytes.{has_bytes, all_below}
+use Rattle.std.proofs.Common.{◌≡◌, ℕ, ◌+◌, ◌-◌, ◌*◌, ◌/◌, ◌<◌, ◌≤◌, Bool, true, false, ◌&&◌, cond, ltb, List, length, refl, ap, ◌∙◌, add-one, arith, min}
+use Rattle.std.proofs.lemmas.Bool.{and_parts, leb-true, ltb-true}
+use Rattle.link_base.specs.Bytes.{all_below}
 use Rattle.link_base.proofs.CallerLemmas.{all_below-each, all_below-fails}
-use Rattle.pdb_msf.specs.BlockFile.{blocks_for, directory_blocks, is_block, stream_size, has_map, map_block, directory_size, directory_block, directory_len, entry, stream_count, blocks_before, directory_is_there, listed_len, has_size, lists_are_there, has_blocks}
+use Rattle.pdb_msf.specs.BlockFile.{blocks_for, directory_blocks, is_block, stream_size, has_map, map_block, directory_block, directory_len, entry, stream_count, blocks_before, directory_is_there, listed_len, lists_are_there, has_blocks}
 
 -- ---- the map and the directory
 

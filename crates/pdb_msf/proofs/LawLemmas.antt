@@ -1,27 +1,27 @@
 -- What is opened from what was written.
-use Rattle.std.proofs.Common.{◌≡◌, ℕ, zero, suc, ◌+◌, ◌-◌, ◌*◌, ◌/◌, ◌%◌, ◌<◌, ◌≤◌, Bool, true, false, ◌&&◌, le-leb, le-ltb, lt-ltb, eq-eqb, List, [], ◌∷◌, ◌++◌, length, get_or, take, drop, map, replicate, nat_eq, Option, Some, None, refl, sym, ap, ◌∙◌, inl, inr, append_assoc, add-one, arith, length-append, length-drop, min}
-use Rattle.std.specs.List.{flat_map, range_with_len, starts_with, slice_get}
+use Rattle.std.proofs.Common.{◌≡◌, ℕ, zero, suc, ◌+◌, ◌-◌, ◌*◌, ◌/◌, ◌%◌, ◌<◌, ◌≤◌, Bool, true, ◌&&◌, le-leb, le-ltb, eq-eqb, List, [], ◌∷◌, ◌++◌, length, get_or, take, drop, map, replicate, Some, None, refl, sym, ap, ◌∙◌, inl, inr, append_assoc, arith, length-append}
+use Rattle.std.specs.List.{flat_map, slice_get}
 use Rattle.std.proofs.lemmas.Bool.{cases_lt}
 use Rattle.std.proofs.Math.Seq.{take-append_seam, take-suc, drop-append_seam}
 use Rattle.std.specs.Str.{bytes_eq}
 use Rattle.std.proofs.lemmas.Slice.Eq.{bytes_eq-Decides}
-use Rattle.std.proofs.lemmas.List.{append-nil, take_all, length-take, length-map, get_or-take, get_or-drop, get_or_append_left, get_or-append_right, length-replicate}
+use Rattle.std.proofs.lemmas.List.{append-nil, take_all, length-take, length-map, get_or-take, get_or-drop, get_or_append_left, get_or-append_right}
 use Rattle.std.proofs.lemmas.List.FromFn.{get_or-map-range_with_len, length-map-range_with_len}
 use Rattle.std.proofs.lemmas.List.Sums.{sum_by-append, sum_by-cons}
 use Rattle.std.proofs.lemmas.Grind.{same_number_lists}
 use Rattle.std.proofs.lemmas.Option.{slice_get-get_or, slice_get_past}
-use Rattle.link_base.specs.Bytes.{number_at, number_bytes, bytes_at, all_below}
+use Rattle.link_base.specs.Bytes.{number_at, all_below}
 use Rattle.link_base.specs.NameText.{begins}
 use Rattle.link_base.proofs.CallerLemmas.{number_at-drop}
 use Rattle.pdb_msf.specs.BlockFile.{signature, blocks_for, block_size, block_count, directory_size, map_block as map_block_of, is_block, directory_block, directory_len, entry, stream_count, stream_size, blocks_before, list_of, has_superblock, has_size, has_map, directory_blocks, directory_is_there, listed_len, lists_are_there, has_blocks, has_directory, msf_fault}
 use Rattle.pdb_msf.specs.Streams.{stream_block, joined_blocks, stream_bytes, stream_of}
-use Rattle.pdb_msf.specs.WrittenFile.{block_number, stream_total, directory_extent, directory_total, block_total, file_size, superblock, block_numbers, directory, cut_block, in_blocks, data_blocks, padded, numbered_block, laid, msf_of}
+use Rattle.pdb_msf.specs.WrittenFile.{block_number, stream_total, directory_extent, directory_total, block_total, file_size, superblock, block_numbers, directory, cut_block, in_blocks, data_blocks, padded, laid, msf_of}
 use Rattle.std.proofs.Math.ListN.{get_or-map}
 use Rattle.pdb_msf.proofs.DirectoryLemmas.{listed_there}
 use Rattle.pdb_msf.proofs.StreamLemmas.{stream_is, length_block}
 use Rattle.pdb_msf.proofs.BlockLemmas.{length_in_blocks, get_in_blocks}
 use Rattle.pdb_msf.proofs.WritingLemmas.{length_directory, laid_first, more_total, length_in_blocks_of, length_numbers}
-use Rattle.pdb_msf.proofs.PlaceLemmas.{AreSmall, base, length_laid, byte_at_place, number_at_place, numbered_first}
+use Rattle.pdb_msf.proofs.PlaceLemmas.{AreSmall, length_laid, byte_at_place, number_at_place, numbered_first}
 use Rattle.pdb_msf.proofs.DataLemmas.{AreNumbers, listed, length_listed, numbers_from, numbers_listed, number_in_list, entries, directory_listed, length_entries, entry_of_size, entry_of_block, length_cut, byte_in_cut, block_in_blocks, number_in_cut, length_streams, length_directory_blocks, block_of_stream, no_total}
 
 -- ---- lists of blocks

@@ -1,12 +1,11 @@
 -- What an opened file holds.
-use Rattle.std.proofs.Common.{◌≡◌, ℕ, zero, suc, ◌+◌, ◌-◌, ◌*◌, ◌/◌, ◌%◌, ◌<◌, ◌≤◌, Bool, true, false, cond, ltb, lt-ltb, List, [], ◌∷◌, ◌++◌, length, get_or, take, drop, Option, Some, None, refl, sym, subst, ap, ◌∙◌, inl, inr, arith, min, length-append, length-drop}
+use Rattle.std.proofs.Common.{◌≡◌, ℕ, zero, suc, ◌+◌, ◌-◌, ◌*◌, ◌/◌, ◌%◌, ◌<◌, ◌≤◌, Bool, true, false, cond, ltb, lt-ltb, List, [], ◌++◌, length, get_or, take, drop, Option, Some, None, refl, sym, subst, ap, ◌∙◌, inl, inr, arith, min, length-drop}
 use Rattle.std.proofs.lemmas.List.{length-take, get_or-take}
 use Rattle.std.proofs.lemmas.Option.{slice_get-get_or, slice_get_past}
 use Rattle.link_base.specs.Bytes.{bytes_at, all_below}
 use Rattle.link_base.proofs.RangeLemmas.{joined_more}
 use Rattle.std.proofs.lemmas.Bool.{and_parts, leb-true, ltb-true, cases_lt}
 use Rattle.link_base.proofs.CallerLemmas.{all_below-each}
-use Rattle.link_base.specs.declared.kinds.database.PdbKind.{PdbKind}
 use Rattle.link_base.specs.declared.kinds.database.PdbKind.TheVariants as bad
 use Rattle.pdb_msf.specs.BlockFile.{blocks_for, is_block, directory_len, entry, stream_count, stream_size, blocks_before, list_of, directory_is_there, listed_len, lists_are_there, has_superblock, has_blocks, has_directory, msf_fault}
 use Rattle.pdb_msf.specs.Streams.{stream_block, joined_blocks, stream_bytes, stream_of, stream_len, byte_of, stream_byte}

@@ -1,6 +1,6 @@
 -- A file as it is written, part by part.
-use Rattle.std.proofs.Common.{ltb, le-ltb, Vec, Ok, ◌≡◌, ℕ, zero, suc, ◌+◌, ◌-◌, ◌*◌, ◌/◌, ◌<◌, ◌≤◌, Bool, true, false, List, [], ◌∷◌, ◌++◌, length, get_or, take, drop, map, sum, refl, sym, ap, subst, ◌∙◌, append_assoc, add-one, drop-cons, arith, length-append, length-drop}
-use Rattle.std.specs.List.{flat_map, range_with_len, enumerate_from, sum_by}
+use Rattle.std.proofs.Common.{ltb, le-ltb, Vec, Ok, ◌≡◌, ℕ, suc, ◌+◌, ◌*◌, ◌<◌, ◌≤◌, false, List, [], ◌∷◌, ◌++◌, length, get_or, take, drop, map, sum, refl, sym, ap, ◌∙◌, append_assoc, add-one, drop-cons, arith, length-append, length-drop}
+use Rattle.std.specs.List.{flat_map, range_with_len}
 use Rattle.std.proofs.lemmas.List.{append-nil, length-take, take_all, drop_all}
 use Rattle.std.proofs.lemmas.List.FromFn.{map-range_with_len_more, length-range_with_len, length-map-range_with_len}
 use Rattle.std.proofs.lemmas.List.Sums.{sum_by-cons}
@@ -8,7 +8,7 @@ use Rattle.link_base.specs.Bytes.{number_bytes, bytes_at}
 use Rattle.link_base.proofs.CallerLemmas.{length-number_bytes}
 use Rattle.link_base.proofs.RangeLemmas.{joined_more}
 use Rattle.pdb_msf.specs.BlockFile.{blocks_for}
-use Rattle.pdb_msf.specs.WrittenFile.{block_number, map_byte, map_block, file_size, Writes, stream_total, directory_extent, directory_total, block_total, superblock, block_numbers, directory, cut_block, in_blocks, data_blocks, numbered_block, laid, msf_of_sizes, msf_of, parted}
+use Rattle.pdb_msf.specs.WrittenFile.{block_number, map_byte, map_block, file_size, Writes, stream_total, directory_extent, directory_total, block_total, superblock, block_numbers, directory, cut_block, in_blocks, data_blocks, numbered_block, laid, msf_of_sizes, parted}
 
 -- ---- lists that grow by one
 

@@ -1,6 +1,6 @@
 -- The blocks of a multi-stream file and what is wrong with one (LLVM, "The MSF File Format"; which files are refused, and
 -- in which order, is own). All numbers have four bytes.
-use Rattle.std.specs.Prelude.{ℕ, zero, suc, ◌+◌, ◌-◌, ◌*◌, ◌/◌, ◌%◌, Bool, ◌&&◌, ◌==◌, nat_le, nat_lt, min, if◌then◌else◌, List, [], ◌∷◌, ◌++◌, length, Option, Some, None, codes}
+use Rattle.std.specs.Prelude.{ℕ, zero, suc, ◌+◌, ◌-◌, ◌*◌, ◌/◌, ◌%◌, Bool, ◌&&◌, ◌==◌, nat_le, nat_lt, min, if◌then◌else◌, List, [], ◌∷◌, ◌++◌, Option, Some, None, codes}
 use Rattle.link_base.specs.Bytes.{u32_at, has_bytes, all_below}
 use Rattle.link_base.specs.NameText.{begins}
 use Rattle.link_base.specs.declared.kinds.database.PdbKind.{PdbKind}

@@ -1,4 +1,4 @@
-use Rattle.std.proofs.Common.{sym, ap, ◌∙◌, ◌++◌, ◌+◌, List, ℕ, refl, arith}
+use Rattle.std.proofs.Common.{sym, ap, ◌∙◌, ◌++◌, ◌+◌, List, ℕ, refl}
 use Rattle.std.proofs.lemmas.List.{append-nil}
 use Rattle.pdb_msf.specs.WrittenFile.{cut_block}
 use Rattle.pdb_msf.proofs.WritingLemmas.{laid_none, blocks_grow}

@@ -1,4 +1,4 @@
-use Rattle.std.proofs.Common.{ap, refl, sym, ◌∙◌, true, false, arith}
+use Rattle.std.proofs.Common.{ap, refl, sym, ◌∙◌}
 use Rattle.link_base.specs.Bytes.{all_below}
 use Rattle.link_base.proofs.CallerLemmas.{all_below-more}
 use Rattle.pdb_msf.specs.BlockFile.{is_block, directory_block}

@@ -1,4 +1,4 @@
-use Rattle.std.proofs.Common.{refl, sym, ◌∙◌, ◌+◌, true, false, arith}
+use Rattle.std.proofs.Common.{refl, sym, ◌∙◌, ◌+◌}
 use Rattle.link_base.specs.Bytes.{all_below}
 use Rattle.link_base.proofs.CallerLemmas.{all_below-more}
 use Rattle.pdb_msf.specs.BlockFile.{is_block, entry, stream_count}

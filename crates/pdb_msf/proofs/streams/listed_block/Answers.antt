@@ -1,4 +1,4 @@
-use Rattle.std.proofs.Common.{arith, ◌≡◌}
+use Rattle.std.proofs.Common.{arith}
 use Rattle.pdb_msf.proofs.StreamLemmas.{directory_of, sizes_there, listed_in}
 use Rattle.pdb_msf.proofs.streams.listed_block.Goals as goal
 

@@ -1,4 +1,4 @@
-use Rattle.std.proofs.Common.{sym, ap, ◌∙◌, ◌++◌, List, ℕ, arith}
+use Rattle.std.proofs.Common.{sym, ap, ◌∙◌, ◌++◌, List, ℕ}
 use Rattle.std.proofs.lemmas.List.{append-nil}
 use Rattle.pdb_msf.proofs.WritingLemmas.{no_numbers, numbers_grow}
 use Rattle.pdb_msf.proofs.tables.push_block_numbers.Goals as goal

@@ -1,4 +1,4 @@
-use Rattle.std.proofs.Common.{◌+◌, arith}
+use Rattle.std.proofs.Common.{◌+◌}
 use Rattle.pdb_msf.specs.WrittenFile.{stream_total}
 use Rattle.pdb_msf.proofs.WritingLemmas.{streams_step, streams_done}
 use Rattle.pdb_msf.proofs.writing.push_streams.Goals as goal

@@ -1,4 +1,4 @@
-use Rattle.std.proofs.Common.{◌+◌, ◌++◌, ℕ, List, ap, ◌∙◌, arith}
+use Rattle.std.proofs.Common.{◌+◌, ◌++◌, ℕ, List, ap, ◌∙◌}
 use Rattle.pdb_msf.specs.WrittenFile.{parted, block_numbers}
 use Rattle.pdb_msf.proofs.WritingLemmas.{parts_are_whole}
 use Rattle.pdb_msf.proofs.writing.written.Goals as goal
