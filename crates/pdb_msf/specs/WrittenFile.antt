@@ -12,11 +12,15 @@ use Rattle.pdb_msf.specs.declared.writing.MsfError.TheVariants.{TooLarge, Memory
 abbrev pub MSF_LIMIT : ℕ
 MSF_LIMIT = 1073741824
 
+-- the blocks of data of every 4,096, of which the second and the third are free maps
+abbrev pub DATA_BLOCKS : ℕ
+DATA_BLOCKS = 4094
+
 -- ---- how many blocks there are, by the sizes of the streams
 
--- of every 4,096 blocks the second and the third are free maps: the block in which the n-th other one stands
+-- the block in which the n-th block of data stands
 abbrev pub block_number : ℕ → ℕ
-block_number n = n + 2 * ((n + 4093) / 4094)
+block_number n = n + 2 * ((n + 4093) / DATA_BLOCKS)
 
 unfoldable pub stream_total : List ℕ → ℕ
 stream_total sizes = sum_by blocks_for sizes
@@ -82,7 +86,7 @@ padded block = block ++ replicate (BLOCK_SIZE - length block) 0
 -- before the second of every 4,094 blocks of data stands a block of the free map, twice
 unfoldable pub numbered_block : ℕ → ℕ × List ℕ → List ℕ
 numbered_block total (n, block) =
-    if n % 4094 == 1 then (map_block total (n / 4094) ++ map_block total (n / 4094)) ++ padded block else padded block
+    if n % DATA_BLOCKS == 1 then (map_block total (n / DATA_BLOCKS) ++ map_block total (n / DATA_BLOCKS)) ++ padded block else padded block
 
 -- blocks of data from the n-th on
 unfoldable pub laid : ℕ → ℕ → List (List ℕ) → List ℕ

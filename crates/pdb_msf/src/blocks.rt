@@ -4,7 +4,7 @@ ghost use Rattle.std.specs.Prelude.{◌≡◌, ◌<◌, ◌≤◌, ◌+◌, ◌-
 ghost use Rattle.pdb_msf.specs.BlockFile.{BLOCK_SIZE};
 ghost use Rattle.pdb_msf.specs.WrittenFile.{map_byte, map_block, padded, numbered_block, cut_block, in_blocks, laid};
 
-use crate::format::{BLOCK_SIZE, blocks_for};
+use crate::format::{BLOCK_SIZE, DATA_BLOCKS, blocks_for};
 use link_base::Memory;
 use std::cmp::min;
 
@@ -51,9 +51,9 @@ pub(crate) fn push_block(
     requires small { n < 2 ^ 52 }
     ensures { OnOk result (out.new.items ≡ out.old.items ++ numbered_block total (n, block.now)) }
 {
-    if n % 4094 == 1 {
-        push_map(out, total, n / 4094)?;
-        push_map(out, total, n / 4094)?;
+    if n % DATA_BLOCKS == 1 {
+        push_map(out, total, n / DATA_BLOCKS)?;
+        push_map(out, total, n / DATA_BLOCKS)?;
         return push_padded(out, block);
     }
     push_padded(out, block)

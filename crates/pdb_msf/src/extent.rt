@@ -3,10 +3,7 @@
 ghost use Rattle.std.specs.Prelude.{◌≡◌, ◌<◌, ◌≤◌, ◌*◌, ◌^◌, length};
 ghost use Rattle.pdb_msf.specs.WrittenFile.{block_number, stream_total, directory_extent, directory_total, block_total};
 
-use crate::format::blocks_for;
-
-/// The blocks of data between two pairs of free maps, less one: 4,096 blocks but for the two.
-const DATA_BLOCKS: usize = 4094;
+use crate::format::{DATA_BLOCKS, blocks_for};
 
 /// The block in which the n-th block of data stands.
 pub(crate) fn block_number(n: usize) -> usize

@@ -9,6 +9,9 @@ pub(crate) const BLOCK_SIZE: usize = 4096;
 /// The numbers that a block holds.
 pub(crate) const BLOCK_NUMBERS: usize = 1024;
 
+/// The blocks of data of every 4,096, of which two are free maps.
+pub(crate) const DATA_BLOCKS: usize = BLOCK_SIZE - 2;
+
 /// The bytes of the superblock that hold its fields.
 pub(crate) const SUPERBLOCK_SIZE: usize = 56;
 
