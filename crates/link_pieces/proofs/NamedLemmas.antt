@@ -61,7 +61,7 @@ all_marked bytes section i definitions is all =
 
 place_within : (bytes : List ℕ) (count : ℕ) (p : Place) → section_total bytes < count → IsPlaceIn bytes p → IsWithin count p
 place_within bytes count (place.Section section value) room stands = omega (arith, stands.last)
-place_within bytes count (place.Absolute value) room stands = absurd stands
+place_within bytes count (place.Absolute value) room stands = tt
 place_within bytes count place.Slot room stands = absurd stands
 place_within bytes count place.Thunk room stands = absurd stands
 

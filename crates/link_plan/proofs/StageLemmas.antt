@@ -3,7 +3,8 @@ use Rattle.std.proofs.Common.{◌≡◌, List, Option, Some, None, refl}
 use Rattle.link_base.specs.declared.fault.Fault.{Fault}
 use Rattle.module_view.specs.Module.{ModuleView}
 use Rattle.link_words.specs.Outcome.{LinkOptions}
-use Rattle.link_plan.specs.Entry.{meaning_fault}
+use Rattle.link_plan.specs.References.{references_fault}
+use Rattle.link_plan.specs.Entry.{entry_meaning_fault}
 use Rattle.link_plan.specs.PlanFaults.{choice_fault, fields_fault, plan_fault}
 
 -- ---- the first stage that has a fault
@@ -12,10 +13,14 @@ pub choice_stage : (options : LinkOptions) (modules : List ModuleView) (fault : 
 unfolding plan_fault
 choice_stage options modules fault is = rw is refl
 
-pub meaning_stage : (options : LinkOptions) (modules : List ModuleView) (fault : Fault) → choice_fault modules ≡ None → meaning_fault modules options.entry_name ≡ Some fault → plan_fault options modules ≡ Some fault
+pub entry_stage : (options : LinkOptions) (modules : List ModuleView) (fault : Fault) → choice_fault modules ≡ None → entry_meaning_fault modules options.entry_name ≡ Some fault → plan_fault options modules ≡ Some fault
 unfolding plan_fault
-meaning_stage options modules fault chosen is = rw (chosen, is) refl
+entry_stage options modules fault chosen is = rw (chosen, is) refl
 
-pub fields_stage : (options : LinkOptions) (modules : List ModuleView) (fault : Option Fault) → choice_fault modules ≡ None → meaning_fault modules options.entry_name ≡ None → fields_fault modules options.entry_name ≡ fault → plan_fault options modules ≡ fault
+pub references_stage : (options : LinkOptions) (modules : List ModuleView) (fault : Fault) → choice_fault modules ≡ None → entry_meaning_fault modules options.entry_name ≡ None → references_fault modules ≡ Some fault → plan_fault options modules ≡ Some fault
 unfolding plan_fault
-fields_stage options modules fault chosen meant is = rw (chosen, meant) is
+references_stage options modules fault chosen meant is = rw (chosen, meant, is) refl
+
+pub fields_stage : (options : LinkOptions) (modules : List ModuleView) (fault : Option Fault) → choice_fault modules ≡ None → entry_meaning_fault modules options.entry_name ≡ None → references_fault modules ≡ None → fields_fault modules options.entry_name ≡ fault → plan_fault options modules ≡ fault
+unfolding plan_fault
+fields_stage options modules fault chosen meant all_meant is = rw (chosen, meant, all_meant) is

@@ -9,10 +9,10 @@ use Rattle.module_view.specs.Module.{ModuleView}
 use Rattle.symbol_table.specs.declared.meaning.Meaning.{Meaning}
 use Rattle.symbol_table.specs.declared.meaning.Meaning.TheVariants.{Section}
 use Rattle.symbol_table.specs.declared.meaning.NoMeaning.{NoMeaning}
-use Rattle.symbol_table.specs.declared.meaning.NoMeaning.TheVariants.{Undefined, WeakCycle}
 use Rattle.symbol_table.specs.Resolution.{meaning_of}
 use Rattle.link_pieces.specs.PieceIndex.{piece_index}
 use Rattle.link_plan.specs.declared.entry.EntryPlace.{EntryPlace}
+use Rattle.link_plan.specs.References.{name_fault}
 
 -- ---- what it means
 
@@ -25,15 +25,10 @@ abbrev pub entry_meant : List ModuleView → Option (List ℕ) → Option Meanin
 entry_meant modules None = None
 entry_meant modules (Some name) = meant (meaning_of modules name)
 
-abbrev pub no_meaning_fault : List ℕ → Result Meaning NoMeaning → Option Fault
-no_meaning_fault name (Ok meaning) = None
-no_meaning_fault name (Err Undefined) = Some (faults.Undefined name None)
-no_meaning_fault name (Err WeakCycle) = Some (faults.WeakCycle name None)
-
 -- the entry means nothing
-abbrev pub meaning_fault : List ModuleView → Option (List ℕ) → Option Fault
-meaning_fault modules None = None
-meaning_fault modules (Some name) = no_meaning_fault name (meaning_of modules name)
+abbrev pub entry_meaning_fault : List ModuleView → Option (List ℕ) → Option Fault
+entry_meaning_fault modules None = None
+entry_meaning_fault modules (Some name) = name_fault modules name None
 
 -- ---- where it stands
 

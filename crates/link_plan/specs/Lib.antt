@@ -1,3 +1,4 @@
+pub mod References
 pub mod Entry
 pub mod PlanFaults
 pub mod Plan

@@ -8,7 +8,8 @@ use Rattle.module_view.specs.Module.{ModuleView}
 use Rattle.symbol_table.specs.declared.meaning.Clash.{Clash}
 use Rattle.symbol_table.specs.Clash.{clash_of}
 use Rattle.link_words.specs.Outcome.{LinkOptions}
-use Rattle.link_plan.specs.Entry.{entry_meant, meaning_fault, meant_fault}
+use Rattle.link_plan.specs.References.{references_fault}
+use Rattle.link_plan.specs.Entry.{entry_meant, entry_meaning_fault, meant_fault}
 
 abbrev pub duplicate : Clash → Fault
 duplicate clash = faults.Duplicate clash.name (Some clash.first) (Some clash.second)
@@ -16,6 +17,10 @@ duplicate clash = faults.Duplicate clash.name (Some clash.first) (Some clash.sec
 -- choice: two modules define one name
 abbrev pub choice_fault : List ModuleView → Option Fault
 choice_fault modules = option_map duplicate (clash_of modules)
+
+-- meaning: the entry means nothing, or a reference of a module does
+abbrev pub meaning_fault : List ModuleView → Option (List ℕ) → Option Fault
+meaning_fault modules entry = option_or (entry_meaning_fault modules entry) (references_fault modules)
 
 -- fields: the entry has no place in the image
 abbrev pub fields_fault : List ModuleView → Option (List ℕ) → Option Fault

@@ -3,11 +3,12 @@
 ghost use Rattle.std.specs.Prelude.{◌≡◌, List, None, Some, IfOk, OnOk, IfErr};
 ghost use Rattle.module_view.specs.Module.{ModuleView};
 ghost use Rattle.link_pieces.specs.PieceIndex.{IsPieceIndex};
-ghost use Rattle.link_plan.specs.Entry.{entry_meant, meaning_fault, meant_place, meant_fault};
+ghost use Rattle.link_plan.specs.Entry.{entry_meant, entry_meaning_fault, meant_place, meant_fault};
 
+use crate::references::name_fault;
 use link_base::{Fault, Name, TargetFault};
 use link_pieces::PieceIndex;
-use symbol_table::{Meaning, NoMeaning, SymbolTable};
+use symbol_table::{Meaning, SymbolTable};
 
 /// Where an entry stands: its piece, and the offset in it.
 #[derive(Clone, Copy, Debug, PartialEq, Eq)]
@@ -22,20 +23,13 @@ pub(crate) fn entry_meaning<'a>(
     entry: &Option<Name<'a>>,
 ) -> Result<Option<Meaning<'a>>, Fault<'a>>
     ensures meant { IfOk result (λ meaning. meaning ≡ entry_meant table.now entry.now) }
-    ensures accepted { OnOk result (meaning_fault table.now entry.now ≡ None) }
-    ensures refused { IfErr result (λ fault. meaning_fault table.now entry.now ≡ Some fault) }
+    ensures accepted { OnOk result (entry_meaning_fault table.now entry.now ≡ None) }
+    ensures refused { IfErr result (λ fault. entry_meaning_fault table.now entry.now ≡ Some fault) }
 {
     let Some(name) = entry else { return Ok(None) };
     match table.resolve(name.again()) {
         Ok(meaning) => Ok(Some(meaning)),
-        Err(NoMeaning::Undefined) => Err(Fault::Undefined {
-            name: name.again(),
-            module: None,
-        }),
-        Err(NoMeaning::WeakCycle) => Err(Fault::WeakCycle {
-            name: name.again(),
-            module: None,
-        }),
+        Err(none) => Err(name_fault(name, None, none)),
     }
 }
 

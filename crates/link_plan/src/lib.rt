@@ -6,6 +6,7 @@
 
 mod entry;
 mod plan;
+mod references;
 
 pub use entry::EntryPlace;
 pub use plan::{LinkPlan, plan_of};

@@ -8,6 +8,7 @@ ghost use Rattle.link_plan.specs.PlanFaults.{choice_fault, plan_fault};
 ghost use Rattle.link_plan.specs.Plan.{IsPlanOf};
 
 use crate::entry::{EntryPlace, entry_meaning, entry_place};
+use crate::references::check_references;
 use link_base::{Fault, Memory, Refusal};
 use link_pieces::{PieceIndex, pieces_of};
 use link_words::Options;
@@ -30,7 +31,7 @@ pub struct LinkPlan<'a> {
 }
 
 /// The plan of a link of these modules. The input is refused for the first of: two definitions of one name (`Duplicate`),
-/// an entry that no module defines (`Undefined`), and one that has no place in the image (`BadTarget`).
+/// an entry or another name that nothing defines (`Undefined`), and an entry that has no place in the image (`BadTarget`).
 pub fn plan_of<'a>(
     alloc: Global,
     modules: Vec<Module<'a>>,
@@ -43,6 +44,7 @@ pub fn plan_of<'a>(
     let table = table_of(alloc, &modules)?;
     check_choice(&table)?;
     let meaning = entry_meaning(&table, &options.entry)?;
+    check_references(&table, &modules)?;
     let pieces = pieces_of(alloc, &modules)?;
     let index = PieceIndex::new(alloc, &modules, &pieces)?;
     let entry = entry_place(&index, &meaning)?;

@@ -1,24 +1,13 @@
 -- Commands and options that are read and not carried out yet. Own; each goes as it is built.
-use Rattle.std.specs.Prelude.{ℕ, Bool, false, ◌||◌, not, ◌==◌, List, [], ◌∷◌, length, Option, Some, None, is_some, codes}
-use Rattle.std.specs.List.{list_any}
-use Rattle.link_base.specs.NameText.{same_name, begins_import}
+use Rattle.std.specs.Prelude.{ℕ, Bool, false, ◌||◌, not, ◌==◌, List, length, Option, Some, None, is_some}
+use Rattle.link_base.specs.NameText.{begins_import}
 use Rattle.link_words.specs.Outcome.{LinkOptions}
-
--- names that the linker gives a meaning itself (MSVC linker reference, "__ImageBase"; the others are those of the load
--- configuration, PE Format, "Load Configuration Layout")
-abbrev pub linker_names : List (List ℕ)
-linker_names =
-    codes "__ImageBase" ∷ codes "__guard_fids_table" ∷ codes "__guard_fids_count" ∷ codes "__guard_flags"
-    ∷ codes "__guard_iat_table" ∷ codes "__guard_iat_count" ∷ codes "__guard_longjmp_table" ∷ codes "__guard_longjmp_count"
-    ∷ codes "__guard_eh_cont_table" ∷ codes "__guard_eh_cont_count" ∷ codes "__enclave_config" ∷ []
-
-abbrev pub is_linker_name : List ℕ → Bool
-is_linker_name name = list_any (same_name name) linker_names
+use Rattle.symbol_table.specs.LinkerNames.{linker_meaning}
 
 -- an entry that is the slot of an import, or that the linker gives a meaning itself
 abbrev pub is_unbuilt_entry : Option (List ℕ) → Bool
 is_unbuilt_entry None = false
-is_unbuilt_entry (Some name) = begins_import name || is_linker_name name
+is_unbuilt_entry (Some name) = begins_import name || is_some (linker_meaning name)
 
 abbrev pub is_some_text : {A : Type 0} → List A → Bool
 is_some_text texts = not (length texts == 0)

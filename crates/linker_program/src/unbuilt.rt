@@ -2,25 +2,11 @@
 
 ghost use Rattle.std.specs.Prelude.{◌≡◌};
 ghost use Rattle.link_words.specs.Outcome.{options_said};
-ghost use Rattle.linker_program.specs.Unbuilt.{is_linker_name, is_unbuilt_entry, drops_sections, asks_for_libraries, asks_for_names, asks_for_outputs, is_unbuilt_link};
+ghost use Rattle.linker_program.specs.Unbuilt.{is_unbuilt_entry, drops_sections, asks_for_libraries, asks_for_names, asks_for_outputs, is_unbuilt_link};
 
 use link_base::Name;
 use link_words::Options;
-
-/// The names that the linker gives a meaning itself.
-const LINKER_NAMES: [&[u8]; 11] = [
-    b"__ImageBase",
-    b"__guard_fids_table",
-    b"__guard_fids_count",
-    b"__guard_flags",
-    b"__guard_iat_table",
-    b"__guard_iat_count",
-    b"__guard_longjmp_table",
-    b"__guard_longjmp_count",
-    b"__guard_eh_cont_table",
-    b"__guard_eh_cont_count",
-    b"__enclave_config",
-];
+use symbol_table::is_linker_name;
 
 /// Whether a link asks for something that is not built yet.
 #[tactic(auto, unfolding(crate::specs::Unbuilt::is_unbuilt_link))]
@@ -77,14 +63,7 @@ fn is_unbuilt_entry(entry: &Option<Name<'_>>) -> bool
     ensures { result ≡ is_unbuilt_entry entry.now }
 {
     match entry {
-        Some(name) => name.is_import() || is_linker_name(name.rest()),
+        Some(name) => name.is_import() || is_linker_name(name),
         None => false,
     }
-}
-
-/// Whether the linker gives the name a meaning itself.
-fn is_linker_name(name: &[u8]) -> bool
-    ensures { result ≡ is_linker_name name.now }
-{
-    LINKER_NAMES.iter().any(|known| name == *known)
 }

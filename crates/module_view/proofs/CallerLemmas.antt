@@ -18,7 +18,7 @@ use Rattle.module_view.specs.declared.definition.Definition.{Definition}
 use Rattle.module_view.specs.declared.definition.Place.{Place}
 use Rattle.module_view.specs.declared.definition.Place.TheVariants as place
 use Rattle.module_view.specs.declared.error.ModuleError.TheVariants as error
-use Rattle.module_view.specs.SymbolLists.{is_definition, defines, definition_of, definitions_of}
+use Rattle.module_view.specs.SymbolLists.{is_absolute, is_definition, place_in_section, place_of, defines, definition_of, definitions_of}
 use Rattle.module_view.specs.Opening.{opening_error, form_error, object_error, content_error}
 
 -- ---- what does not stand
@@ -55,7 +55,7 @@ pub record StandsIn (bytes : List ℕ) (section offset : ℕ) : Type 0 where
 
 abbrev pub IsPlaceIn : List ℕ → Place → Type 0
 IsPlaceIn bytes (place.Section section value) = StandsIn bytes section value
-IsPlaceIn bytes (place.Absolute value) = ⊥
+IsPlaceIn bytes (place.Absolute value) = Unit {0}
 IsPlaceIn bytes place.Slot = ⊥
 IsPlaceIn bytes place.Thunk = ⊥
 
@@ -71,16 +71,22 @@ means_place : (symbol : SymbolView) → class_in symbol ≡ 2 → lt_z (pos 0) (
 means_place symbol external inside = both_true inside (rw external refl)
 
 -- what the test of a symbol says of it
-definition_stands : (bytes : List ℕ) (index : ℕ) → object_fault bytes ≡ None → starts_symbol bytes index ≡ true → is_definition (symbol_at bytes index) ≡ true → StandsIn bytes (section_of_number (section_number_in (symbol_at bytes index))) (value_in (symbol_at bytes index))
+definition_stands : (bytes : List ℕ) (index : ℕ) → object_fault bytes ≡ None → starts_symbol bytes index ≡ true → is_definition (symbol_at bytes index) ≡ true → IsPlaceIn bytes (place_of (symbol_at bytes index))
 unfolding is_definition
-definition_stands bytes index sound starts e =
-    let symbol = symbol_at bytes index in
-    let parts = and_both (eqb (class_in symbol) 2) (lt_z (pos 0) (section_number_in symbol)) e in
-    let external = eqb-true (class_in symbol) 2 parts.0 in
-    record {
-      first = above (section_number_in symbol) parts.1;
+definition_stands bytes index sound starts e = by_place (is_absolute symbol) parts.1
+  where
+    symbol : SymbolView
+    symbol = symbol_at bytes index
+
+    parts : (eqb (class_in symbol) 2 ≡ true) × ((is_absolute symbol || lt_z (pos 0) (section_number_in symbol)) ≡ true)
+    parts = and_both (eqb (class_in symbol) 2) (is_absolute symbol || lt_z (pos 0) (section_number_in symbol)) e
+
+    by_place : (absolute : Bool) → (absolute || lt_z (pos 0) (section_number_in symbol)) ≡ true → IsPlaceIn bytes (cond absolute (place.Absolute (value_in symbol)) (place_in_section symbol))
+    by_place true inside = tt
+    by_place false inside = record {
+      first = above (section_number_in symbol) inside;
       last = symbol_section_inside bytes index sound starts;
-      value = symbol_value_inside bytes index sound starts (means_place symbol external parts.1);
+      value = symbol_value_inside bytes index sound starts (means_place symbol (eqb-true (class_in symbol) 2 parts.0) inside);
     }
 
 -- each index of a list stands in it
@@ -126,5 +132,5 @@ unfolding definitions_of
 definitions_stand bytes opened =
     All-map (λ (d : Definition). IsPlaceIn bytes d.place) definition_of (filter defines (symbol_entries bytes))
     (all_filtered (IsEntryOf bytes) (λ (e : SymbolEntry). IsPlaceIn bytes (definition_of e).place) defines (symbol_entries bytes) (entries_are bytes) (λ e entry passes.
-    subst (λ (view : SymbolView). StandsIn bytes (section_of_number (section_number_in view)) (value_in view)) (sym entry.is)
+    subst (λ (view : SymbolView). IsPlaceIn bytes (place_of view)) (sym entry.is)
     (definition_stands bytes e.0 (opened_sound bytes opened) entry.starts (ap is_definition (sym entry.is) ∙ passes))))

@@ -38,18 +38,19 @@ one_noted {X} test before after x noted b whole is was said =
     ∙ ap (λ (xs : List X). noted || list_any test xs) (sym is)
     ∙ was
 
-single : (entry : SymbolEntry) (rest : List SymbolEntry) → definitions_in (entry ∷ rest) ≡ cond (defines entry) (definition_of entry ∷ []) [] ++ definitions_in rest
-single entry rest = go (defines entry)
+single : {X : Type 0} (test : SymbolEntry → Bool) (of : SymbolEntry → X) (entry : SymbolEntry) (rest : List SymbolEntry) → map of (filter test (entry ∷ rest)) ≡ cond (test entry) (of entry ∷ []) [] ++ map of (filter test rest)
+single {X} test of entry rest = go (test entry)
   where
-    go : (b : Bool) → map definition_of (cond b (entry ∷ filter defines rest) (filter defines rest)) ≡ cond b (definition_of entry ∷ []) [] ++ definitions_in rest
+    go : (b : Bool) → map of (cond b (entry ∷ filter test rest) (filter test rest)) ≡ cond b (of entry ∷ []) [] ++ map of (filter test rest)
     go true = refl
     go false = refl
 
-pub definitions_more : (before after : List SymbolEntry) (entry : SymbolEntry) (was now whole : List Definition) → before ≡ entry ∷ after → was ++ definitions_in before ≡ whole → now ≡ was ++ cond (defines entry) (definition_of entry ∷ []) [] → now ++ definitions_in after ≡ whole
-definitions_more before after entry was now whole is sum grown =
-    ap (λ (ds : List Definition). ds ++ definitions_in after) grown
-    ∙ append_assoc was (cond (defines entry) (definition_of entry ∷ []) []) (definitions_in after)
-    ∙ ap (λ (ds : List Definition). was ++ ds) (sym (single entry after) ∙ ap definitions_in (sym is))
+-- a list of what symbols are that pass a test
+pub listed_more : {X : Type 0} (test : SymbolEntry → Bool) (of : SymbolEntry → X) (before after : List SymbolEntry) (entry : SymbolEntry) (was now whole : List X) → before ≡ entry ∷ after → was ++ map of (filter test before) ≡ whole → now ≡ was ++ cond (test entry) (of entry ∷ []) [] → now ++ map of (filter test after) ≡ whole
+listed_more {X} test of before after entry was now whole is sum grown =
+    ap (λ (xs : List X). xs ++ map of (filter test after)) grown
+    ∙ append_assoc was (cond (test entry) (of entry ∷ []) []) (map of (filter test after))
+    ∙ ap (λ (xs : List X). was ++ xs) (sym (single test of entry after) ∙ ap (λ (es : List SymbolEntry). map of (filter test es)) (sym is))
     ∙ sum
 
 -- ---- where symbols start
@@ -108,23 +109,7 @@ section_read number fits above = ap nat_abs (to_z-of_z w32 number fits) ∙ go n
 
 -- ---- which symbols are definitions
 
-pub is_defined : (symbol : SymbolView) (class : ℕ) (number : ℤ) → class ≡ class_in symbol → number ≡ section_number_in symbol → class ≡ 2 → lt_z (pos 0) number ≡ true → is_definition symbol ≡ true
+pub external_none : (symbol : SymbolView) (class : ℕ) → class ≡ class_in symbol → class ≢ 2 → is_definition symbol ≡ false
 unfolding is_definition
-is_defined symbol class number class_is number_is external above =
-    both_true (eq-eqb (class_in symbol) 2 (sym class_is ∙ external)) (ap (lt_z (pos 0)) (sym number_is) ∙ above)
-
-pub is_undefined_class : (symbol : SymbolView) (class : ℕ) → class ≡ class_in symbol → class ≢ 2 → is_definition symbol ≡ false
-unfolding is_definition
-is_undefined_class symbol class is other =
+external_none symbol class is other =
     rw (ne_eqb (class_in symbol) 2 (λ e. other (is ∙ e))) refl
-
-pub is_undefined_number : (symbol : SymbolView) (number : ℤ) → number ≡ section_number_in symbol → lt_z (pos 0) number ≡ false → is_definition symbol ≡ false
-unfolding is_definition
-is_undefined_number symbol number is low = second (eqb (class_in symbol) 2) (ap (lt_z (pos 0)) (sym is) ∙ low)
-  where
-    second : (a : Bool) {b : Bool} → b ≡ false → (a && b) ≡ false
-    second true e = e
-    second false e = refl
-
-pub same_definition : (index : ℕ) (symbol : SymbolView) (name : List ℕ) (section value : ℕ) → name ≡ name_in symbol → section ≡ section_of_number (section_number_in symbol) → value ≡ value_in symbol → record { name = name; symbol = index; place = Section section value } ≡ definition_of (index, symbol)
-same_definition index symbol name section value name_is section_is value_is = rw (name_is, section_is, value_is) refl

@@ -3,10 +3,11 @@
 ghost use Rattle.std.specs.Prelude.{◌≡◌, None, Some, option_map};
 ghost use Rattle.std.specs.Option.{option_copied};
 ghost use Rattle.coff_records.specs.ObjectFile.{starts_symbol};
-ghost use Rattle.module_view.specs.SymbolLists.{definitions_of};
+ghost use Rattle.module_view.specs.SymbolLists.{definitions_of, references_of};
 ghost use Rattle.module_view.specs.Opening.{IsOpened};
 
 use crate::definition::Definition;
+use crate::reference::Reference;
 use coff_object::Object;
 use link_base::Name;
 use std::marker::Model;
@@ -25,6 +26,7 @@ pub struct Module<'a> {
     pub(crate) bytes: &'a [u8],
     pub(crate) object: Object<'a>,
     pub(crate) definitions: Vec<Definition<'a>>,
+    pub(crate) references: Vec<Reference<'a>>,
     /// For each symbol record, whether a symbol starts there.
     pub(crate) starts: Vec<bool>,
 }
@@ -38,7 +40,7 @@ impl<'a> Model for Module<'a> {
 
     ghost view = { λ m. view_of m.origin m.bytes.now };
 
-    ghost invariant = { λ m. KeepsLists m.bytes.now m.object m.definitions.items m.starts.items };
+    ghost invariant = { λ m. KeepsLists m.bytes.now m.object m.definitions.items m.references.items m.starts.items };
 }
 
 impl<'a> Module<'a> {
@@ -78,6 +80,14 @@ impl<'a> Module<'a> {
         ensures opened { IsOpened self.now }
     {
         &self.definitions
+    }
+
+    /// What it names and does not define, in the order of its symbols.
+    pub fn references(&self) -> &[Reference<'a>]
+        ensures references { result.now ≡ references_of self.now.bytes }
+        ensures opened { IsOpened self.now }
+    {
+        &self.references
     }
 
     /// Whether a symbol starts at a record.

@@ -12,6 +12,7 @@ mod input_module;
 mod laws;
 mod opening;
 mod placed_section;
+mod reference;
 mod sections;
 mod symbols;
 mod unbuilt;
@@ -22,6 +23,7 @@ pub use input_module::{Module, Origin};
 pub use laws::modules_are_shared;
 pub use opening::open_module;
 pub use placed_section::comes_in;
+pub use reference::Reference;
 
 #[cfg(test)]
 mod tests;

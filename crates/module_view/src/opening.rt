@@ -39,6 +39,7 @@ pub fn open_module<'a>(
     };
     let SymbolLists {
         definitions,
+        references,
         starts,
     } = match read_symbols(alloc, &object, &texts, unbuilt) {
         Ok(lists) => lists,
@@ -49,6 +50,7 @@ pub fn open_module<'a>(
         bytes,
         object,
         definitions,
+        references,
         starts,
     })
 }

@@ -1,6 +1,9 @@
 -- What callers may cite of meanings: the definition that a name means stands in its module.
 use Rattle.std.proofs.Common.{◌≡◌, ℕ, suc, ◌<◌, Bool, true, false, cond, List, [], ◌∷◌, length, Option, Some, None, Ok, refl, ap, subst, ◌∙◌, arith}
-use Rattle.std.specs.List.{All, Contains, find}
+use Rattle.std.specs.Prelude.{option_map}
+use Rattle.std.specs.Option.{option_or}
+use Rattle.std.specs.List.{All, Contains, find, list_any}
+use Rattle.link_base.specs.NameText.{same_name}
 use Rattle.std.proofs.lemmas.List.Elements.{All-map, All-weaker, All-contains_itself}
 use Rattle.link_base.proofs.RangeLemmas.{all_joined}
 use Rattle.module_view.specs.Module.{ModuleView, module_at, no_module}
@@ -10,7 +13,8 @@ use Rattle.module_view.specs.declared.definition.Definition.{Definition}
 use Rattle.module_view.specs.declared.definition.Place.{Place}
 use Rattle.module_view.specs.declared.definition.Place.TheVariants as place
 use Rattle.symbol_table.specs.declared.meaning.Meaning.TheVariants as meaning
-use Rattle.symbol_table.specs.Resolution.{Provided, provided, has_name, provided_by, all_definitions, definition_named, meaning_at, meaning_by, meaning_of}
+use Rattle.symbol_table.specs.Resolution.{Provided, provided, has_name, provided_by, all_definitions, definition_named, meaning_at, defined_meaning, meaning_if, meaning_of}
+use Rattle.symbol_table.specs.LinkerNames.{image_base_name, zero_names, linker_meaning}
 
 -- ---- definitions
 
@@ -62,16 +66,26 @@ place_of modules at definition (place.Absolute v) position section value is with
 place_of modules at definition place.Slot position section value is within own e = absurd cc
 place_of modules at definition place.Thunk position section value is within own e = absurd cc
 
-means_by : (modules : List ModuleView) (found : Option Provided) (position section value : ℕ) → ((entry : Provided) → found ≡ Some entry → IsProvided modules entry) → meaning_by found ≡ Ok (meaning.Section position section value) → MeansPlace modules position section value
-means_by modules None position section value each e = absurd cc
-means_by modules (Some entry) position section value each e =
+-- the linker means no section by a name
+linker_places_nothing : (name : List ℕ) (position section value : ℕ) → meaning_if (linker_meaning name) ≡ Ok (meaning.Section position section value) → ⊥
+unfolding linker_meaning
+linker_places_nothing name position section value e = base (same_name name image_base_name) (list_any (same_name name) zero_names) e
+  where
+    base : (is_base is_zero : Bool) → meaning_if (cond is_base (Some meaning.ImageBase) (cond is_zero (Some (meaning.Absolute 0)) None)) ≡ Ok (meaning.Section position section value) → ⊥
+    base true is_zero e = cc
+    base false true e = cc
+    base false false e = cc
+
+means_by : (modules : List ModuleView) (name : List ℕ) (found : Option Provided) (position section value : ℕ) → ((entry : Provided) → found ≡ Some entry → IsProvided modules entry) → meaning_if (option_or (option_map defined_meaning found) (linker_meaning name)) ≡ Ok (meaning.Section position section value) → MeansPlace modules position section value
+means_by modules name None position section value each e = absurd (linker_places_nothing name position section value e)
+means_by modules name (Some entry) position section value each e =
     let is = each entry refl in
     let same : meaning_at entry.«module» entry.definition.place ≡ meaning.Section position section value = cc in
     place_of modules entry.«module» entry.definition entry.definition.place position section value refl is.within is.own same
 
 pub meaning_stands : (modules : List ModuleView) (name : List ℕ) (position section value : ℕ) → meaning_of modules name ≡ Ok (meaning.Section position section value) → MeansPlace modules position section value
 meaning_stands modules name position section value e =
-    means_by modules (definition_named modules name) position section value (λ entry is. found_is (IsProvided modules) (has_name name) (all_definitions modules) entry (definitions_are modules) is) e
+    means_by modules name (definition_named modules name) position section value (λ entry is. found_is (IsProvided modules) (has_name name) (all_definitions modules) entry (definitions_are modules) is) e
 
 -- each of the modules opens
 pub module_opens : (modules : List ModuleView) (position : ℕ) → All IsOpened modules → position < length modules → opening_error (module_at modules position).bytes ≡ None

@@ -1,6 +1,6 @@
 -- One more definition: what its name was kept with, and the clash that it makes.
 use Rattle.std.proofs.Common.{◌≡◌, ℕ, zero, suc, ◌+◌, ◌<◌, Bool, true, false, cond, List, [], ◌∷◌, ◌++◌, length, map, take, get_or, Option, Some, None, refl, sym, ap, ◌∙◌, append_assoc, add-one, arith}
-use Rattle.std.specs.Prelude.{option_map}
+use Rattle.std.specs.Prelude.{option_map, option_and_then}
 use Rattle.std.specs.Option.{option_or}
 use Rattle.std.specs.List.{find}
 use Rattle.std.proofs.lemmas.List.{map-append, take_more, take-append-le, length-append}
@@ -12,7 +12,7 @@ use Rattle.symbol_table.specs.declared.meaning.Clash.{Clash}
 use Rattle.symbol_table.specs.declared.source.Found.{Found}
 use Rattle.symbol_table.specs.Resolution.{Provided, provided, has_name}
 use Rattle.symbol_table.specs.Clash.{entry_at, clash_with, clash_at, clash_in}
-use Rattle.symbol_table.specs.TableParts.{found_of, Names}
+use Rattle.symbol_table.specs.TableParts.{found_of, clash_with_found, Names}
 
 -- ---- the first of two
 
@@ -70,19 +70,19 @@ clash_before : (entries : List Provided) (entry : Provided) (k : ℕ) → k < le
 clash_before entries entry k lt =
     rw (entry_before entries entry k lt, take-append-le k entries (entry ∷ []) (omega arith)) refl
 
-clash_last : (entries : List Provided) (entry : Provided) → clash_at (entries ++ entry ∷ []) (length entries) ≡ option_map (clash_with entry) (find (has_name entry.definition.name) entries)
+clash_last : (entries : List Provided) (entry : Provided) → clash_at (entries ++ entry ∷ []) (length entries) ≡ option_and_then (clash_with entry) (find (has_name entry.definition.name) entries)
 clash_last entries entry =
-    rw (entry_last entries entry, take-append-le (length entries) entries (entry ∷ []) (omega arith)) (ap (λ (es : List Provided). option_map (clash_with entry) (find (has_name entry.definition.name) es)) (take_whole entries))
+    rw (entry_last entries entry, take-append-le (length entries) entries (entry ∷ []) (omega arith)) (ap (λ (es : List Provided). option_and_then (clash_with entry) (find (has_name entry.definition.name) es)) (take_whole entries))
   where
     take_whole : (es : List Provided) → take (length es) es ≡ es
     take_whole [] = refl
     take_whole (e ∷ es) = ap (λ (rest : List Provided). e ∷ rest) (take_whole es)
 
-kept_clash : (entry : Provided) (found : Option Provided) → option_map (clash_with entry) found ≡ option_map (λ f. record { name = entry.definition.name; first = f.«module»; second = entry.«module» }) (option_map found_of found)
+kept_clash : (entry : Provided) (found : Option Provided) → option_and_then (clash_with entry) found ≡ option_and_then (clash_with_found entry) (option_map found_of found)
 kept_clash entry None = refl
 kept_clash entry (Some e) = refl
 
-pub clash_more : (entries : List Provided) (entry : Provided) (old : List ℕ → Option Found) (found : Option Clash) → Names entries old → found ≡ option_map (λ f. record { name = entry.definition.name; first = f.«module»; second = entry.«module» }) (old entry.definition.name) → clash_in (entries ++ entry ∷ []) ≡ option_or (clash_in entries) found
+pub clash_more : (entries : List Provided) (entry : Provided) (old : List ℕ → Option Found) (found : Option Clash) → Names entries old → found ≡ option_and_then (clash_with_found entry) (old entry.definition.name) → clash_in (entries ++ entry ∷ []) ≡ option_or (clash_in entries) found
 clash_more entries entry old found was is =
     let n = length entries in
     ap (λ (m : ℕ). first_refusal_below m (clash_at (entries ++ entry ∷ []))) (length-append entries (entry ∷ []))
@@ -90,7 +90,7 @@ clash_more entries entry old found was is =
     ∙ ap (λ (o : Option Clash). option_or o (clash_at (entries ++ entry ∷ []) n)) (same_below n (clash_at (entries ++ entry ∷ [])) (clash_at entries) (clash_before entries entry))
     ∙ ap (λ (o : Option Clash). option_or (clash_in entries) o)
     (clash_last entries entry ∙ kept_clash entry (find (has_name entry.definition.name) entries)
-    ∙ ap (option_map (λ f. record { name = entry.definition.name; first = f.«module»; second = entry.«module» })) (sym (was entry.definition.name)) ∙ sym is)
+    ∙ ap (option_and_then (clash_with_found entry)) (sym (was entry.definition.name)) ∙ sym is)
 
 -- ---- in a loop over definitions
 

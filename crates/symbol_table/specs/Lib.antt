@@ -1,3 +1,4 @@
+pub mod LinkerNames
 pub mod Resolution
 pub mod Clash
 pub mod TableParts

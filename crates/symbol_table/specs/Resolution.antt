@@ -1,6 +1,7 @@
 -- What a name means in a list of modules, by their positions. Own.
-use Rattle.std.specs.Prelude.{ℕ, Bool, List, length, map, Option, Some, None, Result, Ok, Err}
+use Rattle.std.specs.Prelude.{ℕ, Bool, List, length, map, Option, Some, None, Result, Ok, Err, option_map}
 use Rattle.std.specs.List.{range_with_len, flat_map, find}
+use Rattle.std.specs.Option.{option_or}
 use Rattle.link_base.specs.NameText.{same_name}
 use Rattle.module_view.specs.Module.{ModuleView, module_at}
 use Rattle.module_view.specs.SymbolLists.{definitions_of}
@@ -11,6 +12,7 @@ use Rattle.symbol_table.specs.declared.meaning.Meaning.{Meaning}
 use Rattle.symbol_table.specs.declared.meaning.Meaning.TheVariants as meaning
 use Rattle.symbol_table.specs.declared.meaning.NoMeaning.{NoMeaning}
 use Rattle.symbol_table.specs.declared.meaning.NoMeaning.TheVariants.{Undefined}
+use Rattle.symbol_table.specs.LinkerNames.{linker_meaning}
 
 -- ---- definitions
 
@@ -45,10 +47,14 @@ meaning_at position (place.Absolute value) = meaning.Absolute value
 meaning_at position place.Slot = meaning.Slot position
 meaning_at position place.Thunk = meaning.Thunk position
 
-abbrev pub meaning_by : Option Provided → Result Meaning NoMeaning
-meaning_by None = Err Undefined
-meaning_by (Some entry) = Ok (meaning_at entry.«module» entry.definition.place)
+abbrev pub defined_meaning : Provided → Meaning
+defined_meaning entry = meaning_at entry.«module» entry.definition.place
 
--- what a name means: its first definition
+abbrev pub meaning_if : Option Meaning → Result Meaning NoMeaning
+meaning_if None = Err Undefined
+meaning_if (Some meaning) = Ok meaning
+
+-- what a name means: its first definition, or else what the linker means by it
 abbrev pub meaning_of : List ModuleView → List ℕ → Result Meaning NoMeaning
-meaning_of modules name = meaning_by (definition_named modules name)
+meaning_of modules name =
+    meaning_if (option_or (option_map defined_meaning (definition_named modules name)) (linker_meaning name))

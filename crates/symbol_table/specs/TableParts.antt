@@ -9,7 +9,7 @@ use Rattle.symbol_table.specs.declared.meaning.Clash.{Clash}
 use Rattle.symbol_table.specs.declared.source.Source.{Source}
 use Rattle.symbol_table.specs.declared.source.Found.{Found}
 use Rattle.symbol_table.specs.Resolution.{Provided, has_name, all_definitions}
-use Rattle.symbol_table.specs.Clash.{clash_of}
+use Rattle.symbol_table.specs.Clash.{clash_between, clash_of}
 
 abbrev pub source_view : Source → ModuleView
 source_view source = view_of source.origin source.bytes.now
@@ -17,6 +17,11 @@ source_view source = view_of source.origin source.bytes.now
 -- what is kept of a definition
 abbrev pub found_of : Provided → Found
 found_of entry = record { «module» = entry.«module»; place = entry.definition.place }
+
+-- the clash of a definition with the first one of its name, by what is kept of that
+abbrev pub clash_with_found : Provided → Found → Option Clash
+clash_with_found later found =
+    clash_between later.definition.name found.«module» found.place later.«module» later.definition.place
 
 -- each name is kept with its first definition of these
 abbrev pub Names : List Provided → (List ℕ → Option Found) → Type 0

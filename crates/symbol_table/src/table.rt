@@ -6,6 +6,7 @@ ghost use Rattle.module_view.specs.Opening.{IsOpened};
 ghost use Rattle.symbol_table.specs.Resolution.{meaning_of};
 ghost use Rattle.symbol_table.specs.Clash.{clash_of};
 
+use crate::linker_names::linker_meaning;
 use crate::meaning::{Clash, Meaning, NoMeaning};
 use crate::noting::note_all;
 use crate::source::{Found, Source, meaning_at};
@@ -73,7 +74,7 @@ impl<'a> SymbolTable<'a> {
         Ok(position)
     }
 
-    /// The first definition whose name has an earlier one, with the modules of both.
+    /// The first definition whose name has an earlier one, with the modules of both, unless they are one number.
     pub fn clash(&self) -> Option<Clash<'a>>
         ensures clash { result ≡ clash_of self.now }
         ensures opened { All IsOpened self.now }
@@ -88,14 +89,14 @@ impl<'a> SymbolTable<'a> {
         }
     }
 
-    /// What a name means.
+    /// What a name means: its first definition, or else what the linker means by it.
     pub fn resolve(&self, name: Name<'a>) -> Result<Meaning<'a>, NoMeaning>
         ensures meaning { result ≡ meaning_of self.now name.entry }
         ensures opened { All IsOpened self.now }
     {
         match self.names.get(&name) {
             Some(found) => Ok(meaning_at(found.module, found.place)),
-            None => Err(NoMeaning::Undefined),
+            None => linker_meaning(&name),
         }
     }
 }

@@ -5,10 +5,11 @@ use Rattle.module_view.specs.Module.{ModuleView}
 use Rattle.module_view.specs.Opening.{IsOpened}
 use Rattle.link_pieces.specs.Pieces.{link_pieces, link_contents}
 use Rattle.link_words.specs.Outcome.{options_said}
-use Rattle.link_plan.specs.Entry.{entry_meant, meaning_fault, meant_fault, meant_place}
+use Rattle.link_plan.specs.References.{references_fault}
+use Rattle.link_plan.specs.Entry.{entry_meant, entry_meaning_fault, meant_fault, meant_place}
 use Rattle.link_plan.specs.PlanFaults.{choice_fault}
 use Rattle.link_plan.proofs.EntryLemmas.{entry_stands}
-use Rattle.link_plan.proofs.StageLemmas.{choice_stage, meaning_stage, fields_stage}
+use Rattle.link_plan.proofs.StageLemmas.{choice_stage, entry_stage, references_stage, fields_stage}
 use Rattle.link_plan.proofs.plan.plan_of.Goals as goal
 
 pub returns-in_err-check_choice-clause-refused : goal.returns-in_err-check_choice-clause-refused
@@ -25,9 +26,21 @@ returns-in_err-meaning-clause-refused c =
     let table_is = c.in_ok-table.ensures ∙ c.deref.ensures.value in
     let given = err_from_is_err_and c.from_residual-in_err-meaning.result c.from_residual-in_err-meaning.ensures.1 in
     rw (given.1, given.2)
-    (meaning_stage options c.args.modules.items c.in_err-meaning.field-0.0
+    (entry_stage options c.args.modules.items c.in_err-meaning.field-0.0
     (ap choice_fault (sym table_is) ∙ c.in_ok-check_choice.ensures.accepted)
-    (ap (λ (ms : List ModuleView). meaning_fault ms options.entry_name) (sym table_is) ∙ c.in_err-meaning.ensures.refused))
+    (ap (λ (ms : List ModuleView). entry_meaning_fault ms options.entry_name) (sym table_is) ∙ c.in_err-meaning.ensures.refused))
+
+pub returns-in_err-check_references-clause-refused :
+    goal.returns-in_err-check_references-clause-refused
+returns-in_err-check_references-clause-refused c =
+    let options = options_said c.args.options.now in
+    let table_is = c.in_ok-table.ensures ∙ c.deref.ensures.value in
+    let given = err_from_is_err_and c.from_residual-in_err-check_references.result c.from_residual-in_err-check_references.ensures.1 in
+    rw (given.1, given.2)
+    (references_stage options c.args.modules.items c.in_err-check_references.field-0.0
+    (ap choice_fault (sym table_is) ∙ c.in_ok-check_choice.ensures.accepted)
+    (ap (λ (ms : List ModuleView). entry_meaning_fault ms options.entry_name) (sym table_is) ∙ c.in_ok-meaning.ensures.accepted)
+    (ap references_fault (sym c.deref-2.ensures.value) ∙ c.in_err-check_references.ensures.refused))
 
 pub returns-in_err-entry-clause-refused : goal.returns-in_err-entry-clause-refused
 returns-in_err-entry-clause-refused c =
@@ -36,12 +49,13 @@ returns-in_err-entry-clause-refused c =
     let table_is = c.in_ok-table.ensures ∙ c.deref.ensures.value in
     let given = err_from_is_err_and c.from_residual-in_err-entry.result c.from_residual-in_err-entry.ensures.1 in
     let meant = c.in_ok-meaning.ensures.meant ∙ ap (λ (ms : List ModuleView). entry_meant ms options.entry_name) table_is in
-    let refused = c.in_err-entry.ensures.refused c.deref-3.result.now c.in_ok-index.ensures in
+    let refused = c.in_err-entry.ensures.refused c.deref-4.result.now c.in_ok-index.ensures in
     rw (given.1, given.2)
     (fields_stage options modules (Some c.in_err-entry.field-0.0)
     (ap choice_fault (sym table_is) ∙ c.in_ok-check_choice.ensures.accepted)
-    (ap (λ (ms : List ModuleView). meaning_fault ms options.entry_name) (sym table_is) ∙ c.in_ok-meaning.ensures.accepted)
-    (ap (meant_fault modules) (sym meant) ∙ ap (λ (ms : List ModuleView). meant_fault ms c.in_ok-meaning.meaning) (sym c.deref-3.ensures.value) ∙ refused))
+    (ap (λ (ms : List ModuleView). entry_meaning_fault ms options.entry_name) (sym table_is) ∙ c.in_ok-meaning.ensures.accepted)
+    (ap references_fault (sym c.deref-2.ensures.value) ∙ c.in_ok-check_references.ensures.accepted)
+    (ap (meant_fault modules) (sym meant) ∙ ap (λ (ms : List ModuleView). meant_fault ms c.in_ok-meaning.meaning) (sym c.deref-4.ensures.value) ∙ refused))
 
 pub returns-clause-planned : goal.returns-clause-planned
 returns-clause-planned c =
@@ -49,16 +63,16 @@ returns-clause-planned c =
     let modules = c.args.modules.items in
     let table_is = c.in_ok-table.ensures ∙ c.deref.ensures.value in
     let meant = c.in_ok-meaning.ensures.meant ∙ ap (λ (ms : List ModuleView). entry_meant ms options.entry_name) table_is in
-    let placed = c.in_ok-entry.ensures.placed c.deref-3.result.now c.in_ok-index.ensures ∙ ap (λ (ms : List ModuleView). meant_place ms c.in_ok-meaning.meaning) c.deref-3.ensures.value in
-    let accepted = c.in_ok-entry.ensures.accepted c.deref-3.result.now c.in_ok-index.ensures in
-    let pieces_are = c.in_ok-pieces.ensures.pieces ∙ ap link_pieces c.deref-2.ensures.value in
-    let opened = subst (All IsOpened) c.deref-2.ensures.value c.in_ok-pieces.ensures.opened in
+    let placed = c.in_ok-entry.ensures.placed c.deref-4.result.now c.in_ok-index.ensures ∙ ap (λ (ms : List ModuleView). meant_place ms c.in_ok-meaning.meaning) c.deref-4.ensures.value in
+    let accepted = c.in_ok-entry.ensures.accepted c.deref-4.result.now c.in_ok-index.ensures in
+    let pieces_are = c.in_ok-pieces.ensures.pieces ∙ ap link_pieces c.deref-3.ensures.value in
+    let opened = subst (All IsOpened) c.deref-3.ensures.value c.in_ok-pieces.ensures.opened in
     let entry_is = placed ∙ ap (meant_place modules) meant in
     record {
       modules_are = refl;
       table_is = table_is;
       pieces_are = pieces_are;
-      contents_are = c.in_ok-pieces.ensures.contents ∙ ap link_contents c.deref-2.ensures.value;
+      contents_are = c.in_ok-pieces.ensures.contents ∙ ap link_contents c.deref-3.ensures.value;
       aligned = c.in_ok-pieces.ensures.aligned;
       bodies = c.in_ok-pieces.ensures.bodies;
       few = c.in_ok-pieces.ensures.count;
@@ -67,6 +81,7 @@ returns-clause-planned c =
       no_fault =
           fields_stage options modules None
           (ap choice_fault (sym table_is) ∙ c.in_ok-check_choice.ensures.accepted)
-          (ap (λ (ms : List ModuleView). meaning_fault ms options.entry_name) (sym table_is) ∙ c.in_ok-meaning.ensures.accepted)
-          (ap (meant_fault modules) (sym meant) ∙ ap (λ (ms : List ModuleView). meant_fault ms c.in_ok-meaning.meaning) (sym c.deref-3.ensures.value) ∙ accepted);
+          (ap (λ (ms : List ModuleView). entry_meaning_fault ms options.entry_name) (sym table_is) ∙ c.in_ok-meaning.ensures.accepted)
+          (ap references_fault (sym c.deref-2.ensures.value) ∙ c.in_ok-check_references.ensures.accepted)
+          (ap (meant_fault modules) (sym meant) ∙ ap (λ (ms : List ModuleView). meant_fault ms c.in_ok-meaning.meaning) (sym c.deref-4.ensures.value) ∙ accepted);
     }

@@ -1,6 +1,6 @@
 use Rattle.std.proofs.Common.{ℕ, List, subst, sym, ap, ◌∙◌}
 use Rattle.coff_records.specs.ObjectFile.{starts_symbol}
-use Rattle.module_view.specs.SymbolLists.{definitions_of}
+use Rattle.module_view.specs.SymbolLists.{definitions_of, references_of}
 use Rattle.module_view.specs.Unbuilt.{has_unbuilt_section}
 use Rattle.module_view.specs.Opening.{RefusesToOpen}
 use Rattle.module_view.specs.Steps.{section_form, symbol_error}
@@ -35,6 +35,7 @@ invariant_of-result c =
       opened = by_symbols c.args.bytes.now unbuilt c.in_default.ensures c.in-Ok.ensures.well_formed (ap section_form (sym same) ∙ c.in-Ok-judge_sections.ensures.accepted) (c.in-Ok-judge_sections.ensures.unbuilt ∙ ap has_unbuilt_section same) ∙ ap (symbol_error unbuilt) (sym same) ∙ lists.accepted;
       viewed = same;
       defined = lists.definitions ∙ ap definitions_of same;
+      referred = lists.references ∙ ap references_of same;
       started = λ j. lists.starts j ∙ ap (λ (bytes : List ℕ). starts_symbol bytes j) same;
     }
 

@@ -5,14 +5,15 @@ use Rattle.coff_records.specs.SymbolRecord.{name_in}
 use Rattle.coff_records.specs.ObjectFile.{SymbolEntry}
 use Rattle.coff_object.proofs.CallerLemmas.{symbols_left-all, symbols_left-step, symbol_strings}
 use Rattle.module_view.specs.declared.definition.Definition.{Definition}
-use Rattle.module_view.specs.SymbolLists.{definitions_in, definitions_of}
+use Rattle.module_view.specs.declared.reference.Reference.{Reference}
+use Rattle.module_view.specs.SymbolLists.{defines, definition_of, definitions_in, definitions_of, refers, reference_of, references_in, references_of}
 use Rattle.module_view.specs.Unbuilt.{is_unbuilt_symbol}
 use Rattle.module_view.specs.Opening.{is_long}
-use Rattle.module_view.proofs.SymbolLemmas.{still_none, one_noted, definitions_more, marks_more, starts_among, unmarked}
+use Rattle.module_view.proofs.SymbolLemmas.{still_none, one_noted, listed_more, marks_more, starts_among, unmarked}
 use Rattle.module_view.proofs.symbols.read_symbols.Goals as goal
 
 pub loop-index-init : goal.loop-index-init
-unfolding definitions_of
+unfolding definitions_of references_of
 loop-index-init c =
     let bytes = c.args.object.now in
     let all = c.into_iter-index-iterator.ensures.into_iter_gives ∙ c.symbols-index-items.ensures in
@@ -24,6 +25,7 @@ loop-index-init c =
       long = ap (list_any (λ (entry : SymbolEntry). is_long (name_in entry.1))) all;
       unbuilt = ap (λ (es : List SymbolEntry). c.args.unbuilt || list_any (λ (entry : SymbolEntry). is_unbuilt_symbol entry.1) es) all;
       definitions = ap (λ (ds : List Definition). ds ++ definitions_in entries) c.new-definitions.ensures.items ∙ ap definitions_in all;
+      references = ap (λ (rs : List Reference). rs ++ references_in entries) c.new-references.ensures.items ∙ ap references_in all;
       count = omega (arith, c.in_ok-starts.ensures.len, c.record_count.ensures);
       starts = λ j.
           ap (λ (b : Bool). b || list_any (λ (e : SymbolEntry). eqb e.0 j) entries) (unmarked c.in_ok-starts.starts.items _ j (c.in_ok-starts.ensures.items_if_clones_equal (λ y e. e)))
@@ -57,7 +59,8 @@ loop-index-preserved c =
       left = step.left;
       long = still_none (λ (e : SymbolEntry). is_long (name_in e.1)) before after entry _ c.is_long_symbol.result steps c.loop-index.invariant.long c.is_long_symbol.ensures c.if-is_long_symbol.false;
       unbuilt = one_noted (λ (e : SymbolEntry). is_unbuilt_symbol e.1) before after entry c.loop-index.unbuilt c.is_unbuilt_symbol-unbuilt.result _ steps c.loop-index.invariant.unbuilt c.is_unbuilt_symbol-unbuilt.ensures;
-      definitions = definitions_more before after entry c.loop-index.definitions.items c.push_definition.new.definitions.items (definitions_of bytes) steps c.loop-index.invariant.definitions c.in_ok-push_definition.ensures;
+      definitions = listed_more defines definition_of before after entry c.loop-index.definitions.items c.push_definition.new.definitions.items (definitions_of bytes) steps c.loop-index.invariant.definitions c.in_ok-push_definition.ensures;
+      references = listed_more refers reference_of before after entry c.loop-index.references.items c.push_reference.new.references.items (references_of bytes) steps c.loop-index.invariant.references c.in_ok-push_reference.ensures;
       count = length-set marks c.in-Some.index _ ∙ c.loop-index.invariant.count;
       starts = λ j. marks_more before after entry marks j _ steps within (c.loop-index.invariant.starts j);
     }

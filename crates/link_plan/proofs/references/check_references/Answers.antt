@@ -1,0 +1,28 @@
+use Rattle.std.proofs.Common.{◌≡◌, length, refl, ◌∙◌, arith}
+use Rattle.std.proofs.lemmas.Result.{err_from_is_err_and}
+use Rattle.link_base.specs.Refusals.{first_refusal_below}
+use Rattle.link_base.proofs.RefusalLemmas.{first_refusal_below-more, first_refusal_below-found}
+use Rattle.link_plan.specs.References.{references_fault_at}
+use Rattle.link_plan.proofs.ReferenceLemmas.{module_here}
+use Rattle.link_plan.proofs.references.check_references.Goals as goal
+
+pub loop-position-init : goal.loop-position-init
+unfolding first_refusal_below
+loop-position-init c = refl
+
+pub returns-in_err-check_module-clause-refused : goal.returns-in_err-check_module-clause-refused
+returns-in_err-check_module-clause-refused c =
+    let modules = c.args.modules.now in
+    let k = c.loop-position.position in
+    let here = module_here c.args.table.now modules k c.index-modules-position.result c.requires.same (omega arith) c.index-modules-position.is in
+    let given = err_from_is_err_and c.from_residual.result c.from_residual.ensures.1 in
+    rw (given.1, given.2)
+    (first_refusal_below-found k (length modules) (references_fault_at modules) c.in_err-check_module.field-0.0 (omega arith) c.loop-position.invariant
+    (here ∙ c.in_err-check_module.ensures.refused))
+
+pub loop-position-preserved : goal.loop-position-preserved
+loop-position-preserved c =
+    let modules = c.args.modules.now in
+    let k = c.loop-position.position in
+    let here = module_here c.args.table.now modules k c.index-modules-position.result c.requires.same (omega arith) c.index-modules-position.is in
+    first_refusal_below-more k (references_fault_at modules) c.loop-position.invariant (here ∙ c.in_ok-check_module.ensures.accepted)

@@ -1,0 +1,13 @@
+//! What a module names and does not define.
+
+use link_base::Name;
+
+/// A symbol that stands for what another symbol defines.
+#[derive(Drop)]
+pub struct Reference<'a> {
+    pub name: Name<'a>,
+    /// The record that the symbol starts at.
+    pub symbol: u32,
+    /// Whether libraries are searched for the name.
+    pub search: bool,
+}

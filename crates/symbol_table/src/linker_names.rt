@@ -1,0 +1,52 @@
+//! Names that the linker gives a meaning itself.
+
+ghost use Rattle.std.specs.Prelude.{◌≡◌, is_some};
+ghost use Rattle.std.specs.List.{list_any};
+ghost use Rattle.link_base.specs.NameText.{same_name};
+ghost use Rattle.symbol_table.specs.LinkerNames.{zero_names, linker_meaning};
+ghost use Rattle.symbol_table.specs.Resolution.{meaning_if};
+
+use crate::meaning::{Meaning, NoMeaning};
+use link_base::Name;
+
+/// The names that mean the number 0.
+const ZERO_NAMES: [&[u8]; 10] = [
+    b"__guard_fids_table",
+    b"__guard_fids_count",
+    b"__guard_flags",
+    b"__guard_iat_table",
+    b"__guard_iat_count",
+    b"__guard_longjmp_table",
+    b"__guard_longjmp_count",
+    b"__guard_eh_cont_table",
+    b"__guard_eh_cont_count",
+    b"__enclave_config",
+];
+
+/// What the linker means by a name that nothing defines.
+#[tactic(auto, unfolding(crate::specs::LinkerNames::linker_meaning))]
+pub(crate) fn linker_meaning<'a>(name: &Name<'_>) -> Result<Meaning<'a>, NoMeaning>
+    ensures { result ≡ meaning_if (linker_meaning name.now) }
+{
+    if *name == Name::of(b"__ImageBase") {
+        return Ok(Meaning::ImageBase);
+    }
+    if is_zero_name(name) {
+        return Ok(Meaning::Absolute(0));
+    }
+    Err(NoMeaning::Undefined)
+}
+
+/// Whether the linker gives a name a meaning itself, where nothing defines it.
+pub fn is_linker_name(name: &Name<'_>) -> bool
+    ensures { result ≡ is_some (linker_meaning name.now) }
+{
+    linker_meaning(name).is_ok()
+}
+
+/// Whether a name means the number 0.
+fn is_zero_name(name: &Name<'_>) -> bool
+    ensures { result ≡ list_any (same_name name.now) zero_names }
+{
+    ZERO_NAMES.iter().any(|known| *name == Name::of(known))
+}
