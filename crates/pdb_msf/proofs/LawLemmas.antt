@@ -13,9 +13,9 @@ use Rattle.std.proofs.lemmas.Option.{slice_get-get_or, slice_get_past}
 use Rattle.link_base.specs.Bytes.{number_at, all_below, bytes_at}
 use Rattle.link_base.specs.NameText.{begins}
 use Rattle.link_base.proofs.CallerLemmas.{number_at-drop}
-use Rattle.pdb_msf.specs.BlockFile.{signature, blocks_for, block_size, block_count, directory_size, map_block as map_block_of, is_block, directory_block, directory_len, entry, stream_count, stream_size, blocks_before, list_of, has_superblock, has_size, has_map, directory_blocks, directory_is_there, listed_len, lists_are_there, has_blocks, has_directory, msf_fault}
+use Rattle.pdb_msf.specs.BlockFile.{signature, blocks_for, size_of_blocks, block_count, directory_size, map_block as map_block_of, is_block, directory_block, directory_len, entry, stream_count, stream_size, blocks_before, list_of, has_superblock, has_size, has_map, directory_blocks, directory_is_there, listed_len, lists_are_there, has_blocks, has_directory, msf_fault}
 use Rattle.pdb_msf.specs.Streams.{stream_block, joined_blocks, stream_bytes, stream_of}
-use Rattle.pdb_msf.specs.WrittenFile.{block_number, stream_total, directory_extent, directory_total, block_total, file_size, superblock, block_numbers, directory, cut_block, in_blocks, data_blocks, padded, map_block, laid, msf_of}
+use Rattle.pdb_msf.specs.WrittenFile.{block_number, stream_total, directory_extent, directory_total, block_total, file_size, superblock, block_numbers, directory, cut_block, in_blocks, blocks_of_data, padded, map_block, laid, msf_of}
 use Rattle.std.proofs.Math.ListN.{get_or-map}
 use Rattle.pdb_msf.proofs.DirectoryLemmas.{listed_there}
 use Rattle.pdb_msf.proofs.StreamLemmas.{stream_is, length_block}
@@ -122,7 +122,7 @@ abbrev pub total_of : List (List ℕ) → ℕ
 total_of streams = block_total (sizes_of streams)
 
 abbrev pub data_of : List (List ℕ) → List (List ℕ)
-data_of streams = data_blocks (sizes_of streams) streams
+data_of streams = blocks_of_data (sizes_of streams) streams
 
 abbrev pub file_of : List (List ℕ) → List ℕ
 file_of streams = laid (total_of streams) 0 (data_of streams)
@@ -134,7 +134,7 @@ module _ (streams : List (List ℕ)) (few : length streams ≤ 64) (fits : file_
   -- ---- the blocks of data
 
   data_long : length (data_of streams) ≡ 2 + directory_total (sizes_of streams) + stream_total (sizes_of streams)
-  unfolding data_blocks
+  unfolding blocks_of_data
   data_long =
       let both = length-append (in_blocks (directory (sizes_of streams))) (flat_map in_blocks streams) in
       let first = length_directory_blocks (sizes_of streams) in
@@ -142,15 +142,15 @@ module _ (streams : List (List ℕ)) (few : length streams ≤ 64) (fits : file_
       omega (arith, both, first, rest)
 
   data_super : get_or (data_of streams) 0 [] ≡ superblock (total_of streams) (directory_extent (sizes_of streams))
-  unfolding data_blocks
+  unfolding blocks_of_data
   data_super = refl
 
   data_map : get_or (data_of streams) 1 [] ≡ block_numbers 2 (directory_total (sizes_of streams))
-  unfolding data_blocks
+  unfolding blocks_of_data
   data_map = refl
 
   data_directory : (k : ℕ) → k < directory_total (sizes_of streams) → get_or (data_of streams) (2 + k) [] ≡ cut_block (directory (sizes_of streams)) k
-  unfolding data_blocks
+  unfolding blocks_of_data
   data_directory k lt =
       let first = length_directory_blocks (sizes_of streams) in
       let own = length_in_blocks_of (directory (sizes_of streams)) in
@@ -160,7 +160,7 @@ module _ (streams : List (List ℕ)) (few : length streams ≤ 64) (fits : file_
       ∙ block_in_blocks (directory (sizes_of streams)) k (omega (arith, first, own, lt))
 
   data_stream : (i k : ℕ) → i < length streams → k < blocks_for (length (get_or streams i [])) → get_or (data_of streams) (2 + directory_total (sizes_of streams) + (stream_total (take i (sizes_of streams)) + k)) [] ≡ cut_block (get_or streams i []) k
-  unfolding data_blocks
+  unfolding blocks_of_data
   data_stream i k lt inside =
       let first = length_directory_blocks (sizes_of streams) in
       let d = directory_total (sizes_of streams) in
@@ -185,7 +185,7 @@ module _ (streams : List (List ℕ)) (few : length streams ≤ 64) (fits : file_
       omega (arith, is, both, front, back)
 
   small : AreSmall (data_of streams)
-  unfolding data_blocks
+  unfolding blocks_of_data
   small =
       let numbers = length_numbers 2 (directory_total (sizes_of streams)) in
       let super = super_long in
@@ -238,8 +238,8 @@ module _ (streams : List (List ℕ)) (few : length streams ≤ 64) (fits : file_
       drop_front : drop 32 (signature ++ listed super_numbers) ≡ listed super_numbers
       drop_front = ap (λ (n : ℕ). drop n (signature ++ listed super_numbers)) (sym length_signature) ∙ drop-append_seam signature (listed super_numbers)
 
-  size_is : block_size (file_of streams) ≡ 4096
-  unfolding block_size
+  size_is : size_of_blocks (file_of streams) ≡ 4096
+  unfolding size_of_blocks
   size_is = super_number 0 (omega arith)
 
   blocks_are : block_count (file_of streams) ≡ total_of streams
@@ -320,7 +320,7 @@ module _ (streams : List (List ℕ)) (few : length streams ≤ 64) (fits : file_
   -- ---- no test fails
 
   starts_so : begins (file_of streams) signature ≡ true
-  unfolding data_blocks
+  unfolding blocks_of_data
   starts_so =
       let s = superblock (total_of streams) (directory_extent (sizes_of streams)) in
       let tail = block_numbers 2 (directory_total (sizes_of streams)) ∷ (in_blocks (directory (sizes_of streams)) ++ flat_map in_blocks streams) in
