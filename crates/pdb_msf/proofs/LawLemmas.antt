@@ -1,5 +1,5 @@
 -- What is opened from what was written.
-use Rattle.std.proofs.Common.{◌≡◌, ℕ, zero, suc, ◌+◌, ◌-◌, ◌*◌, ◌/◌, ◌%◌, ◌<◌, ◌≤◌, Bool, true, ◌&&◌, le-leb, le-ltb, eq-eqb, List, [], ◌∷◌, ◌++◌, length, get_or, take, drop, map, replicate, Some, None, refl, sym, ap, ◌∙◌, inl, inr, append_assoc, arith, length-append}
+use Rattle.std.proofs.Common.{◌≡◌, ℕ, zero, suc, ◌+◌, ◌-◌, ◌*◌, ◌/◌, ◌%◌, ◌<◌, ◌≤◌, Bool, true, ◌&&◌, le-leb, le-ltb, eq-eqb, List, [], ◌∷◌, ◌++◌, length, get_or, take, drop, map, replicate, Some, None, refl, sym, ap, ◌∙◌, inl, inr, append_assoc, arith, length-append, length-drop}
 use Rattle.std.specs.List.{flat_map, slice_get}
 use Rattle.std.proofs.lemmas.Bool.{cases_lt}
 use Rattle.std.proofs.Math.Seq.{take-append_seam, take-suc, drop-append_seam}
@@ -10,18 +10,18 @@ use Rattle.std.proofs.lemmas.List.FromFn.{get_or-map-range_with_len, length-map-
 use Rattle.std.proofs.lemmas.List.Sums.{sum_by-append, sum_by-cons}
 use Rattle.std.proofs.lemmas.Grind.{same_number_lists}
 use Rattle.std.proofs.lemmas.Option.{slice_get-get_or, slice_get_past}
-use Rattle.link_base.specs.Bytes.{number_at, all_below}
+use Rattle.link_base.specs.Bytes.{number_at, all_below, bytes_at}
 use Rattle.link_base.specs.NameText.{begins}
 use Rattle.link_base.proofs.CallerLemmas.{number_at-drop}
-use Rattle.pdb_msf.specs.BlockFile.{signature, blocks_for, block_size, block_count, directory_size, map_block as map_block_of, is_block, directory_block, directory_len, entry, stream_count, stream_size, blocks_before, list_of, has_superblock, has_size, has_map, directory_blocks, directory_is_there, listed_len, lists_are_there, has_blocks, has_directory, msf_fault}
+use Rattle.pdb_msf.specs.BlockFile.{signature, blocks_for, size_of_blocks, block_count, directory_size, map_block as map_block_of, is_block, directory_block, directory_len, entry, stream_count, stream_size, blocks_before, list_of, has_superblock, has_size, has_map, directory_blocks, directory_is_there, listed_len, lists_are_there, has_blocks, has_directory, msf_fault}
 use Rattle.pdb_msf.specs.Streams.{stream_block, joined_blocks, stream_bytes, stream_of}
-use Rattle.pdb_msf.specs.WrittenFile.{block_number, stream_total, directory_extent, directory_total, block_total, file_size, superblock, block_numbers, directory, cut_block, in_blocks, data_blocks, padded, laid, msf_of}
+use Rattle.pdb_msf.specs.WrittenFile.{block_number, stream_total, directory_extent, directory_total, block_total, file_size, superblock, block_numbers, directory, cut_block, in_blocks, blocks_of_data, padded, map_block, laid, msf_of}
 use Rattle.std.proofs.Math.ListN.{get_or-map}
 use Rattle.pdb_msf.proofs.DirectoryLemmas.{listed_there}
 use Rattle.pdb_msf.proofs.StreamLemmas.{stream_is, length_block}
 use Rattle.pdb_msf.proofs.BlockLemmas.{length_in_blocks, get_in_blocks}
 use Rattle.pdb_msf.proofs.WritingLemmas.{length_directory, laid_first, more_total, length_in_blocks_of, length_numbers}
-use Rattle.pdb_msf.proofs.PlaceLemmas.{AreSmall, length_laid, byte_at_place, number_at_place, numbered_first}
+use Rattle.pdb_msf.proofs.PlaceLemmas.{AreSmall, length_padded, length_map, map_at_place, length_laid, byte_at_place, number_at_place, numbered_first}
 use Rattle.pdb_msf.proofs.DataLemmas.{AreNumbers, listed, length_listed, numbers_from, numbers_listed, number_in_list, entries, directory_listed, length_entries, entry_of_size, entry_of_block, length_cut, byte_in_cut, block_in_blocks, number_in_cut, length_streams, length_directory_blocks, block_of_stream, no_total}
 
 -- ---- lists of blocks
@@ -122,7 +122,7 @@ abbrev pub total_of : List (List ℕ) → ℕ
 total_of streams = block_total (sizes_of streams)
 
 abbrev pub data_of : List (List ℕ) → List (List ℕ)
-data_of streams = data_blocks (sizes_of streams) streams
+data_of streams = blocks_of_data (sizes_of streams) streams
 
 abbrev pub file_of : List (List ℕ) → List ℕ
 file_of streams = laid (total_of streams) 0 (data_of streams)
@@ -134,7 +134,7 @@ module _ (streams : List (List ℕ)) (few : length streams ≤ 64) (fits : file_
   -- ---- the blocks of data
 
   data_long : length (data_of streams) ≡ 2 + directory_total (sizes_of streams) + stream_total (sizes_of streams)
-  unfolding data_blocks
+  unfolding blocks_of_data
   data_long =
       let both = length-append (in_blocks (directory (sizes_of streams))) (flat_map in_blocks streams) in
       let first = length_directory_blocks (sizes_of streams) in
@@ -142,15 +142,15 @@ module _ (streams : List (List ℕ)) (few : length streams ≤ 64) (fits : file_
       omega (arith, both, first, rest)
 
   data_super : get_or (data_of streams) 0 [] ≡ superblock (total_of streams) (directory_extent (sizes_of streams))
-  unfolding data_blocks
+  unfolding blocks_of_data
   data_super = refl
 
   data_map : get_or (data_of streams) 1 [] ≡ block_numbers 2 (directory_total (sizes_of streams))
-  unfolding data_blocks
+  unfolding blocks_of_data
   data_map = refl
 
   data_directory : (k : ℕ) → k < directory_total (sizes_of streams) → get_or (data_of streams) (2 + k) [] ≡ cut_block (directory (sizes_of streams)) k
-  unfolding data_blocks
+  unfolding blocks_of_data
   data_directory k lt =
       let first = length_directory_blocks (sizes_of streams) in
       let own = length_in_blocks_of (directory (sizes_of streams)) in
@@ -160,7 +160,7 @@ module _ (streams : List (List ℕ)) (few : length streams ≤ 64) (fits : file_
       ∙ block_in_blocks (directory (sizes_of streams)) k (omega (arith, first, own, lt))
 
   data_stream : (i k : ℕ) → i < length streams → k < blocks_for (length (get_or streams i [])) → get_or (data_of streams) (2 + directory_total (sizes_of streams) + (stream_total (take i (sizes_of streams)) + k)) [] ≡ cut_block (get_or streams i []) k
-  unfolding data_blocks
+  unfolding blocks_of_data
   data_stream i k lt inside =
       let first = length_directory_blocks (sizes_of streams) in
       let d = directory_total (sizes_of streams) in
@@ -185,7 +185,7 @@ module _ (streams : List (List ℕ)) (few : length streams ≤ 64) (fits : file_
       omega (arith, is, both, front, back)
 
   small : AreSmall (data_of streams)
-  unfolding data_blocks
+  unfolding blocks_of_data
   small =
       let numbers = length_numbers 2 (directory_total (sizes_of streams)) in
       let super = super_long in
@@ -238,8 +238,8 @@ module _ (streams : List (List ℕ)) (few : length streams ≤ 64) (fits : file_
       drop_front : drop 32 (signature ++ listed super_numbers) ≡ listed super_numbers
       drop_front = ap (λ (n : ℕ). drop n (signature ++ listed super_numbers)) (sym length_signature) ∙ drop-append_seam signature (listed super_numbers)
 
-  size_is : block_size (file_of streams) ≡ 4096
-  unfolding block_size
+  size_is : size_of_blocks (file_of streams) ≡ 4096
+  unfolding size_of_blocks
   size_is = super_number 0 (omega arith)
 
   blocks_are : block_count (file_of streams) ≡ total_of streams
@@ -320,7 +320,7 @@ module _ (streams : List (List ℕ)) (few : length streams ≤ 64) (fits : file_
   -- ---- no test fails
 
   starts_so : begins (file_of streams) signature ≡ true
-  unfolding data_blocks
+  unfolding blocks_of_data
   starts_so =
       let s = superblock (total_of streams) (directory_extent (sizes_of streams)) in
       let tail = block_numbers 2 (directory_total (sizes_of streams)) ∷ (in_blocks (directory (sizes_of streams)) ++ flat_map in_blocks streams) in
@@ -473,3 +473,69 @@ module _ (streams : List (List ℕ)) (few : length streams ≤ 64) (fits : file_
         | inl lt ↦ stream_is (file_of streams) i (omega (arith, n, lt)) ∙ ap Some (bytes_are i lt) ∙ sym (slice_get-get_or streams i [] lt)
         | inr past ↦ none_there (file_of streams) i (omega (arith, n, past)) ∙ sym (slice_get_past streams i past)
       ]
+
+  -- ---- where the blocks stand
+
+  length_at : (offset : ℕ) → offset + 4096 ≤ length (file_of streams) → length (bytes_at (file_of streams) offset 4096) ≡ 4096
+  length_at offset within =
+      let cut = length-take 4096 (drop offset (file_of streams)) in
+      let rest = length-drop offset (file_of streams) in
+      omega (arith, cut, rest, within)
+
+  get_at : (offset j : ℕ) → j < 4096 → get_or (bytes_at (file_of streams) offset 4096) j 0 ≡ get_or (file_of streams) (offset + j) 0
+  get_at offset j low = get_or-take 4096 (drop offset (file_of streams)) j 0 low ∙ get_or-drop offset (file_of streams) j 0
+
+  pub block_stands : (n : ℕ) → n < length (data_of streams) → bytes_at (msf_of streams) (4096 * block_number n) 4096 ≡ padded (get_or (data_of streams) n [])
+  block_stands n lt =
+      let all = data_long in
+      let long = file_long in
+      let own = length_at (4096 * block_number n) (omega (arith, long, all, lt)) in
+      let block = get_or (data_of streams) n [] in
+      let full = length_padded block (small n lt) in
+      same_number_lists (bytes_at (file_of streams) (4096 * block_number n) 4096) (padded block) (omega (arith, own, full))
+      (λ j low.
+      let here : j < 4096 = omega (arith, low, own) in
+      get_at (4096 * block_number n) j here
+      ∙ byte_at_place (total_of streams) 0 n (4096 * block_number n) j (data_of streams) small lt here (omega arith))
+
+  map_stands : (index copy : ℕ) → copy < 2 → 4094 * index + 1 < length (data_of streams) → bytes_at (msf_of streams) (4096 * (4096 * index + 1 + copy)) 4096 ≡ map_block (total_of streams) index
+  map_stands index copy two lt =
+      let all = data_long in
+      let long = file_long in
+      let k = 4094 * index + 1 in
+      let o = 4096 * (4096 * index + 1) in
+      let own = length_at (4096 * (4096 * index + 1 + copy)) (omega (arith, long, all, lt, two)) in
+      let one = length_map (total_of streams) index in
+      let number : k / 4094 ≡ index = omega arith in
+      same_number_lists (bytes_at (file_of streams) (4096 * (4096 * index + 1 + copy)) 4096) (map_block (total_of streams) index) (omega (arith, own, one))
+      (λ j low.
+      let here : j < 4096 = omega (arith, low, own) in
+      let place : 4096 * (4096 * index + 1 + copy) + j ≡ o + (4096 * copy + j) = omega arith in
+      get_at (4096 * (4096 * index + 1 + copy)) j here
+      ∙ ap (λ (p : ℕ). get_or (file_of streams) p 0) place
+      ∙ map_at_place (total_of streams) 0 k k o (4096 * copy + j) (data_of streams) small lt (omega arith) (omega arith) (omega (arith, here, two)) (omega arith)
+      ∙ ap (λ (i : ℕ). get_or (map_block (total_of streams) i ++ map_block (total_of streams) i) (4096 * copy + j) 0) number
+      ∙ either copy j here two)
+    where
+      either : (copy j : ℕ) → j < 4096 → copy < 2 → get_or (map_block (total_of streams) index ++ map_block (total_of streams) index) (4096 * copy + j) 0 ≡ get_or (map_block (total_of streams) index) j 0
+      either zero j low two =
+          let one = length_map (total_of streams) index in
+          let place : 4096 * 0 + j ≡ j = omega arith in
+          ap (λ (p : ℕ). get_or (map_block (total_of streams) index ++ map_block (total_of streams) index) p 0) place
+          ∙ get_or_append_left (map_block (total_of streams) index) (map_block (total_of streams) index) 0 j (omega (arith, one, low))
+      either (suc zero) j low two =
+          let one = length_map (total_of streams) index in
+          let place : 4096 * 1 + j - 4096 ≡ j = omega arith in
+          get_or-append_right (map_block (total_of streams) index) (map_block (total_of streams) index) 4096 (4096 * 1 + j) 0 one (omega arith)
+          ∙ ap (λ (p : ℕ). get_or (map_block (total_of streams) index) p 0) place
+      either (suc (suc copy)) j low two = absurd (omega (arith, two))
+
+  pub first_map_stands : (index : ℕ) → 4094 * index + 1 < length (data_of streams) → bytes_at (msf_of streams) (4096 * (4096 * index + 1)) 4096 ≡ map_block (total_of streams) index
+  first_map_stands index lt =
+      let place : 4096 * (4096 * index + 1) ≡ 4096 * (4096 * index + 1 + 0) = omega arith in
+      ap (λ (p : ℕ). bytes_at (file_of streams) p 4096) place ∙ map_stands index 0 (omega arith) lt
+
+  pub second_map_stands : (index : ℕ) → 4094 * index + 1 < length (data_of streams) → bytes_at (msf_of streams) (4096 * (4096 * index + 2)) 4096 ≡ map_block (total_of streams) index
+  second_map_stands index lt =
+      let place : 4096 * (4096 * index + 2) ≡ 4096 * (4096 * index + 1 + 1) = omega arith in
+      ap (λ (p : ℕ). bytes_at (file_of streams) p 4096) place ∙ map_stands index 1 (omega arith) lt

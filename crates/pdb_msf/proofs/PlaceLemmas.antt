@@ -1,5 +1,5 @@
 -- Where the blocks of a written file stand.
-use Rattle.std.proofs.Common.{◌≡◌, ℕ, zero, suc, ◌+◌, ◌-◌, ◌*◌, ◌/◌, ◌%◌, ◌<◌, ◌≤◌, Bool, true, false, cond, eqb, eq-eqb, List, [], ◌∷◌, ◌++◌, length, get_or, replicate, refl, sym, ap, ◌∙◌, inl, inr, arith, length-append}
+use Rattle.std.proofs.Common.{append_assoc, ◌≡◌, ℕ, zero, suc, ◌+◌, ◌-◌, ◌*◌, ◌/◌, ◌%◌, ◌<◌, ◌≤◌, Bool, true, false, cond, eqb, eq-eqb, List, [], ◌∷◌, ◌++◌, length, get_or, replicate, refl, sym, ap, ◌∙◌, inl, inr, arith, length-append}
 use Rattle.std.proofs.lemmas.Bool.{cases_lt, cases_Bool, eqb-true, false≢true}
 use Rattle.std.proofs.lemmas.List.{get_or_append_left, get_or-append_right, length-replicate}
 use Rattle.std.proofs.lemmas.List.FromFn.{length-map-range_with_len}
@@ -18,7 +18,7 @@ base m = m + 2 * ((m + 4092) / 4094)
 maps : ℕ → ℕ → List ℕ
 maps total m = cond (eqb (m % 4094) 1) (map_block total (m / 4094) ++ map_block total (m / 4094)) []
 
-length_map : (total index : ℕ) → length (map_block total index) ≡ 4096
+pub length_map : (total index : ℕ) → length (map_block total index) ≡ 4096
 unfolding map_block
 length_map total index = length-map-range_with_len (λ (k : ℕ). map_byte total (8 * (4096 * index + k))) 0 4096
 
@@ -56,7 +56,7 @@ pub numbered_first : (total : ℕ) (block : List ℕ) → numbered_block total (
 unfolding numbered_block
 numbered_first total block = refl
 
-length_padded : (block : List ℕ) → length block ≤ 4096 → length (padded block) ≡ 4096
+pub length_padded : (block : List ℕ) → length block ≤ 4096 → length (padded block) ≡ 4096
 length_padded block small =
     let both = length-append block (replicate (4096 - length block) 0) in
     let zeros = length-replicate {A = ℕ} (4096 - length block) 0 in
@@ -108,6 +108,35 @@ byte_at_place total m (suc n) offset j (block ∷ blocks) small lt within place 
     ∙ get_or-append_right (numbered_block total (m, block)) (laid total (m + 1) blocks) len (offset + j) 0 refl (omega (arith, past))
     ∙ ap (λ (k : ℕ). get_or (laid total (m + 1) blocks) k 0) moved
     ∙ byte_at_place total (m + 1) n (offset - len) j blocks (tail_small block blocks small) (omega (arith, lt)) within next
+
+maps_are : (total m : ℕ) → m % 4094 ≡ 1 → maps total m ≡ map_block total (m / 4094) ++ map_block total (m / 4094)
+unfolding maps
+maps_are total m one = rw (eq-eqb (m % 4094) 1 one) refl
+
+-- a byte of the two free maps before a block of data
+pub map_at_place : (total m n k offset j : ℕ) (blocks : List (List ℕ)) → AreSmall blocks → n < length blocks → k ≡ m + n → k % 4094 ≡ 1 → j < 8192 → offset + 8192 + 4096 * base m ≡ 4096 * block_number k → get_or (laid total m blocks) (offset + j) 0 ≡ get_or (map_block total (k / 4094) ++ map_block total (k / 4094)) j 0
+map_at_place total m n k offset j [] small lt is one within place = absurd (omega (arith, lt))
+map_at_place total m zero k offset j (block ∷ blocks) small lt is one within place =
+    let same : m ≡ k = omega (arith, is) in
+    let first : m % 4094 ≡ 1 = omega (arith, one, is) in
+    let both = length-append (map_block total (m / 4094)) (map_block total (m / 4094)) in
+    let each = length_map total (m / 4094) in
+    let start : offset + j ≡ j = omega (arith, place, is, one) in
+    ap (λ (xs : List ℕ). get_or xs (offset + j) 0) (laid_first total m block blocks ∙ ap (λ (xs : List ℕ). xs ++ laid total (m + 1) blocks) (numbered_is total m block ∙ ap (λ (xs : List ℕ). xs ++ padded block) (maps_are total m first)) ∙ append_assoc (map_block total (m / 4094) ++ map_block total (m / 4094)) (padded block) (laid total (m + 1) blocks))
+    ∙ ap (λ (p : ℕ). get_or ((map_block total (m / 4094) ++ map_block total (m / 4094)) ++ (padded block ++ laid total (m + 1) blocks)) p 0) start
+    ∙ get_or_append_left (map_block total (m / 4094) ++ map_block total (m / 4094)) (padded block ++ laid total (m + 1) blocks) 0 j (omega (arith, both, each, within))
+    ∙ ap (λ (i : ℕ). get_or (map_block total (i / 4094) ++ map_block total (i / 4094)) j 0) same
+map_at_place total m (suc n) k offset j (block ∷ blocks) small lt is one within place =
+    let first = length_numbered total m block (small 0 (omega arith)) in
+    let len = length (numbered_block total (m, block)) in
+    let later : 4096 * base (m + 1) + 8192 ≤ 4096 * block_number k = omega (arith, is, one) in
+    let past : len ≤ offset = omega (arith, first, place, later) in
+    let next : offset - len + 8192 + 4096 * base (m + 1) ≡ 4096 * block_number k = omega (arith, first, place, past) in
+    let moved : offset + j - len ≡ offset - len + j = omega (arith, past) in
+    ap (λ (xs : List ℕ). get_or xs (offset + j) 0) (laid_first total m block blocks)
+    ∙ get_or-append_right (numbered_block total (m, block)) (laid total (m + 1) blocks) len (offset + j) 0 refl (omega (arith, past))
+    ∙ ap (λ (p : ℕ). get_or (laid total (m + 1) blocks) p 0) moved
+    ∙ map_at_place total (m + 1) n k (offset - len) j blocks (tail_small block blocks small) (omega (arith, lt)) (omega (arith, is)) one within next
 
 -- ---- numbers
 

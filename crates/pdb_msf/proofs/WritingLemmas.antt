@@ -8,7 +8,7 @@ use Rattle.link_base.specs.Bytes.{number_bytes, bytes_at}
 use Rattle.link_base.proofs.CallerLemmas.{length-number_bytes}
 use Rattle.link_base.proofs.RangeLemmas.{joined_more}
 use Rattle.pdb_msf.specs.BlockFile.{blocks_for}
-use Rattle.pdb_msf.specs.WrittenFile.{block_number, map_byte, map_block, file_size, Writes, stream_total, directory_extent, directory_total, block_total, superblock, block_numbers, directory, cut_block, in_blocks, data_blocks, numbered_block, laid, msf_of_sizes, parted}
+use Rattle.pdb_msf.specs.WrittenFile.{block_number, map_byte, map_block, file_size, Writes, stream_total, directory_extent, directory_total, block_total, superblock, block_numbers, directory, cut_block, in_blocks, blocks_of_data, numbered_block, laid, msf_of_sizes, parted}
 
 -- ---- lists that grow by one
 
@@ -182,7 +182,7 @@ length_directory sizes =
 -- ---- the whole
 
 pub parts_are_whole : (sizes : List ℕ) (streams : List (List ℕ)) (total extent first : ℕ) (start front numbers table a b c d : List ℕ) → total ≡ block_total sizes → extent ≡ directory_extent sizes → first ≡ 2 + directory_total sizes → front ≡ superblock total extent → numbers ≡ block_numbers 2 (directory_total sizes) → table ≡ directory sizes → start ≡ [] → a ≡ start ++ numbered_block total (0, front) → b ≡ a ++ numbered_block total (1, numbers) → c ≡ b ++ laid total 2 (in_blocks table) → d ≡ c ++ laid total first (flat_map in_blocks streams) → d ≡ msf_of_sizes sizes streams
-unfolding data_blocks
+unfolding blocks_of_data
 parts_are_whole sizes streams total extent first start front numbers table a b c d is_total is_extent is_first is_front is_numbers is_table none ea eb ec ed =
     let count : length (in_blocks (directory sizes)) ≡ directory_total sizes = length_in_blocks_of (directory sizes) ∙ ap blocks_for (length_directory sizes) in
     let t = block_total sizes in

@@ -32,8 +32,8 @@ blocks_for size = (size + 4095) / BLOCK_SIZE
 
 -- ---- the superblock
 
-unfoldable pub block_size : List ℕ → ℕ
-block_size file = u32_at file 32
+unfoldable pub size_of_blocks : List ℕ → ℕ
+size_of_blocks file = u32_at file 32
 
 unfoldable pub block_count : List ℕ → ℕ
 block_count file = u32_at file 40
@@ -85,7 +85,7 @@ has_superblock file = has_bytes file 0 SUPERBLOCK_SIZE && begins file signature
 
 -- blocks have the one size, and as many as are counted lie in the file
 unfoldable pub has_size : List ℕ → Bool
-has_size file = (block_size file == BLOCK_SIZE) && has_bytes file 0 (BLOCK_SIZE * block_count file)
+has_size file = (size_of_blocks file == BLOCK_SIZE) && has_bytes file 0 (BLOCK_SIZE * block_count file)
 
 -- the block that lists those of the directory lies in the file, and so does each that it lists
 unfoldable pub has_map : List ℕ → Bool

@@ -11,9 +11,11 @@ use Rattle.pdb_msf.specs.declared.msf.StreamError.TheVariants.{Missing, Memory}
 unfoldable pub stream_block : List ℕ → ℕ → ℕ → List ℕ
 stream_block file stream index = bytes_at file (BLOCK_SIZE * entry file (list_of file stream + index)) BLOCK_SIZE
 
+-- the first blocks of a stream, one after the other
 unfoldable pub joined_blocks : List ℕ → ℕ → ℕ → List ℕ
 joined_blocks file stream count = flat_map (stream_block file stream) (range_with_len 0 count)
 
+-- all of its blocks, cut at its size
 abbrev pub stream_bytes : List ℕ → ℕ → List ℕ
 stream_bytes file stream = take (stream_size file stream) (joined_blocks file stream (blocks_for (stream_size file stream)))
 

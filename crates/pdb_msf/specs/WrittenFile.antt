@@ -64,8 +64,8 @@ cut_block bytes index = bytes_at bytes (BLOCK_SIZE * index) BLOCK_SIZE
 unfoldable pub in_blocks : List ℕ → List (List ℕ)
 in_blocks bytes = map (cut_block bytes) (range_with_len 0 (blocks_for (length bytes)))
 
-unfoldable pub data_blocks : List ℕ → List (List ℕ) → List (List ℕ)
-data_blocks sizes streams =
+unfoldable pub blocks_of_data : List ℕ → List (List ℕ) → List (List ℕ)
+blocks_of_data sizes streams =
     superblock (block_total sizes) (directory_extent sizes)
     ∷ block_numbers 2 (directory_total sizes)
     ∷ (in_blocks (directory sizes) ++ flat_map in_blocks streams)
@@ -93,7 +93,7 @@ unfoldable pub laid : ℕ → ℕ → List (List ℕ) → List ℕ
 laid total n blocks = flat_map (numbered_block total) (enumerate_from n blocks)
 
 abbrev pub msf_of_sizes : List ℕ → List (List ℕ) → List ℕ
-msf_of_sizes sizes streams = laid (block_total sizes) 0 (data_blocks sizes streams)
+msf_of_sizes sizes streams = laid (block_total sizes) 0 (blocks_of_data sizes streams)
 
 abbrev pub msf_of : List (List ℕ) → List ℕ
 msf_of streams = msf_of_sizes (map length streams) streams

@@ -7,7 +7,7 @@ use crate::directory::{blocks_before, directory_block, directory_len, entry, is_
 use crate::format::{
     BLOCK_NUMBERS, BLOCK_SIZE, DIRECTORY_LIMIT, SUPERBLOCK_SIZE, blocks_for, signature,
 };
-use crate::superblock::{block_count, block_size, directory_size, map_block};
+use crate::superblock::{block_count, directory_size, map_block, size_of_blocks};
 use link_base::PdbKind;
 use std::cmp::min;
 
@@ -50,7 +50,7 @@ fn has_size(bytes: &[u8]) -> bool
     requires { SUPERBLOCK_SIZE ≤ length bytes.now }
     ensures { result ≡ has_size bytes.now }
 {
-    block_size(bytes) as usize == BLOCK_SIZE
+    size_of_blocks(bytes) as usize == BLOCK_SIZE
         && BLOCK_SIZE * block_count(bytes) as usize <= bytes.len()
 }
 

@@ -17,7 +17,7 @@ mod superblock;
 mod tables;
 mod writing;
 
-pub use laws::written_streams_are_read;
+pub use laws::{blocks_stand_at_their_numbers, written_streams_are_read};
 pub use msf::{Msf, StreamError};
 pub use writing::{MsfError, write_msf};
 

@@ -1,14 +1,14 @@
 //! The fields of the superblock.
 
 ghost use Rattle.std.specs.Prelude.{◌≡◌, ◌≤◌, length};
-ghost use Rattle.pdb_msf.specs.BlockFile.{SUPERBLOCK_SIZE, block_size, block_count, directory_size, map_block};
+ghost use Rattle.pdb_msf.specs.BlockFile.{SUPERBLOCK_SIZE, size_of_blocks, block_count, directory_size, map_block};
 
 use link_base::u32_in;
 
-#[tactic(auto, unfolding(crate::specs::BlockFile::block_size))]
-pub(crate) fn block_size(bytes: &[u8]) -> u32
+#[tactic(auto, unfolding(crate::specs::BlockFile::size_of_blocks))]
+pub(crate) fn size_of_blocks(bytes: &[u8]) -> u32
     requires { SUPERBLOCK_SIZE ≤ length bytes.now }
-    ensures { result ≡ block_size bytes.now }
+    ensures { result ≡ size_of_blocks bytes.now }
 {
     u32_in(bytes, 32)
 }
