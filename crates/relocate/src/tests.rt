@@ -175,7 +175,7 @@ fn a_field_holds_the_value_of_its_type(rt: HostRuntime) -> Result<(), Fail> {
 }
 
 /// A relocation to a target, or to one that has a fault.
-fn fix(index: u32, at: u32, kind: u16, target: Result<Target, TargetFault>) -> Fix {
+fn relocation(index: u32, at: u32, kind: u16, target: Result<Target, TargetFault>) -> Fix {
     Fix {
         index,
         at,
@@ -190,7 +190,7 @@ fn fault_of(alloc: Global, fixes: &[Fix], large: bool, pdata: bool) -> Option<Fi
 
 #[test]
 fn the_first_fault_is_answered(rt: HostRuntime) {
-    let main = |index, at| fix(index, at, 4, Ok(MAIN));
+    let main = |index, at| relocation(index, at, 4, Ok(MAIN));
     let reloc = |index, kind| Some(FieldError::Reloc { index, kind });
     let target = |index, kind| Some(FieldError::Target { index, kind });
     let no_symbol = Fix {
@@ -203,9 +203,9 @@ fn the_first_fault_is_answered(rt: HostRuntime) {
         (&[], None),
         (&[main(0, 0), main(2, 4), main(3, 8)], None),
         (&[main(0, 8), main(2, 0), main(3, 4)], None),
-        (&[fix(1, 99, 0, Err(TargetFault::Local))], None),
+        (&[relocation(1, 99, 0, Err(TargetFault::Local))], None),
         (
-            &[main(0, 1), fix(1, 2, 12, Ok(MAIN))],
+            &[main(0, 1), relocation(1, 2, 12, Ok(MAIN))],
             reloc(1, RelocKind::Kind),
         ),
         (&[main(6, 9)], reloc(6, RelocKind::Field)),
@@ -219,28 +219,28 @@ fn the_first_fault_is_answered(rt: HostRuntime) {
             &[
                 main(0, 8),
                 main(1, 0),
-                fix(2, 7, 4, Err(TargetFault::Local)),
+                relocation(2, 7, 4, Err(TargetFault::Local)),
             ],
             reloc(2, RelocKind::Overlap),
         ),
         (
-            &[main(0, 4), fix(2, 0, 4, Err(TargetFault::Discarded))],
+            &[main(0, 4), relocation(2, 0, 4, Err(TargetFault::Discarded))],
             target(2, TargetFault::Discarded),
         ),
         (
-            &[fix(9, 0, 11, Ok(Target::ImageBase))],
+            &[relocation(9, 0, 11, Ok(Target::ImageBase))],
             target(9, TargetFault::NoSection),
         ),
     ];
     for (fixes, expected) in &cases {
         assert_eq!(rt; fault_of(rt.alloc(), *fixes, true, false), *expected);
     }
-    let absolute = [fix(3, 0, 10, Ok(Target::Absolute(7)))];
+    let absolute = [relocation(3, 0, 10, Ok(Target::Absolute(7)))];
     assert_eq!(rt;
         fault_of(rt.alloc(), &absolute, true, false),
         target(3, TargetFault::AbsRelative)
     );
-    let low = [fix(0, 0, 2, Ok(MAIN))];
+    let low = [relocation(0, 0, 2, Ok(MAIN))];
     assert_eq!(rt;
         fault_of(rt.alloc(), &low, true, true),
         target(0, TargetFault::NeedsLow)
