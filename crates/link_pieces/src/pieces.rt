@@ -1,6 +1,7 @@
 //! The pieces of a link.
 
-ghost use Rattle.std.specs.Prelude.{◌≡◌, ◌≤◌, ◌<◌, ◌+◌, ◌++◌, ◌∷◌, ◌^◌, [], ℕ, false, length, slice_index_or, map, All, IfOk, OnOk, if◌then◌else◌};
+ghost use Rattle.std.specs.Prelude.{◌≡◌, ◌≤◌, ◌<◌, ◌+◌, ◌++◌, ◌∷◌, ◌^◌, [], ℕ, false, None, length, slice_index_or, is_some, unwrap_or, map, All, IfOk, OnOk, if◌then◌else◌};
+ghost use Rattle.std.specs.Option.{option_copied};
 ghost use Rattle.link_base.specs.Limits as limit;
 ghost use Rattle.coff_records.specs.ObjectFile.{section_total};
 ghost use Rattle.section_group.specs.BarePieces.{bare};
@@ -57,7 +58,9 @@ fn push_module<'a>(
     let Some(object) = module.object() else {
         return Ok(());
     };
-    let named = named_sections(alloc, module, object.section_count())?;
+    let count = object.section_count();
+    pieces.reserve(count as usize)?;
+    let named = named_sections(alloc, module, count)?;
     push_sections(pieces, position, object, &named)
 }
 
@@ -97,20 +100,27 @@ fn push_section<'a>(
     ensures contents { OnOk result (map piece_contents pieces.new.items ≡ map piece_contents pieces.old.items
         ++ (if is_placed object.now number then section_contents object.now number ∷ [] else [])) }
 {
-    let piece = piece_of(position, object, number, named);
-    if comes_in(piece.flags, &piece.name) {
-        pieces.push(piece)?;
+    let section = object.section(number);
+    if comes_in(section.flags, &section.name) {
+        pieces.push(piece_of(position, number, section, named))?;
     }
     Ok(())
 }
 
-/// The piece of a section.
-fn piece_of<'a>(position: u32, object: &Object<'a>, number: u32, named: bool) -> Piece<'a>
-    requires first { 1 ≤ number }
-    requires last { number ≤ section_total object.now }
-    requires named { named ≡ is_named object.now number }
-    ensures piece { bare result ≡ piece_of position object.now number }
-    ensures contents { piece_contents result ≡ section_contents object.now number }
+/// The piece that a section is.
+fn piece_of(position: u32, number: u32, section: Section<'_>, named: bool) -> Piece<'_>
+    ensures piece { bare result ≡ record {
+      «module» = position;
+      number = number;
+      name = section.entry.name;
+      flags = section.entry.flags;
+      size = section.entry.size;
+      align = section.entry.align;
+      body = None;
+      init = is_some (option_copied section.entry.body);
+      named = named;
+    } }
+    ensures contents { piece_contents result ≡ unwrap_or (option_copied section.entry.body) [] }
 {
     let Section {
         name,
@@ -118,7 +128,7 @@ fn piece_of<'a>(position: u32, object: &Object<'a>, number: u32, named: bool) ->
         size,
         align,
         body,
-    } = object.section(number);
+    } = section;
     Piece {
         module: position,
         number,
