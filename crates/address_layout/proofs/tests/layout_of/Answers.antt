@@ -1,6 +1,6 @@
 use Rattle.std.proofs.Common.{List, sym, subst}
 use Rattle.section_group.specs.declared.piece.OutSection.{OutSection}
-use Rattle.section_group.specs.Steps.{input_from}
+use Rattle.section_group.specs.SectionOrder.{input_from}
 use Rattle.address_layout.specs.Layout.{StandOnce}
 use Rattle.address_layout.proofs.CallerLemmas.{stand_once}
 use Rattle.address_layout.proofs.tests.layout_of.Goals as goal
