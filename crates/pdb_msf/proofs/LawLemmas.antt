@@ -1,16 +1,13 @@
 -- What is opened from what was written.
-use Rattle.std.proofs.Common.{◌≡◌, ℕ, zero, suc, ◌+◌, ◌-◌, ◌*◌, ◌/◌, ◌%◌, ◌<◌, ◌≤◌, Bool, true, ◌&&◌, le-leb, le-ltb, eq-eqb, List, [], ◌∷◌, ◌++◌, length, get_or, take, drop, map, replicate, Some, None, refl, sym, ap, ◌∙◌, inl, inr, append_assoc, arith, length-append, length-drop}
+use Rattle.std.proofs.Common.{◌≡◌, ℕ, zero, suc, ◌+◌, ◌-◌, ◌*◌, ◌/◌, ◌%◌, ◌<◌, ◌≤◌, true, le-leb, eq-eqb, List, [], ◌∷◌, ◌++◌, length, get_or, take, drop, map, replicate, Some, None, refl, sym, ap, ◌∙◌, inl, inr, append_assoc, arith, length-append, length-drop}
 use Rattle.std.specs.List.{flat_map, slice_get}
 use Rattle.std.proofs.lemmas.Bool.{cases_lt}
-use Rattle.std.proofs.Math.Seq.{take-append_seam, take-suc, drop-append_seam}
-use Rattle.std.specs.Str.{bytes_eq}
-use Rattle.std.proofs.lemmas.Slice.Eq.{bytes_eq-Decides}
+use Rattle.std.proofs.Math.Seq.{drop-append_seam}
 use Rattle.std.proofs.lemmas.List.{append-nil, take_all, length-take, length-map, get_or-take, get_or-drop, get_or_append_left, get_or-append_right}
 use Rattle.std.proofs.lemmas.List.FromFn.{get_or-map-range_with_len, length-map-range_with_len}
-use Rattle.std.proofs.lemmas.List.Sums.{sum_by-append, sum_by-cons}
 use Rattle.std.proofs.lemmas.Grind.{same_number_lists}
 use Rattle.std.proofs.lemmas.Option.{slice_get-get_or, slice_get_past}
-use Rattle.link_base.specs.Bytes.{number_at, all_below, bytes_at}
+use Rattle.link_base.specs.Bytes.{number_at, bytes_at}
 use Rattle.link_base.specs.NameText.{begins}
 use Rattle.link_base.proofs.CallerLemmas.{number_at-drop}
 use Rattle.pdb_msf.specs.BlockFile.{signature, blocks_for, size_of_blocks, block_count, directory_size, map_block as map_block_of, is_block, directory_block, directory_len, entry, stream_count, stream_size, blocks_before, list_of, has_superblock, has_size, has_map, directory_blocks, directory_is_there, listed_len, lists_are_there, has_blocks, has_directory, msf_fault}
@@ -20,98 +17,10 @@ use Rattle.std.proofs.Math.ListN.{get_or-map}
 use Rattle.pdb_msf.proofs.DirectoryLemmas.{listed_there}
 use Rattle.pdb_msf.proofs.StreamLemmas.{stream_is, length_block}
 use Rattle.pdb_msf.proofs.BlockLemmas.{length_in_blocks, get_in_blocks}
-use Rattle.pdb_msf.proofs.WritingLemmas.{length_directory, laid_first, more_total, length_in_blocks_of, length_numbers}
+use Rattle.pdb_msf.proofs.WritingLemmas.{length_directory, laid_first, length_in_blocks_of, length_numbers}
 use Rattle.pdb_msf.proofs.PlaceLemmas.{AreSmall, length_padded, length_map, map_at_place, length_laid, byte_at_place, number_at_place, numbered_first}
 use Rattle.pdb_msf.proofs.DataLemmas.{AreNumbers, listed, length_listed, numbers_from, numbers_listed, number_in_list, entries, directory_listed, length_entries, entry_of_size, entry_of_block, length_cut, byte_in_cut, block_in_blocks, number_in_cut, length_streams, length_directory_blocks, block_of_stream, no_total}
-
--- ---- lists of blocks
-
-small_cons : (block : List ℕ) (blocks : List (List ℕ)) → length block ≤ 4096 → AreSmall blocks → AreSmall (block ∷ blocks)
-small_cons block blocks small rest zero lt = small
-small_cons block blocks small rest (suc k) lt = rest k (omega (arith, lt))
-
-small_append : (xs ys : List (List ℕ)) → AreSmall xs → AreSmall ys → AreSmall (xs ++ ys)
-small_append [] ys first rest = rest
-small_append (x ∷ xs) ys first rest =
-    small_cons x (xs ++ ys) (first 0 (omega arith)) (small_append xs ys (λ k lt. first (suc k) (omega (arith, lt))) rest)
-
-small_cut : (bytes : List ℕ) → AreSmall (in_blocks bytes)
-small_cut bytes k lt =
-    let count = length_in_blocks_of bytes in
-    let is = ap length (block_in_blocks bytes k (omega (arith, lt, count))) in
-    let cut = length_cut bytes k in
-    omega (arith, is, cut)
-
-small_streams : (streams : List (List ℕ)) → AreSmall (flat_map in_blocks streams)
-small_streams [] k lt = absurd (omega (arith, lt))
-small_streams (stream ∷ streams) k lt = small_append (in_blocks stream) (flat_map in_blocks streams) (small_cut stream) (small_streams streams) k lt
-
--- ---- lists of numbers
-
-number_cons : (number : ℕ) (numbers : List ℕ) → number < 4294967296 → AreNumbers numbers → AreNumbers (number ∷ numbers)
-number_cons number numbers small rest zero lt = small
-number_cons number numbers small rest (suc k) lt = rest k (omega (arith, lt))
-
-number_append : (xs ys : List ℕ) → AreNumbers xs → AreNumbers ys → AreNumbers (xs ++ ys)
-number_append [] ys first rest = rest
-number_append (x ∷ xs) ys first rest =
-    number_cons x (xs ++ ys) (first 0 (omega arith)) (number_append xs ys (λ k lt. first (suc k) (omega (arith, lt))) rest)
-
-are_numbers_from : (n count : ℕ) → n + count < 1073741824 → AreNumbers (numbers_from n count)
-are_numbers_from n count small k lt =
-    let long = length-map-range_with_len block_number n count in
-    let is = get_or-map-range_with_len block_number n count k (n + k) 0 (omega (arith, long, lt)) refl in
-    omega (arith, is, long, lt, small)
-
-size_small : (sizes : List ℕ) (k : ℕ) → k < length sizes → get_or sizes k 0 ≤ 4096 * stream_total sizes
-size_small [] k lt = absurd (omega (arith, lt))
-size_small (size ∷ sizes) zero lt = let more = more_total size sizes in omega (arith, more)
-size_small (size ∷ sizes) (suc k) lt =
-    let more = more_total size sizes in
-    let rest = size_small sizes k (omega (arith, lt)) in
-    omega (arith, more, rest)
-
--- the sizes of the first streams
-total_more : (sizes : List ℕ) (i : ℕ) → i < length sizes → stream_total (take (suc i) sizes) ≡ stream_total (take i sizes) + blocks_for (get_or sizes i 0)
-unfolding stream_total
-total_more sizes i lt =
-    ap stream_total (take-suc sizes i 0 lt)
-    ∙ sum_by-append blocks_for (take i sizes) (get_or sizes i 0 ∷ [])
-    ∙ ap (λ (k : ℕ). stream_total (take i sizes) + k) (sum_by-cons blocks_for (get_or sizes i 0) [])
-    ∙ last (stream_total (take i sizes)) (blocks_for (get_or sizes i 0))
-  where
-    last : (a b : ℕ) → a + (b + 0) ≡ a + b
-    last a b = omega arith
-
-total_within : (sizes : List ℕ) (i : ℕ) → i < length sizes → stream_total (take i sizes) + blocks_for (get_or sizes i 0) ≤ stream_total sizes
-total_within [] i lt = absurd (omega (arith, lt))
-total_within (size ∷ sizes) zero lt =
-    let more = more_total size sizes in
-    let none = no_total in
-    omega (arith, more, none)
-total_within (size ∷ sizes) (suc i) lt =
-    let more = more_total size sizes in
-    let front = more_total size (take i sizes) in
-    let rest = total_within sizes i (omega (arith, lt)) in
-    omega (arith, more, front, rest)
-
-all_pass : (n : ℕ) (test : ℕ → Bool) → ((k : ℕ) → k < n → test k ≡ true) → all_below n test ≡ true
-unfolding all_below
-all_pass zero test each = refl
-all_pass (suc n) test each = rw (all_pass n test (λ k lt. each k (omega (arith, lt))), each n (omega arith)) refl
-
-length_signature : length signature ≡ 32
-unfolding signature
-length_signature = refl
-
-begins_so : (rest : List ℕ) → begins (signature ++ rest) signature ≡ true
-begins_so rest = ap (λ (xs : List ℕ). bytes_eq signature xs) (take-append_seam signature rest) ∙ (bytes_eq-Decides signature signature).1 refl
-
-and_intro : (a b : Bool) → a ≡ true → b ≡ true → (a && b) ≡ true
-and_intro a b first second = rw first second
-
-none_there : (file : List ℕ) (i : ℕ) → stream_count file ≤ i → stream_of file i ≡ None
-none_there file i past = rw (le-ltb _ _ past) refl
+use Rattle.pdb_msf.proofs.ListLemmas.{small_cons, small_append, small_cut, small_streams, number_cons, number_append, are_numbers_from, size_small, total_more, total_within, all_pass, length_signature, begins_so, and_intro, none_there}
 
 -- ---- a written file
 

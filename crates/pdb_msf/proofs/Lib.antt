@@ -4,4 +4,5 @@ pub mod StreamLemmas
 pub mod WritingLemmas
 pub mod PlaceLemmas
 pub mod DataLemmas
+pub mod ListLemmas
 pub mod LawLemmas
