@@ -2,12 +2,10 @@
 use Rattle.std.proofs.Common.{◌≡◌, ℕ, Some, None, option_map, le-leb, lt-ltb, le-ltb, inl, inr, List, take, sym, subst, drop, zero, suc, ◌+◌, ◌*◌, ◌<◌, ◌≤◌, List, length, drop, slice_index, refl, ap, ◌∙◌, arith}
 use Rattle.std.proofs.lemmas.List.{get_or-drop}
 use Rattle.memchr.specs.Find.{IsFirstByte}
-use Rattle.std.specs.List.{position, position_or_len}
 use Rattle.std.proofs.lemmas.List.{length-drop}
-use Rattle.std.proofs.lemmas.List.Sums.{passes_at_first, fails_before_first}
-use Rattle.std.proofs.lemmas.Bool.{cases_lt, false≢true}
 use Rattle.byteorder.specs.Endian.{little_from, little_number}
 use Rattle.link_base.specs.Bytes.{number_at, field, is_nul, text_at}
+use Rattle.link_base.proofs.FoundLemmas.{found_at, first_place}
 
 pub little_from-drop : (width offset i : ℕ) (bytes : List ℕ) → little_from i width (drop offset bytes) ≡ little_from (offset + i) width bytes
 little_from-drop zero offset i bytes = refl
@@ -29,33 +27,15 @@ field_is width offset n bytes fits is = rw (le-leb _ _ fits) (ap Some (is ∙ nu
 
 -- ---- the first NUL
 
-no_nul : (bytes : List ℕ) → IsFirstByte is_nul bytes None → position is_nul bytes ≡ None
-no_nul bytes none =
-    elim (cases_lt (position_or_len is_nul bytes) (length bytes)) [
-      | inl lt ↦ absurd (none (position_or_len is_nul bytes) (omega arith) lt (passes_at_first is_nul bytes 0 lt))
-      | inr le ↦ rw (le-ltb _ _ le) refl
-    ]
-
-nul_at : (bytes : List ℕ) (k : ℕ) → IsFirstByte is_nul bytes (Some k) → position_or_len is_nul bytes ≡ k
-nul_at bytes k h =
-    let p = position_or_len is_nul bytes in
-    elim (cases_lt p k) [
-      | inl lt ↦ absurd (h.0.before p (omega arith) lt (passes_at_first is_nul bytes 0 (omega (arith, h.0.high))))
-      | inr le ↦ elim (cases_lt k p) [
-        | inl lt ↦ absurd (false≢true (sym (fails_before_first is_nul bytes k 0 lt) ∙ h.1))
-        | inr ge ↦ omega arith
-      ]
-    ]
-
 pub text_there : (bytes rest : List ℕ) (offset len : ℕ) → rest ≡ drop offset bytes → IsFirstByte is_nul rest (Some len) → Some (take len rest) ≡ text_at bytes offset
 text_there bytes rest offset len e found =
     let h = subst (λ (r : List ℕ). IsFirstByte is_nul r (Some len)) e found in
-    let at = nul_at (drop offset bytes) len h in
+    let at = found_at is_nul (drop offset bytes) len h in
     rw (at, lt-ltb _ _ h.0.high) (ap (λ (r : List ℕ). Some (take len r)) e)
 
 pub text_missing : (bytes rest : List ℕ) (offset : ℕ) → rest ≡ drop offset bytes → IsFirstByte is_nul rest None → text_at bytes offset ≡ None
 text_missing bytes rest offset e none =
-    ap (option_map (λ len. take len (drop offset bytes))) (no_nul (drop offset bytes) (subst (λ (r : List ℕ). IsFirstByte is_nul r None) e none))
+    ap (option_map (λ len. take len (drop offset bytes))) (sym (first_place is_nul (drop offset bytes) None (subst (λ (r : List ℕ). IsFirstByte is_nul r None) e none)))
 
 pub text_beyond : (bytes : List ℕ) (offset : ℕ) → length bytes < offset → text_at bytes offset ≡ None
 text_beyond bytes offset lt = text_missing bytes (drop offset bytes) offset refl (λ k low high passes. omega (arith, length-drop offset bytes))

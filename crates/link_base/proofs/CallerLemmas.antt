@@ -1,6 +1,6 @@
 -- What callers may cite: the least number that passes, in a loop that counts up, and what all numbers below one pass.
 use Rattle.std.proofs.Common.{List, ◌++◌, length, drop, ◌^◌, ◌≡◌, ℕ, zero, suc, ◌+◌, ◌<◌, Bool, true, false, cond, ◌&&◌, Option, Some, None, refl, sym, ap, ◌∙◌, inl, inr, ◌⊎◌, add-one, arith}
-use Rattle.std.proofs.lemmas.Bool.{false≢true, cases_lt}
+use Rattle.std.proofs.lemmas.Bool.{false≢true, cases_lt, and_parts, and_right}
 use Rattle.byteorder.specs.Numbers.{little_number-reads_back, length-bytes_low_first}
 use Rattle.std.specs.Option.{option_or}
 use Rattle.link_base.specs.Bytes.{all_below, first_below, number_at, number_bytes}
@@ -71,16 +71,12 @@ pub all_below-more : (n : ℕ) (test : ℕ → Bool) → all_below n test ≡ tr
 unfolding all_below
 all_below-more n test all passes = rw (add-one, all, passes) refl
 
-both_true : (a b : Bool) → (a && b) ≡ true → (a ≡ true) × (b ≡ true)
-both_true true b e = (refl, e)
-both_true false b e = absurd (false≢true e)
-
 -- all pass: each passes
 pub all_below-each : (n : ℕ) (test : ℕ → Bool) → all_below n test ≡ true → (k : ℕ) → k < n → test k ≡ true
 unfolding all_below
 all_below-each zero test all k lt = absurd (omega arith)
 all_below-each (suc n) test all k lt =
-    let both = both_true (all_below n test) (test n) all in
+    let both = and_parts (all_below n test) (test n) all in
     elim (cases_lt k n) [
       | inl below ↦ all_below-each n test both.0 k below
       | inr above ↦ let same : k ≡ n = omega arith in ap test same ∙ both.1
@@ -93,12 +89,8 @@ all_below-fails zero k test lt fails = absurd (omega arith)
 all_below-fails (suc n) k test lt fails =
     elim (cases_lt k n) [
       | inl below ↦ rw (all_below-fails n k test below fails) refl
-      | inr above ↦ let same : n ≡ k = omega arith in rw (same, fails) (and_false (all_below k test))
+      | inr above ↦ let same : n ≡ k = omega arith in rw (same, fails) (and_right (all_below k test) false refl)
     ]
-  where
-    and_false : (b : Bool) → (b && false) ≡ false
-    and_false true = refl
-    and_false false = refl
 
 -- ---- a number that is written and read back
 

@@ -4,3 +4,5 @@ pub mod CallerLemmas
 pub mod RangeLemmas
 pub mod TestLemmas
 pub mod RefusalLemmas
+pub mod FoundLemmas
+pub mod PutLemmas

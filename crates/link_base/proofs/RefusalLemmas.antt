@@ -9,6 +9,11 @@ use Rattle.link_base.specs.Refusals.{first_refusal_below, RefusesFor}
 
 -- ---- stages, one after the other
 
+-- the first of one alone
+pub or_none : {A : Type 0} (first : Option A) → option_or first None ≡ first
+or_none None = refl
+or_none (Some x) = refl
+
 -- none of two stands
 pub neither_stands : {A : Type 0} (first later : Option A) → first ≡ None → later ≡ None → option_or first later ≡ None
 neither_stands first later none none_later = rw none none_later
