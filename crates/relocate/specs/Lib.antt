@@ -4,3 +4,4 @@ pub mod Judged
 pub mod Taken
 pub mod Value
 pub mod Written
+pub mod PatchedBytes
