@@ -18,7 +18,7 @@ pub use Rattle.address_layout.proofs.StandingLemmas.{row_here}
 pub use Rattle.address_layout.proofs.ArrangementLemmas.{Aligned, aligned_rows}
 pub use Rattle.address_layout.proofs.Theorems.{one_layout, one_image_size}
 use Rattle.std.proofs.Common.{rules}
-use Rattle.std.proofs.lemmas.Bool.{false≢true, eqb-true}
+use Rattle.std.proofs.lemmas.Bool.{false≢true, eqb-true, and_parts}
 use Rattle.std.proofs.lemmas.Cmp.{nat_cmp_total}
 use Rattle.std.proofs.lemmas.List.Elements.{All-head, All-tail, All-append, All-nil, All-from_recursion, recursion_from_All, Contains-get_or, Contains-append_left, Contains-append_right, Contains-append_cases}
 use Rattle.std.proofs.lemmas.Map.Keys.{IsDistinct-from_apart, IsDistinct-cons}
@@ -28,7 +28,6 @@ use Rattle.section_group.specs.SectionOrder.{Input, is_used, section_name, place
 use Rattle.section_group.specs.Placement.{goes_to, section_attributes, needs_place, IsSection, IsGrouping}
 use Rattle.section_group.proofs.ChainLemmas.{same_is}
 use Rattle.section_group.proofs.PartLemmas.{used_within}
-use Rattle.section_group.proofs.SectionLemmas.{both_parts}
 use Rattle.section_group.proofs.OrderLemmas.{not_before_itself}
 use Rattle.address_layout.specs.Layout.{all_pieces, StandOnce}
 
@@ -51,8 +50,8 @@ record Home (input : Input) (name : List ℕ) (attributes k : ℕ) : Type 0 wher
 
 home : (input : Input) (name : List ℕ) (attributes k : ℕ) → IsTrue (goes_to input name attributes k) → Home input name attributes k
 home input name attributes k goes =
-    let parts = both_parts (is_used input k) (same_name (section_name input k) name && eqb (section_attributes input k) attributes) goes in
-    let more = both_parts (same_name (section_name input k) name) (eqb (section_attributes input k) attributes) parts.1 in
+    let parts = and_parts (is_used input k) (same_name (section_name input k) name && eqb (section_attributes input k) attributes) goes in
+    let more = and_parts (same_name (section_name input k) name) (eqb (section_attributes input k) attributes) parts.1 in
     record {
       used = parts.0;
       named = same_is (section_name input k) name more.0;

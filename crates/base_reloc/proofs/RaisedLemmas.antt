@@ -1,10 +1,10 @@
 -- What raising fields leaves of a memory.
 use Rattle.std.proofs.Common.{◌≡◌, ℕ, zero, suc, ◌+◌, ◌-◌, ◌*◌, ◌%◌, ◌^◌, ◌<◌, ◌≤◌, Bool, true, false, cond, List, [], ◌∷◌, ◌++◌, length, take, drop, get_or, slice_index, refl, sym, ap, ◌∙◌, inl, inr, length-append, length-drop, arith}
-use Rattle.std.proofs.lemmas.List.{get_or_append_left, get_or-append_right, get_or-take, get_or-drop, drop_at, length-take-le}
 use Rattle.std.proofs.Math.Nat.{mod-lt}
-use Rattle.byteorder.specs.Endian.{little_from, little_bytes}
+use Rattle.byteorder.specs.Endian.{little_bytes}
 use Rattle.link_base.specs.Bytes.{number_at, number_bytes}
-use Rattle.link_base.proofs.CallerLemmas.{number_at-drop, number_at-number_bytes, length-number_bytes}
+use Rattle.link_base.proofs.CallerLemmas.{length-number_bytes}
+use Rattle.link_base.proofs.PutLemmas.{put_over, length-put_over, put_before, put_after, number_put, number_at-same}
 use Rattle.base_reloc.specs.declared.field.BaseField.{BaseField}
 use Rattle.base_reloc.specs.Blocks.{width_of, raised, raised_all}
 use Rattle.base_reloc.specs.Raising.{IsOutside, IsOutsideAll, ArePartedBy, ShareNoByte, AreRaised}
@@ -16,43 +16,12 @@ length-little_bytes : (width number : ℕ) → length (little_bytes width number
 unfolding number_bytes
 length-little_bytes width number = length-number_bytes width number
 
--- bytes put over others
-put_over : ℕ → List ℕ → List ℕ → List ℕ
-put_over rva bytes memory = take rva memory ++ (bytes ++ drop (rva + length bytes) memory)
-
-length-put_over : (rva : ℕ) (bytes memory : List ℕ) → rva + length bytes ≤ length memory → length (put_over rva bytes memory) ≡ length memory
-unfolding put_over
-length-put_over rva bytes memory le =
-    omega (arith, length-append (take rva memory) (bytes ++ drop (rva + length bytes) memory), length-append bytes (drop (rva + length bytes) memory), length-take-le rva memory (omega arith), length-drop (rva + length bytes) memory)
-
-put_before : (rva i : ℕ) (bytes memory : List ℕ) → rva + length bytes ≤ length memory → i < rva → slice_index (put_over rva bytes memory) i ≡ slice_index memory i
-unfolding put_over
-put_before rva i bytes memory le lt =
-    let len = length-take-le rva memory (omega arith) in
-    get_or_append_left (take rva memory) (bytes ++ drop (rva + length bytes) memory) 0 i (omega (arith, len)) ∙ get_or-take rva memory i 0 lt
-
-put_behind : (rva i : ℕ) (bytes memory : List ℕ) → rva + length bytes ≤ length memory → rva + length bytes ≤ i → slice_index (put_over rva bytes memory) i ≡ slice_index memory i
-unfolding put_over
-put_behind rva i bytes memory le ge =
-    get_or-append_right (take rva memory) (bytes ++ drop (rva + length bytes) memory) rva i 0 (length-take-le rva memory (omega arith)) (omega arith)
-    ∙ get_or-append_right bytes (drop (rva + length bytes) memory) (length bytes) (i - rva) 0 refl (omega arith)
-    ∙ get_or-drop (rva + length bytes) memory (i - rva - length bytes) 0
-    ∙ ap (slice_index memory) (back rva (length bytes) i ge)
-  where
-    back : (a b c : ℕ) → a + b ≤ c → a + b + (c - a - b) ≡ c
-    back a b c le = omega arith
-
-put_there : (rva : ℕ) (bytes memory : List ℕ) → rva + length bytes ≤ length memory → drop rva (put_over rva bytes memory) ≡ bytes ++ drop (rva + length bytes) memory
-unfolding put_over
-put_there rva bytes memory le =
-    drop_at (take rva memory) (bytes ++ drop (rva + length bytes) memory) rva (length-take-le rva memory (omega arith))
-
 -- what a field holds when it is raised
 raised_number : ℕ → List ℕ → BaseField → ℕ
 raised_number delta memory field = (number_at (width_of field) memory field.rva + delta) % 2 ^ (8 * width_of field)
 
 raised_put : (delta : ℕ) (memory : List ℕ) (field : BaseField) → raised delta memory field ≡ put_over field.rva (little_bytes (width_of field) (raised_number delta memory field)) memory
-unfolding put_over raised_number
+unfolding raised_number
 raised_put delta memory field =
     ap (λ (k : ℕ). take field.rva memory ++ (little_bytes (width_of field) (raised_number delta memory field) ++ drop (field.rva + k) memory)) (sym (length-little_bytes (width_of field) (raised_number delta memory field)))
 
@@ -69,7 +38,7 @@ raised_outside delta memory field i le outside =
     let len = length-little_bytes (width_of field) (raised_number delta memory field) in
     let room = raised_room delta memory field le in
     ap (λ (xs : List ℕ). slice_index xs i) (raised_put delta memory field)
-    ∙ elim outside [ inl lt ↦ put_before field.rva i bytes memory room lt | inr ge ↦ put_behind field.rva i bytes memory room (omega (arith, len, ge)) ]
+    ∙ elim outside [ inl lt ↦ put_before field.rva i bytes memory room lt | inr ge ↦ put_after field.rva i bytes memory room (omega (arith, len, ge)) ]
 
 number_fits : (n : ℕ) (b : Bool) → n % 2 ^ (8 * cond b 8 4) < 256 ^ cond b 8 4
 number_fits n true = mod-lt n (omega arith)
@@ -78,29 +47,9 @@ number_fits n false = mod-lt n (omega arith)
 pub raised_holds : (delta : ℕ) (memory : List ℕ) (field : BaseField) → field.rva + width_of field ≤ length memory → number_at (width_of field) (raised delta memory field) field.rva ≡ (number_at (width_of field) memory field.rva + delta) % 2 ^ (8 * width_of field)
 unfolding raised_number number_bytes
 raised_holds delta memory field le =
-    let width : ℕ = width_of field in
-    let bytes : List ℕ = little_bytes width (raised_number delta memory field) in
-    ap (λ (xs : List ℕ). number_at width xs field.rva) (raised_put delta memory field)
-    ∙ ap (number_at width (put_over field.rva bytes memory)) (zero_more field.rva)
-    ∙ sym (number_at-drop width field.rva 0 (put_over field.rva bytes memory))
-    ∙ ap (λ (xs : List ℕ). number_at width xs 0) (put_there field.rva bytes memory (raised_room delta memory field le))
-    ∙ number_at-number_bytes width (raised_number delta memory field) (drop (field.rva + length bytes) memory) (number_fits (number_at width memory field.rva + delta) field.wide)
-  where
-    zero_more : (n : ℕ) → n ≡ n + 0
-    zero_more n = omega arith
-
--- ---- a number is of its bytes
-
-little_same : (width i : ℕ) (xs ys : List ℕ) → ((k : ℕ) → i ≤ k → k < i + width → slice_index xs k ≡ slice_index ys k) → little_from i width xs ≡ little_from i width ys
-little_same zero i xs ys same = refl
-little_same (suc width) i xs ys same =
-    let here = same i (omega arith) (omega arith) in
-    let more = little_same width (suc i) xs ys (λ k low high. same k (omega arith) (omega arith)) in
-    rw (here, more) refl
-
-pub number_at-same : (width offset : ℕ) (xs ys : List ℕ) → ((k : ℕ) → offset ≤ k → k < offset + width → slice_index xs k ≡ slice_index ys k) → number_at width xs offset ≡ number_at width ys offset
-unfolding number_at
-number_at-same width offset xs ys same = little_same width offset xs ys same
+    let number = raised_number delta memory field in
+    ap (λ (xs : List ℕ). number_at (width_of field) xs field.rva) (raised_put delta memory field)
+    ∙ number_put field.rva (width_of field) number memory (raised_room delta memory field le) (number_fits (number_at (width_of field) memory field.rva + delta) field.wide)
 
 -- ---- all fields
 

@@ -1,13 +1,13 @@
 -- What callers may cite of a well formed object: what is in the file, what the fields can be, and where symbols
 -- start; of loops over its symbols; and of the first bytes of a text.
 use Rattle.std.proofs.Common.{◌≡◌, ℕ, zero, suc, ◌-◌, ◌*◌, ◌^◌, ◌<◌, ◌≤◌, Bool, true, false, cond, ◌&&◌, not, eqb, List, length, drop, None, refl, sym, ap, ◌∙◌, ◌⊎◌, inl, inr, lit≤, arith}
-use Rattle.std.proofs.lemmas.Bool.{cases_lt, false≢true}
+use Rattle.std.proofs.lemmas.Bool.{cases_lt, false≢true, ltb-false}
 use Rattle.std.proofs.lemmas.Bool.Decides.{eqb_tells}
 use Rattle.std.proofs.lemmas.List.{length-take-le, length-drop}
 use Rattle.std.proofs.lemmas.List.FromFn.{length-map-range_with_len}
 use Rattle.link_base.specs.Bytes.{bytes_at, has_flag}
 use Rattle.link_base.specs.PeFormat.{SCN_TYPE_NO_PAD}
-use Rattle.link_base.proofs.TestLemmas.{and_second, ltb_false}
+use Rattle.link_base.proofs.TestLemmas.{and_second}
 use Rattle.coff_records.specs.Relocations.{relocations_from}
 use Rattle.coff_records.specs.SymbolRecord.{SymbolView, section_number_in, section_of_number, value_in}
 use Rattle.coff_records.specs.ObjectFile.{section_total, section_at, flags_of, alignment_value, alignment_of, raw_size_of, raw_offset_of, is_uninitialised, relocation_total, relocations_of, record_total, symbol_at, symbol_size, symbol_section_of, symbol_value_of, starts_symbol}
@@ -41,7 +41,7 @@ symbol_section_inside file index e starts =
 value_stays : (file : List ℕ) (symbol : SymbolView) → value_exceeds file symbol ≡ false → is_in_section symbol ≡ true → value_in symbol ≤ raw_size_of file (section_of_number (section_number_in symbol))
 unfolding value_exceeds
 value_stays file symbol e here =
-    ltb_false (raw_size_of file (section_of_number (section_number_in symbol))) (value_in symbol) (and_second (is_in_section symbol) _ here e)
+    ltb-false (raw_size_of file (section_of_number (section_number_in symbol))) (value_in symbol) (and_second (is_in_section symbol) _ here e)
 
 -- the value of an external symbol, a static one or a label in a section is at most the section's size
 pub symbol_value_inside : (file : List ℕ) (index : ℕ) → object_fault file ≡ None → starts_symbol file index ≡ true → is_in_section (symbol_at file index) ≡ true → symbol_value_of file index ≤ raw_size_of file (section_of_number (symbol_section_of file index))

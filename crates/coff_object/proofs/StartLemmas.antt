@@ -2,8 +2,7 @@
 -- other. They are the least that hold these rules.
 use Rattle.std.proofs.Common.{◌≡◌, ℕ, zero, suc, ◌+◌, ◌-◌, ◌<◌, ◌≤◌, Bool, true, false, cond, ◌||◌, eqb, ltb, List, [], ◌∷◌, map, None, refl, sym, ap, ◌∙◌, inl, inr, ◌⊎◌, lt-ltb, arith, subst}
 use Rattle.std.specs.List.{list_any}
-use Rattle.std.proofs.lemmas.Bool.{false≢true, eqb-true, eq-eqb, ltb-true}
-use Rattle.link_base.proofs.TestLemmas.{ltb_false}
+use Rattle.std.proofs.lemmas.Bool.{false≢true, eqb-true, eq-eqb, ltb-true, ltb-false}
 use Rattle.coff_records.specs.ObjectHeader.{record_total}
 use Rattle.coff_records.specs.ObjectFile.{aux_total_of, starts_within, symbols_of, starts_symbol, SymbolEntry, symbol_entry, symbol_entries}
 use Rattle.coff_object.specs.ObjectFaults.{aux_leave, first_of, object_fault}
@@ -125,4 +124,4 @@ each_passes file fails index none e = passes_in file fails index (symbols_of fil
 -- a symbol's auxiliary records are in the table
 pub symbol_room : (file : List ℕ) (index : ℕ) → object_fault file ≡ None → starts_symbol file index ≡ true → index + 1 + aux_total_of file index ≤ record_total file
 symbol_room file index e starts =
-    ltb_false (record_total file) (index + 1 + aux_total_of file index) (each_passes file (aux_leave file) index (aux_hold file (no_fault file e).symbols) starts)
+    ltb-false (record_total file) (index + 1 + aux_total_of file index) (each_passes file (aux_leave file) index (aux_hold file (no_fault file e).symbols) starts)

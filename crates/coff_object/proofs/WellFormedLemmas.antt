@@ -1,7 +1,8 @@
 -- What an object is in which no kind of fault stands, and what shows that none does.
 use Rattle.std.proofs.Common.{◌≡◌, ℕ, ◌+◌, Bool, true, false, cond, ltb, List, length, Option, Some, None, refl, sym, ap, ◌∙◌}
+use Rattle.std.proofs.lemmas.Bool.{ltb-false}
 use Rattle.std.specs.Option.{option_or}
-use Rattle.link_base.proofs.TestLemmas.{or_left, or_right, ltb_false}
+use Rattle.link_base.proofs.TestLemmas.{or_left, or_right}
 use Rattle.link_base.proofs.CallerLemmas.{first_below-none}
 use Rattle.link_base.specs.declared.kinds.object.ObjFault.{ObjFault}
 use Rattle.coff_object.specs.declared.error.ObjError.{ObjError}
@@ -87,7 +88,7 @@ faultless file none =
 records_whole : (file : List ℕ) → first_torn_record file ≡ None → HasRecords file
 unfolding first_torn_record
 records_whole file none = record {
-  whole = λ index lt. ltb_false (length file) (record_offset file index + symbol_size file) (first_below-none (record_total file) (record_leaves file) none index lt);
+  whole = λ index lt. ltb-false (length file) (record_offset file index + symbol_size file) (first_below-none (record_total file) (record_leaves file) none index lt);
 }
 
 pub range_holds : (file : List ℕ) → symbol_range_fault file ≡ None → HasRecords file

@@ -1,5 +1,4 @@
 pub mod HeaderLemmas
-pub mod NameLemmas
 pub mod TextLemmas
 pub mod TextStartLemmas
 pub mod WholeLemmas

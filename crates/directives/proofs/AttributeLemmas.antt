@@ -2,7 +2,7 @@
 use Rattle.std.proofs.Common.{◌≡◌, ℕ, ◌+◌, ◌<◌, Bool, true, false, ◌&&◌, ◌||◌, leb, cond, List, [], ◌∷◌, map, length, take, drop, get_or, fold, Option, Some, None, is_some, option_map, refl, sym, ap, ◌∙◌, zero-add, arith}
 use Rattle.std.proofs.Math.ListN.{get_or-map, length-map}
 use Rattle.std.specs.List.{take-map, count_by, list_all, list_any, filter_map, last_or, slice_split}
-use Rattle.std.proofs.lemmas.Bool.{lt-leb}
+use Rattle.std.proofs.lemmas.Bool.{lt-leb, and_right}
 use Rattle.std.proofs.lemmas.List.{take-append-drop}
 use Rattle.std.proofs.lemmas.List.Sums.{fold-append, fold_more, sum_by-cons}
 use Rattle.directives.specs.Text.{is_comma}
@@ -44,10 +44,6 @@ free_second kind part parts e =
 free_of_none : (kind : Option Attribute → Bool) (parts : List (Option Attribute)) → free false kind parts ≡ rule.once kind parts
 free_of_none kind parts = ap (λ (n : ℕ). leb n 1) (zero-add (count_by kind parts))
 
-and_false : (b : Bool) → (b && false) ≡ false
-and_false true = refl
-and_false false = refl
-
 or_false : (b : Bool) → (b || false) ≡ b
 or_false true = refl
 or_false false = refl
@@ -83,7 +79,7 @@ first : (a b : Bool) → a ≡ false → (a && b) ≡ false
 first a b e = ap (λ (t : Bool). t && b) e
 
 later : (a b : Bool) → b ≡ false → (a && b) ≡ false
-later a b e = ap (λ (t : Bool). a && t) e ∙ and_false a
+later a b e = ap (λ (t : Bool). a && t) e ∙ and_right a false refl
 
 -- a part that is refused, and a part that is taken
 module _ (x : Attribute) (parts : List (Option Attribute)) where

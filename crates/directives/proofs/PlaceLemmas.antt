@@ -1,10 +1,10 @@
 -- Where the first byte that passes stands, and what stands before it, from it on and after it.
-use Rattle.std.proofs.Common.{◌≡◌, ℕ, ◌+◌, ◌<◌, ◌≤◌, Bool, true, false, cond, ltb, List, [], length, take, drop, Option, Some, None, refl, sym, ap, ◌∙◌, inl, inr, arith, lt-ltb, le-ltb}
+use Rattle.std.proofs.Common.{◌≡◌, ℕ, ◌+◌, ◌<◌, ◌≤◌, Bool, true, false, cond, ltb, List, [], length, take, drop, Some, None, sym, ap, ◌∙◌, inl, inr, arith, lt-ltb}
 use Rattle.std.specs.List.{position, position_or_len, before_first, after_first}
 use Rattle.std.proofs.Math.Seq.{take-length}
 use Rattle.std.proofs.Math.ListN.{drop_of_length-le}
-use Rattle.std.proofs.lemmas.List.Sums.{prefix_len-le-length, passes_at_first, fails_before_first}
-use Rattle.std.proofs.lemmas.Bool.{cases_lt, false≢true}
+use Rattle.std.proofs.lemmas.List.Sums.{prefix_len-le-length}
+use Rattle.std.proofs.lemmas.Bool.{cases_lt}
 use Rattle.memchr.specs.Find.{IsFirstByte}
 use mathlib.Core.Bool.{not}
 
@@ -33,28 +33,6 @@ before_none p text e = sym (ap (λ (k : ℕ). take k text) (sym (place_none p te
 
 pub after_none : (p : ℕ → Bool) (text : List ℕ) → None ≡ position p text → [] ≡ after_first p text
 after_none p text e = sym (ap (λ (k : ℕ). drop (k + 1) text) (sym (place_none p text e)) ∙ drop_of_length-le text (omega arith))
-
--- ---- the answer of a search
-
-found_at : (test : ℕ → Bool) (text : List ℕ) (k : ℕ) → IsFirstByte test text (Some k) → position_or_len test text ≡ k
-found_at test text k h =
-    let p = position_or_len test text in
-    elim (cases_lt p k) [
-      | inl lt ↦ absurd (h.0.before p (omega arith) lt (passes_at_first test text 0 (omega (arith, h.0.high))))
-      | inr le ↦ elim (cases_lt k p) [
-        | inl lt ↦ absurd (false≢true (sym (fails_before_first test text k 0 lt) ∙ h.1))
-        | inr ge ↦ omega arith
-      ]
-    ]
-
--- it is the first place that passes
-pub first_place : (test : ℕ → Bool) (text : List ℕ) (r : Option ℕ) → IsFirstByte test text r → r ≡ position test text
-first_place test text None none =
-    elim (cases_lt (position_or_len test text) (length text)) [
-      | inl lt ↦ absurd (none (position_or_len test text) (omega arith) lt (passes_at_first test text 0 lt))
-      | inr le ↦ rw (le-ltb _ _ le) refl
-    ]
-first_place test text (Some k) h = rw (found_at test text k h, lt-ltb _ _ h.0.high) refl
 
 pub first_within : (test : ℕ → Bool) (text : List ℕ) (k : ℕ) → IsFirstByte test text (Some k) → k < length text
 first_within test text k h = h.0.high

@@ -8,7 +8,7 @@ use link_base::NAME_LIMIT;
 use memchr::memchr;
 
 /// Where such a byte stands first.
-#[tactic(auto, using(crate::proofs::PlaceLemmas::first_place))]
+#[tactic(auto, using(link_base::proofs::FoundLemmas::first_place))]
 pub(crate) fn place_of(text: &[u8], byte: u8) -> Option<usize>
     ensures is { result ≡ position (λ b. b == byte) text.now }
     ensures within { IfSome result (λ at. at < length text.now) }

@@ -14,7 +14,8 @@ use Rattle.address_layout.specs.declared.layout.Layout.{Layout}
 use Rattle.address_layout.specs.Places.{row_at, piece_in, piece_end, piece_floor, end_before, file_before}
 use Rattle.address_layout.specs.Layout.{all_pieces, placed_at}
 use Rattle.address_layout.proofs.CallerLemmas.{row_here}
-use Rattle.image_writer.specs.WrittenImage.{piece_contents, place_in, IsSectionLaidOut, IsLaidOut, HasRoom, HaveRoom, HasItsBytes, HasContents}
+use Rattle.section_group.specs.PieceContents.{piece_contents, HasItsBytes}
+use Rattle.image_writer.specs.WrittenImage.{place_in, IsSectionLaidOut, IsLaidOut, HasRoom, HaveRoom, HasContents}
 use Rattle.image_writer.specs.RawData.{section_bytes}
 use Rattle.image_writer.specs.RawData.{next_place, Ascend}
 use Rattle.image_writer.proofs.RawLemmas.{Lie}

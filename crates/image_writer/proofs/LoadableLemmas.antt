@@ -14,7 +14,8 @@ use Rattle.image_writer.specs.declared.headers.Headers.{Headers}
 use Rattle.image_writer.specs.HeaderTable.{size_of_headers}
 use Rattle.image_writer.specs.ExpectedImage.{PlacedBytes, ImagePlan, MeansPlan, plan_bytes, permits, expected_byte, expected_image, image_file}
 use Rattle.image_writer.specs.LoadablePlan.{HasOneLength, IsRelocatable, IsWritable, IsLoadable, AreRowsPlaced, AreInRows}
-use Rattle.image_writer.specs.WrittenImage.{piece_contents, placed_piece, section_pieces, section_rows, written_plan, at_each_base, layout_plan, HaveRoom, IsLaidOut, HasContents}
+use Rattle.section_group.specs.PieceContents.{piece_contents}
+use Rattle.image_writer.specs.WrittenImage.{placed_piece, section_pieces, section_rows, written_plan, at_each_base, layout_plan, HaveRoom, IsLaidOut, HasContents}
 use Rattle.image_writer.proofs.PlanBytes.{written_bytes}
 use Rattle.image_writer.proofs.ChainLemmas.{start_inside, rows_placed, pieces_in_rows}
 use Rattle.image_writer.proofs.LaidOutLemmas.{have_room, laid_out_written}

@@ -8,7 +8,8 @@ use Rattle.section_group.specs.Uniqueness.{SectionRow as OutRow, row_of, rows_of
 use Rattle.address_layout.specs.declared.layout.Placed.{Placed}
 use Rattle.address_layout.specs.Layout.{placed_at}
 use Rattle.image_writer.specs.ExpectedImage.{PlacedBytes}
-use Rattle.image_writer.specs.WrittenImage.{header_row, section_rows, piece_contents}
+use Rattle.section_group.specs.PieceContents.{piece_contents}
+use Rattle.image_writer.specs.WrittenImage.{header_row, section_rows}
 use Rattle.image_writer.specs.RawData.{section_bytes}
 use Rattle.image_writer.specs.RawData.{laid, laid_all}
 

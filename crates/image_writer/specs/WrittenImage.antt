@@ -1,12 +1,13 @@
 -- The image that a layout of sections and pieces means, and what is asked of the layout (PE Format, "Section Table
 -- (Section Headers)"; the rest is own).
-use Rattle.std.specs.Prelude.{◌≡◌, ◌≤◌, ◌<◌, ℕ, ◌+◌, ◌%◌, ◌^◌, ◌==◌, IsTrue, if◌then◌else◌, List, [], ◌∷◌, length, map, slice_index, slice_index_or, unwrap_or, option_copied}
+use Rattle.std.specs.Prelude.{◌≡◌, ◌≤◌, ◌<◌, ℕ, ◌+◌, ◌%◌, ◌^◌, ◌==◌, IsTrue, if◌then◌else◌, List, [], ◌∷◌, length, map, slice_index, slice_index_or}
 use Rattle.std.specs.List.{All, flat_map}
 use Rattle.link_base.specs.PeFormat.{PAGE_SIZE}
 use Rattle.link_base.specs.Limits.{SECTION_LIMIT, IMAGE_LIMIT}
 use Rattle.section_group.specs.declared.piece.Piece.{Piece}
 use Rattle.section_group.specs.declared.piece.OutSection.{OutSection}
 use Rattle.section_group.specs.SectionOrder.{no_piece}
+use Rattle.section_group.specs.PieceContents.{HasItsBytes}
 use Rattle.section_group.specs.Uniqueness.{SectionRow as OutRow, rows_of}
 use Rattle.address_layout.specs.declared.layout.Placed.{Placed}
 use Rattle.address_layout.specs.declared.layout.Layout.{Layout}
@@ -19,10 +20,6 @@ use Rattle.image_writer.specs.HeaderTable.{size_of_headers}
 use Rattle.image_writer.specs.ExpectedImage.{PlacedPiece, ImagePlan}
 
 -- ---- the plan
-
--- the bytes that a piece has in the file: those of an initialised one, where it has any
-abbrev pub piece_contents : Piece → List ℕ
-piece_contents piece = if piece.init then unwrap_or (option_copied piece.body) [] else []
 
 -- what the section table says of a section
 abbrev pub header_row : OutRow → Placed → SectionHeader
@@ -104,11 +101,6 @@ HasRoom pieces contents k =
 
 abbrev pub HaveRoom : List Piece → List OutSection → List (List ℕ) → Type 0
 HaveRoom pieces sections contents = All (HasRoom pieces contents) (all_pieces sections)
-
--- an initialised piece has as many bytes as its size
-abbrev pub HasItsBytes : List Piece → ℕ → Type 0
-HasItsBytes pieces k =
-    IsTrue (slice_index_or pieces k no_piece).init → length (piece_contents (slice_index_or pieces k no_piece)) ≡ (slice_index_or pieces k no_piece).size
 
 -- each initialised piece of a section has its bytes
 abbrev pub HasContents : List Piece → List OutSection → Type 0

@@ -14,7 +14,8 @@ ghost use Rattle.address_layout.specs.Growth.{CanGrow, Appends};
 ghost use Rattle.image_writer.specs.declared.headers.Headers.{Headers};
 ghost use Rattle.image_writer.specs.ExpectedImage.{ImagePlan, MeansPlan, permits, image_file};
 ghost use Rattle.image_writer.specs.LoadablePlan.{IsLoadable};
-ghost use Rattle.image_writer.specs.WrittenImage.{piece_contents, at_each_base, layout_plan, HaveRoom, IsLaidOut, HasContents};
+ghost use Rattle.section_group.specs.PieceContents.{piece_contents};
+ghost use Rattle.image_writer.specs.WrittenImage.{at_each_base, layout_plan, HaveRoom, IsLaidOut, HasContents};
 ghost use Rattle.image_writer.specs.PieceInFile.{piece_at, piece_place, patched, DiffersAt};
 
 /// The file of a loadable plan loads as the plan says: at each permitted base and at no other, with the fields of its base

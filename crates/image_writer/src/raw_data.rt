@@ -3,7 +3,8 @@
 ghost use Rattle.std.specs.Prelude.{◌≡◌, ◌<◌, ◌≤◌, ◌+◌, ◌^◌, ◌++◌, length, map, replicate, slice_index, IfOk, OnOk};
 ghost use Rattle.std.specs.List.{All};
 ghost use Rattle.section_group.specs.Uniqueness.{rows_of};
-ghost use Rattle.image_writer.specs.WrittenImage.{piece_contents, IsLaidOut, HasContents};
+ghost use Rattle.section_group.specs.PieceContents.{piece_contents};
+ghost use Rattle.image_writer.specs.WrittenImage.{IsLaidOut, HasContents};
 ghost use Rattle.image_writer.specs.RawData.{section_bytes, gap, next_place, laid, laid_all, Ascend};
 
 use crate::bytes_out::push_zeros;

@@ -3,7 +3,7 @@
 ghost use Rattle.std.specs.Prelude.{◌≡◌, ◌<◌, ◌^◌, IsTrue, length};
 ghost use Rattle.std.specs.List.{All};
 ghost use Rattle.address_layout.specs.Layout.{IsAlignment, StandOnce};
-ghost use Rattle.image_writer.specs.WrittenImage.{piece_contents};
+ghost use Rattle.section_group.specs.PieceContents.{piece_contents};
 
 use crate::{Headers, image};
 use address_layout::place;

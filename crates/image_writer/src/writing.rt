@@ -3,7 +3,8 @@
 ghost use Rattle.std.specs.Prelude.{◌≡◌, ◌<◌, ◌^◌, map, IfOk};
 ghost use Rattle.address_layout.specs.Growth.{raw_end};
 ghost use Rattle.image_writer.specs.ExpectedImage.{image_file};
-ghost use Rattle.image_writer.specs.WrittenImage.{piece_contents, at_each_base, layout_plan, IsLaidOut, HasContents};
+ghost use Rattle.section_group.specs.PieceContents.{piece_contents};
+ghost use Rattle.image_writer.specs.WrittenImage.{at_each_base, layout_plan, IsLaidOut, HasContents};
 
 use crate::headers::{Headers, push_headers};
 use crate::raw_data::push_sections;

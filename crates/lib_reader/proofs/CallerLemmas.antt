@@ -1,12 +1,13 @@
 -- What callers may cite: what `first_of_name` says of the listings, and what is whole in a member that is not refused.
 use Rattle.std.proofs.Common.{◌≡◌, ℕ, zero, suc, ◌+◌, ◌<◌, ◌≤◌, Bool, true, false, cond, List, [], ◌∷◌, length, drop, Option, Some, None, refl, sym, ap, ◌∙◌, arith}
+use Rattle.std.proofs.lemmas.Bool.{ltb-false}
 use Rattle.std.specs.Prelude.{nat_eq, is_none}
 use Rattle.std.specs.List.{slice_get}
 use Rattle.std.proofs.lemmas.List.{length-take-le, length-drop}
 use lib.Pointwise.{pointwise}
 use Rattle.std.specs.Option.{option_or}
 use Rattle.link_base.specs.Refusals.{shown}
-use Rattle.link_base.proofs.TestLemmas.{or_right, ltb_false}
+use Rattle.link_base.proofs.TestLemmas.{or_right}
 use Rattle.lib_reader.specs.ArchiveMember.{size_number, size_of, data_place, data_of, header_is_bad, size_is_bad}
 use Rattle.lib_reader.specs.MemberFault.{member_fault}
 use Rattle.lib_reader.specs.Listing.{Entry, first_of_name}
@@ -71,7 +72,7 @@ unfolding member_fault size_is_bad
 member_whole long_names bytes at none =
     let header = passed (header_is_bad bytes at) _ _ none in
     let size = passed (size_is_bad bytes at) _ _ header.1 in
-    ltb_false (length bytes) (data_place at + size_of bytes at) (or_right (is_none (size_number bytes at)) _ size.0)
+    ltb-false (length bytes) (data_place at + size_of bytes at) (or_right (is_none (size_number bytes at)) _ size.0)
 
 -- and there are as many as the header says
 pub member_length : (long_names bytes : List ℕ) (at : ℕ) → member_fault long_names bytes at ≡ None → length (data_of bytes at) ≡ size_of bytes at

@@ -1,7 +1,6 @@
 -- Where the walk ends, and what a library is by its end.
-use Rattle.std.proofs.Common.{◌≡◌, ℕ, ◌+◌, ◌<◌, ◌≤◌, Bool, true, false, ◌||◌, not, leb, List, [], length, Option, Some, None, unwrap_or, refl, sym, ap, ◌∙◌, add-one, le-leb}
+use Rattle.std.proofs.Common.{◌≡◌, ℕ, ◌+◌, ◌<◌, ◌≤◌, Bool, true, false, ◌||◌, not, leb, List, [], length, Some, None, unwrap_or, refl, sym, ap, ◌∙◌, add-one, le-leb}
 use Rattle.std.specs.Prelude.{is_some}
-use Rattle.std.specs.Option.{option_or}
 use Rattle.std.proofs.lemmas.Bool.{lt-leb}
 use Rattle.link_base.specs.Bytes.{first_below}
 use Rattle.link_base.proofs.CallerLemmas.{first_below-found, first_below-more}
@@ -11,6 +10,7 @@ use Rattle.lib_reader.specs.declared.error.LibError.{LibError}
 use Rattle.lib_reader.specs.ArchiveMember.{next_header}
 use Rattle.lib_reader.specs.MemberName.{names_directory, names_long_names, names_other, names_special}
 use Rattle.lib_reader.specs.LibraryWalk.{has_magic, header_at, text_at_position, is_past_end, is_directory, position_fault, ends_at, ends_walk, walk_end, end_fault, library_fault, long_names_of, long_names_among, first_listed, second_listed, listing_of}
+use Rattle.link_base.proofs.RefusalLemmas.{or_none}
 
 -- ---- the next header, and the first
 
@@ -41,14 +41,10 @@ pub record EndsAt (bytes : List ℕ) (position : ℕ) : Type 0 where
   pub listings : listing_of bytes ≡ unwrap_or (second_listed bytes position) (unwrap_or (first_listed bytes position) [])
   pub long_names : long_names_of bytes ≡ long_names_among bytes position
 
-alone : (fault : Option LibError) → option_or fault None ≡ fault
-alone None = refl
-alone (Some error) = refl
-
 pub ended : (bytes : List ℕ) (position : ℕ) → has_magic bytes ≡ true → walk_end bytes ≡ Some position → EndsAt bytes position
 unfolding library_fault listing_of long_names_of
 ended bytes position magic is = record {
-  fault = rw (magic, is) (alone (end_fault bytes position));
+  fault = rw (magic, is) (or_none (end_fault bytes position));
   listings = rw is refl;
   long_names = rw is refl;
 }

@@ -1,5 +1,4 @@
 pub mod HeaderLemmas
-pub mod TextLemmas
 pub mod TableLemmas
 pub mod TextsLemmas
 pub mod ListingLemmas

@@ -1,9 +1,9 @@
 -- What is whole in a directory, by its tests that do not stand.
 use Rattle.std.proofs.Common.{◌≡◌, ℕ, ◌+◌, ◌<◌, ◌≤◌, Bool, true, false, not, ltb, List, length, refl, sym}
-use Rattle.std.proofs.lemmas.Bool.{false≢true, ltb-true, leb-true}
+use Rattle.std.proofs.lemmas.Bool.{false≢true, ltb-true, leb-true, and_parts, ltb-false}
 use Rattle.link_base.specs.Bytes.{all_below}
 use Rattle.link_base.proofs.CallerLemmas.{all_below-each}
-use Rattle.link_base.proofs.TestLemmas.{or_left, or_right, and_both, ltb_false}
+use Rattle.link_base.proofs.TestLemmas.{or_left, or_right}
 use Rattle.lib_reader.specs.FirstDirectory.{first_names_place, first_table_leaves}
 use Rattle.lib_reader.specs.SecondDirectory.{member_count, name_count_place, second_count, member_index, second_names_place, second_counts_leave, has_member, second_table_leaves}
 use Rattle.lib_reader.specs.Listing.{table_leaves}
@@ -21,8 +21,8 @@ pub record FirstTable (directory : List ℕ) : Type 0 where
 pub first_whole : (directory : List ℕ) → first_table_leaves directory ≡ false → FirstTable directory
 unfolding first_table_leaves
 first_whole directory e = record {
-  count = ltb_false (length directory) 4 (or_left _ _ e);
-  offsets = ltb_false (length directory) (first_names_place directory) (or_right (ltb (length directory) 4) _ e);
+  count = ltb-false (length directory) 4 (or_left _ _ e);
+  offsets = ltb-false (length directory) (first_names_place directory) (or_right (ltb (length directory) 4) _ e);
 }
 
 -- ---- the second linker member
@@ -37,9 +37,9 @@ unfolding second_counts_leave
 second_whole directory e =
     let later = or_right (ltb (length directory) 4) _ e in
     record {
-      count = ltb_false (length directory) 4 (or_left _ _ e);
-      name_count = ltb_false (length directory) (name_count_place directory + 4) (or_left _ _ later);
-      indices = ltb_false (length directory) (second_names_place directory) (or_right (ltb (length directory) (name_count_place directory + 4)) _ later);
+      count = ltb-false (length directory) 4 (or_left _ _ e);
+      name_count = ltb-false (length directory) (name_count_place directory + 4) (or_left _ _ later);
+      indices = ltb-false (length directory) (second_names_place directory) (or_right (ltb (length directory) (name_count_place directory + 4)) _ later);
     }
 
 pub record SecondTable (directory : List ℕ) : Type 0 where
@@ -63,7 +63,7 @@ pub member_inside : (directory : List ℕ) (index : ℕ) → second_table_leaves
 unfolding has_member
 member_inside directory index e lt =
     let table = second_table directory e in
-    let both = and_both (ltb 0 (member_index directory index)) _ (all_below-each (second_count directory) (has_member directory) table.members index lt) in
+    let both = and_parts (ltb 0 (member_index directory index)) _ (all_below-each (second_count directory) (has_member directory) table.members index lt) in
     record {
       first = ltb-true 0 (member_index directory index) both.0;
       last = leb-true (member_index directory index) (member_count directory) both.1;

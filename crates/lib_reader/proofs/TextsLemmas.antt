@@ -2,10 +2,9 @@
 use Rattle.std.proofs.Common.{◌≡◌, ℕ, zero, suc, ◌+◌, ◌-◌, ◌<◌, true, false, List, length, take, drop, Some, None, refl, ap, ◌∙◌, inl, inr, lt-ltb, le-ltb, arith}
 use Rattle.std.specs.Prelude.{is_some}
 use Rattle.std.specs.List.{position_or_len}
-use Rattle.std.proofs.lemmas.Bool.{cases_lt}
+use Rattle.std.proofs.lemmas.Bool.{cases_lt, and_parts}
 use Rattle.std.proofs.lemmas.List.{length-take-le}
 use Rattle.link_base.specs.Bytes.{is_nul, text_at}
-use Rattle.link_base.proofs.TestLemmas.{and_both}
 use Rattle.lib_reader.specs.Texts.{first_text, behind_text, texts_end}
 
 -- a text that a NUL ends: it is the first, and its NUL stands before what is behind it
@@ -51,10 +50,10 @@ texts_end-zero left text none = rw none refl
 pub texts_end-first : (left : ℕ) (text : List ℕ) → 0 < left → texts_end left text ≡ true → is_some (text_at text 0) ≡ true
 unfolding texts_end
 texts_end-first zero text some all = absurd (omega arith)
-texts_end-first (suc n) text some all = (and_both (is_some (text_at text 0)) (texts_end n (behind_text text)) all).0
+texts_end-first (suc n) text some all = (and_parts (is_some (text_at text 0)) (texts_end n (behind_text text)) all).0
 
 pub texts_end-behind : (left : ℕ) (text : List ℕ) → 0 < left → texts_end left text ≡ true → texts_end (left - 1) (behind_text text) ≡ true
 unfolding texts_end
 texts_end-behind zero text some all = absurd (omega arith)
 texts_end-behind (suc n) text some all =
-    rw (before_suc n) (and_both (is_some (text_at text 0)) (texts_end n (behind_text text)) all).1
+    rw (before_suc n) (and_parts (is_some (text_at text 0)) (texts_end n (behind_text text)) all).1

@@ -9,6 +9,7 @@ use Rattle.link_base.specs.Bytes.{first_below}
 use Rattle.lib_reader.specs.ArchiveMember.{name_text, data_of}
 use Rattle.lib_reader.specs.Listing.{Entry, directory_is_bad, listings_in}
 use Rattle.lib_reader.specs.LibraryWalk.{header_at, text_at_position, data_at_position, is_directory, first_directory, is_later_directory, second_directory, is_long_names, first_long_names, long_names_data, directory_fails, has_directory_fault, first_listed, second_listed}
+use Rattle.link_base.proofs.RefusalLemmas.{or_none}
 
 -- ---- the least position that passes, one member on
 
@@ -16,14 +17,10 @@ next_below : (n : ℕ) (test : ℕ → Bool) → first_below (n + 1) test ≡ op
 unfolding first_below
 next_below n test = rw add-one refl
 
-first_of_none : (earlier : Option ℕ) → option_or earlier None ≡ earlier
-first_of_none None = refl
-first_of_none (Some k) = refl
-
 passed_by : (n : ℕ) (test : ℕ → Bool) → test n ≡ false → first_below (n + 1) test ≡ first_below n test
 passed_by n test fails =
     next_below n test
-    ∙ (ap (λ (b : Bool). option_or (first_below n test) (cond b (Some n) None)) fails ∙ first_of_none (first_below n test))
+    ∙ (ap (λ (b : Bool). option_or (first_below n test) (cond b (Some n) None)) fails ∙ or_none (first_below n test))
 
 found_by : (n : ℕ) (test : ℕ → Bool) (b : Bool) → test n ≡ b → first_below (n + 1) test ≡ option_or (first_below n test) (cond b (Some n) None)
 found_by n test b is =

@@ -21,7 +21,8 @@ use Rattle.address_layout.specs.PermittedBase.{is_permitted, IsBaseRefusal}
 use Rattle.address_layout.proofs.CallerLemmas.{stand_once, stands, layout_bare, size_bare, name_fits}
 use Rattle.image_writer.specs.declared.headers.Headers.{Headers}
 use Rattle.image_writer.specs.ExpectedImage.{MeansPlan, image_file}
-use Rattle.image_writer.specs.WrittenImage.{piece_contents, section_rows, written_plan, layout_plan, at_each_base, IsLaidOut, HasItsBytes, HasContents}
+use Rattle.section_group.specs.PieceContents.{piece_contents, HasItsBytes}
+use Rattle.image_writer.specs.WrittenImage.{section_rows, written_plan, layout_plan, at_each_base, IsLaidOut, HasContents}
 use Rattle.image_writer.proofs.CallerLemmas.{laid_out, written_means}
 use Rattle.module_view.specs.Module.{ModuleView}
 use Rattle.link_pieces.specs.Pieces.{link_pieces}

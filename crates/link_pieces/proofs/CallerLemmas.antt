@@ -2,14 +2,13 @@
 use Rattle.std.proofs.Common.{◌≡◌, ℕ, zero, suc, ◌+◌, ◌<◌, ◌≤◌, Bool, true, false, eqb, List, length, map, filter, get_or, Some, None, inl, inr, refl, sym, ap, subst, ◌∙◌, arith}
 use Rattle.std.specs.Cmp.Derive.{both_true}
 use Rattle.std.specs.List.{All, Contains, list_any, range_with_len, flat_map}
-use Rattle.std.proofs.lemmas.Bool.{cases_lt, eq-eqb, eqb-true}
+use Rattle.std.proofs.lemmas.Bool.{cases_lt, eq-eqb, eqb-true, and_parts}
 use Rattle.std.proofs.lemmas.List.{get_or_default, length-map}
 use Rattle.std.proofs.lemmas.List.Elements.{All-contains, Contains-append_left, Contains-append_right}
 use Rattle.std.proofs.lemmas.List.Folds.{list_any_at}
 use Rattle.std.proofs.Math.ListN.{get_or-map}
 use Rattle.link_base.proofs.CallerLemmas.{first_below-some, first_below-none}
 use Rattle.link_base.proofs.RangeLemmas.{range_has, all_kept, all_joined}
-use Rattle.link_base.proofs.TestLemmas.{and_both}
 use Rattle.coff_records.specs.ObjectFile.{section_total}
 use Rattle.section_group.specs.declared.piece.Piece.{Piece}
 use Rattle.section_group.specs.BarePieces.{bare}
@@ -59,7 +58,7 @@ pub record IsFoundAt (modules : List ModuleView) (position section k : ℕ) : Ty
 
 same_place : (position section : ℕ) (piece : Piece) → is_piece_of position section piece ≡ true → (piece.«module» ≡ position) × (piece.number ≡ section)
 same_place position section piece e =
-    let both = and_both (eqb piece.«module» position) (eqb piece.number section) e in
+    let both = and_parts (eqb piece.«module» position) (eqb piece.number section) e in
     (eqb-true piece.«module» position both.0, eqb-true piece.number section both.1)
 
 pub found_piece : (modules : List ModuleView) (position section k : ℕ) → piece_index modules position section ≡ Some k → IsFoundAt modules position section k

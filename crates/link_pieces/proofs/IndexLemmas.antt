@@ -16,10 +16,7 @@ use Rattle.link_pieces.specs.Pieces.{link_pieces}
 use Rattle.link_pieces.proofs.CallerLemmas.{piece_is, bare_at}
 use Rattle.link_pieces.specs.PieceIndex.{is_piece_of, holds_section, indexed}
 use Rattle.link_pieces.specs.Rows.{items_of}
-
-or_none : {A : Type 0} (a : Option A) → a ≡ option_or a None
-or_none None = refl
-or_none (Some x) = refl
+use Rattle.link_base.proofs.RefusalLemmas.{or_none}
 
 -- a row that is replaced
 abbrev pub put_row : List (List (Option ℕ)) → ℕ → ℕ → ℕ → List (List (Option ℕ))
@@ -33,7 +30,7 @@ cell row at index s lt =
           let same : s ≡ at = omega arith in
           rw (here.0, same) (get_or-set_same row at (option_or (get_or row at None) (Some index)) None lt)
       | inr other ↦
-          rw other.0 (get_or-set_other row at s (option_or (get_or row at None) (Some index)) None (λ same. other.1 (sym same)) ∙ or_none (get_or row s None))
+          rw other.0 (get_or-set_other row at s (option_or (get_or row at None) (Some index)) None (λ same. other.1 (sym same)) ∙ sym (or_none (get_or row s None)))
     ]
 
 pub noted_at : (rows : List (List (Option ℕ))) (p at index m s : ℕ) → p < length rows → at < length (get_or rows p []) → indexed (put_row rows p at index) m s ≡ option_or (indexed rows m s) (cond (eqb p m && eqb at s) (Some index) None)
@@ -45,7 +42,7 @@ noted_at rows p at index m s lt within =
           let same : m ≡ p = omega arith in
           rw (here.0, same) (ap (λ (r : List (Option ℕ)). get_or r s None) (get_or-set_same rows p put [] lt) ∙ cell row at index s within)
       | inr other ↦
-          rw other.0 (ap (λ (r : List (Option ℕ)). get_or r s None) (get_or-set_other rows p m put [] (λ same. other.1 (sym same))) ∙ or_none (indexed rows m s))
+          rw other.0 (ap (λ (r : List (Option ℕ)). get_or r s None) (get_or-set_other rows p m put [] (λ same. other.1 (sym same))) ∙ sym (or_none (indexed rows m s)))
     ]
 
 pub shape_at : (rows : List (List (Option ℕ))) (p at index m : ℕ) → p < length rows → length (get_or (put_row rows p at index) m []) ≡ length (get_or rows m [])

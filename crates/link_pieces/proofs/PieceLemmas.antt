@@ -17,7 +17,7 @@ use Rattle.coff_object.proofs.CallerLemmas.{body_length, section_alignment, IsAl
 use Rattle.section_group.specs.declared.piece.Piece.{Piece}
 use Rattle.section_group.specs.BarePieces.{bare}
 use Rattle.address_layout.specs.Layout.{IsAlignment}
-use Rattle.image_writer.specs.WrittenImage.{piece_contents, HasItsBytes}
+use Rattle.section_group.specs.PieceContents.{piece_contents, HasItsBytes}
 use Rattle.module_view.specs.Module.{ModuleView, no_module, module_at}
 use Rattle.module_view.specs.Opening.{IsOpened}
 use Rattle.module_view.specs.PlacedSection.{is_placed}

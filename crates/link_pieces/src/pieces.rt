@@ -6,7 +6,7 @@ ghost use Rattle.link_base.specs.Limits as limit;
 ghost use Rattle.coff_records.specs.ObjectFile.{section_total};
 ghost use Rattle.section_group.specs.BarePieces.{bare};
 ghost use Rattle.address_layout.specs.Layout.{IsAlignment};
-ghost use Rattle.image_writer.specs.WrittenImage.{piece_contents, HasItsBytes};
+ghost use Rattle.section_group.specs.PieceContents.{piece_contents, HasItsBytes};
 ghost use Rattle.module_view.specs.Opening.{IsOpened};
 ghost use Rattle.module_view.specs.PlacedSection.{is_placed};
 ghost use Rattle.link_pieces.specs.Pieces.{is_named, piece_of, section_contents, pieces_in, contents_in, link_pieces, link_contents};

@@ -6,7 +6,7 @@ use Rattle.section_group.specs.declared.piece.Piece.{Piece}
 use Rattle.section_group.specs.SectionOrder.{no_piece}
 use Rattle.section_group.specs.BarePieces.{bare}
 use Rattle.address_layout.specs.Layout.{IsAlignment}
-use Rattle.image_writer.specs.WrittenImage.{piece_contents, HasItsBytes}
+use Rattle.section_group.specs.PieceContents.{piece_contents, HasItsBytes}
 use Rattle.module_view.specs.Module.{ModuleView}
 use Rattle.link_pieces.specs.Pieces.{link_pieces, link_contents}
 use Rattle.link_words.specs.Outcome.{LinkOptions}

@@ -2,8 +2,7 @@
 use Rattle.std.proofs.Common.{◌≡◌, ℕ, suc, ◌+◌, Bool, true, false, List, [], ◌∷◌, ◌++◌, nat_eq, refl, sym, ap, ◌∙◌, arith}
 use Rattle.std.specs.Prelude.{codes}
 use Rattle.std.specs.List.{position_or_len}
-use Rattle.std.proofs.lemmas.Bool.{false≢true, eqb-true, eq-eqb}
-use Rattle.link_base.proofs.TestLemmas.{and_both}
+use Rattle.std.proofs.lemmas.Bool.{false≢true, eqb-true, eq-eqb, and_parts}
 use Rattle.std.proofs.lemmas.Slice.Eq.{bytes_eq-Decides}
 use Rattle.link_base.specs.NameText.{same_name, begins, begins_import, behind_import, with_import}
 use Rattle.link_base.specs.SectionName.{base_name, is_cut}
@@ -28,7 +27,7 @@ base_begins (x ∷ name) (t ∷ text) e = go (is_cut x) refl (base_begins name t
     go true cut rest = absurd (let h = ap (λ (base : List ℕ). same_name base (t ∷ text)) (sym (base_name_none x name cut)) ∙ e in cc)
     go false other rest =
         let h = ap (λ (base : List ℕ). same_name base (t ∷ text)) (sym (base_name_more x name other)) ∙ e in
-        let both = and_both (nat_eq x t) (same_name (base_name name) text) h in
+        let both = and_parts (nat_eq x t) (same_name (base_name name) text) h in
         let same : x ≡ t = eqb-true x t both.0 in
         rw (eq-eqb t x (sym same), rest both.1) refl
 
@@ -71,14 +70,14 @@ base_start (x ∷ name) (t ∷ text) e = go (is_cut x) refl (base_start name tex
     go true cut rest = absurd (let h = ap (λ (base : List ℕ). begins base (t ∷ text)) (sym (base_name_none x name cut)) ∙ e in cc)
     go false other rest =
         let h = ap (λ (base : List ℕ). begins base (t ∷ text)) (sym (base_name_more x name other)) ∙ e in
-        let both = and_both (nat_eq t x) (begins (base_name name) text) h in
+        let both = and_parts (nat_eq t x) (begins (base_name name) text) h in
         rw (both.0, rest both.1) refl
 
 begins_front : (name front back : List ℕ) → begins name (front ++ back) ≡ true → begins name front ≡ true
 begins_front name [] back e = refl
 begins_front [] (t ∷ front) back e = absurd cc
 begins_front (x ∷ name) (t ∷ front) back e =
-    let both = and_both (nat_eq t x) (begins name (front ++ back)) e in
+    let both = and_parts (nat_eq t x) (begins name (front ++ back)) e in
     rw (both.0, begins_front name front back both.1) refl
 
 no_part : (name : List ℕ) → begins name (codes ".debug") ≡ false → begins (base_name name) (codes ".debug_") ≡ false

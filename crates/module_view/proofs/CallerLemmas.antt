@@ -5,10 +5,9 @@ use Rattle.std.specs.Option.{option_or}
 use Rattle.std.specs.Cmp.Derive.{both_true}
 use Rattle.std.specs.Int.Signed.{lt_z}
 use Rattle.std.specs.List.{All, list_any}
-use Rattle.std.proofs.lemmas.Bool.{eqb-true, eq-eqb, ltb-true}
+use Rattle.std.proofs.lemmas.Bool.{eqb-true, eq-eqb, ltb-true, and_parts}
 use Rattle.std.proofs.lemmas.List.Elements.{All-nil, All-cons, All-map, All-weaker}
 use Rattle.link_base.specs.Refusals.{first_standing}
-use Rattle.link_base.proofs.TestLemmas.{and_both}
 use Rattle.coff_records.specs.SymbolRecord.{SymbolView, value_in, class_in, section_number_in, section_of_number}
 use Rattle.coff_records.specs.ObjectFile.{SymbolEntry, section_total, raw_size_of, symbol_at, symbol_entry, symbols_of, symbol_entries, starts_symbol}
 use Rattle.coff_object.specs.ObjectFaults.{object_fault, is_in_section}
@@ -79,7 +78,7 @@ definition_stands bytes index sound starts e = by_place (is_absolute symbol) par
     symbol = symbol_at bytes index
 
     parts : (eqb (class_in symbol) 2 ≡ true) × ((is_absolute symbol || lt_z (pos 0) (section_number_in symbol)) ≡ true)
-    parts = and_both (eqb (class_in symbol) 2) (is_absolute symbol || lt_z (pos 0) (section_number_in symbol)) e
+    parts = and_parts (eqb (class_in symbol) 2) (is_absolute symbol || lt_z (pos 0) (section_number_in symbol)) e
 
     by_place : (absolute : Bool) → (absolute || lt_z (pos 0) (section_number_in symbol)) ≡ true → IsPlaceIn bytes (cond absolute (place.Absolute (value_in symbol)) (place_in_section symbol))
     by_place true inside = tt

@@ -12,6 +12,7 @@ use Rattle.module_view.specs.declared.error.ModuleError.TheVariants as error
 use Rattle.module_view.specs.Unbuilt.{has_unbuilt_section, has_unbuilt_symbol}
 use Rattle.module_view.specs.Opening.{opening_error, form_error, content_error, unsupported, has_linker_section, has_long_section_name, has_long_symbol_name, RefusesToOpen}
 use Rattle.module_view.specs.Steps.{section_form, symbol_error}
+use Rattle.link_base.proofs.RefusalLemmas.{or_none}
 
 -- ---- sections, then symbols
 
@@ -27,10 +28,6 @@ content_by bytes unbuilt is =
     ∙ ap (λ (b : Bool). option_or (option_map error.Unsupported (first_standing (shown (has_linker_section bytes) form.LinkerSection ∷ shown (has_long_section_name bytes) form.LongName ∷ []))) (first_standing (unsupported (has_long_symbol_name bytes) form.LongName ∷ unsupported (b || has_unbuilt_symbol bytes) form.NotBuilt ∷ []))) (sym is)
 
 -- ---- the stages
-
-or_none : {A : Type 0} (first : Option A) → option_or first None ≡ first
-or_none None = refl
-or_none (Some x) = refl
 
 pub refused_form : (bytes : List ℕ) (kind : Kind) → option_map error.Unsupported (Some kind) ≡ form_error bytes → opening_error bytes ≡ Some (error.Unsupported kind)
 unfolding opening_error

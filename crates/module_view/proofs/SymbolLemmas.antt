@@ -1,18 +1,15 @@
 -- One more symbol in a loop over the symbols of an object.
-use Rattle.std.proofs.Common.{◌≡◌, ℕ, zero, suc, ◌<◌, ◌≢◌, ℤ, pos, negsuc, replicate, w32, FitsSigned, to_z, of_z, Bool, true, false, cond, ◌&&◌, ◌||◌, eqb, List, [], ◌∷◌, ◌++◌, length, map, filter, get_or, set, inl, inr, refl, sym, ap, ◌∙◌, append_assoc, arith}
+use Rattle.std.proofs.Common.{◌≡◌, ℕ, zero, suc, ◌<◌, ◌≢◌, ℤ, pos, negsuc, replicate, w32, FitsSigned, to_z, of_z, Bool, true, false, cond, ◌||◌, eqb, List, [], ◌∷◌, ◌++◌, length, map, filter, get_or, set, inl, inr, refl, sym, ap, ◌∙◌, append_assoc, arith}
 use Rattle.std.specs.Int.Signed.{lt_z}
 use lib.IntN.{nat_abs}
 use Rattle.std.specs.List.{list_any}
-use Rattle.std.specs.Cmp.Derive.{both_true}
-use Rattle.std.proofs.lemmas.Bool.{eq-eqb, ne_eqb}
+use Rattle.std.proofs.lemmas.Bool.{ne_eqb}
 use Rattle.std.proofs.lemmas.Bool.Decides.{eqb_tells}
 use Rattle.std.proofs.lemmas.Int.{to_z-of_z}
 use Rattle.std.proofs.lemmas.List.{get_or-set_same, get_or-set_other}
-use Rattle.coff_records.specs.SymbolRecord.{SymbolView, name_in, value_in, class_in, section_number_in, section_of_number}
+use Rattle.coff_records.specs.SymbolRecord.{SymbolView, class_in, section_of_number}
 use Rattle.coff_records.specs.ObjectFile.{SymbolEntry, symbols_of, symbol_entry, symbol_entries, starts_symbol}
-use Rattle.module_view.specs.declared.definition.Definition.{Definition}
-use Rattle.module_view.specs.SymbolLists.{is_definition, defines, definition_of, definitions_in}
-use Rattle.module_view.specs.declared.definition.Place.TheVariants.{Section}
+use Rattle.module_view.specs.SymbolLists.{is_definition}
 
 -- ---- what is told of symbols, after one more
 

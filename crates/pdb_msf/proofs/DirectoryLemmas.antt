@@ -1,6 +1,6 @@
 -- What the tests of a file say of the numbers that are read from it.
 use Rattle.std.proofs.Common.{◌≡◌, ℕ, ◌+◌, ◌-◌, ◌*◌, ◌/◌, ◌<◌, ◌≤◌, Bool, true, false, ◌&&◌, cond, ltb, List, length, refl, ap, ◌∙◌, add-one, arith, min}
-use Rattle.std.proofs.lemmas.Bool.{and_parts, leb-true, ltb-true}
+use Rattle.std.proofs.lemmas.Bool.{and_parts, leb-true, ltb-true, and_right}
 use Rattle.link_base.specs.Bytes.{all_below}
 use Rattle.link_base.proofs.CallerLemmas.{all_below-each, all_below-fails}
 use Rattle.pdb_msf.specs.BlockFile.{blocks_for, directory_blocks, is_block, stream_size, has_map, map_block, directory_block, directory_len, entry, stream_count, blocks_before, directory_is_there, listed_len, lists_are_there, has_blocks}
@@ -40,16 +40,12 @@ entry_there file index e lt =
     let here : index / 1024 < directory_blocks file = omega (arith, lt) in
     leb-true _ _ (all_below-each (directory_blocks file) (λ (k : ℕ). is_block file (directory_block file k)) blocks (index / 1024) here)
 
-and_false : (b : Bool) → (b && false) ≡ false
-and_false true = refl
-and_false false = refl
-
 -- one block of the directory leaves the file
 pub directory_fails : (file : List ℕ) (count index : ℕ) → count ≡ directory_blocks file → index < count → is_block file (directory_block file index) ≡ false → directory_is_there file ≡ false
 unfolding directory_is_there
 directory_fails file count index is lt fails =
     let all = all_below-fails (directory_blocks file) index (λ (k : ℕ). is_block file (directory_block file k)) (omega (arith, is, lt)) fails in
-    ap (λ (b : Bool). has_map file && b) all ∙ and_false (has_map file)
+    ap (λ (b : Bool). has_map file && b) all ∙ and_right (has_map file) false refl
 
 pub directory_of_blocks : (file : List ℕ) → has_blocks file ≡ true → directory_is_there file ≡ true
 unfolding has_blocks

@@ -1,7 +1,7 @@
 -- What is opened from what was written.
 use Rattle.std.proofs.Common.{◌≡◌, ℕ, zero, suc, ◌+◌, ◌-◌, ◌*◌, ◌/◌, ◌%◌, ◌<◌, ◌≤◌, true, le-leb, eq-eqb, List, [], ◌∷◌, ◌++◌, length, get_or, take, drop, map, replicate, Some, None, refl, sym, ap, ◌∙◌, inl, inr, append_assoc, arith, length-append, length-drop}
 use Rattle.std.specs.List.{flat_map, slice_get}
-use Rattle.std.proofs.lemmas.Bool.{cases_lt}
+use Rattle.std.proofs.lemmas.Bool.{cases_lt, and_from}
 use Rattle.std.proofs.Math.Seq.{drop-append_seam}
 use Rattle.std.proofs.lemmas.List.{append-nil, take_all, length-take, length-map, get_or-take, get_or-drop, get_or_append_left, get_or-append_right}
 use Rattle.std.proofs.lemmas.List.FromFn.{get_or-map-range_with_len, length-map-range_with_len}
@@ -20,7 +20,7 @@ use Rattle.pdb_msf.proofs.BlockLemmas.{length_in_blocks, get_in_blocks}
 use Rattle.pdb_msf.proofs.WritingLemmas.{length_directory, laid_first, length_in_blocks_of, length_numbers}
 use Rattle.pdb_msf.proofs.PlaceLemmas.{AreSmall, length_padded, length_map, map_at_place, length_laid, byte_at_place, number_at_place, numbered_first}
 use Rattle.pdb_msf.proofs.DataLemmas.{AreNumbers, listed, length_listed, numbers_from, numbers_listed, number_in_list, entries, directory_listed, length_entries, entry_of_size, entry_of_block, length_cut, byte_in_cut, block_in_blocks, number_in_cut, length_streams, length_directory_blocks, block_of_stream, no_total}
-use Rattle.pdb_msf.proofs.ListLemmas.{small_cons, small_append, small_cut, small_streams, number_cons, number_append, are_numbers_from, size_small, total_more, total_within, all_pass, length_signature, begins_so, and_intro, none_there}
+use Rattle.pdb_msf.proofs.ListLemmas.{small_cons, small_append, small_cut, small_streams, number_cons, number_append, are_numbers_from, size_small, total_more, total_within, all_pass, length_signature, begins_so, none_there}
 
 -- ---- a written file
 
@@ -247,27 +247,27 @@ module _ (streams : List (List ℕ)) (few : length streams ≤ 64) (fits : file_
   unfolding has_superblock
   superblock_passes =
       let long = file_long in
-      and_intro _ _ (le-leb _ _ (omega (arith, long))) starts_so
+      and_from _ _ (le-leb _ _ (omega (arith, long))) starts_so
 
   size_passes : has_size (file_of streams) ≡ true
   unfolding has_size
   size_passes =
       let long = file_long in
       let blocks = blocks_are in
-      and_intro _ _ (eq-eqb _ _ size_is) (le-leb _ _ (omega (arith, long, blocks)))
+      and_from _ _ (eq-eqb _ _ size_is) (le-leb _ _ (omega (arith, long, blocks)))
 
   map_passes : has_map (file_of streams) ≡ true
   unfolding has_map
   map_passes =
       let long = file_long in
       let map = map_is in
-      and_intro _ _ (le-leb (0 + 56) (length (file_of streams)) (omega (arith, long))) (le-leb (4096 * map_block_of (file_of streams) + 4096) (length (file_of streams)) (omega (arith, long, map)))
+      and_from _ _ (le-leb (0 + 56) (length (file_of streams)) (omega (arith, long))) (le-leb (4096 * map_block_of (file_of streams) + 4096) (length (file_of streams)) (omega (arith, long, map)))
 
   directory_passes : directory_is_there (file_of streams) ≡ true
   unfolding directory_is_there
   directory_passes =
       let extent = extent_is in
-      and_intro _ _ map_passes
+      and_from _ _ map_passes
       (all_pass (directory_blocks (file_of streams)) (λ (k : ℕ). is_block (file_of streams) (directory_block (file_of streams) k))
       (λ k lt.
       let here : k < directory_total (sizes_of streams) = omega (arith, lt, extent) in
@@ -302,7 +302,7 @@ module _ (streams : List (List ℕ)) (few : length streams ≤ 64) (fits : file_
 
   blocks_pass : has_blocks (file_of streams) ≡ true
   unfolding has_blocks
-  blocks_pass = and_intro _ _ size_passes (and_intro _ _ directory_passes lists_pass)
+  blocks_pass = and_from _ _ size_passes (and_from _ _ directory_passes lists_pass)
 
   table_passes : has_directory (file_of streams) ≡ true
   unfolding has_directory
@@ -312,7 +312,7 @@ module _ (streams : List (List ℕ)) (few : length streams ≤ 64) (fits : file_
       let n = count_is in
       let streams_n = streams_are in
       let whole = whole_is in
-      and_intro _ _ (le-leb (directory_size (file_of streams)) 4194304 (omega (arith, extent, n, fits, few))) (le-leb (list_of (file_of streams) (stream_count (file_of streams))) (directory_len (file_of streams)) (omega (arith, len, streams_n, whole)))
+      and_from _ _ (le-leb (directory_size (file_of streams)) 4194304 (omega (arith, extent, n, fits, few))) (le-leb (list_of (file_of streams) (stream_count (file_of streams))) (directory_len (file_of streams)) (omega (arith, len, streams_n, whole)))
 
   pub opens : msf_fault (msf_of streams) ≡ None
   unfolding msf_fault

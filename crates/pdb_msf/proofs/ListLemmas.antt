@@ -1,5 +1,5 @@
 -- Lists of blocks and of numbers that are small, and the sizes of the first streams.
-use Rattle.std.proofs.Common.{◌≡◌, ℕ, zero, suc, ◌+◌, ◌*◌, ◌<◌, ◌≤◌, Bool, true, ◌&&◌, le-ltb, List, [], ◌∷◌, ◌++◌, length, get_or, take, None, refl, ap, ◌∙◌, arith}
+use Rattle.std.proofs.Common.{◌≡◌, ℕ, zero, suc, ◌+◌, ◌*◌, ◌<◌, ◌≤◌, Bool, true, le-ltb, List, [], ◌∷◌, ◌++◌, length, get_or, take, None, refl, ap, ◌∙◌, arith}
 use Rattle.std.specs.List.{flat_map}
 use Rattle.std.proofs.Math.Seq.{take-append_seam, take-suc}
 use Rattle.std.specs.Str.{bytes_eq}
@@ -97,9 +97,6 @@ length_signature = refl
 
 pub begins_so : (rest : List ℕ) → begins (signature ++ rest) signature ≡ true
 begins_so rest = ap (λ (xs : List ℕ). bytes_eq signature xs) (take-append_seam signature rest) ∙ (bytes_eq-Decides signature signature).1 refl
-
-pub and_intro : (a b : Bool) → a ≡ true → b ≡ true → (a && b) ≡ true
-and_intro a b first second = rw first second
 
 pub none_there : (file : List ℕ) (i : ℕ) → stream_count file ≤ i → stream_of file i ≡ None
 none_there file i past = rw (le-ltb _ _ past) refl

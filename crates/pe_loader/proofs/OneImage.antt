@@ -5,7 +5,8 @@ use Rattle.std.proofs.lemmas.Bool.{and_from, and_parts, cases_lt, leb-true, ltb-
 use Rattle.std.proofs.lemmas.Grind.{same_number_lists}
 use Rattle.link_base.specs.Bytes.{number_at, u16_at, u32_at, first_below}
 use Rattle.link_base.proofs.CallerLemmas.{first_below-none, first_below-some, first_below-all_fail}
-use Rattle.base_reloc.proofs.CallerLemmas.{have_bytes, number_at-same}
+use Rattle.link_base.proofs.PutLemmas.{number_at-same}
+use Rattle.base_reloc.proofs.CallerLemmas.{have_bytes}
 use Rattle.pe_loader.specs.LoadedImage.{signature_at, file_header_at, optional_at, section_count, image_base, headers_size, section_at, virtual_size, virtual_address, raw_size, raw_offset, copied_len, is_copied_into, section_byte, copied_byte, copied, loaded, file_end, is_copied_from, HasZeroSlack}
 use Rattle.pe_loader.proofs.ImageTests.{Passes, headers_lie, section_lies, floors_rise, sections_part, copied_reads, own_memory}
 

@@ -9,7 +9,8 @@ use Rattle.relocate.specs.declared.error.FieldError.TheVariants as error
 use Rattle.relocate.specs.FieldFaults.{place_faults}
 use Rattle.relocate.specs.Judged.{IsPatchable, AreApart, ArePatchable}
 use Rattle.relocate.proofs.JudgeLemmas.{or_none, shown_none}
-use Rattle.relocate.proofs.WriteLemmas.{length-written, written_before, written_behind, written_there, held_fits, number_at-same}
+use Rattle.link_base.proofs.PutLemmas.{number_at-same}
+use Rattle.relocate.proofs.WriteLemmas.{length-written, written_before, written_behind, written_there, held_fits}
 use Rattle.link_base.specs.Bytes.{number_at}
 use Rattle.address_layout.specs.declared.layout.Layout.{Layout}
 use Rattle.relocate.specs.declared.fix.Fix.{Fix}

@@ -1,6 +1,6 @@
 -- The bytes of a section in an image, and the first field whose value does not fit (PE Format, "Type Indicators", x64
 -- Processors; the order is own).
-use Rattle.std.specs.Prelude.{ℕ, ◌-◌, ℤ, Bool, ◌&&◌, not, ◌==◌, ◌||◌, nat_le, nat_lt, if◌then◌else◌, List, length, map, slice_index, Option, Some, None}
+use Rattle.std.specs.Prelude.{ℕ, ◌-◌, Bool, ◌&&◌, not, ◌==◌, ◌||◌, nat_le, nat_lt, if◌then◌else◌, List, length, map, slice_index, Option, Some, None}
 use Rattle.std.specs.List.{range_with_len, find}
 use Rattle.link_base.specs.Bytes.{number_bytes}
 use Rattle.link_base.specs.PeFormat.{REL_AMD64_ADDR64, REL_AMD64_ADDR32}

@@ -3,7 +3,7 @@ use Rattle.std.proofs.Common.{◌≡◌, ◌≢◌, ℕ, zero, suc, ◌+◌, ◌
 use Rattle.std.specs.Option.{option_map_or}
 use Rattle.std.specs.List.{position_or_len}
 use Rattle.std.specs.Map.{lookup, keys_of}
-use Rattle.std.proofs.lemmas.Bool.{false≢true, true≢false}
+use Rattle.std.proofs.lemmas.Bool.{false≢true, true≢false, or_parts}
 use Rattle.std.proofs.Math.Nat.{mul-le-mul_left}
 use Rattle.std.proofs.lemmas.List.Sums.{passes_at_first}
 use Rattle.std.proofs.lemmas.Map.Entries.{length-keys_of}
@@ -153,10 +153,6 @@ target_of given k lt = given_first given (merge_at given k).0 _ (first_of_name g
 
 -- ---- the tests
 
-both_false : (a b : Bool) → (a || b) ≡ false → (a ≡ false) × (b ≡ false)
-both_false true b e = absurd (true≢false e)
-both_false false b e = (refl, e)
-
 one_true : (a b : Bool) → (a || b) ≡ true → (a ≡ true) ⊎ (b ≡ true)
 one_true true b e = inl refl
 one_true false b e = inr e
@@ -214,8 +210,8 @@ failed_is_bad given steps k lt far e =
 pub passed_is_not_bad : (given : List (List ℕ × List ℕ)) (steps k : ℕ) → k < length given → ((j : ℕ) → j ≤ k → fails given steps (merge_at given j) ≡ false) → ¬ IsBadMerge given k
 passed_is_not_bad given steps k lt passed bad =
     let m = merge_at given k in
-    let tests = λ (j : ℕ) (le : j ≤ k). both_false (leads_elsewhere given (merge_at given j)) (goes_on given steps (merge_at given j).0 || names_reserved (merge_at given j)) (passed j le) in
-    let more = both_false (goes_on given steps m.0) (names_reserved m) (tests k (omega arith)).1 in
+    let tests = λ (j : ℕ) (le : j ≤ k). or_parts (leads_elsewhere given (merge_at given j)) (goes_on given steps (merge_at given j).0 || names_reserved (merge_at given j)) (passed j le) in
+    let more = or_parts (goes_on given steps m.0) (names_reserved m) (tests k (omega arith)).1 in
     elim bad [
       | inl conflict ↦ conflict.other (same_targets given conflict.earlier k (omega (arith, conflict.before, lt)) lt (tests conflict.earlier (omega (arith, conflict.before))).0 (tests k (omega arith)).0 conflict.same)
       | inr rest ↦ elim rest [

@@ -13,10 +13,6 @@ use Rattle.section_group.specs.Merging.{same_name}
 use Rattle.section_group.specs.Chains.{target_among, led_by, AreTargets, Leads}
 use Rattle.std.specs.Option.{option_or}
 
-pub or_else_none : (o : Option (List ℕ)) → option_or o None ≡ o
-or_else_none None = refl
-or_else_none (Some x) = refl
-
 or_else_cond : (b : Bool) (x : List ℕ) (o p : Option (List ℕ)) → option_or (cond b (Some x) o) p ≡ cond b (Some x) (option_or o p)
 or_else_cond true x o p = refl
 or_else_cond false x o p = refl

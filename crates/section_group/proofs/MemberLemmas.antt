@@ -2,7 +2,7 @@
 use Rattle.std.proofs.Common.{◌≡◌, ℕ, ◌<◌, Bool, true, ◌&&◌, eqb, eq-eqb, List, [], length, get_or, filter, Vec, Option, Some, None, refl, sym, ap, ◌∙◌, subst, inl, inr, arith}
 use Rattle.std.specs.List.{Contains, IsDistinct, range_with_len, slice_get}
 use Rattle.std.specs.declared.alloc.Global.{Global}
-use Rattle.std.proofs.lemmas.Bool.{false≢true, cases_lt, eqb-true}
+use Rattle.std.proofs.lemmas.Bool.{false≢true, cases_lt, eqb-true, and_parts}
 use Rattle.std.proofs.lemmas.List.{get_or_past}
 use Rattle.std.proofs.lemmas.List.Elements.{All-contains}
 use Rattle.std.proofs.lemmas.Option.{get_or_from_slice_get, slice_get_cases}
@@ -15,7 +15,7 @@ use Rattle.section_group.specs.Gathering.{home_of, has_number, IsNumberOf, AreNu
 use Rattle.section_group.specs.Sections.{Gathers, home_at, pieces_at, same_home}
 use Rattle.section_group.proofs.ChainLemmas.{same_is, same_refl}
 use Rattle.section_group.proofs.PartLemmas.{used_within}
-use Rattle.section_group.proofs.SectionLemmas.{pieces_read, both_parts}
+use Rattle.section_group.proofs.SectionLemmas.{pieces_read}
 use Rattle.link_base.proofs.RangeLemmas.{Passes, range_passes, range_has, range_distinct}
 
 there_within : (homes : List Home) (number : ℕ) (home : Home) → slice_get homes number ≡ Some home → number < length homes
@@ -122,8 +122,8 @@ gathers input homes numbers members numbered given distinct = record {
     back : (section k : ℕ) → section < length homes → goes_to input (home_at homes section).name (home_at homes section).attributes k ≡ true → Contains (pieces_at members section) k
     back section k lt h =
         let home = home_at homes section in
-        let parts = both_parts (is_used input k) (same_name (section_name input k) home.name && eqb (section_attributes input k) home.attributes) h in
-        let more = both_parts (same_name (section_name input k) home.name) (eqb (section_attributes input k) home.attributes) parts.1 in
+        let parts = and_parts (is_used input k) (same_name (section_name input k) home.name && eqb (section_attributes input k) home.attributes) h in
+        let more = and_parts (same_name (section_name input k) home.name) (eqb (section_attributes input k) home.attributes) parts.1 in
         let same : home_of input k ≡ home = same_homes (home_of input k) home (same_is (section_name input k) home.name more.0) (eqb-true (section_attributes input k) home.attributes more.1) in
         back_by section k lt same parts.0 (get_or numbers k None) refl (numbered.each k (used_within input k parts.0))
 

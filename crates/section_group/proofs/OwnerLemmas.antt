@@ -1,17 +1,17 @@
 -- The first owner of a name, found piece by piece.
-use Rattle.std.proofs.Common.{◌≡◌, ℕ, zero, suc, ◌+◌, ◌<◌, Bool, true, false, ◌&&◌, not, cond, IsTrue, List, length, Option, Some, None, refl, sym, ap, ◌∙◌, subst, inl, inr, arith, rules, add-one}
+use Rattle.std.proofs.Common.{◌≡◌, ℕ, zero, suc, ◌+◌, ◌-◌, ◌<◌, Bool, true, false, ◌&&◌, not, cond, IsTrue, List, length, Option, Some, None, refl, sym, ap, ◌∙◌, subst, inl, inr, arith, rules, add-one}
 use Rattle.std.specs.Option.{option_map_or}
 use Rattle.std.specs.Ordering.{is_lt, nat_cmp, ordering_then}
 use Rattle.std.specs.Cmp.{IsTotalOrder}
 use Rattle.std.specs.Cmp.Rules.{comparing}
 use Rattle.std.specs.declared.cmp.Ordering.TheVariants.{Equal}
-use Rattle.std.proofs.lemmas.Bool.{cases_lt, false≢true, true≢false}
+use Rattle.std.proofs.lemmas.Bool.{cases_lt, false≢true, true≢false, and_from}
 use Rattle.link_base.specs.Bytes.{all_below}
 use Rattle.link_base.proofs.CallerLemmas.{first_below-found, first_below-all_fail, first_below-some, all_below-more, all_below-fails}
 use Rattle.section_group.specs.SectionOrder.{Input, piece_at, is_used, base_name, place_cmp}
 use Rattle.section_group.specs.Placement.{is_owner, is_first_owner, first_owner}
 use Rattle.section_group.specs.Merging.{same_name}
-use Rattle.section_group.specs.Gathering.{IsFirstUpTo}
+use Rattle.section_group.specs.Gathering.{IsFirstUpTo, FollowsAnOwner}
 use Rattle.section_group.proofs.ChainLemmas.{same_is}
 use Rattle.section_group.proofs.OrderLemmas.{not_before_itself, not_before_better, level, then_level, level_numbers}
 
@@ -86,9 +86,26 @@ not_and : (a b : Bool) → (a ≡ true → b ≡ false) → not (a && b) ≡ tru
 not_and true b h = ap not (h refl)
 not_and false b h = refl
 
-both : (a b : Bool) → a ≡ true → b ≡ true → (a && b) ≡ true
-both true b p q = q
-both false b p q = p
+-- the piece before owns its base name and comes before it: the first so far stays
+pub first_kept : (input : Input) (i : ℕ) (name : List ℕ) (o : Option ℕ) → FollowsAnOwner input i → IsFirstUpTo input i name o → IsFirstUpTo input (i + 1) name o
+first_kept input i name o follows first = go (same_name (base_name (piece_at input i).name) name) refl
+  where
+    go : (b : Bool) → same_name (base_name (piece_at input i).name) name ≡ b → IsFirstUpTo input (i + 1) name o
+    go true e =
+        let here : base_name (piece_at input i).name ≡ name = same_is (base_name (piece_at input i).name) name e in
+        let owns : is_owner input name (i - 1) ≡ true = ap (λ (n : List ℕ). is_owner input n (i - 1)) (sym here) ∙ follows.1 in
+        first_stays input i name o first (later o first owns)
+      where
+        later : (o : Option ℕ) → IsFirstUpTo input i name o → is_owner input name (i - 1) ≡ true → option_map_or (λ first. is_lt (place_cmp input i first)) o true ≡ false
+        later None none owns = absurd (false≢true (sym (none (i - 1) (omega (arith, follows.0))) ∙ owns))
+        later (Some f) first owns = by_case (is_lt (place_cmp input i f)) refl
+          where
+            by_case : (b : Bool) → is_lt (place_cmp input i f) ≡ b → b ≡ false
+            by_case false e = refl
+            by_case true e =
+                absurd (false≢true (sym (not_before_better (place_total input) (i - 1) i f e (first.2 (i - 1) (omega (arith, follows.0)) owns)) ∙ follows.2))
+    go false e =
+        first_extends input i name o first (and_false (is_used input i) (same_name (base_name (piece_at input i).name) name) (λ used. e))
 
 pub first_is : (input : Input) (name : List ℕ) (o : Option ℕ) → IsFirstUpTo input (length input.pieces) name o → o ≡ first_owner input name
 unfolding first_owner
@@ -98,11 +115,11 @@ first_is input name (Some f) first =
     let n = length input.pieces in
     let o = place_total input in
     let test = is_first_owner input name in
-    let passes = both (is_owner input name f) (all_below n (λ j. not (is_owner input name j && is_lt (place_cmp input j f)))) first.1 (all_below_from n (λ j. not (is_owner input name j && is_lt (place_cmp input j f))) (λ j lt. not_and (is_owner input name j) (is_lt (place_cmp input j f)) (λ owns. first.2 j lt owns))) in
+    let passes = and_from (is_owner input name f) (all_below n (λ j. not (is_owner input name j && is_lt (place_cmp input j f)))) first.1 (all_below_from n (λ j. not (is_owner input name j && is_lt (place_cmp input j f))) (λ j lt. not_and (is_owner input name j) (is_lt (place_cmp input j f)) (λ owns. first.2 j lt owns))) in
     let fails = λ (k : ℕ) (lt : k < f).
     and_false (is_owner input name k) (all_below n (λ j. not (is_owner input name j && is_lt (place_cmp input j k)))) (λ owns.
     all_below-fails n f (λ j. not (is_owner input name j && is_lt (place_cmp input j k))) first.0
-    (ap not (both (is_owner input name f) (is_lt (place_cmp input f k)) first.1 (precedes k lt (first.2 k (omega (arith, first.0)) owns)))))
+    (ap not (and_from (is_owner input name f) (is_lt (place_cmp input f k)) first.1 (precedes k lt (first.2 k (omega (arith, first.0)) owns)))))
     in
     sym (first_below-found f n test first.0 (first_below-all_fail f test fails) passes)
   where
@@ -124,7 +141,7 @@ owner_taken input i name base old new is_base used first after earlier =
     go : (b : Bool) → same_name base name ≡ b → IsFirstUpTo input (i + 1) name (cond b (Some i) (old name))
     go true e =
         let here : base_name (piece_at input i).name ≡ name = sym is_base ∙ same_is base name e in
-        first_taken input i name (old name) (first name) (both (is_used input i) (same_name (base_name (piece_at input i).name) name) used (sym owns ∙ e)) (ap (λ (n : List ℕ). option_map_or (λ first. is_lt (place_cmp input i first)) (old n) true) (sym here) ∙ earlier)
+        first_taken input i name (old name) (first name) (and_from (is_used input i) (same_name (base_name (piece_at input i).name) name) used (sym owns ∙ e)) (ap (λ (n : List ℕ). option_map_or (λ first. is_lt (place_cmp input i first)) (old n) true) (sym here) ∙ earlier)
     go false e =
         first_extends input i name (old name) (first name) (and_false (is_used input i) (same_name (base_name (piece_at input i).name) name) (λ u. sym owns ∙ e))
 

@@ -1,5 +1,5 @@
 -- What the parts of a piece's name say of the input.
-use Rattle.std.proofs.Common.{◌≡◌, ℕ, ◌<◌, Bool, true, false, ◌&&◌, ltb, lt-ltb, IsTrue, List, length, map, get_or, take, ◌-◌, ◌≤◌, refl, sym, ap, subst, ◌∙◌, arith}
+use Rattle.std.proofs.Common.{◌≡◌, ℕ, ◌<◌, Bool, true, false, ◌&&◌, ltb, lt-ltb, IsTrue, List, length, map, get_or, take, ◌-◌, refl, sym, ap, subst, ◌∙◌, arith}
 use Rattle.std.proofs.lemmas.Bool.{ltb-true, false≢true}
 use Rattle.std.proofs.lemmas.List.{get_or_default, get_or-take, length-map, length-take-le}
 use Rattle.std.proofs.Math.ListN.{get_or-map}

@@ -1,8 +1,8 @@
 -- Sections from what was gathered.
-use Rattle.std.proofs.Common.{◌≡◌, ℕ, ◌<◌, Bool, true, false, ◌&&◌, List, [], length, get_or, map, Vec, refl, sym, ap, ◌∙◌, arith}
+use Rattle.std.proofs.Common.{◌≡◌, ℕ, ◌<◌, List, [], length, get_or, map, Vec, sym, ap, ◌∙◌, arith}
 use Rattle.std.specs.List.{All}
 use Rattle.std.specs.declared.alloc.Global.{Global}
-use Rattle.std.proofs.lemmas.Bool.{false≢true}
+use Rattle.std.proofs.lemmas.Bool.{and_parts}
 use Rattle.std.proofs.lemmas.List.{get_or_default, length-map}
 use Rattle.std.proofs.lemmas.List.Elements.{Contains-get_or}
 use Rattle.std.proofs.Math.ListN.{get_or-map}
@@ -11,10 +11,6 @@ use Rattle.section_group.specs.SectionOrder.{Input, is_used}
 use Rattle.section_group.specs.Keys.{IsWithin}
 use Rattle.section_group.specs.Sections.{Gathers, pieces_at}
 use Rattle.section_group.proofs.PartLemmas.{used_within}
-
-pub both_parts : (a b : Bool) → (a && b) ≡ true → (a ≡ true) × (b ≡ true)
-both_parts true b e = (refl, e)
-both_parts false b e = absurd (false≢true e)
 
 -- the pieces of a vector of vectors
 pub pieces_read : (members : List (Vec ℕ Global)) (section : ℕ) (v : Vec ℕ Global) → section < length members → v ≡ get_or members section v → v.items ≡ pieces_at members section
@@ -27,4 +23,4 @@ pub members_within : (input : Input) (homes : List Home) (members : List (Vec �
 members_within input homes members section gathered lt = λ k d within.
     let there = Contains-get_or (pieces_at members section) k d within in
     let goes = (gathered.exact section (get_or (pieces_at members section) k d) lt).0 there in
-    used_within input (get_or (pieces_at members section) k d) (both_parts (is_used input (get_or (pieces_at members section) k d)) _ goes).0
+    used_within input (get_or (pieces_at members section) k d) (and_parts (is_used input (get_or (pieces_at members section) k d)) _ goes).0

@@ -5,7 +5,7 @@ use Rattle.std.specs.Ordering.{is_lt, nat_cmp, ordering_then, then_cmp, on}
 use Rattle.std.specs.Cmp.{IsTotalOrder}
 use Rattle.std.specs.Cmp.Rules.{comparing}
 use Rattle.std.specs.declared.cmp.Ordering.{Ordering}
-use Rattle.std.proofs.lemmas.Bool.{false≢true, eqb-true}
+use Rattle.std.proofs.lemmas.Bool.{false≢true, eqb-true, and_parts}
 use Rattle.std.proofs.lemmas.List.{get_or_default, length-map}
 use Rattle.std.proofs.lemmas.Option.{slice_get_cases}
 use Rattle.std.proofs.Math.ListN.{get_or-map}
@@ -15,7 +15,6 @@ use Rattle.section_group.specs.SectionOrder.{Input, is_used, section_name, place
 use Rattle.section_group.specs.Placement.{goes_to, section_attributes, content_flags, IsSection, IsGrouping}
 use Rattle.section_group.specs.Uniqueness.{SectionRow, row_of, rows_of}
 use Rattle.section_group.proofs.ChainLemmas.{same_is}
-use Rattle.section_group.proofs.SectionLemmas.{both_parts}
 use Rattle.section_group.proofs.OrderLemmas.{not_after, level}
 use Rattle.section_group.proofs.OwnerLemmas.{place_total, level_places}
 
@@ -80,8 +79,8 @@ shared input s t k a b here there = λ i. record { name = names i; flags = flags
 
     parts : (name : List ℕ) (attributes : ℕ) → IsTrue (goes_to input name attributes k) → (section_name input k ≡ name) × (section_attributes input k ≡ attributes)
     parts name attributes goes =
-        let more = (both_parts (is_used input k) (same_name (section_name input k) name && eqb (section_attributes input k) attributes) goes).1 in
-        let two = both_parts (same_name (section_name input k) name) (eqb (section_attributes input k) attributes) more in
+        let more = (and_parts (is_used input k) (same_name (section_name input k) name && eqb (section_attributes input k) attributes) goes).1 in
+        let two = and_parts (same_name (section_name input k) name) (eqb (section_attributes input k) attributes) more in
         (same_is (section_name input k) name two.0, eqb-true (section_attributes input k) attributes two.1)
 
     names : s.name ≡ t.name
@@ -121,7 +120,7 @@ in_other input xs ys row a b there =
         let needed = sx.needed in
         let k = needed.1 in
         let here : Contains x.pieces.items k = (needed.0, needed.2, needed.3) in
-        let used = (both_parts (is_used input k) _ ((sx.members k).0 here)).0 in
+        let used = (and_parts (is_used input k) _ ((sx.members k).0 here)).0 in
         let t = b.complete k used needed.4 in
         let st = subst (IsSection input) t.3 (b.each t.0 t.1 t.2) in
         let same = shared input x t.1 k sx st here t.4 in

@@ -3,7 +3,7 @@ use Rattle.std.specs.Prelude.{◌≡◌, ℕ, ◌≤◌, List, length, slice_ind
 use Rattle.std.specs.List.{position_or_len}
 use Rattle.std.specs.Option.{option_map_or}
 use Rattle.std.specs.Map.{lookup, keys_of}
-use Rattle.section_group.specs.Merging.{all_merges, target, led, same_name, names_reserved, merge_at}
+use Rattle.section_group.specs.Merging.{all_merges, target, led, same_name, names_reserved}
 
 -- what a name is merged into by some merges alone
 abbrev pub target_among : List (List ℕ × List ℕ) → List ℕ → Option (List ℕ)

@@ -1,5 +1,5 @@
 -- What the passes over the pieces say of one another.
-use Rattle.std.specs.Prelude.{◌≡◌, ℕ, ◌<◌, Bool, true, false, ◌==◌, IsTrue, List, length, slice_index, slice_index_or, slice_get, filter, Option, Some, None}
+use Rattle.std.specs.Prelude.{◌≡◌, ℕ, ◌-◌, ◌<◌, Bool, true, false, ◌==◌, IsTrue, List, length, slice_index, slice_index_or, slice_get, filter, Option, Some, None}
 use Rattle.std.specs.List.{range_with_len, Contains}
 use Rattle.std.specs.declared.vec.Vec.{Vec}
 use Rattle.std.specs.declared.alloc.Global.{Global}
@@ -7,7 +7,7 @@ use Rattle.std.specs.Ordering.{is_lt}
 use Rattle.std.specs.Map.{lookup}
 use Rattle.section_group.specs.declared.parts.Parts.{Parts}
 use Rattle.section_group.specs.declared.homes.Home.{Home}
-use Rattle.section_group.specs.SectionOrder.{Input, is_used, section_name, place_cmp}
+use Rattle.section_group.specs.SectionOrder.{Input, piece_at, base_name, is_used, section_name, place_cmp}
 use Rattle.section_group.specs.Placement.{is_owner, first_owner, section_attributes}
 use Rattle.section_group.specs.Merging.{same_name}
 use Rattle.section_group.specs.SectionOrder.{input_from}
@@ -20,6 +20,11 @@ abbrev pub IsFirstUpTo : Input → ℕ → List ℕ → Option ℕ → Type 0
 IsFirstUpTo input count name None = (k : ℕ) → k < count → is_owner input name k ≡ false
 IsFirstUpTo input count name (Some first) =
     (first < count) × IsTrue (is_owner input name first) × ((k : ℕ) → k < count → is_owner input name k ≡ true → is_lt (place_cmp input k first) ≡ false)
+
+-- the piece before owns the base name of a piece and comes before it by module and number
+abbrev pub FollowsAnOwner : Input → ℕ → Type 0
+FollowsAnOwner input k =
+    (0 < k) × IsTrue (is_owner input (base_name (piece_at input k).name) (k - 1)) × IsTrue (is_lt (place_cmp input (k - 1) k))
 
 -- the entries are the first owners of names
 abbrev pub AreOwners : Input → List (List ℕ × ℕ) → Type 0

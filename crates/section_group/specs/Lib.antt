@@ -8,3 +8,4 @@ pub mod Keys
 pub mod Sections
 pub mod Uniqueness
 pub mod BarePieces
+pub mod PieceContents

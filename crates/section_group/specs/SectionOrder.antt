@@ -1,6 +1,6 @@
 -- The order of pieces inside a section, and of sections in an image: lists of keys, each of which decides only where those
 -- before it are equal. The names are cut as in PE Format, "Grouped Sections (Object Only)"; the keys are own.
-use Rattle.std.specs.Prelude.{◌≡◌, ℕ, Bool, false, ◌&&◌, not, ◌==◌, nat_lt, IsTrue, List, [], length, slice_index_or, None, codes, if◌then◌else◌}
+use Rattle.std.specs.Prelude.{◌≡◌, ℕ, Bool, false, ◌&&◌, not, nat_lt, IsTrue, List, [], length, slice_index_or, None, codes, if◌then◌else◌}
 use Rattle.std.specs.List.{Contains}
 use Rattle.std.specs.Ordering.{nat_cmp, bool_cmp, then_cmp, ordering_then, on, is_lt}
 use Rattle.std.specs.declared.cmp.Ordering.{Ordering}

@@ -1,5 +1,5 @@
 -- What the steps of grouping say of one another.
-use Rattle.std.specs.Prelude.{◌≡◌, ℕ, ◌<◌, Bool, List, [], length, slice_index_or}
+use Rattle.std.specs.Prelude.{◌≡◌, ℕ, ◌<◌, List, [], length, slice_index_or}
 use Rattle.section_group.specs.declared.piece.Piece.{Piece}
 use Rattle.section_group.specs.declared.cut.Cut.{Cut}
 use Rattle.section_group.specs.SectionOrder.{Input, piece_at, base_name, suffix, section_name}

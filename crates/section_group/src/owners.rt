@@ -7,7 +7,7 @@ ghost use Rattle.indexmap.specs.IndexMap.{get};
 ghost use Rattle.section_group.specs.SectionOrder.{is_used, place_cmp, base_name, piece_at};
 ghost use Rattle.section_group.specs.Placement.{section_attributes, deciding_piece};
 ghost use Rattle.section_group.specs.Merging.{same_name};
-ghost use Rattle.section_group.specs.Gathering.{input_of, AreOwners, IsFirstUpTo};
+ghost use Rattle.section_group.specs.Gathering.{input_of, AreOwners, IsFirstUpTo, FollowsAnOwner};
 
 use crate::parts::Parts;
 use indexmap::IndexMap;
@@ -52,11 +52,28 @@ fn take_owner<'a>(
     requires so_far { (name : List ℕ) → IsFirstUpTo (input_of parts.now) index name (get same_name owners.old name) }
     ensures { OnOk result ((name : List ℕ) → IsFirstUpTo (input_of parts.now) (index + 1) name (get same_name owners.new name)) }
 {
+    if follows_its_like(parts, index) {
+        return Ok(());
+    }
     let base = &parts.cuts[index].base;
     if is_first(owners, parts, index) {
         owners.insert(base.again(), index)?;
     }
     Ok(())
+}
+
+/// Whether the piece before it is used, has its base name and comes before it: then it is not the first of that name.
+fn follows_its_like(parts: &Parts<'_, '_>, index: usize) -> bool
+    requires { index < length parts.now.pieces.now }
+    ensures { IsTrue result → FollowsAnOwner (input_of parts.now) index }
+{
+    if index == 0 || !parts.used[index - 1] {
+        return false;
+    }
+    if parts.cuts[index - 1].base != parts.cuts[index].base {
+        return false;
+    }
+    precedes(parts, index - 1, index)
 }
 
 /// Whether a piece comes before the owner that is noted for its base name.

@@ -1,7 +1,7 @@
 -- What callers may cite of bytes that are a short import.
 use Rattle.std.proofs.Common.{◌≡◌, ℕ, ◌+◌, ◌<◌, ◌≤◌, Bool, true, false, not, eqb, List, length, slice_index, Option, None, Some, inl, inr, refl, sym, ap, ◌∙◌, arith}
 use Rattle.std.specs.Option.{option_or}
-use Rattle.std.proofs.lemmas.Bool.{false≢true, eqb-true}
+use Rattle.std.proofs.lemmas.Bool.{false≢true, eqb-true, ltb-false}
 use Rattle.std.proofs.lemmas.Bool.Decides.{eqb_tells}
 use Rattle.std.proofs.lemmas.List.{length-take-le, length-drop}
 use Rattle.link_base.specs.Bytes.{bytes_at, is_nul}
@@ -9,7 +9,7 @@ use Rattle.link_base.specs.declared.kinds.import.ImpFault.{ImpFault}
 use Rattle.link_base.specs.declared.kinds.import.ImpFault.TheVariants as fault
 use Rattle.link_base.specs.PeFormat.{FILE_MACHINE_AMD64}
 use Rattle.link_base.specs.Refusals.{shown}
-use Rattle.link_base.proofs.TestLemmas.{or_left, or_right, ltb_false}
+use Rattle.link_base.proofs.TestLemmas.{or_left, or_right}
 use Rattle.short_import.specs.Constants.{IMPORT_CONST, IMPORT_NAME_UNDECORATE}
 use Rattle.short_import.specs.ShortImport.{machine_of, data_size, import_type, name_type, import_data, symbol_of, dll_of}
 use Rattle.short_import.specs.ImportFaults.{is_cut, is_other_machine, has_other_type, has_other_name_type, lacks_text, header_fault, import_fault}
@@ -96,8 +96,8 @@ import_read bytes e =
     let dll_ended = dll.ended some_dll in
     record {
       machine = same_machine (machine_of bytes) FILE_MACHINE_AMD64 header.machine;
-      type_known = ltb_false IMPORT_CONST (import_type bytes) header.type_known;
-      name_type_known = ltb_false IMPORT_NAME_UNDECORATE (name_type bytes) header.name_type_known;
+      type_known = ltb-false IMPORT_CONST (import_type bytes) header.type_known;
+      name_type_known = ltb-false IMPORT_NAME_UNDECORATE (name_type bytes) header.name_type_known;
       symbol = symbol.part ∙ bytes_at-bytes_at bytes 20 (data_size bytes) 0 (length (symbol_of bytes)) (omega arith);
       dll = dll.part
           ∙ bytes_at-bytes_at bytes 20 (data_size bytes) (length (symbol_of bytes) + 1) (length (dll_of bytes)) (omega arith)

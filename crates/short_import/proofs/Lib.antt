@@ -1,5 +1,4 @@
 pub mod WholeLemmas
-pub mod TextLemmas
 pub mod SpanLemmas
 pub mod CallerLemmas
 mod WorkedImport

@@ -20,10 +20,6 @@ pub or_or : {A : Type 0} (a b c : Option A) → option_or (option_or a b) c ≡ 
 or_or None b c = refl
 or_or (Some x) b c = refl
 
-pub or_none : {A : Type 0} (a : Option A) → option_or a None ≡ a
-or_none None = refl
-or_none (Some x) = refl
-
 map_or : {A B : Type 0} (f : A → B) (a b : Option A) → option_map f (option_or a b) ≡ option_or (option_map f a) (option_map f b)
 map_or f None b = refl
 map_or f (Some x) b = refl

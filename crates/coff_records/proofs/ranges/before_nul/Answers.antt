@@ -1,10 +1,9 @@
-use Rattle.std.proofs.Common.{sym, ap, take, ℕ}
-use Rattle.std.proofs.lemmas.List.{take_all}
-use Rattle.coff_records.proofs.NameLemmas.{nul_at, no_nul}
+use Rattle.link_base.specs.Bytes.{is_nul}
+use Rattle.link_base.proofs.FoundLemmas.{before_place, before_none}
 use Rattle.coff_records.proofs.ranges.before_nul.Goals as goal
 
 pub returns-in-Some-clause-text : goal.returns-in-Some-clause-text
-returns-in-Some-clause-text c = sym (ap (λ (k : ℕ). take k c.args.bytes.now) (nul_at _ _ c.in-Some.ensures))
+returns-in-Some-clause-text c = before_place is_nul c.args.bytes.now _ c.in-Some.ensures
 
 pub returns-in-None-clause-text : goal.returns-in-None-clause-text
-returns-in-None-clause-text c = sym (take_all _ c.args.bytes.now (no_nul _ c.in-None.ensures))
+returns-in-None-clause-text c = before_none is_nul c.args.bytes.now c.in-None.ensures

@@ -1,5 +1,5 @@
 use Rattle.directives.specs.ExportValue.{ends_name}
-use Rattle.directives.proofs.PlaceLemmas.{first_place}
+use Rattle.link_base.proofs.FoundLemmas.{first_place}
 use Rattle.directives.proofs.exports.name_end.Goals as goal
 
 pub returns-clause-is : goal.returns-clause-is

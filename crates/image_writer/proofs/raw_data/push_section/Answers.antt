@@ -1,7 +1,7 @@
 use Rattle.std.proofs.Common.{◌+◌, ◌<◌, ◌++◌, ℕ, List, length, get_or, drop, map, replicate, sym, ap, ◌∙◌, subst, arith}
 use Rattle.std.proofs.lemmas.List.{drop_all}
 use Rattle.image_writer.specs.ExpectedImage.{PlacedBytes}
-use Rattle.image_writer.specs.WrittenImage.{piece_contents}
+use Rattle.section_group.specs.PieceContents.{piece_contents}
 use Rattle.image_writer.specs.RawData.{section_bytes}
 use Rattle.image_writer.specs.RawData.{gap, laid, Ascend}
 use Rattle.image_writer.proofs.RawLemmas.{ascend_end}

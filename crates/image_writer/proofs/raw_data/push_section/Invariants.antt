@@ -1,5 +1,5 @@
 use Rattle.std.proofs.Common.{◌≡◌, ◌+◌, ◌++◌, drop, map}
-use Rattle.image_writer.specs.WrittenImage.{piece_contents}
+use Rattle.section_group.specs.PieceContents.{piece_contents}
 use Rattle.image_writer.specs.RawData.{section_bytes}
 use Rattle.image_writer.specs.RawData.{laid, Ascend}
 use Rattle.image_writer.proofs.raw_data.push_section.Given as goal

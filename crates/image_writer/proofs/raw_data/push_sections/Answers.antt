@@ -3,7 +3,7 @@ use Rattle.std.proofs.lemmas.List.{append-nil, drop_all, length-map}
 use Rattle.section_group.specs.Uniqueness.{SectionRow as OutRow, row_of, rows_of}
 use Rattle.address_layout.specs.declared.layout.Placed.{Placed}
 use Rattle.address_layout.specs.Layout.{placed_at}
-use Rattle.image_writer.specs.WrittenImage.{piece_contents}
+use Rattle.section_group.specs.PieceContents.{piece_contents}
 use Rattle.image_writer.specs.RawData.{section_bytes}
 use Rattle.image_writer.specs.RawData.{laid, laid_all, Ascend}
 use Rattle.image_writer.proofs.LaidOutLemmas.{all_here, have_room, ascends_there}

@@ -1,6 +1,6 @@
 use Rattle.std.proofs.Common.{◌≡◌, ◌++◌, drop, map}
 use Rattle.section_group.specs.Uniqueness.{rows_of}
-use Rattle.image_writer.specs.WrittenImage.{piece_contents}
+use Rattle.section_group.specs.PieceContents.{piece_contents}
 use Rattle.image_writer.specs.RawData.{laid_all}
 use Rattle.image_writer.proofs.raw_data.push_sections.Given as goal
 

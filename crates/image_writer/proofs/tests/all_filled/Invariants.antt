@@ -1,6 +1,6 @@
 use Rattle.std.proofs.Common.{◌≡◌, IsTrue, length, take}
 use Rattle.std.specs.List.{All}
-use Rattle.image_writer.specs.WrittenImage.{piece_contents}
+use Rattle.section_group.specs.PieceContents.{piece_contents}
 use Rattle.image_writer.proofs.tests.all_filled.Given as goal
 
 abbrev pub invariant-loop-piece : goal.invariant-loop-piece

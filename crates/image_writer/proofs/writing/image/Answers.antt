@@ -3,7 +3,8 @@ use Rattle.section_group.specs.Uniqueness.{rows_of}
 use Rattle.image_writer.specs.declared.headers.SectionHeader.{SectionHeader}
 use Rattle.image_writer.specs.HeaderTable.{header_table, size_of_code, size_of_initialized_data, size_of_uninitialized_data}
 use Rattle.image_writer.specs.ExpectedImage.{PlacedBytes, raw_bytes, image_file}
-use Rattle.image_writer.specs.WrittenImage.{piece_contents, section_rows, at_each_base, written_plan}
+use Rattle.section_group.specs.PieceContents.{piece_contents}
+use Rattle.image_writer.specs.WrittenImage.{section_rows, at_each_base, written_plan}
 use Rattle.image_writer.specs.RawData.{laid_all}
 use Rattle.std.specs.List.{flat_map}
 use Rattle.image_writer.proofs.LaidOutLemmas.{have_room}

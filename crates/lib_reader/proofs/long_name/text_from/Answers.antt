@@ -1,7 +1,7 @@
 use Rattle.std.proofs.Common.{List, ℕ, ap, ◌∙◌}
 use Rattle.std.specs.List.{before_first}
 use Rattle.lib_reader.specs.MemberName.{ends_long_name}
-use Rattle.lib_reader.proofs.TextLemmas.{before_place, before_none}
+use Rattle.link_base.proofs.FoundLemmas.{before_place, before_none}
 use Rattle.lib_reader.proofs.long_name.text_from.Goals as goal
 
 pub returns-in_default : goal.returns-in_default

@@ -2,7 +2,8 @@ use Rattle.std.proofs.Common.{◌≡◌, List, map, ap, ◌∙◌, subst, arith}
 use Rattle.section_group.specs.declared.piece.OutSection.{OutSection}
 use Rattle.address_layout.specs.declared.layout.Layout.{Layout}
 use Rattle.image_writer.specs.ExpectedImage.{image_file}
-use Rattle.image_writer.specs.WrittenImage.{piece_contents, layout_plan, at_each_base}
+use Rattle.section_group.specs.PieceContents.{piece_contents}
+use Rattle.image_writer.specs.WrittenImage.{layout_plan, at_each_base}
 use Rattle.link_words.specs.Outcome.{LinkOptions, options_said}
 use Rattle.link_plan.specs.declared.plan.LinkPlan.{LinkPlan}
 use Rattle.link_image.specs.ImageHeaders.{headers_of}

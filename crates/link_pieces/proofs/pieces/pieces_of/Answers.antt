@@ -3,7 +3,7 @@ use Rattle.std.specs.List.{All, range_with_len, flat_map}
 use Rattle.std.proofs.lemmas.List.{get_or_default, take_all}
 use Rattle.std.proofs.lemmas.List.Elements.{All-nil}
 use Rattle.section_group.specs.BarePieces.{bare}
-use Rattle.image_writer.specs.WrittenImage.{piece_contents}
+use Rattle.section_group.specs.PieceContents.{piece_contents}
 use Rattle.module_view.specs.Module.{ModuleView, no_module, module_at}
 use Rattle.module_view.specs.Opening.{IsOpened}
 use Rattle.link_pieces.specs.Pieces.{pieces_in, contents_in}

@@ -1,7 +1,7 @@
 use Rattle.std.proofs.Common.{◌≡◌, map, take}
 use Rattle.std.specs.List.{All, range_with_len, flat_map}
 use Rattle.section_group.specs.BarePieces.{bare}
-use Rattle.image_writer.specs.WrittenImage.{piece_contents}
+use Rattle.section_group.specs.PieceContents.{piece_contents}
 use Rattle.module_view.specs.Module.{module_at}
 use Rattle.module_view.specs.Opening.{IsOpened}
 use Rattle.link_pieces.specs.Pieces.{pieces_in, contents_in}

@@ -1,6 +1,6 @@
 use Rattle.std.proofs.Common.{◌+◌, map, arith}
 use Rattle.section_group.specs.BarePieces.{bare}
-use Rattle.image_writer.specs.WrittenImage.{piece_contents}
+use Rattle.section_group.specs.PieceContents.{piece_contents}
 use Rattle.module_view.specs.PlacedSection.{is_placed}
 use Rattle.link_pieces.specs.Pieces.{piece_of, section_contents}
 use Rattle.link_base.proofs.RangeLemmas.{kept_grows}

@@ -1,8 +1,6 @@
-use Rattle.std.proofs.Common.{rules, ◌≡◌, ◌<◌, IfOk, length, map, slice_index_or, take, ℕ, ◌+◌, ◌-◌, ◌*◌, ◌≤◌, ◌/◌, ◌%◌, Bool, true, false, nat_eq, nat_lt, sym, ◌∙◌, List, [], ◌∷◌, ◌++◌, slice_set, bit_and, bit_or, Fits, w8, w32, w64, Bor, MutBor}
+use Rattle.std.proofs.Common.{sym, ◌∙◌}
 use Rattle.indexmap.specs.IndexMap.{keys}
 use Rattle.section_group.specs.Chains.{led_by}
-use Rattle.section_group.specs.SectionOrder.{no_piece}
-use Rattle.section_group.specs.Steps.{cut_of}
 use Rattle.section_group.proofs.ChainLemmas.{same_is}
 use Rattle.section_group.proofs.PartLemmas.{cut_again}
 use Rattle.section_group.proofs.cut.next_cut.Goals as goal

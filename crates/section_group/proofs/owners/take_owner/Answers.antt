@@ -3,9 +3,13 @@ use Rattle.indexmap.specs.IndexMap.{get}
 use Rattle.section_group.specs.declared.cut.Cut.{Cut}
 use Rattle.section_group.specs.Merging.{same_name}
 use Rattle.section_group.specs.Gathering.{input_of}
-use Rattle.section_group.proofs.OwnerLemmas.{owner_taken}
+use Rattle.section_group.proofs.OwnerLemmas.{owner_taken, first_kept}
 use Rattle.section_group.proofs.PartLemmas.{cut_read, used_within}
 use Rattle.section_group.proofs.owners.take_owner.Goals as goal
+
+pub returns-then-follows_its_like : goal.returns-then-follows_its_like
+returns-then-follows_its_like c = λ name.
+    first_kept (input_of c.args.parts.now) c.args.index name (get same_name c.args.owners.now name) (c.follows_its_like.ensures c.if-follows_its_like.true) (c.requires.so_far name)
 
 pub returns-in_ok-insert : goal.returns-in_ok-insert
 returns-in_ok-insert c = λ name.

@@ -1,7 +1,7 @@
 use Rattle.std.proofs.Common.{◌∙◌, ap}
 use Rattle.std.specs.List.{before_first}
 use Rattle.short_import.specs.Decoration.{is_at_sign}
-use Rattle.short_import.proofs.TextLemmas.{before_place, before_none}
+use Rattle.link_base.proofs.FoundLemmas.{before_place, before_none}
 use Rattle.short_import.proofs.decoration.undecorated.Goals as goal
 
 pub returns-in-Some : goal.returns-in-Some

@@ -8,8 +8,9 @@ use Rattle.symbol_table.specs.declared.meaning.Clash.{Clash}
 use Rattle.symbol_table.specs.Resolution.{Provided, provided}
 use Rattle.symbol_table.specs.Clash.{clash_in}
 use Rattle.symbol_table.specs.TableParts.{Names}
-use Rattle.symbol_table.proofs.NamingLemmas.{or_or, or_none, names_more, clash_more, entries_more}
+use Rattle.symbol_table.proofs.NamingLemmas.{or_or, names_more, clash_more, entries_more}
 use Rattle.symbol_table.proofs.noting.note_all.Goals as goal
+use Rattle.link_base.proofs.RefusalLemmas.{or_none}
 
 pub loop-definition-preserved : goal.loop-definition-preserved
 loop-definition-preserved c =
