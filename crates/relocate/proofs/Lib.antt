@@ -5,5 +5,7 @@ pub mod PatchableLemmas
 pub mod ValueLemmas
 pub mod WriteLemmas
 pub mod PatchLemmas
+pub mod FindLemmas
+pub mod PatchedLemmas
 mod WorkedFields
 mod TestLemmas

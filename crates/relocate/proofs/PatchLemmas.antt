@@ -9,13 +9,14 @@ use Rattle.relocate.specs.declared.error.FieldError.TheVariants as error
 use Rattle.relocate.specs.FieldFaults.{place_faults}
 use Rattle.relocate.specs.Judged.{IsPatchable, AreApart, ArePatchable}
 use Rattle.relocate.proofs.JudgeLemmas.{or_none, shown_none}
+use Rattle.relocate.proofs.WriteLemmas.{length-written, written_before, written_behind, written_inside, written_there, held_fits}
 use Rattle.link_base.proofs.PutLemmas.{number_at-same}
-use Rattle.relocate.proofs.WriteLemmas.{length-written, written_before, written_behind, written_there, held_fits}
 use Rattle.link_base.specs.Bytes.{number_at}
 use Rattle.address_layout.specs.declared.layout.Layout.{Layout}
 use Rattle.relocate.specs.declared.fix.Fix.{Fix}
 use Rattle.relocate.specs.declared.range.RelocRange.{RelocRange}
 use Rattle.relocate.specs.Field.{field_width, field_end, no_fix, fix_at}
+use Rattle.relocate.specs.PatchedBytes.{field_byte}
 use Rattle.relocate.specs.Value.{parts_of, value_of, fits, held, IsOutside, ArePatched}
 use Rattle.relocate.specs.Written.{written_over, one_patched, value_outside, least_range}
 
@@ -36,12 +37,13 @@ RangesTo base rva layout owner fixups k old (Some range) = LeastBelow base rva l
 pub record PatchedTo (base rva : ℕ) (layout : Layout) (owner : List ℕ) (fixups : List Fix) (k : ℕ) (old new : List ℕ) (least : Option RelocRange) : Type 0 where
   pub len : length new ≡ length old
   pub hold : (j : ℕ) → j < k → fits base rva layout owner old (fix_at fixups j) ≡ true → number_at (field_width (fix_at fixups j).kind) new (fix_at fixups j).at ≡ held (field_width (fix_at fixups j).kind) (value_of base rva layout owner old (fix_at fixups j))
+  pub inside : (j byte : ℕ) → j < k → fits base rva layout owner old (fix_at fixups j) ≡ true → (fix_at fixups j).at ≤ byte → byte < field_end (fix_at fixups j) → slice_index new byte ≡ field_byte base rva layout owner old (fix_at fixups j) byte
   pub others : (byte : ℕ) → ((j : ℕ) → j < k → IsOutside byte (fix_at fixups j)) → slice_index new byte ≡ slice_index old byte
   pub ranges : RangesTo base rva layout owner fixups k old least
 
 pub none_patched : (base rva : ℕ) (layout : Layout) (owner : List ℕ) (fixups : List Fix) (old : List ℕ) → PatchedTo base rva layout owner fixups 0 old old None
 none_patched base rva layout owner fixups old =
-    record { len = refl; hold = λ j lt. absurd (omega arith); others = λ byte outside. refl; ranges = λ j lt. absurd (omega arith) }
+    record { len = refl; hold = λ j lt. absurd (omega arith); inside = λ j byte lt. absurd (omega arith); others = λ byte outside. refl; ranges = λ j lt. absurd (omega arith) }
 
 -- ---- one more
 
@@ -167,6 +169,16 @@ step_written base rva layout owner fixups k old new least lt patchable fitting s
             subst (λ (i : ℕ). number_at (field_width (fix_at fixups i).kind) (written_over new (fix_at fixups k) number) (fix_at fixups i).at ≡ held (field_width (fix_at fixups i).kind) (value_of base rva layout owner old (fix_at fixups i))) same
             (written_there new (fix_at fixups k) number within (held_fits (fix_at fixups k).kind (value_of base rva layout owner old (fix_at fixups k))))
       ];
+      inside = λ j byte below fit low high. elim (cases_lt j k) [
+        | inl before ↦
+            let ends = ends_at fixups j k patchable.apart before lt in
+            written_before new (fix_at fixups k) number byte within (omega arith) ∙ so_far.inside j byte before fit low high
+        | inr here ↦ let same : k ≡ j = omega arith in
+            let at_same = ap (λ (i : ℕ). (fix_at fixups i).at) same in
+            let end_same = ap (λ (i : ℕ). field_end (fix_at fixups i)) same in
+            subst (λ (i : ℕ). slice_index (written_over new (fix_at fixups k) number) byte ≡ field_byte base rva layout owner old (fix_at fixups i) byte) same
+            (written_inside new (fix_at fixups k) number byte within (omega (arith, at_same)) (omega (arith, end_same)))
+      ];
       others = λ byte outside.
           elim (outside k (omega arith)) [
             | inl before ↦ written_before new (fix_at fixups k) number byte within before
@@ -183,6 +195,11 @@ step_left base rva layout owner fixups k old new least misfit so_far =
       len = so_far.len;
       hold = λ j below fit. elim (cases_lt j k) [
         | inl before ↦ so_far.hold j before fit
+        | inr here ↦ let same : k ≡ j = omega arith in
+            absurd (false≢true (sym misfit ∙ (ap (λ (i : ℕ). fits base rva layout owner old (fix_at fixups i)) same ∙ fit)))
+      ];
+      inside = λ j byte below fit low high. elim (cases_lt j k) [
+        | inl before ↦ so_far.inside j byte before fit low high
         | inr here ↦ let same : k ≡ j = omega arith in
             absurd (false≢true (sym misfit ∙ (ap (λ (i : ℕ). fits base rva layout owner old (fix_at fixups i)) same ∙ fit)))
       ];

@@ -1,7 +1,7 @@
 -- One field written over the bytes of a section.
-use Rattle.std.proofs.Common.{◌≡◌, ◌≢◌, ℕ, ◌+◌, ◌*◌, ◌^◌, ◌<◌, ◌≤◌, ℤ, pos, negsuc, List, ◌++◌, length, take, drop, slice_index, Bool, true, false, cond, eqb, nat_le, refl, sym, ap, ◌∙◌, arith}
+use Rattle.std.proofs.Common.{◌≡◌, ◌≢◌, ℕ, ◌+◌, ◌-◌, ◌*◌, ◌^◌, ◌<◌, ◌≤◌, ℤ, pos, negsuc, List, ◌++◌, length, take, drop, slice_index, Bool, true, false, cond, eqb, nat_le, refl, sym, ap, ◌∙◌, arith}
 use Rattle.std.proofs.lemmas.Bool.{ne_eqb}
-use Rattle.std.proofs.lemmas.List.{drop-drop}
+use Rattle.std.proofs.lemmas.List.{get_or_append_left, get_or-append_right, length-take-le, drop-drop}
 use Rattle.std.proofs.Math.Nat.{mod-lt}
 use Rattle.std.specs.Int.{int_rem_euclid}
 use Rattle.std.specs.Prelude.{unsigned_abs}
@@ -43,6 +43,11 @@ unfolding number_bytes
 written bytes front rest new fix width number value w f r v n =
     rw (f, n, r, v, w) (ap (λ (xs : List ℕ). take fix.at bytes ++ (little_bytes width (held width value) ++ xs)) (drop-drop width fix.at bytes))
 
+put_inside : (at i : ℕ) (new bytes : List ℕ) → at + length new ≤ length bytes → at ≤ i → i < at + length new → slice_index (put_over at new bytes) i ≡ slice_index new (i - at)
+put_inside at i new bytes le low high =
+    get_or-append_right (take at bytes) (new ++ drop (at + length new) bytes) at i 0 (length-take-le at bytes (omega arith)) low
+    ∙ get_or_append_left new (drop (at + length new) bytes) 0 (i - at) (omega arith)
+
 over_is : (bytes : List ℕ) (fix : Fix) (number : ℕ) → written_over bytes fix number ≡ put_over fix.at (number_bytes (field_width fix.kind) number) bytes
 over_is bytes fix number =
     ap (λ (k : ℕ). take fix.at bytes ++ (number_bytes (field_width fix.kind) number ++ drop (fix.at + k) bytes)) (sym (length-number_bytes (field_width fix.kind) number))
@@ -61,6 +66,10 @@ written_before bytes fix number i le lt =
 pub written_behind : (bytes : List ℕ) (fix : Fix) (number i : ℕ) → field_end fix ≤ length bytes → field_end fix ≤ i → slice_index (written_over bytes fix number) i ≡ slice_index bytes i
 written_behind bytes fix number i le ge =
     ap (λ (xs : List ℕ). slice_index xs i) (over_is bytes fix number) ∙ put_after fix.at i (number_bytes (field_width fix.kind) number) bytes (room bytes fix number le) (omega (arith, length-number_bytes (field_width fix.kind) number))
+
+pub written_inside : (bytes : List ℕ) (fix : Fix) (number i : ℕ) → field_end fix ≤ length bytes → fix.at ≤ i → i < field_end fix → slice_index (written_over bytes fix number) i ≡ slice_index (number_bytes (field_width fix.kind) number) (i - fix.at)
+written_inside bytes fix number i le low high =
+    ap (λ (xs : List ℕ). slice_index xs i) (over_is bytes fix number) ∙ put_inside fix.at i (number_bytes (field_width fix.kind) number) bytes (room bytes fix number le) low (omega (arith, length-number_bytes (field_width fix.kind) number))
 
 pub written_there : (bytes : List ℕ) (fix : Fix) (number : ℕ) → field_end fix ≤ length bytes → number < 256 ^ field_width fix.kind → number_at (field_width fix.kind) (written_over bytes fix number) fix.at ≡ number
 written_there bytes fix number le small =

@@ -3,6 +3,7 @@
 ghost use Rattle.std.specs.Prelude.{◌≡◌, true, length, OnOk, IfErr};
 ghost use Rattle.std.specs.List.{All};
 ghost use Rattle.relocate.specs.Judged.{ArePatchable};
+ghost use Rattle.relocate.specs.PatchedBytes.{patched_bytes};
 ghost use Rattle.relocate.specs.Value.{HaveEntries, ArePatched, IsLeastOutside, fits};
 ghost use Rattle.relocate.specs.Written.{least_range};
 
@@ -30,6 +31,7 @@ pub fn patch(
     requires patchable { ArePatchable (length part.old) fixups.now }
     requires entries { HaveEntries layout.now owner.now fixups.now }
     ensures patched { OnOk result (ArePatched base rva layout.now owner.now fixups.now part.old part.new) }
+    ensures written { OnOk result (part.new ≡ patched_bytes base rva layout.now owner.now fixups.now part.old) }
     ensures in_range { OnOk result (All (λ fix. fits base rva layout.now owner.now part.old fix ≡ true) fixups.now) }
     ensures refused { IfErr result (IsLeastOutside base rva layout.now owner.now fixups.now part.old) }
 {
@@ -47,6 +49,7 @@ fn patch_fields(
     requires patchable { ArePatchable (length part.old) fixes.now }
     requires entries { HaveEntries layout.now owner.now fixes.now }
     ensures patched { OnOk result (ArePatched base rva layout.now owner.now fixes.now part.old part.new) }
+    ensures written { OnOk result (part.new ≡ patched_bytes base rva layout.now owner.now fixes.now part.old) }
     ensures in_range { OnOk result (All (λ fix. fits base rva layout.now owner.now part.old fix ≡ true) fixes.now) }
     ensures refused { IfErr result (IsLeastOutside base rva layout.now owner.now fixes.now part.old) }
 {

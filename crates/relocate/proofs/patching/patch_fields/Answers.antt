@@ -1,6 +1,7 @@
 use Rattle.std.proofs.Common.{length, arith, subst}
 use Rattle.relocate.specs.Field.{no_fix, fix_at}
 use Rattle.relocate.proofs.PatchLemmas.{PatchedTo, within_at, step, all_in_range, all_patched}
+use Rattle.relocate.proofs.PatchedLemmas.{all_written}
 use Rattle.relocate.proofs.patching.patch_fields.Goals as goal
 
 pub patch_field-outside-requires-clause-within : goal.patch_field-outside-requires-clause-within
@@ -17,6 +18,10 @@ loop-fix-preserved c =
 pub returns-in-None-clause-patched : goal.returns-in-None-clause-patched
 returns-in-None-clause-patched c =
     all_patched _ _ _ _ _ _ _ _ c.loop-fix-test.false c.loop-fix.auto.fix-index-end (subst (PatchedTo c.args.base c.args.rva c.args.layout.now c.args.owner.now c.args.fixes.now c.loop-fix.fix-index c.args.part.now c.loop-fix.part) c.in-None.is c.loop-fix.invariant)
+
+pub returns-in-None-clause-written : goal.returns-in-None-clause-written
+returns-in-None-clause-written c =
+    all_written _ _ _ _ _ _ _ _ c.loop-fix-test.false c.loop-fix.auto.fix-index-end c.requires.patchable (subst (PatchedTo c.args.base c.args.rva c.args.layout.now c.args.owner.now c.args.fixes.now c.loop-fix.fix-index c.args.part.now c.loop-fix.part) c.in-None.is c.loop-fix.invariant)
 
 pub returns-in-None-clause-in_range : goal.returns-in-None-clause-in_range
 returns-in-None-clause-in_range c =
