@@ -7,5 +7,7 @@ pub mod WriteLemmas
 pub mod PatchLemmas
 pub mod FindLemmas
 pub mod PatchedLemmas
+pub mod OrderLemmas
+pub mod CallerLemmas
 mod WorkedFields
 mod TestLemmas

@@ -1,15 +1,15 @@
 -- The bytes of a section in an image, and the first field whose value does not fit (PE Format, "Type Indicators", x64
 -- Processors; the order is own).
-use Rattle.std.specs.Prelude.{ℕ, ◌-◌, Bool, ◌&&◌, not, ◌==◌, ◌||◌, nat_le, nat_lt, if◌then◌else◌, List, length, map, slice_index, Option, Some, None}
-use Rattle.std.specs.List.{range_with_len, find}
+use Rattle.std.specs.Prelude.{◌≡◌, ℕ, ◌-◌, ◌<◌, Bool, true, false, ◌&&◌, not, ◌==◌, ◌||◌, nat_le, nat_lt, if◌then◌else◌, List, length, map, slice_index, Option, Some, None, is_some}
+use Rattle.std.specs.List.{All, range_with_len, find}
 use Rattle.link_base.specs.Bytes.{number_bytes}
 use Rattle.link_base.specs.PeFormat.{REL_AMD64_ADDR64, REL_AMD64_ADDR32}
-use Rattle.link_base.specs.Refusals.{first_refusal_below}
+use Rattle.link_base.specs.Refusals.{first_standing, first_refusal_below}
 use Rattle.address_layout.specs.declared.layout.Layout.{Layout}
 use Rattle.relocate.specs.declared.fix.Fix.{Fix}
 use Rattle.relocate.specs.declared.range.RelocRange.{RelocRange}
 use Rattle.relocate.specs.Field.{field_width, field_end, has_field, fix_at}
-use Rattle.relocate.specs.FieldFaults.{is_absolute}
+use Rattle.relocate.specs.FieldFaults.{is_absolute, target_faults}
 use Rattle.relocate.specs.Value.{held, value_of, fits}
 
 -- ---- the bytes
@@ -52,3 +52,20 @@ range_fault base rva layout owner fixes bytes =
 -- a field that holds an address, so that its value changes with the base (PE Format, "The .reloc Section (Image Only)")
 abbrev pub is_based : Fix → Bool
 is_based fix = ((fix.kind == REL_AMD64_ADDR64) || (fix.kind == REL_AMD64_ADDR32)) && not (is_absolute fix.target)
+
+-- ---- relocations in the order of their indexes
+
+-- the index of each relocation is its position
+abbrev pub AreNumbered : List Fix → Type 0
+AreNumbered fixes = (k : ℕ) → k < length fixes → (fix_at fixes k).index ≡ k
+
+-- the symbol of each relocation that has a field is there, and means what suits the type
+abbrev pub IsSuited : Bool → Bool → Fix → Type 0
+IsSuited large pdata fix = (is_some fix.target ≡ true) × (first_standing (target_faults large pdata fix) ≡ None)
+
+abbrev pub AreSuited : Bool → Bool → List Fix → Type 0
+AreSuited large pdata fixes = All (λ fix. has_field fix ≡ true → IsSuited large pdata fix) fixes
+
+-- no field holds an address
+abbrev pub HaveNoBased : List Fix → Type 0
+HaveNoBased fixes = All (λ fix. has_field fix ≡ true → is_based fix ≡ false) fixes

@@ -26,7 +26,7 @@ pub use checking::check;
 pub use error::FieldError;
 pub use fix::{Fix, Target};
 pub use fixups::Fixups;
-pub use laws::fixups_are_shared;
+pub use laws::{fixups_are_shared, patches_in_any_order};
 pub use link_base::{RelocKind, TargetFault};
 pub use patching::patch;
 pub use range::RelocRange;
