@@ -8,6 +8,7 @@ pub mod PatchLemmas
 pub mod FindLemmas
 pub mod PatchedLemmas
 pub mod OrderLemmas
+pub mod BaseLemmas
 pub mod CallerLemmas
 mod WorkedFields
 mod TestLemmas

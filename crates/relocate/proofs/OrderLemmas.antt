@@ -58,13 +58,13 @@ field_among fixes fixups place fields lt = (
   All-permutation (IsAmong fixes) (filter has_field fixes) fixups fields (All-filter has_field (IsAmong fixes) fixes (each_among fixes)) place no_fix lt,
 )
 
-among_fields : (P : Fix → Type 0) (fixes fixups : List Fix) (k : ℕ) → AreTheFields fixes fixups → All P fixups → k < length fixes → has_field (fix_at fixes k) ≡ true → P (fix_at fixes k)
+pub among_fields : (P : Fix → Type 0) (fixes fixups : List Fix) (k : ℕ) → AreTheFields fixes fixups → All P fixups → k < length fixes → has_field (fix_at fixes k) ≡ true → P (fix_at fixes k)
 among_fields P fixes fixups k fields all lt some =
     All-unfilter P has_field fixes (All-permutation P fixups (filter has_field fixes) (IsPermutation-sym (filter has_field fixes) fixups fields) all) k no_fix lt some
 
 -- ---- ranges
 
-none_below : {A : Type 0} (n : ℕ) (refusal_at : ℕ → Option A) → ((k : ℕ) → k < n → refusal_at k ≡ None) → first_refusal_below n refusal_at ≡ None
+pub none_below : {A : Type 0} (n : ℕ) (refusal_at : ℕ → Option A) → ((k : ℕ) → k < n → refusal_at k ≡ None) → first_refusal_below n refusal_at ≡ None
 unfolding first_refusal_below
 none_below zero refusal_at none = refl
 none_below (suc n) refusal_at none =
@@ -73,7 +73,7 @@ none_below (suc n) refusal_at none =
     rw (earlier, here) refl
 
 -- no range where the value fits if there is a field
-no_range : (base rva : ℕ) (layout : Layout) (owner bytes : List ℕ) (fix : Fix) → (has_field fix ≡ true → fits base rva layout owner bytes fix ≡ true) → range_of base rva layout owner bytes fix ≡ None
+pub no_range : (base rva : ℕ) (layout : Layout) (owner bytes : List ℕ) (fix : Fix) → (has_field fix ≡ true → fits base rva layout owner bytes fix ≡ true) → range_of base rva layout owner bytes fix ≡ None
 no_range base rva layout owner bytes fix fitting = by (has_field fix) refl
   where
     by : (b : Bool) → has_field fix ≡ b → range_of base rva layout owner bytes fix ≡ None

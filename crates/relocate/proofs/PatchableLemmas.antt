@@ -23,7 +23,7 @@ use Rattle.relocate.proofs.JudgeLemmas.{absolute_width, or_none, passes}
 use Rattle.relocate.proofs.TakenLemmas.{parted_from}
 
 -- none has a fault: each has none
-none_each : (n : ℕ) (fault : ℕ → Option FieldError) → first_refusal_below n fault ≡ None → (k : ℕ) → k < n → fault k ≡ None
+pub none_each : {A : Type 0} (n : ℕ) (fault : ℕ → Option A) → first_refusal_below n fault ≡ None → (k : ℕ) → k < n → fault k ≡ None
 unfolding first_refusal_below
 none_each zero fault none k lt = absurd (omega arith)
 none_each (suc n) fault none k lt =
@@ -56,7 +56,7 @@ suits large pdata fix e =
     let section = or_none (shown (nat_le 10 fix.kind && is_image_base fix.target) (error.Target fix.index target.NoSection)) _ relative.1 in
     neither_stands _ _ own.0 (neither_stands _ _ relative.0 (neither_stands _ _ section.0 (no_more (eqb fix.kind 2) (not (is_absolute fix.target)) (not (eqb fix.kind 3)) (error.Target fix.index target.NeedsLow) (error.Target fix.index target.PdataField))))
 
-with_field : (fix : Fix) → has_field fix ≡ true → fix.kind ≡ 0 → ⊥
+pub with_field : (fix : Fix) → has_field fix ≡ true → fix.kind ≡ 0 → ⊥
 with_field fix e absolute = false≢true (sym (ap (λ (w : ℕ). nat_lt 0 w) (absolute_width fix.kind absolute)) ∙ e)
 
 wide : (w : ℕ) → nat_lt 0 w ≡ true → 0 < w

@@ -47,17 +47,15 @@ unfoldable pub range_fault : ℕ → ℕ → Layout → List ℕ → List Fix �
 range_fault base rva layout owner fixes bytes =
     first_refusal_below (length fixes) (λ k. range_of base rva layout owner bytes (fix_at fixes k))
 
+-- the index of each relocation is its position
+abbrev pub AreNumbered : List Fix → Type 0
+AreNumbered fixes = (k : ℕ) → k < length fixes → (fix_at fixes k).index ≡ k
+
 -- ---- the base
 
 -- a field that holds an address, so that its value changes with the base (PE Format, "The .reloc Section (Image Only)")
 abbrev pub is_based : Fix → Bool
 is_based fix = ((fix.kind == REL_AMD64_ADDR64) || (fix.kind == REL_AMD64_ADDR32)) && not (is_absolute fix.target)
-
--- ---- relocations in the order of their indexes
-
--- the index of each relocation is its position
-abbrev pub AreNumbered : List Fix → Type 0
-AreNumbered fixes = (k : ℕ) → k < length fixes → (fix_at fixes k).index ≡ k
 
 -- the symbol of each relocation that has a field is there, and means what suits the type
 abbrev pub IsSuited : Bool → Bool → Fix → Type 0

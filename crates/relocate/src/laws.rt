@@ -1,13 +1,14 @@
 //! Laws of the definitions and of the types, each the contract of a function that does nothing.
 
-ghost use Rattle.std.specs.Prelude.{◌≡◌, ℕ, List, true, Some, None};
+ghost use Rattle.std.specs.Prelude.{◌≡◌, ℕ, pos, ◌+ℤ◌, ◌-ℤ◌, Bool, true, false, List, [], length, Some, None};
 ghost use Rattle.std.specs.List.{All};
 ghost use Rattle.address_layout.specs.declared.layout.Layout.{Layout};
 ghost use Rattle.relocate.specs.declared.fix.Fix.{Fix};
 ghost use Rattle.relocate.specs.declared.range.RelocRange.{RelocRange};
+ghost use Rattle.relocate.specs.Field.{has_field};
 ghost use Rattle.relocate.specs.Judged.{AreTheFields, ArePatchable};
-ghost use Rattle.relocate.specs.PatchedBytes.{patched_bytes, range_fault, AreNumbered};
-ghost use Rattle.relocate.specs.Value.{IsLeastOutside, fits};
+ghost use Rattle.relocate.specs.PatchedBytes.{patched_bytes, range_fault, is_based, AreNumbered, IsSuited, AreSuited, HaveNoBased};
+ghost use Rattle.relocate.specs.Value.{IsLeastOutside, value_of, fits};
 
 use crate::fixups::Fixups;
 use link_base::is_shared;
@@ -21,6 +22,27 @@ pub fn patches_in_any_order()
         → IsLeastOutside base rva layout owner fixups bytes range → range_fault base rva layout owner fixes bytes ≡ Some range }
     ensures in_range { (base rva : ℕ) (layout : Layout) (owner : List ℕ) (fixes fixups : List Fix) (bytes : List ℕ) → AreTheFields fixes fixups
         → All (λ fix. fits base rva layout owner bytes fix ≡ true) fixups → range_fault base rva layout owner fixes bytes ≡ None }
+{}
+
+/// Another base moves the values of the fields that hold addresses, by the difference of the bases, and no others. So it
+/// changes no byte where no field holds one. It moves no value into its range or out of it.
+pub fn values_stay_at_other_bases()
+    ensures stays { (large pdata : Bool) (base other rva : ℕ) (layout : Layout) (owner bytes : List ℕ) (fix : Fix) → has_field fix ≡ true → IsSuited large pdata fix
+        → is_based fix ≡ false → value_of base rva layout owner bytes fix ≡ value_of other rva layout owner bytes fix }
+    ensures moves { (large pdata : Bool) (base other rva : ℕ) (layout : Layout) (owner bytes : List ℕ) (fix : Fix) → IsSuited large pdata fix
+        → is_based fix ≡ true → value_of other rva layout owner bytes fix ≡ value_of base rva layout owner bytes fix +ℤ (pos other -ℤ pos base) }
+    ensures bytes { (large pdata : Bool) (base other rva : ℕ) (layout : Layout) (owner : List ℕ) (fixes : List Fix) (bytes : List ℕ) → AreSuited large pdata fixes
+        → HaveNoBased fixes → patched_bytes base rva layout owner fixes bytes ≡ patched_bytes other rva layout owner fixes bytes }
+    ensures range { (large pdata : Bool) (base other rva : ℕ) (layout : Layout) (owner : List ℕ) (fixes : List Fix) (bytes : List ℕ) → AreSuited large pdata fixes
+        → HaveNoBased fixes → range_fault base rva layout owner fixes bytes ≡ range_fault other rva layout owner fixes bytes }
+    ensures in_range { (large pdata : Bool) (base other rva : ℕ) (layout : Layout) (owner : List ℕ) (fixes : List Fix) (bytes : List ℕ) → AreSuited large pdata fixes
+        → range_fault base rva layout owner fixes bytes ≡ None → range_fault other rva layout owner fixes bytes ≡ None }
+{}
+
+/// Patched bytes are as many as the old ones, and without relocations they are the old ones.
+pub fn patching_keeps_the_length()
+    ensures length { (base rva : ℕ) (layout : Layout) (owner : List ℕ) (fixes : List Fix) (bytes : List ℕ) → length (patched_bytes base rva layout owner fixes bytes) ≡ length bytes }
+    ensures no_relocations { (base rva : ℕ) (layout : Layout) (owner bytes : List ℕ) → patched_bytes base rva layout owner [] bytes ≡ bytes }
 {}
 
 /// Fixups may be shared by threads and handed from one to another.
