@@ -1,11 +1,10 @@
 -- The references of a module and the modules of a link, one after the other.
-use Rattle.std.proofs.Common.{◌≡◌, ℕ, ◌<◌, List, length, get_or, Option, Some, sym, ap, subst, ◌∙◌, arith}
+use Rattle.std.proofs.Common.{◌≡◌, ℕ, ◌<◌, List, length, get_or, Some, sym, ap, ◌∙◌}
 use Rattle.std.proofs.lemmas.List.{get_or_default}
-use Rattle.link_base.specs.declared.fault.Fault.{Fault}
-use Rattle.module_view.specs.Module.{ModuleView, module_at, no_module}
+use Rattle.module_view.specs.Module.{ModuleView, no_module}
 use Rattle.module_view.specs.SymbolLists.{references_of}
 use Rattle.module_view.specs.declared.reference.Reference.{Reference}
-use Rattle.link_plan.specs.References.{no_reference, reference_at, reference_fault, name_fault, object_fault_among, references_fault_at}
+use Rattle.link_plan.specs.References.{no_reference, reference_fault, name_fault, object_fault_among, references_fault_at}
 
 -- the fault of a reference is that of the name that was read
 pub fault_here : (modules : List ModuleView) (position : ℕ) (bytes : List ℕ) (references : List Reference) (k : ℕ) (reference : Reference) → references ≡ references_of bytes → k < length references → reference_fault modules position bytes k ≡ name_fault modules (get_or references k reference).name (Some position)

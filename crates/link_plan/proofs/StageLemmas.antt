@@ -1,11 +1,12 @@
 -- The stages of a plan, one after the other, and the piece of the entry.
-use Rattle.std.proofs.Common.{◌≡◌, List, Option, Some, None, refl}
+use Rattle.std.proofs.Common.{◌≡◌, List, Some, None, refl}
 use Rattle.link_base.specs.declared.fault.Fault.{Fault}
 use Rattle.module_view.specs.Module.{ModuleView}
 use Rattle.link_words.specs.Outcome.{LinkOptions}
 use Rattle.link_plan.specs.References.{references_fault}
-use Rattle.link_plan.specs.Entry.{entry_meaning_fault}
-use Rattle.link_plan.specs.PlanFaults.{choice_fault, fields_fault, plan_fault}
+use Rattle.link_plan.specs.Entry.{entry_meant, entry_meaning_fault, meant_fault}
+use Rattle.link_plan.specs.Fixes.{fixes_fault}
+use Rattle.link_plan.specs.PlanFaults.{choice_fault, plan_fault}
 
 -- ---- the first stage that has a fault
 
@@ -21,6 +22,10 @@ pub references_stage : (options : LinkOptions) (modules : List ModuleView) (faul
 unfolding plan_fault
 references_stage options modules fault chosen meant is = rw (chosen, meant, is) refl
 
-pub fields_stage : (options : LinkOptions) (modules : List ModuleView) (fault : Option Fault) → choice_fault modules ≡ None → entry_meaning_fault modules options.entry_name ≡ None → references_fault modules ≡ None → fields_fault modules options.entry_name ≡ fault → plan_fault options modules ≡ fault
+pub place_stage : (options : LinkOptions) (modules : List ModuleView) (fault : Fault) → choice_fault modules ≡ None → entry_meaning_fault modules options.entry_name ≡ None → references_fault modules ≡ None → meant_fault modules (entry_meant modules options.entry_name) ≡ Some fault → plan_fault options modules ≡ Some fault
 unfolding plan_fault
-fields_stage options modules fault chosen meant all_meant is = rw (chosen, meant, all_meant) is
+place_stage options modules fault chosen meant all_meant is = rw (chosen, meant, all_meant, is) refl
+
+pub fields_stage : (options : LinkOptions) (modules : List ModuleView) → choice_fault modules ≡ None → entry_meaning_fault modules options.entry_name ≡ None → references_fault modules ≡ None → meant_fault modules (entry_meant modules options.entry_name) ≡ None → plan_fault options modules ≡ fixes_fault modules options.large
+unfolding plan_fault
+fields_stage options modules chosen meant all_meant placed = rw (chosen, meant, all_meant, placed) refl

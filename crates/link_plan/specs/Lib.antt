@@ -1,4 +1,7 @@
 pub mod References
+pub mod Targets
+pub mod Fixes
 pub mod Entry
 pub mod PlanFaults
 pub mod Plan
+pub mod Steps

@@ -8,11 +8,12 @@ use Rattle.section_group.specs.BarePieces.{bare}
 use Rattle.address_layout.specs.Layout.{IsAlignment}
 use Rattle.section_group.specs.PieceContents.{piece_contents, HasItsBytes}
 use Rattle.module_view.specs.Module.{ModuleView}
-use Rattle.link_pieces.specs.Pieces.{link_pieces, link_contents}
+use Rattle.link_pieces.specs.Pieces.{link_contents}
 use Rattle.link_words.specs.Outcome.{LinkOptions}
 use Rattle.link_plan.specs.declared.entry.EntryPlace.{EntryPlace}
 use Rattle.link_plan.specs.declared.plan.LinkPlan.{LinkPlan}
 use Rattle.link_plan.specs.Entry.{entry_place}
+use Rattle.link_plan.specs.Fixes.{HaveFields, plan_pieces}
 use Rattle.link_plan.specs.PlanFaults.{plan_fault}
 
 -- a place in a piece that stands in a section even where it has no bytes
@@ -25,11 +26,12 @@ pub record StandsNamed (pieces : List Piece) (place : EntryPlace) : Type 0 where
 pub record IsPlanOf (options : LinkOptions) (modules : List ModuleView) (plan : LinkPlan) : Type 0 where
   pub modules_are : plan.modules.items ≡ modules
   pub table_is : plan.table ≡ modules
-  pub pieces_are : map bare plan.pieces.items ≡ link_pieces modules
+  pub pieces_are : map bare plan.pieces.items ≡ plan_pieces modules
   pub contents_are : map piece_contents plan.pieces.items ≡ link_contents modules
   pub aligned : All (λ piece. IsAlignment piece.align) plan.pieces.items
   pub bodies : (k : ℕ) → k < length plan.pieces.items → HasItsBytes plan.pieces.items k
   pub few : length plan.pieces.items < 2 ^ 31
+  pub fields : HaveFields modules (length plan.pieces.items) plan.fixes.items
   pub entry_is : plan.entry ≡ entry_place modules options.entry_name
   pub stands : ForSome plan.entry (StandsNamed plan.pieces.items)
   pub no_fault : plan_fault options modules ≡ None

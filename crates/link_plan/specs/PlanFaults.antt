@@ -10,6 +10,7 @@ use Rattle.symbol_table.specs.Clash.{clash_of}
 use Rattle.link_words.specs.Outcome.{LinkOptions}
 use Rattle.link_plan.specs.References.{references_fault}
 use Rattle.link_plan.specs.Entry.{entry_meant, entry_meaning_fault, meant_fault}
+use Rattle.link_plan.specs.Fixes.{fixes_fault}
 
 abbrev pub duplicate : Clash → Fault
 duplicate clash = faults.Duplicate clash.name (Some clash.first) (Some clash.second)
@@ -22,12 +23,13 @@ choice_fault modules = option_map duplicate (clash_of modules)
 abbrev pub meaning_fault : List ModuleView → Option (List ℕ) → Option Fault
 meaning_fault modules entry = option_or (entry_meaning_fault modules entry) (references_fault modules)
 
--- fields: the entry has no place in the image
-abbrev pub fields_fault : List ModuleView → Option (List ℕ) → Option Fault
-fields_fault modules entry = meant_fault modules (entry_meant modules entry)
+-- fields: the entry has no place in the image, or a relocation of a piece has a fault
+abbrev pub fields_fault : LinkOptions → List ModuleView → Option Fault
+fields_fault options modules =
+    option_or (meant_fault modules (entry_meant modules options.entry_name)) (fixes_fault modules options.large)
 
 -- the first of the stages that has a fault
 unfoldable pub plan_fault : LinkOptions → List ModuleView → Option Fault
 plan_fault options modules =
     option_or (choice_fault modules)
-    (option_or (meaning_fault modules options.entry_name) (fields_fault modules options.entry_name))
+    (option_or (meaning_fault modules options.entry_name) (fields_fault options modules))

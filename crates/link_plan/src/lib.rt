@@ -5,8 +5,12 @@
 #![tactic(auto)]
 
 mod entry;
+mod fixes;
+mod judge;
+mod meant;
 mod plan;
 mod references;
+mod targets;
 
 pub use entry::EntryPlace;
 pub use plan::{LinkPlan, plan_of};

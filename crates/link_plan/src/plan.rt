@@ -8,11 +8,14 @@ ghost use Rattle.link_plan.specs.PlanFaults.{choice_fault, plan_fault};
 ghost use Rattle.link_plan.specs.Plan.{IsPlanOf};
 
 use crate::entry::{EntryPlace, entry_meaning, entry_place};
+use crate::judge::judge_pieces;
+use crate::meant::name_meant;
 use crate::references::check_references;
 use link_base::{Fault, Memory, Refusal};
 use link_pieces::{PieceIndex, pieces_of};
 use link_words::Options;
 use module_view::Module;
+use relocate::Fixups;
 use section_group::Piece;
 use std::alloc::Global;
 use symbol_table::SymbolTable;
@@ -26,12 +29,15 @@ pub struct LinkPlan<'a> {
     pub table: SymbolTable<'a>,
     /// The pieces of the image, in the order of the modules and of their sections.
     pub pieces: Vec<Piece<'a>>,
+    /// The fields of each piece.
+    pub fixes: Vec<Fixups>,
     /// Where the image begins, where it begins at all.
     pub entry: Option<EntryPlace>,
 }
 
 /// The plan of a link of these modules. The input is refused for the first of: two definitions of one name (`Duplicate`),
-/// an entry or another name that nothing defines (`Undefined`), and an entry that has no place in the image (`BadTarget`).
+/// an entry or another name that nothing defines (`Undefined`), an entry that has no place in the image (`BadTarget`),
+/// and a relocation that is malformed or whose target cannot be used (`BadReloc`, `BadTarget`).
 pub fn plan_of<'a>(
     alloc: Global,
     modules: Vec<Module<'a>>,
@@ -45,13 +51,16 @@ pub fn plan_of<'a>(
     check_choice(&table)?;
     let meaning = entry_meaning(&table, &options.entry)?;
     check_references(&table, &modules)?;
-    let pieces = pieces_of(alloc, &modules)?;
+    let mut pieces = pieces_of(alloc, &modules)?;
     let index = PieceIndex::new(alloc, &modules, &pieces)?;
     let entry = entry_place(&index, &meaning)?;
+    let fixes = judge_pieces(alloc, &table, &index, &modules, &pieces, options.large)?;
+    name_meant(&mut pieces, &fixes.meant);
     Ok(LinkPlan {
         modules,
         table,
         pieces,
+        fixes: fixes.fixups,
         entry,
     })
 }

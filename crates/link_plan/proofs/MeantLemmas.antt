@@ -1,0 +1,137 @@
+-- Pieces that fields mean, marked one after the other.
+use Rattle.std.proofs.Common.{◌≡◌, ℕ, ◌+◌, ◌<◌, ◌≤◌, Bool, true, false, ◌||◌, eqb, List, [], ◌∷◌, ◌++◌, length, map, get_or, set, take, Option, inl, inr, refl, sym, ap, ◌∙◌, add-one, arith}
+use Rattle.std.specs.List.{list_any, range_with_len}
+use Rattle.std.proofs.Math.Seq.{take-suc}
+use Rattle.std.proofs.lemmas.Bool.{cases_lt}
+use Rattle.std.proofs.lemmas.Bool.Decides.{eqb_tells}
+use Rattle.std.proofs.lemmas.List.{get_or-set_same, get_or-set_other, get_or_default, length-set, length-map, ext_get_or}
+use Rattle.std.proofs.Math.ListN.{get_or-map}
+use Rattle.std.proofs.lemmas.List.Folds.{list_any-append}
+use Rattle.std.proofs.lemmas.List.FromFn.{get_or-map-range_with_len, length-map-range_with_len}
+use Rattle.section_group.specs.declared.piece.Piece.{Piece}
+use Rattle.section_group.specs.BarePieces.{bare}
+use Rattle.section_group.specs.SectionOrder.{no_piece}
+use Rattle.module_view.specs.Module.{ModuleView}
+use Rattle.link_pieces.specs.Pieces.{link_pieces}
+use Rattle.link_pieces.proofs.CallerLemmas.{bare_at}
+use Rattle.relocate.specs.declared.fix.Fix.{Fix}
+use Rattle.link_plan.specs.Fixes.{is_that, means_piece, meant_in, is_meant, named_if, planned_piece, plan_pieces}
+
+or_true : (b : Bool) → true ≡ (b || true)
+or_true true = refl
+or_true false = refl
+
+or_false : (b : Bool) → b ≡ (b || false)
+or_false true = refl
+or_false false = refl
+
+or_or : (a b c : Bool) → ((a || b) || c) ≡ (a || (b || c))
+or_or true b c = refl
+or_or false b c = refl
+
+-- a place of a list of marks that is marked
+pub marked_at : (marks : List Bool) (at k : ℕ) → at < length marks → get_or (set marks at true) k false ≡ (get_or marks k false || eqb at k)
+marked_at marks at k lt =
+    elim (eqb_tells at k) [
+      | inl here ↦
+          let same : k ≡ at = omega arith in
+          rw here.0 (ap (λ (j : ℕ). get_or (set marks at true) j false) same ∙ get_or-set_same marks at true false lt ∙ or_true (get_or marks k false))
+      | inr other ↦
+          rw other.0 (get_or-set_other marks at k true false (λ same. other.1 (sym same)) ∙ or_false (get_or marks k false))
+    ]
+
+-- one beyond the list marks none of it
+pub marked_beyond : (marks : List Bool) (at k : ℕ) → length marks ≤ at → k < length marks → get_or marks k false ≡ (get_or marks k false || eqb at k)
+marked_beyond marks at k ge lt =
+    elim (eqb_tells at k) [
+      | inl here ↦ absurd (omega arith)
+      | inr other ↦ rw other.0 (or_false (get_or marks k false))
+    ]
+
+pub marked_none : (b : Bool) → b ≡ (b || false)
+marked_none b = or_false b
+
+-- one more field
+pub marks_more : (fixes : List Fix) (i k : ℕ) (fix : Fix) (first was now : Bool) (piece : Option ℕ) → i < length fixes → fix ≡ get_or fixes i fix → piece ≡ meant_in fix → was ≡ (first || list_any (means_piece k) (take i fixes)) → now ≡ (was || is_that k piece) → now ≡ (first || list_any (means_piece k) (take (i + 1) fixes))
+marks_more fixes i k fix first was now piece lt read is before after =
+    after
+    ∙ ap (λ (b : Bool). b || is_that k piece) before
+    ∙ or_or first (list_any (means_piece k) (take i fixes)) (is_that k piece)
+    ∙ ap (λ (b : Bool). first || b)
+    (ap (λ o. list_any (means_piece k) (take i fixes) || is_that k o) is
+    ∙ ap (λ (b : Bool). list_any (means_piece k) (take i fixes) || b) (or_false (means_piece k fix))
+    ∙ sym (list_any-append (means_piece k) (take i fixes) (fix ∷ []))
+    ∙ ap (λ (f : Fix). list_any (means_piece k) (take i fixes ++ f ∷ [])) read
+    ∙ ap (list_any (means_piece k)) (sym (take-suc fixes i fix lt))
+    ∙ ap (λ (n : ℕ). list_any (means_piece k) (take n fixes)) (sym (add-one i)))
+
+-- ---- pieces that are named
+
+-- the first pieces are named, and the others are as they were
+pub record AreNamedUpTo (old : List Piece) (meant : List Bool) (count : ℕ) (now : List Piece) : Type 0 where
+  pub same_length : length now ≡ length old
+  pub named : (k : ℕ) → k < count → get_or now k no_piece ≡ named_if (get_or meant k false) (get_or old k no_piece)
+  pub others : (k : ℕ) → count ≤ k → get_or now k no_piece ≡ get_or old k no_piece
+
+or_false_named : (piece : Piece) → piece ≡ named_if false piece
+or_false_named piece = ap (λ (b : Bool). record piece { named = b }) (or_false piece.named)
+
+pub all_named : (old : List Piece) (meant : List Bool) (count : ℕ) (now : List Piece) → length old ≤ count → AreNamedUpTo old meant count now → now ≡ map (λ k. named_if (get_or meant k false) (get_or old k no_piece)) (range_with_len 0 (length old))
+all_named old meant count now all are =
+    let f = λ (k : ℕ). named_if (get_or meant k false) (get_or old k no_piece) in
+    ext_get_or no_piece now (map f (range_with_len 0 (length old))) (are.same_length ∙ sym (length-map-range_with_len f 0 (length old))) (λ i lt.
+    let within : i < length old = omega (arith, are.same_length) in
+    are.named i (omega arith) ∙ sym (get_or-map-range_with_len f 0 (length old) i i no_piece within (omega arith)))
+
+-- a piece that is marked
+pub named_more : (old : List Piece) (meant : List Bool) (k : ℕ) (now : List Piece) (piece : Piece) → k < length old → AreNamedUpTo old meant k now → get_or meant k false ≡ true → piece ≡ get_or now k piece → AreNamedUpTo old meant (k + 1) (set now k (record piece { named = true }))
+named_more old meant k now piece lt are marked read = record {
+  same_length = length-set now k _ ∙ are.same_length;
+  named = λ i below. elim (cases_lt i k) [
+    | inl before ↦ get_or-set_other now k i _ no_piece (λ same. absurd (omega arith)) ∙ are.named i before
+    | inr here ↦
+        let same : i ≡ k = omega arith in
+        let within : k < length now = omega (arith, are.same_length) in
+        let is : piece ≡ get_or old k no_piece = read ∙ get_or_default now k piece no_piece within ∙ are.others k (omega arith) in
+        rw same (get_or-set_same now k _ no_piece within ∙ ap (λ (p : Piece). record p { named = true }) is ∙ sym (marked_named (get_or old k no_piece) (get_or meant k false) marked))
+  ];
+  others = λ i above. get_or-set_other now k i _ no_piece (λ same. absurd (omega arith)) ∙ are.others i (omega arith);
+}
+  where
+    marked_named : (p : Piece) (b : Bool) → b ≡ true → named_if b p ≡ record p { named = true }
+    marked_named p b e = rw e (ap (λ (n : Bool). record p { named = n }) (sym (or_true p.named)))
+
+-- one that is not
+pub named_same : (old : List Piece) (meant : List Bool) (k : ℕ) (now : List Piece) → AreNamedUpTo old meant k now → get_or meant k false ≡ false → AreNamedUpTo old meant (k + 1) now
+named_same old meant k now are unmarked = record {
+  same_length = are.same_length;
+  named = λ i below. elim (cases_lt i k) [
+    | inl before ↦ are.named i before
+    | inr here ↦
+        let same : i ≡ k = omega arith in
+        rw (same, unmarked) (are.others k (omega arith) ∙ or_false_named (get_or old k no_piece))
+  ];
+  others = λ i above. are.others i (omega arith);
+}
+
+-- ---- the pieces of a plan
+
+-- what naming keeps of a piece
+bare_named : (b : Bool) (piece : Piece) → bare (named_if b piece) ≡ named_if b (bare piece)
+bare_named b piece = refl
+
+-- the pieces of a link, named where fields mean them
+pub planned : (modules : List ModuleView) (old : List Piece) (meant : List Bool) (now : List Piece) → map bare old ≡ link_pieces modules → ((k : ℕ) → k < length old → get_or meant k false ≡ is_meant modules k) → now ≡ map (λ k. named_if (get_or meant k false) (get_or old k no_piece)) (range_with_len 0 (length old)) → map bare now ≡ plan_pieces modules
+unfolding plan_pieces
+planned modules old meant now are marks is =
+    let n : length old ≡ length (link_pieces modules) = sym (length-map old bare) ∙ ap (λ (ps : List Piece). length ps) are in
+    let f = λ (k : ℕ). named_if (get_or meant k false) (get_or old k no_piece) in
+    let count : length now ≡ length old = ap (λ (ps : List Piece). length ps) is ∙ length-map-range_with_len f 0 (length old) in
+    ext_get_or no_piece (map bare now) (map (planned_piece modules) (range_with_len 0 (length (link_pieces modules)))) (length-map now bare ∙ count ∙ n ∙ sym (length-map-range_with_len (planned_piece modules) 0 (length (link_pieces modules)))) (λ i lt.
+    let within : i < length old = omega (arith, length-map now bare, count) in
+    let here : get_or now i no_piece ≡ f i = ap (λ (ps : List Piece). get_or ps i no_piece) is ∙ get_or-map-range_with_len f 0 (length old) i i no_piece within (omega arith) in
+    get_or-map bare now i no_piece
+    ∙ ap bare here
+    ∙ ap (λ (b : Bool). named_if b (bare (get_or old i no_piece))) (marks i within)
+    ∙ ap (named_if (is_meant modules i)) (bare_at modules old i are)
+    ∙ sym (get_or-map-range_with_len (planned_piece modules) 0 (length (link_pieces modules)) i i no_piece (omega (arith, within, n)) (omega arith)))

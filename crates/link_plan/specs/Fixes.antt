@@ -1,0 +1,121 @@
+-- The relocations of the pieces of a link, each with what its symbol means, and the first that has a fault. Own.
+use Rattle.std.specs.Prelude.{◌≡◌, ℕ, ◌+◌, ◌<◌, ◌==◌, ◌||◌, Bool, false, if◌then◌else◌, List, [], ◌∷◌, length, map, slice_index_or, Option, Some, None, option_and_then}
+use Rattle.std.specs.List.{range_with_len, list_any}
+use Rattle.link_base.specs.Refusals.{first_refusal_below}
+use Rattle.link_base.specs.declared.fault.Fault.{Fault}
+use Rattle.link_base.specs.declared.fault.Fault.TheVariants as faults
+use Rattle.coff_records.specs.declared.relocation.Relocation.{Relocation}
+use Rattle.coff_records.specs.ObjectFile.{relocations_of}
+use Rattle.section_group.specs.declared.piece.Piece.{Piece}
+use Rattle.section_group.specs.SectionOrder.{no_piece}
+use Rattle.relocate.specs.declared.fix.Fix.{Fix}
+use Rattle.relocate.specs.declared.fix.Target.{Target}
+use Rattle.relocate.specs.declared.fix.Target.TheVariants as target
+use Rattle.relocate.specs.declared.error.FieldError.{FieldError}
+use Rattle.relocate.specs.declared.error.FieldError.TheVariants as error
+use Rattle.relocate.specs.Field.{has_field}
+use Rattle.relocate.specs.FieldFaults.{field_fault}
+use Rattle.relocate.specs.Judged.{AreTheFields, ArePatchable}
+use Rattle.relocate.specs.Value.{target_of}
+use Rattle.module_view.specs.Module.{ModuleView, module_at}
+use Rattle.link_pieces.specs.Pieces.{link_pieces, link_contents}
+use Rattle.link_plan.specs.Targets.{record_target}
+
+-- ---- the relocations of a section of the module at a position
+
+abbrev pub fix_of : List ModuleView → ℕ → List ℕ → ℕ → Relocation → Fix
+fix_of modules position bytes index relocation = record {
+  index = index;
+  at = relocation.at;
+  kind = relocation.kind;
+  target = record_target modules position bytes relocation.symbol;
+}
+
+-- relocations from an index on
+unfoldable pub fixes_from : List ModuleView → ℕ → List ℕ → ℕ → List Relocation → List Fix
+fixes_from modules position bytes index [] = []
+fixes_from modules position bytes index (relocation ∷ later) =
+    fix_of modules position bytes index relocation ∷ fixes_from modules position bytes (index + 1) later
+
+abbrev pub section_fixes : List ModuleView → ℕ → List ℕ → ℕ → List Fix
+section_fixes modules position bytes section = fixes_from modules position bytes 0 (relocations_of bytes section)
+
+-- ---- those of a piece
+
+abbrev pub piece_at : List ModuleView → ℕ → Piece
+piece_at modules k = slice_index_or (link_pieces modules) k no_piece
+
+abbrev pub fixes_in : List ModuleView → Piece → List Fix
+fixes_in modules piece = section_fixes modules piece.«module» (module_at modules piece.«module»).bytes piece.number
+
+abbrev pub piece_fixes : List ModuleView → ℕ → List Fix
+piece_fixes modules k = fixes_in modules (piece_at modules k)
+
+-- ---- faults
+
+-- a relocation of a piece is refused; want of memory is no fault
+abbrev pub refused_at : Piece → FieldError → Option Fault
+refused_at piece (error.Reloc index kind) = Some (faults.BadReloc kind (Some piece.«module») piece.number index)
+refused_at piece (error.Target index kind) = Some (faults.BadTarget kind (Some piece.«module») piece.number index)
+refused_at piece error.Memory = None
+
+-- how many bytes a piece has, where it is initialised
+abbrev pub len_if : Bool → List ℕ → Option ℕ
+len_if init contents = if init then Some (length contents) else None
+
+-- the first relocation of a piece with these bytes that has a fault
+abbrev pub judged_fault : Piece → List ℕ → Bool → List Fix → Option Fault
+judged_fault piece contents large fixes =
+    option_and_then (refused_at piece) (field_fault (len_if piece.init contents) large false fixes)
+
+abbrev pub piece_fault : List ModuleView → Bool → ℕ → Option Fault
+piece_fault modules large k =
+    judged_fault (piece_at modules k) (slice_index_or (link_contents modules) k []) large (piece_fixes modules k)
+
+-- that of all pieces, in their order
+abbrev pub fixes_fault : List ModuleView → Bool → Option Fault
+fixes_fault modules large = first_refusal_below (length (link_pieces modules)) (piece_fault modules large)
+
+-- what the fields of the first pieces are, judged
+pub record HaveFields (modules : List ModuleView) (count : ℕ) (fixups : List (List Fix)) : Type 0 where
+  pub for_each : length fixups ≡ count
+  pub fields : (k : ℕ) → k < count → AreTheFields (piece_fixes modules k) (slice_index_or fixups k [])
+  pub patchable : (k : ℕ) → k < count → ArePatchable (length (slice_index_or (link_contents modules) k [])) (slice_index_or fixups k [])
+
+-- ---- pieces that fields mean
+
+abbrev pub piece_in : Target → Option ℕ
+piece_in (target.Piece piece value) = Some piece
+piece_in (target.Absolute value) = None
+piece_in target.ImageBase = None
+
+-- the piece whose place a field depends on, where there is one
+unfoldable pub meant_in : Fix → Option ℕ
+meant_in fix = if has_field fix then piece_in (target_of fix) else None
+
+abbrev pub is_that : ℕ → Option ℕ → Bool
+is_that k None = false
+is_that k (Some piece) = piece == k
+
+abbrev pub means_piece : ℕ → Fix → Bool
+means_piece k fix = is_that k (meant_in fix)
+
+abbrev pub mean_piece : List ModuleView → ℕ → ℕ → Bool
+mean_piece modules k i = list_any (means_piece k) (piece_fixes modules i)
+
+-- a field of one of the first pieces means a piece
+abbrev pub is_meant_among : List ModuleView → ℕ → ℕ → Bool
+is_meant_among modules count k = list_any (mean_piece modules k) (range_with_len 0 count)
+
+abbrev pub is_meant : List ModuleView → ℕ → Bool
+is_meant modules k = is_meant_among modules (length (link_pieces modules)) k
+
+-- a piece of the link stands in a section even where it has no bytes, where a definition stands in it or a field means it
+abbrev pub named_if : Bool → Piece → Piece
+named_if meant piece = record piece { named = piece.named || meant }
+
+abbrev pub planned_piece : List ModuleView → ℕ → Piece
+planned_piece modules k = named_if (is_meant modules k) (piece_at modules k)
+
+unfoldable pub plan_pieces : List ModuleView → List Piece
+plan_pieces modules = map (planned_piece modules) (range_with_len 0 (length (link_pieces modules)))

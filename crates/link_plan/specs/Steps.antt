@@ -1,0 +1,11 @@
+-- What the steps of the code promise one another. It decides nothing.
+use Rattle.std.specs.Prelude.{ℕ, List, Option, Some, None, Result}
+use Rattle.link_base.specs.declared.kinds.target.TargetFault.{TargetFault}
+use Rattle.relocate.specs.declared.fix.Target.{Target}
+use Rattle.module_view.specs.Module.{ModuleView, module_at}
+use Rattle.link_plan.specs.Targets.{AreTargets}
+
+-- where a module was read last, the list tells what its symbols mean
+abbrev pub HoldsTargets : List ModuleView → Option ℕ → List (Option (Result Target TargetFault)) → Type 0
+HoldsTargets modules None targets = Unit {0}
+HoldsTargets modules (Some position) targets = AreTargets modules position (module_at modules position).bytes targets

@@ -1,0 +1,75 @@
+-- What the symbols of an object mean to its relocations (PE Format, "COFF Symbol Table", "Section Number Values" and
+-- "Storage Class"; the refusals are own).
+use Rattle.std.specs.Prelude.{◌≡◌, ℕ, Bool, ◌&&◌, ◌||◌, not, ◌==◌, if◌then◌else◌, List, slice_index_or, Option, Some, None, option_map, Result, Ok, Err}
+use Rattle.std.specs.Int.Signed.{lt_z}
+use Rattle.std.specs.List.{find}
+use Rattle.std.specs.Ordering.{int_eq}
+use Rattle.link_base.specs.PeFormat.{SYM_CLASS_EXTERNAL, SYM_CLASS_WEAK_EXTERNAL, SYM_UNDEFINED, SYM_DEBUG}
+use Rattle.link_base.specs.declared.kinds.target.TargetFault.{TargetFault}
+use Rattle.link_base.specs.declared.kinds.target.TargetFault.TheVariants as fault
+use Rattle.coff_records.specs.ObjectFile.{SymbolView, SymbolEntry, name_in, value_in, section_number_in, section_of_number, class_in, symbol_entries}
+use Rattle.relocate.specs.declared.fix.Target.{Target}
+use Rattle.relocate.specs.declared.fix.Target.TheVariants as target
+use Rattle.module_view.specs.Module.{ModuleView}
+use Rattle.module_view.specs.SymbolLists.{is_absolute}
+use Rattle.symbol_table.specs.declared.meaning.Meaning.{Meaning}
+use Rattle.symbol_table.specs.declared.meaning.Meaning.TheVariants as meaning
+use Rattle.symbol_table.specs.declared.meaning.NoMeaning.{NoMeaning}
+use Rattle.symbol_table.specs.Resolution.{meaning_of}
+use Rattle.link_pieces.specs.PieceIndex.{piece_index}
+
+-- ---- a place
+
+abbrev pub target_in : ℕ → Option ℕ → Result Target TargetFault
+target_in value None = Err fault.Unplaced
+target_in value (Some piece) = Ok (target.Piece piece value)
+
+-- an offset in a section of the module at a position, which may not come into the image
+abbrev pub section_target : List ModuleView → ℕ → ℕ → ℕ → Result Target TargetFault
+section_target modules position section value = target_in value (piece_index modules position section)
+
+-- ---- a name
+
+-- what a meaning is to a relocation; that a name means nothing is refused before
+abbrev pub meant_target : List ModuleView → Result Meaning NoMeaning → Result Target TargetFault
+meant_target modules (Ok (meaning.Section position section value)) = section_target modules position section value
+meant_target modules (Ok (meaning.Absolute value)) = Ok (target.Absolute value)
+meant_target modules (Ok meaning.ImageBase) = Ok target.ImageBase
+meant_target modules other = Err fault.NoSection
+
+-- ---- a symbol
+
+-- others can name it: an external or a weak one that is not for debuggers
+unfoldable pub has_meaning : SymbolView → Bool
+has_meaning symbol =
+    ((class_in symbol == SYM_CLASS_EXTERNAL) || (class_in symbol == SYM_CLASS_WEAK_EXTERNAL))
+    && not (int_eq (section_number_in symbol) SYM_DEBUG)
+
+-- a symbol of the object alone: a number, or a place in one of its sections; else it has no address
+unfoldable pub local_target : List ModuleView → ℕ → SymbolView → Result Target TargetFault
+local_target modules position symbol =
+    if is_absolute symbol then Ok (target.Absolute (value_in symbol))
+    else (if lt_z SYM_UNDEFINED (section_number_in symbol)
+    then section_target modules position (section_of_number (section_number_in symbol)) (value_in symbol)
+    else Err fault.Local)
+
+-- a symbol of the module at a position
+abbrev pub symbol_target : List ModuleView → ℕ → SymbolView → Result Target TargetFault
+symbol_target modules position symbol =
+    if has_meaning symbol then meant_target modules (meaning_of modules (name_in symbol))
+    else local_target modules position symbol
+
+-- ---- a record
+
+abbrev pub is_record : ℕ → SymbolEntry → Bool
+is_record at entry = entry.0 == at
+
+-- the symbol whose record has an index; an auxiliary record and an index beyond all records are no symbol
+abbrev pub record_target : List ModuleView → ℕ → List ℕ → ℕ → Option (Result Target TargetFault)
+record_target modules position bytes at =
+    option_map (λ entry. symbol_target modules position entry.1) (find (is_record at) (symbol_entries bytes))
+
+-- a list tells it of each record of the module at a position
+abbrev pub AreTargets : List ModuleView → ℕ → List ℕ → List (Option (Result Target TargetFault)) → Type 0
+AreTargets modules position bytes targets =
+    (at : ℕ) → slice_index_or targets at None ≡ record_target modules position bytes at

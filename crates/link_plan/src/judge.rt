@@ -1,0 +1,145 @@
+//! The relocations of all pieces, judged before anything is laid out.
+
+ghost use Rattle.std.specs.Prelude.{◌≡◌, ◌≤◌, ◌<◌, ℕ, None, Some, false, ◌++◌, ◌∷◌, [], length, map, slice_index_or, IfOk, OnOk, IfErr};
+ghost use Rattle.link_base.specs.Refusals.{RefusesFor};
+ghost use Rattle.section_group.specs.BarePieces.{bare};
+ghost use Rattle.section_group.specs.PieceContents.{piece_contents};
+ghost use Rattle.relocate.specs.Judged.{AreTheFields, ArePatchable, len_of};
+ghost use Rattle.link_pieces.specs.Pieces.{link_pieces, link_contents};
+ghost use Rattle.link_pieces.specs.PieceIndex.{IsPieceIndex};
+ghost use Rattle.link_pieces.proofs.CallerLemmas.{IsSectionOf};
+ghost use Rattle.link_plan.specs.Fixes.{judged_fault, fixes_in, fixes_fault, is_meant, len_if, HaveFields};
+ghost use Rattle.link_plan.specs.Steps.{HoldsTargets};
+
+use crate::fixes::{LastTargets, section_fixes};
+use crate::meant::mark_meant;
+use link_base::{Fault, Memory, Refusal};
+use link_pieces::PieceIndex;
+use module_view::Module;
+use relocate::{FieldError, Fix, Fixups, check};
+use section_group::Piece;
+use std::alloc::Global;
+use symbol_table::SymbolTable;
+
+/// The fields of all pieces, and which pieces some field means.
+#[derive(Drop)]
+pub(crate) struct JudgedFixes {
+    pub(crate) fixups: Vec<Fixups>,
+    pub(crate) meant: Vec<bool>,
+}
+
+/// Judges the relocations of the pieces, in the order of the pieces. The first that has a fault is refused.
+pub(crate) fn judge_pieces<'a>(
+    alloc: Global,
+    table: &SymbolTable<'a>,
+    index: &PieceIndex,
+    modules: &[Module<'a>],
+    pieces: &[Piece<'a>],
+    large: bool,
+) -> Result<JudgedFixes, Refusal<'a>>
+    requires same { table.now ≡ modules.now }
+    requires indexed { IsPieceIndex modules.now index.now }
+    requires pieces { map bare pieces.now ≡ link_pieces modules.now }
+    requires contents { map piece_contents pieces.now ≡ link_contents modules.now }
+    ensures fields { IfOk result (λ fixes. HaveFields modules.now (length pieces.now) fixes.fixups.items) }
+    ensures meant { IfOk result (λ fixes. (k : ℕ) → k < length pieces.now → slice_index_or fixes.meant.items k false ≡ is_meant modules.now k) }
+    ensures len { IfOk result (λ fixes. length fixes.meant.items ≡ length pieces.now) }
+    ensures accepted { OnOk result (fixes_fault modules.now large ≡ None) }
+    ensures refused { IfErr result (RefusesFor (fixes_fault modules.now large)) }
+{
+    let mut fixups = Vec::with_capacity(alloc, pieces.len())?;
+    let mut meant = vec![in alloc; false; pieces.len()]?;
+    let mut last = LastTargets {
+        position: None,
+        targets: Vec::new(alloc),
+    };
+    for k in 0..pieces.len() {
+        let piece = &pieces[k];
+        let fixes = piece_fixes(alloc, &mut last, table, index, modules, piece)?;
+        mark_meant(&mut meant, &fixes);
+        let fields = judge(alloc, piece, &fixes, large)?;
+        keep(&mut fixups, fields)?;
+    }
+    Ok(JudgedFixes { fixups, meant })
+}
+
+/// Appends the fields of a piece.
+fn keep(fixups: &mut Vec<Fixups>, fields: Fixups) -> Result<(), Memory>
+    ensures { OnOk result (fixups.new.items ≡ fixups.old.items ++ fields ∷ []) }
+{
+    fixups.push(fields)?;
+    Ok(())
+}
+
+/// The relocations of a piece.
+fn piece_fixes<'a>(
+    alloc: Global,
+    last: &mut LastTargets,
+    table: &SymbolTable<'a>,
+    index: &PieceIndex,
+    modules: &[Module<'a>],
+    piece: &Piece<'a>,
+) -> Result<Vec<Fix>, Memory>
+    requires same { table.now ≡ modules.now }
+    requires indexed { IsPieceIndex modules.now index.now }
+    requires held { HoldsTargets modules.now last.old.position last.old.targets.items }
+    requires whole { IsSectionOf modules.now (bare piece.now) }
+    ensures fixes { IfOk result (λ fixes. fixes.items ≡ fixes_in modules.now piece.now) }
+    ensures held { OnOk result (HoldsTargets modules.now last.new.position last.new.targets.items) }
+{
+    let Some(object) = modules[piece.module as usize].object() else {
+        return Ok(Vec::new(alloc));
+    };
+    section_fixes(
+        alloc,
+        last,
+        table,
+        index,
+        object,
+        piece.module,
+        piece.number,
+    )
+}
+
+/// Judges the relocations of a piece.
+fn judge<'a>(
+    alloc: Global,
+    piece: &Piece<'a>,
+    fixes: &[Fix],
+    large: bool,
+) -> Result<Fixups, Refusal<'a>>
+    ensures fields { IfOk result (λ fixups. AreTheFields fixes.now fixups) }
+    ensures patchable { IfOk result (ArePatchable (length (piece_contents piece.now))) }
+    ensures accepted { OnOk result (judged_fault piece.now (piece_contents piece.now) large fixes.now ≡ None) }
+    ensures refused { IfErr result (RefusesFor (judged_fault piece.now (piece_contents piece.now) large fixes.now)) }
+{
+    match check(alloc, initialised_bytes(piece), fixes, large, false) {
+        Ok(fixups) => Ok(fixups),
+        Err(FieldError::Reloc { index, kind }) => Err(Refusal::Fault(Fault::BadReloc {
+            kind,
+            module: Some(piece.module),
+            section: piece.number,
+            relocation: index,
+        })),
+        Err(FieldError::Target { index, kind }) => Err(Refusal::Fault(Fault::BadTarget {
+            kind,
+            module: Some(piece.module),
+            section: piece.number,
+            relocation: index,
+        })),
+        Err(FieldError::Memory) => Err(Refusal::Memory),
+    }
+}
+
+/// The bytes of a piece that is initialised.
+fn initialised_bytes<'b, 'a>(piece: &'b Piece<'a>) -> Option<&'b [u8]>
+    ensures { len_of result ≡ len_if piece.now.init (piece_contents piece.now) }
+{
+    if !piece.init {
+        return None;
+    }
+    match piece.body {
+        Some(bytes) => Some(bytes),
+        None => Some(&[]),
+    }
+}

@@ -1,0 +1,148 @@
+//! What the symbols of an object mean to its relocations.
+
+ghost use Rattle.std.specs.Prelude.{◌≡◌, ◌==◌, ◌<◌, ℕ, List, None, Some, Err, length, slice_index_or, replicate, IfOk, if◌then◌else◌};
+ghost use Rattle.std.specs.Option.{option_or};
+ghost use Rattle.module_view.specs.Module.{ModuleView};
+ghost use Rattle.link_pieces.specs.PieceIndex.{IsPieceIndex};
+ghost use Rattle.link_plan.specs.Targets.{section_target, meant_target, has_meaning, local_target, symbol_target, AreTargets};
+ghost use Rattle.symbol_table.specs.Resolution.{meaning_of};
+
+use coff_object::{Object, SymbolRecord};
+use link_base::pe_format::{
+    SYM_ABSOLUTE, SYM_CLASS_EXTERNAL, SYM_CLASS_WEAK_EXTERNAL, SYM_DEBUG, SYM_UNDEFINED,
+};
+use link_base::{Memory, Name, TargetFault};
+use link_pieces::PieceIndex;
+use relocate::Target;
+use std::alloc::Global;
+use symbol_table::{Meaning, SymbolTable};
+
+/// What a symbol means to a relocation: a target, or why it has none; nothing where a record is no symbol.
+pub(crate) type RecordTarget = Option<Result<Target, TargetFault>>;
+
+/// What each symbol record of the object at a position means, by the record's index.
+pub(crate) fn targets_of<'a>(
+    alloc: Global,
+    table: &SymbolTable<'a>,
+    index: &PieceIndex,
+    object: &Object<'a>,
+    position: u32,
+) -> Result<Vec<RecordTarget>, Memory>
+    requires { IsPieceIndex table.now index.now }
+    ensures { IfOk result (λ targets. AreTargets table.now position object.now targets.items) }
+{
+    let mut targets = nothing_yet(alloc, object.record_count())?;
+    for (at, symbol) in object.symbols() {
+        let target = symbol_target(table, index, &symbol, position);
+        note(&mut targets, at as usize, target);
+    }
+    Ok(targets)
+}
+
+/// Nothing for each of `count` records.
+fn nothing_yet(alloc: Global, count: u32) -> Result<Vec<RecordTarget>, Memory>
+    ensures { IfOk result (λ targets. targets.items ≡ replicate count None) }
+{
+    let mut targets = Vec::with_capacity(alloc, count as usize)?;
+    for index in 0..count {
+        targets.push(None)?;
+    }
+    Ok(targets)
+}
+
+/// Notes what a record means, where nothing is noted there.
+fn note(targets: &mut Vec<RecordTarget>, at: usize, target: Result<Target, TargetFault>)
+    requires { at < length targets.old.items }
+    ensures len { length targets.new.items ≡ length targets.old.items }
+    ensures noted { (other : ℕ) → slice_index_or targets.new.items other None
+        ≡ option_or (slice_index_or targets.old.items other None) (if at == other then Some target else None) }
+{
+    if targets[at].is_none() {
+        targets[at] = Some(target);
+    }
+}
+
+/// What a symbol of the module at a position means.
+fn symbol_target<'a>(
+    table: &SymbolTable<'a>,
+    index: &PieceIndex,
+    symbol: &SymbolRecord<'a>,
+    position: u32,
+) -> Result<Target, TargetFault>
+    requires { IsPieceIndex table.now index.now }
+    ensures { result ≡ symbol_target table.now position symbol.now }
+{
+    if has_meaning(symbol) {
+        return name_target(table, index, symbol.name());
+    }
+    local_target(index, symbol, position)
+}
+
+/// Whether others can name a symbol.
+#[tactic(auto, unfolding(crate::specs::Targets::has_meaning))]
+fn has_meaning(symbol: &SymbolRecord<'_>) -> bool
+    ensures { result ≡ has_meaning symbol.now }
+{
+    let class = symbol.class();
+    if class != SYM_CLASS_EXTERNAL && class != SYM_CLASS_WEAK_EXTERNAL {
+        return false;
+    }
+    symbol.section() != SYM_DEBUG
+}
+
+/// What a name means to a relocation.
+fn name_target<'a>(
+    table: &SymbolTable<'a>,
+    index: &PieceIndex,
+    name: Name<'a>,
+) -> Result<Target, TargetFault>
+    requires { IsPieceIndex table.now index.now }
+    ensures { result ≡ meant_target table.now (meaning_of table.now name.entry) }
+{
+    match table.resolve(name) {
+        Ok(
+            Meaning::Section {
+                module,
+                section,
+                value,
+            },
+        ) => section_target(index, module, section, value),
+        Ok(Meaning::Absolute(value)) => Ok(Target::Absolute(value)),
+        Ok(Meaning::ImageBase) => Ok(Target::ImageBase),
+        _ => Err(TargetFault::NoSection),
+    }
+}
+
+/// What a symbol of the module at a position means that no other module can name.
+#[tactic(auto, unfolding(crate::specs::Targets::local_target))]
+fn local_target(
+    index: &PieceIndex,
+    symbol: &SymbolRecord<'_>,
+    position: u32,
+) -> Result<Target, TargetFault>
+    ensures { (modules : List ModuleView) → IsPieceIndex modules index.now → result ≡ local_target modules position symbol.now }
+{
+    let section = symbol.section();
+    if section == SYM_ABSOLUTE {
+        return Ok(Target::Absolute(symbol.value()));
+    }
+    if section > SYM_UNDEFINED {
+        return section_target(index, position, section as u32, symbol.value());
+    }
+    Err(TargetFault::Local)
+}
+
+/// An offset in a section of the module at a position.
+fn section_target(
+    index: &PieceIndex,
+    position: u32,
+    section: u32,
+    value: u32,
+) -> Result<Target, TargetFault>
+    ensures { (modules : List ModuleView) → IsPieceIndex modules index.now → result ≡ section_target modules position section value }
+{
+    match index.of(position, section) {
+        Some(piece) => Ok(Target::Piece { piece, value }),
+        None => Err(TargetFault::Unplaced),
+    }
+}
