@@ -1,7 +1,7 @@
 -- What callers may cite: pieces that were grouped stand once, so that they can be placed, and what a layout says of them.
 pub use Rattle.address_layout.proofs.BareLemmas.{layout_bare, size_bare, stand_bare}
 pub use Rattle.address_layout.proofs.RowLemmas.{layout_same_rows, size_same_rows}
-pub use Rattle.address_layout.proofs.InsideLemmas.{places_ascend, piece_end_inside, initialised_end_inside, all_ends_inside, name_fits}
+pub use Rattle.address_layout.proofs.InsideLemmas.{places_ascend, piece_end_inside, initialised_end_inside, all_ends_inside, StandsAt, stands_at, name_fits}
 pub use Rattle.address_layout.proofs.RewrittenLemmas.{piece_stands, rewritten_holds, rewritten_can_grow}
 pub use Rattle.address_layout.proofs.StandingLemmas.{row_here}
 pub use Rattle.address_layout.proofs.ArrangementLemmas.{Aligned, aligned_rows}

@@ -67,14 +67,14 @@ all_ends_inside pieces sections reloc layout i is lt =
 
 -- ---- where a piece stands
 
-record StandsAt (sections : List OutSection) (k : ℕ) : Type 0 where
-  section : ℕ
-  there : section < length sections
-  number : ℕ
-  within : number < length (row_at sections section).1
-  is : get_or (row_at sections section).1 number 0 ≡ k
+pub record StandsAt (sections : List OutSection) (k : ℕ) : Type 0 where
+  pub section : ℕ
+  pub there : section < length sections
+  pub number : ℕ
+  pub within : number < length (row_at sections section).1
+  pub is : get_or (row_at sections section).1 number 0 ≡ k
 
-stands_at : (sections : List OutSection) (k : ℕ) → Contains (all_pieces sections) k → StandsAt sections k
+pub stands_at : (sections : List OutSection) (k : ℕ) → Contains (all_pieces sections) k → StandsAt sections k
 stands_at [] k there = absurd (omega (arith, there.1))
 stands_at (s ∷ ss) k there =
     elim (Contains-append_cases s.pieces.items (all_pieces ss) k there) [

@@ -5,5 +5,5 @@ pub use Rattle.image_writer.proofs.RewrittenLemmas.{rewritten_laid_out}
 pub use Rattle.image_writer.proofs.OnePlan.{one_file}
 pub use Rattle.image_writer.proofs.ImageTheorems.{file_means_plan}
 pub use Rattle.image_writer.proofs.LaidOutLemmas.{have_room}
-pub use Rattle.image_writer.proofs.PieceInFileLemmas.{piece_stands, patched_file}
+pub use Rattle.image_writer.proofs.PieceInFileLemmas.{IsInFile, piece_inside, piece_stands, patched_file}
 pub use Rattle.image_writer.proofs.LoadableLemmas.{written_writable, written_loadable, unrelocated, has_contents, written_means}

@@ -119,6 +119,19 @@ inside_file headers pieces sections layout contents i j can lt below some =
     let raw = raw_in_file plan i head.row (can_be headers pieces sections layout contents can) head.there (omega (arith, head.raw, lies.in_raw, lies.above, some)) in
     omega (arith, raw, head.raw, head.file, lies.in_raw, lies.above, some)
 
+-- where a piece that has bytes stands in its section, and that these end inside the file
+pub record IsInFile (headers : Headers) (sections : List OutSection) (layout : Layout) (contents : ℕ → List (List ℕ)) (i k : ℕ) : Type 0 where
+  pub lies : LiesIn layout.pieces.items (contents headers.base) k (placed_at layout.sections.items i)
+  pub inside : piece_place layout i k + length (get_or (contents headers.base) k []) ≤ length (image_file (layout_plan headers sections layout contents))
+
+pub piece_inside : (headers : Headers) (pieces : List Piece) (sections : List OutSection) (layout : Layout) (contents : ℕ → List (List ℕ)) (i j : ℕ) → IsLaidOut pieces sections layout → HaveRoom pieces sections (contents headers.base) → length headers.directories ≡ 16 → i < length sections → j < length (row_at sections i).1 → 0 < length (get_or (contents headers.base) (piece_at sections i j) []) → IsInFile headers sections layout contents i (piece_at sections i j)
+piece_inside headers pieces sections layout contents i j out room directories lt below some =
+    let can : CanWrite headers pieces sections layout contents = record { out = out; room = room; directories = directories } in
+    record {
+      lies = lies_of headers pieces sections layout contents i j can lt below some;
+      inside = inside_file headers pieces sections layout contents i j can lt below some;
+    }
+
 -- the bytes of a piece stand at its place in the file
 pub piece_stands : (headers : Headers) (pieces : List Piece) (sections : List OutSection) (layout : Layout) (contents : ℕ → List (List ℕ)) (i j : ℕ) → IsLaidOut pieces sections layout → HaveRoom pieces sections (contents headers.base) → length headers.directories ≡ 16 → i < length sections → j < length (row_at sections i).1 → bytes_at (image_file (layout_plan headers sections layout contents)) (piece_place layout i (piece_at sections i j)) (length (get_or (contents headers.base) (piece_at sections i j) [])) ≡ get_or (contents headers.base) (piece_at sections i j) []
 piece_stands headers pieces sections layout contents i j out room directories lt below =

@@ -1,4 +1,5 @@
 pub mod StageLemmas
+pub mod CallerLemmas
 pub mod EntryLemmas
 pub mod ReferenceLemmas
 pub mod TargetLemmas
