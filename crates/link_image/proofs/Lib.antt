@@ -1,1 +1,6 @@
 pub mod SectionLemmas
+pub mod OwnerLemmas
+pub mod MixedLemmas
+pub mod StandsLemmas
+pub mod FieldLemmas
+pub mod PlaceLemmas

@@ -1,3 +1,5 @@
 pub mod ImageHeaders
+pub mod LinkedBytes
 pub mod LinkedImage
 pub mod BuildFaults
+pub mod Steps

@@ -6,6 +6,7 @@ use Rattle.section_group.specs.declared.piece.OutSection.{OutSection}
 use Rattle.section_group.specs.SectionOrder.{Input, input_from}
 use Rattle.section_group.specs.Merging.{HasNoBadMerge}
 use Rattle.section_group.specs.Placement.{IsGrouping}
+use Rattle.section_group.specs.Uniqueness.{rows_of}
 use Rattle.address_layout.specs.declared.base.BaseRule.{BaseRule}
 use Rattle.address_layout.specs.declared.layout.Layout.{Layout}
 use Rattle.address_layout.specs.PermittedBase.{is_permitted}
@@ -13,14 +14,15 @@ use Rattle.address_layout.specs.Places.{section_count}
 use Rattle.address_layout.specs.Layout.{IsLayout}
 use Rattle.address_layout.specs.Growth.{CanGrow}
 use Rattle.image_writer.specs.ExpectedImage.{ImagePlan, MeansPlan, image_file}
-use Rattle.image_writer.specs.WrittenImage.{layout_plan, at_each_base}
+use Rattle.image_writer.specs.WrittenImage.{layout_plan}
 use Rattle.module_view.specs.Module.{ModuleView}
-use Rattle.link_pieces.specs.Pieces.{link_pieces, link_contents}
 use Rattle.link_words.specs.Outcome.{LinkOptions}
 use Rattle.link_plan.specs.declared.entry.EntryPlace.{EntryPlace}
 use Rattle.link_plan.specs.Entry.{entry_place}
+use Rattle.link_plan.specs.Fixes.{plan_pieces}
 use Rattle.link_image.specs.declared.make.Built.{Built}
 use Rattle.link_image.specs.ImageHeaders.{headers_of}
+use Rattle.link_image.specs.LinkedBytes.{linked_contents, fields_range_fault}
 
 -- ---- sections
 
@@ -52,14 +54,15 @@ entry_rva rvas (Some place) = slice_index rvas place.piece + place.value
 
 -- ---- the image
 
--- the image of modules
+-- the image of modules, in which every value fits
 pub record IsImageOf (options : LinkOptions) (modules : List ModuleView) (image : ImagePlan) : Type 0 where
   pub sections : List OutSection
-  pub grouped : AreGrouped options (link_pieces modules) sections
+  pub grouped : AreGrouped options (plan_pieces modules) sections
   pub layout : Layout
-  pub placed : ArePlaced (link_pieces modules) sections layout
+  pub placed : ArePlaced (plan_pieces modules) sections layout
   pub permitted : is_permitted (base_rule options) layout.image options.base ≡ true
-  pub is : image ≡ layout_plan (headers_of options (entry_rva layout.pieces.items (entry_place modules options.entry_name))) sections layout (at_each_base (link_contents modules))
+  pub in_range : fields_range_fault modules (rows_of sections) layout options.base ≡ None
+  pub is : image ≡ layout_plan (headers_of options (entry_rva layout.pieces.items (entry_place modules options.entry_name))) sections layout (linked_contents modules (rows_of sections) layout)
 
 -- what was made is the file of the image of the modules, which loads as planned at every permitted base
 pub record IsBuilt (options : LinkOptions) (modules : List ModuleView) (built : Built) : Type 0 where

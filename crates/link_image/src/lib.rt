@@ -6,6 +6,8 @@
 
 mod headers;
 mod make;
+mod owners;
+mod patching;
 mod sections;
 
 pub use make::{Built, build};

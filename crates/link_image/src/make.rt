@@ -7,6 +7,8 @@ ghost use Rattle.link_image.specs.LinkedImage.{IsBuilt};
 ghost use Rattle.link_image.specs.BuildFaults.{RefusesBuild};
 
 use crate::headers::headers_of;
+use crate::owners::owners_of;
+use crate::patching::patch_pieces;
 use crate::sections::{check_own_base, entry_rva, group_pieces, place_pieces};
 use image_writer::image;
 use link_base::Refusal;
@@ -24,8 +26,8 @@ pub struct Built {
 }
 
 /// The image of a plan. The input is refused for the first of: a bad merge (`BadMerge`), too many sections
-/// (`TooManySections`), an image that is too large (`ImageTooLarge`), and a base at which it may not stand
-/// (`BaseRange`).
+/// (`TooManySections`), an image that is too large (`ImageTooLarge`), a base at which it may not stand (`BaseRange`), and a
+/// field whose value does not fit (`RelocRange`).
 pub fn build<'a>(
     alloc: Global,
     plan: &LinkPlan<'a>,
@@ -40,7 +42,9 @@ pub fn build<'a>(
     let count = sections.len() as u32;
     check_own_base(plan, options, &sections, &layout)?;
     let headers = headers_of(options, entry_rva(plan, options, &sections, &layout));
-    let image = image(alloc, &headers, &layout, &sections, &plan.pieces)?;
+    let owner = owners_of(alloc, &sections, plan.pieces.len())?;
+    let mut image = image(alloc, &headers, &layout, &sections, &plan.pieces)?;
+    patch_pieces(&mut image, plan, &headers, &sections, &layout, &owner)?;
     Ok(Built {
         image,
         sections: count,

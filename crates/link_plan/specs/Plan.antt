@@ -8,6 +8,7 @@ use Rattle.section_group.specs.BarePieces.{bare}
 use Rattle.address_layout.specs.Layout.{IsAlignment}
 use Rattle.section_group.specs.PieceContents.{piece_contents, HasItsBytes}
 use Rattle.module_view.specs.Module.{ModuleView}
+use Rattle.module_view.specs.Opening.{IsOpened}
 use Rattle.link_pieces.specs.Pieces.{link_contents}
 use Rattle.link_words.specs.Outcome.{LinkOptions}
 use Rattle.link_plan.specs.declared.entry.EntryPlace.{EntryPlace}
@@ -24,6 +25,7 @@ pub record StandsNamed (pieces : List Piece) (place : EntryPlace) : Type 0 where
 
 -- a plan holds what the definitions give for the modules and the options, which have no fault up to it
 pub record IsPlanOf (options : LinkOptions) (modules : List ModuleView) (plan : LinkPlan) : Type 0 where
+  pub opened : All IsOpened modules
   pub modules_are : plan.modules.items ≡ modules
   pub table_is : plan.table ≡ modules
   pub pieces_are : map bare plan.pieces.items ≡ plan_pieces modules

@@ -15,18 +15,21 @@ use Rattle.address_layout.specs.declared.layout.Layout.{Layout}
 use Rattle.address_layout.specs.PermittedBase.{is_permitted}
 use Rattle.address_layout.specs.Places.{section_count}
 use Rattle.address_layout.specs.Layout.{IsLayout, HasImageSize, placed_at}
+use Rattle.address_layout.specs.Growth.{SameLayout}
 use Rattle.address_layout.proofs.Theorems.{one_layout, one_image_size}
 use Rattle.address_layout.proofs.CallerLemmas.{layout_same_rows, size_same_rows}
 use Rattle.image_writer.specs.ExpectedImage.{ImagePlan}
-use Rattle.image_writer.specs.WrittenImage.{written_plan, at_each_base}
+use Rattle.image_writer.specs.WrittenImage.{written_plan}
 use Rattle.module_view.specs.Module.{ModuleView}
-use Rattle.link_pieces.specs.Pieces.{link_pieces, link_contents}
+use Rattle.link_plan.specs.Fixes.{plan_pieces}
 use Rattle.link_words.specs.Outcome.{LinkOptions, CommandSaid, Link, At, Show, Gen, Refused as RefusedWord}
 use Rattle.link_words.specs.Commands.{words_say}
 use Rattle.link_plan.specs.Entry.{entry_place}
 use Rattle.link_image.specs.ImageHeaders.{headers_of}
-use Rattle.link_image.specs.LinkedImage.{link_input, base_rule, entry_rva, AreGrouped, IsImageOf}
-use Rattle.link_image.specs.BuildFaults.{IsBadMerge, HasTooManySections, IsTooLarge, HasBadBase, IsBuildFault}
+use Rattle.link_image.specs.LinkedImage.{link_input, base_rule, entry_rva, AreGrouped, ArePlaced, IsImageOf}
+use Rattle.link_image.specs.LinkedBytes.{linked_contents, fields_range_fault}
+use Rattle.link_image.specs.BuildFaults.{IsBadMerge, HasTooManySections, IsTooLarge, HasBadBase, HasBadRange, IsBuildFault}
+use Rattle.link_image.proofs.PlaceLemmas.{range_by_places, contents_by_places}
 use Rattle.linker_program.specs.Loading.{reading_fault, read_files, joined}
 use Rattle.linker_program.specs.Unbuilt.{is_unbuilt_link}
 use Rattle.linker_program.specs.Outcome.{Plan, Outcome, Usage, Refused, Linked, inputs_fault, IsPlan, BuildOutcome, OutcomeAfter, InputsOutcome, LinkOutcome, AskedOutcome, CommandOutcome, WordsOutcome, HasOutcome}
@@ -76,78 +79,132 @@ sizes options pieces xs ys size other x y has has_other =
 
 same_many : (options : LinkOptions) (modules : List ModuleView) (f g : Fault) → HasTooManySections options modules f → HasTooManySections options modules g → f ≡ g
 same_many options modules f g x y =
-    let count = counts options (link_pieces modules) x.sections y.sections x.grouped y.grouped in
+    let count = counts options (plan_pieces modules) x.sections y.sections x.grouped y.grouped in
     x.is ∙ ap (λ (n : ℕ). faults.TooManySections n) (x.refused.0 ∙ count ∙ sym y.refused.0) ∙ sym y.is
 
 same_large : (options : LinkOptions) (modules : List ModuleView) (f g : Fault) → IsTooLarge options modules f → IsTooLarge options modules g → f ≡ g
 same_large options modules f g x y =
-    let size = sizes options (link_pieces modules) x.sections y.sections x.size y.size x.grouped y.grouped x.refused.1 y.refused.1 in
+    let size = sizes options (plan_pieces modules) x.sections y.sections x.size y.size x.grouped y.grouped x.refused.1 y.refused.1 in
     x.is ∙ ap (λ (n : ℕ). faults.ImageTooLarge n) size ∙ sym y.is
 
 many_or_large : (options : LinkOptions) (modules : List ModuleView) (f g : Fault) → HasTooManySections options modules f → IsTooLarge options modules g → ⊥
 many_or_large options modules f g x y =
-    let count = counts options (link_pieces modules) x.sections y.sections x.grouped y.grouped in
+    let count = counts options (plan_pieces modules) x.sections y.sections x.grouped y.grouped in
     omega (arith, x.refused.0, x.refused.1, count, y.refused.0)
 
 many_or_base : (options : LinkOptions) (modules : List ModuleView) (f g : Fault) → HasTooManySections options modules f → HasBadBase options modules g → ⊥
 many_or_base options modules f g x y =
-    let count = counts options (link_pieces modules) x.sections y.sections x.grouped y.grouped in
+    let count = counts options (plan_pieces modules) x.sections y.sections x.grouped y.grouped in
     omega (arith, x.refused.0, x.refused.1, count, y.placed.few)
 
 large_or_base : (options : LinkOptions) (modules : List ModuleView) (f g : Fault) → IsTooLarge options modules f → HasBadBase options modules g → ⊥
 large_or_base options modules f g x y =
-    let pieces = link_pieces modules in
+    let pieces = plan_pieces modules in
     let size = sizes options pieces x.sections y.sections x.size y.layout.image x.grouped y.grouped x.refused.1 (has_size pieces y.sections y.layout y.placed.layout_of) in
     omega (arith, size, x.refused.2, y.placed.within)
 
-same_fault : (options : LinkOptions) (modules : List ModuleView) (f g : Fault) → IsBuildFault options modules f → IsBuildFault options modules g → f ≡ g
-same_fault options modules f g (inl x) (inl y) = same_merge options f g x y
-same_fault options modules f g (inl x) (inr (inl y)) = absurd (no_bad_merge options (link_pieces modules) y.sections f x y.grouped)
-same_fault options modules f g (inl x) (inr (inr (inl y))) = absurd (no_bad_merge options (link_pieces modules) y.sections f x y.grouped)
-same_fault options modules f g (inl x) (inr (inr (inr y))) = absurd (no_bad_merge options (link_pieces modules) y.sections f x y.grouped)
-same_fault options modules f g (inr (inl x)) (inl y) = absurd (no_bad_merge options (link_pieces modules) x.sections g y x.grouped)
-same_fault options modules f g (inr (inl x)) (inr (inl y)) = same_many options modules f g x y
-same_fault options modules f g (inr (inl x)) (inr (inr (inl y))) = absurd (many_or_large options modules f g x y)
-same_fault options modules f g (inr (inl x)) (inr (inr (inr y))) = absurd (many_or_base options modules f g x y)
-same_fault options modules f g (inr (inr (inl x))) (inl y) = absurd (no_bad_merge options (link_pieces modules) x.sections g y x.grouped)
-same_fault options modules f g (inr (inr (inl x))) (inr (inl y)) = absurd (many_or_large options modules g f y x)
-same_fault options modules f g (inr (inr (inl x))) (inr (inr (inl y))) = same_large options modules f g x y
-same_fault options modules f g (inr (inr (inl x))) (inr (inr (inr y))) = absurd (large_or_base options modules f g x y)
-same_fault options modules f g (inr (inr (inr x))) (inl y) = absurd (no_bad_merge options (link_pieces modules) x.sections g y x.grouped)
-same_fault options modules f g (inr (inr (inr x))) (inr (inl y)) = absurd (many_or_base options modules g f y x)
-same_fault options modules f g (inr (inr (inr x))) (inr (inr (inl y))) = absurd (large_or_base options modules g f y x)
-same_fault options modules f g (inr (inr (inr x))) (inr (inr (inr y))) = x.is ∙ sym y.is
-
--- modules have a fault, or an image
-fault_or_image : (options : LinkOptions) (modules : List ModuleView) (f : Fault) (image : ImagePlan) → IsBuildFault options modules f → IsImageOf options modules image → ⊥
-fault_or_image options modules f image (inl x) y = no_bad_merge options (link_pieces modules) y.sections f x y.grouped
-fault_or_image options modules f image (inr (inl x)) y =
-    let count = counts options (link_pieces modules) x.sections y.sections x.grouped y.grouped in
+many_or_range : (options : LinkOptions) (modules : List ModuleView) (f g : Fault) → HasTooManySections options modules f → HasBadRange options modules g → ⊥
+many_or_range options modules f g x y =
+    let count = counts options (plan_pieces modules) x.sections y.sections x.grouped y.grouped in
     omega (arith, x.refused.0, x.refused.1, count, y.placed.few)
-fault_or_image options modules f image (inr (inr (inl x))) y =
-    let pieces = link_pieces modules in
+
+large_or_range : (options : LinkOptions) (modules : List ModuleView) (f g : Fault) → IsTooLarge options modules f → HasBadRange options modules g → ⊥
+large_or_range options modules f g x y =
+    let pieces = plan_pieces modules in
     let size = sizes options pieces x.sections y.sections x.size y.layout.image x.grouped y.grouped x.refused.1 (has_size pieces y.sections y.layout y.placed.layout_of) in
     omega (arith, size, x.refused.2, y.placed.within)
-fault_or_image options modules f image (inr (inr (inr x))) y =
-    let pieces = link_pieces modules in
+
+base_or_range : (options : LinkOptions) (modules : List ModuleView) (f g : Fault) → HasBadBase options modules f → HasBadRange options modules g → ⊥
+base_or_range options modules f g x y =
+    let pieces = plan_pieces modules in
     let size = sizes options pieces x.sections y.sections x.layout.image y.layout.image x.grouped y.grouped (has_size pieces x.sections x.layout x.placed.layout_of) (has_size pieces y.sections y.layout y.placed.layout_of) in
     let same : is_permitted (base_rule options) x.layout.image options.base ≡ is_permitted (base_rule options) y.layout.image options.base = ap (λ (n : ℕ). is_permitted (base_rule options) n options.base) size in
     false≢true (sym x.refused ∙ same ∙ y.permitted)
+
+-- two layouts of the same pieces say the same of each field
+places : (options : LinkOptions) (modules : List ModuleView) (xs ys : List OutSection) (a b : Layout) → AreGrouped options (plan_pieces modules) xs → AreGrouped options (plan_pieces modules) ys → ArePlaced (plan_pieces modules) xs a → ArePlaced (plan_pieces modules) ys b → SameLayout a b
+places options modules xs ys a b gx gy px py =
+    let pieces = plan_pieces modules in
+    one_layout pieces ys false a b (layout_same_rows pieces xs ys false a (same_rows options pieces xs ys gx gy) px.layout_of) py.layout_of
+
+same_ranges : (options : LinkOptions) (modules : List ModuleView) (xs ys : List OutSection) (a b : Layout) → AreGrouped options (plan_pieces modules) xs → AreGrouped options (plan_pieces modules) ys → ArePlaced (plan_pieces modules) xs a → ArePlaced (plan_pieces modules) ys b → fields_range_fault modules (rows_of xs) a options.base ≡ fields_range_fault modules (rows_of ys) b options.base
+same_ranges options modules xs ys a b gx gy px py =
+    let same = places options modules xs ys a b gx gy px py in
+    ap (λ (r : List SectionRow). fields_range_fault modules r a options.base) (same_rows options (plan_pieces modules) xs ys gx gy)
+    ∙ range_by_places modules (rows_of ys) a b options.base (sym same.pieces) (sym same.sections)
+
+same_range : (options : LinkOptions) (modules : List ModuleView) (f g : Fault) → HasBadRange options modules f → HasBadRange options modules g → f ≡ g
+same_range options modules f g x y =
+    some_same (sym x.is ∙ same_ranges options modules x.sections y.sections x.layout y.layout x.grouped y.grouped x.placed y.placed ∙ y.is)
+  where
+    some_same : Some f ≡ Some g → f ≡ g
+    some_same e = cc
+
+same_fault : (options : LinkOptions) (modules : List ModuleView) (f g : Fault) → IsBuildFault options modules f → IsBuildFault options modules g → f ≡ g
+same_fault options modules f g (inl x) (inl y) = same_merge options f g x y
+same_fault options modules f g (inl x) (inr (inl y)) = absurd (no_bad_merge options (plan_pieces modules) y.sections f x y.grouped)
+same_fault options modules f g (inl x) (inr (inr (inl y))) = absurd (no_bad_merge options (plan_pieces modules) y.sections f x y.grouped)
+same_fault options modules f g (inl x) (inr (inr (inr (inl y)))) = absurd (no_bad_merge options (plan_pieces modules) y.sections f x y.grouped)
+same_fault options modules f g (inl x) (inr (inr (inr (inr y)))) = absurd (no_bad_merge options (plan_pieces modules) y.sections f x y.grouped)
+same_fault options modules f g (inr (inl x)) (inl y) = absurd (no_bad_merge options (plan_pieces modules) x.sections g y x.grouped)
+same_fault options modules f g (inr (inl x)) (inr (inl y)) = same_many options modules f g x y
+same_fault options modules f g (inr (inl x)) (inr (inr (inl y))) = absurd (many_or_large options modules f g x y)
+same_fault options modules f g (inr (inl x)) (inr (inr (inr (inl y)))) = absurd (many_or_base options modules f g x y)
+same_fault options modules f g (inr (inl x)) (inr (inr (inr (inr y)))) = absurd (many_or_range options modules f g x y)
+same_fault options modules f g (inr (inr (inl x))) (inl y) = absurd (no_bad_merge options (plan_pieces modules) x.sections g y x.grouped)
+same_fault options modules f g (inr (inr (inl x))) (inr (inl y)) = absurd (many_or_large options modules g f y x)
+same_fault options modules f g (inr (inr (inl x))) (inr (inr (inl y))) = same_large options modules f g x y
+same_fault options modules f g (inr (inr (inl x))) (inr (inr (inr (inl y)))) = absurd (large_or_base options modules f g x y)
+same_fault options modules f g (inr (inr (inl x))) (inr (inr (inr (inr y)))) = absurd (large_or_range options modules f g x y)
+same_fault options modules f g (inr (inr (inr (inl x)))) (inl y) = absurd (no_bad_merge options (plan_pieces modules) x.sections g y x.grouped)
+same_fault options modules f g (inr (inr (inr (inl x)))) (inr (inl y)) = absurd (many_or_base options modules g f y x)
+same_fault options modules f g (inr (inr (inr (inl x)))) (inr (inr (inl y))) = absurd (large_or_base options modules g f y x)
+same_fault options modules f g (inr (inr (inr (inl x)))) (inr (inr (inr (inl y)))) = x.is ∙ sym y.is
+same_fault options modules f g (inr (inr (inr (inl x)))) (inr (inr (inr (inr y)))) = absurd (base_or_range options modules f g x y)
+same_fault options modules f g (inr (inr (inr (inr x)))) (inl y) = absurd (no_bad_merge options (plan_pieces modules) x.sections g y x.grouped)
+same_fault options modules f g (inr (inr (inr (inr x)))) (inr (inl y)) = absurd (many_or_range options modules g f y x)
+same_fault options modules f g (inr (inr (inr (inr x)))) (inr (inr (inl y))) = absurd (large_or_range options modules g f y x)
+same_fault options modules f g (inr (inr (inr (inr x)))) (inr (inr (inr (inl y)))) = absurd (base_or_range options modules g f y x)
+same_fault options modules f g (inr (inr (inr (inr x)))) (inr (inr (inr (inr y)))) = same_range options modules f g x y
+
+-- modules have a fault, or an image
+fault_or_image : (options : LinkOptions) (modules : List ModuleView) (f : Fault) (image : ImagePlan) → IsBuildFault options modules f → IsImageOf options modules image → ⊥
+fault_or_image options modules f image (inl x) y = no_bad_merge options (plan_pieces modules) y.sections f x y.grouped
+fault_or_image options modules f image (inr (inl x)) y =
+    let count = counts options (plan_pieces modules) x.sections y.sections x.grouped y.grouped in
+    omega (arith, x.refused.0, x.refused.1, count, y.placed.few)
+fault_or_image options modules f image (inr (inr (inl x))) y =
+    let pieces = plan_pieces modules in
+    let size = sizes options pieces x.sections y.sections x.size y.layout.image x.grouped y.grouped x.refused.1 (has_size pieces y.sections y.layout y.placed.layout_of) in
+    omega (arith, size, x.refused.2, y.placed.within)
+fault_or_image options modules f image (inr (inr (inr (inl x)))) y =
+    let pieces = plan_pieces modules in
+    let size = sizes options pieces x.sections y.sections x.layout.image y.layout.image x.grouped y.grouped (has_size pieces x.sections x.layout x.placed.layout_of) (has_size pieces y.sections y.layout y.placed.layout_of) in
+    let same : is_permitted (base_rule options) x.layout.image options.base ≡ is_permitted (base_rule options) y.layout.image options.base = ap (λ (n : ℕ). is_permitted (base_rule options) n options.base) size in
+    false≢true (sym x.refused ∙ same ∙ y.permitted)
+
+fault_or_image options modules f image (inr (inr (inr (inr x)))) y =
+    absurd (none_some (sym y.in_range ∙ same_ranges options modules y.sections x.sections y.layout x.layout y.grouped x.grouped y.placed x.placed ∙ x.is))
+  where
+    none_some : None ≡ Some f → ⊥
+    none_some e = cc
 
 -- ---- the plan
 
 same_image : (options : LinkOptions) (modules : List ModuleView) (a b : ImagePlan) → IsImageOf options modules a → IsImageOf options modules b → a ≡ b
 same_image options modules a b x y =
-    let pieces = link_pieces modules in
-    let contents = at_each_base (link_contents modules) in
+    let pieces = plan_pieces modules in
     let place = entry_place modules options.entry_name in
     let rows = same_rows options pieces x.sections y.sections x.grouped y.grouped in
-    let same = one_layout pieces y.sections false x.layout y.layout (layout_same_rows pieces x.sections y.sections false x.layout rows x.placed.layout_of) y.placed.layout_of in
+    let same = places options modules x.sections y.sections x.layout y.layout x.grouped y.grouped x.placed y.placed in
+    let contents : linked_contents modules (rows_of x.sections) x.layout ≡ linked_contents modules (rows_of y.sections) y.layout =
+    ap (λ (r : List SectionRow). linked_contents modules r x.layout) rows ∙ contents_by_places modules (rows_of y.sections) x.layout y.layout (sym same.pieces) (sym same.sections) in
     x.is
-    ∙ ap (λ (r : List SectionRow). written_plan (headers_of options (entry_rva x.layout.pieces.items place)) r x.layout.sections.items x.layout.pieces.items x.layout.image contents) rows
-    ∙ ap (λ (p : List Placed). written_plan (headers_of options (entry_rva x.layout.pieces.items place)) (rows_of y.sections) p x.layout.pieces.items x.layout.image contents) (sym same.sections)
-    ∙ ap (λ (r : List ℕ). written_plan (headers_of options (entry_rva r place)) (rows_of y.sections) y.layout.sections.items r x.layout.image contents) (sym same.pieces)
-    ∙ ap (λ (n : ℕ). written_plan (headers_of options (entry_rva y.layout.pieces.items place)) (rows_of y.sections) y.layout.sections.items y.layout.pieces.items n contents) (sym same.image)
+    ∙ ap (λ (cs : ℕ → List (List ℕ)). written_plan (headers_of options (entry_rva x.layout.pieces.items place)) (rows_of x.sections) x.layout.sections.items x.layout.pieces.items x.layout.image cs) contents
+    ∙ ap (λ (r : List SectionRow). written_plan (headers_of options (entry_rva x.layout.pieces.items place)) r x.layout.sections.items x.layout.pieces.items x.layout.image (linked_contents modules (rows_of y.sections) y.layout)) rows
+    ∙ ap (λ (p : List Placed). written_plan (headers_of options (entry_rva x.layout.pieces.items place)) (rows_of y.sections) p x.layout.pieces.items x.layout.image (linked_contents modules (rows_of y.sections) y.layout)) (sym same.sections)
+    ∙ ap (λ (r : List ℕ). written_plan (headers_of options (entry_rva r place)) (rows_of y.sections) y.layout.sections.items r x.layout.image (linked_contents modules (rows_of y.sections) y.layout)) (sym same.pieces)
+    ∙ ap (λ (n : ℕ). written_plan (headers_of options (entry_rva y.layout.pieces.items place)) (rows_of y.sections) y.layout.sections.items y.layout.pieces.items n (linked_contents modules (rows_of y.sections) y.layout)) (sym same.image)
     ∙ sym y.is
 
 plan_from : LinkOptions → List ModuleView → ImagePlan → Plan

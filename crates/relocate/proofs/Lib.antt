@@ -12,3 +12,4 @@ pub mod BaseLemmas
 pub mod CallerLemmas
 mod WorkedFields
 mod TestLemmas
+pub mod PlaceLemmas

@@ -96,6 +96,7 @@ returns-clause-planned c =
     let marked = λ (k : ℕ) (lt : k < length old). ap (λ (ms : List Bool). get_or ms k false) c.deref-8.ensures.value ∙ c.in_ok-fixes.ensures.meant k (omega (arith, lt, ap length c.deref-7.ensures.value)) ∙ ap (λ (ms : List ModuleView). is_meant ms k) judged in
     let fields = subst (λ (ms : List ModuleView). HaveFields ms (length c.deref-7.result.now) c.in_ok-fixes.fixes.fixups.items) judged c.in_ok-fixes.ensures.fields in
     record {
+      opened = opened;
       modules_are = refl;
       table_is = table_is;
       pieces_are = planned modules old marks now pieces_are marked named;

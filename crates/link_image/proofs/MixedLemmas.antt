@@ -1,0 +1,126 @@
+-- The contents of pieces, of which the first are patched.
+use Rattle.std.proofs.Common.{◌≡◌, ◌≢◌, ℕ, ◌+◌, ◌<◌, ◌≤◌, List, [], ◌∷◌, length, map, get_or, lt-ltb, le-ltb, inl, inr, refl, sym, ap, ◌∙◌, arith}
+use Rattle.std.specs.List.{All, range_with_len}
+use Rattle.std.proofs.lemmas.Bool.{cases_lt, cases_eq}
+use Rattle.std.proofs.lemmas.List.{ext_get_or, get_or_past}
+use Rattle.std.proofs.lemmas.List.FromFn.{get_or-map-range_with_len, length-map-range_with_len}
+use Rattle.section_group.specs.declared.piece.Piece.{Piece}
+use Rattle.section_group.specs.declared.piece.OutSection.{OutSection}
+use Rattle.section_group.specs.PieceContents.{piece_contents}
+use Rattle.section_group.specs.Uniqueness.{SectionRow}
+use Rattle.address_layout.specs.declared.layout.Layout.{Layout}
+use Rattle.address_layout.specs.Layout.{all_pieces}
+use Rattle.relocate.proofs.CallerLemmas.{length_patched}
+use Rattle.image_writer.specs.WrittenImage.{HaveRoom}
+use Rattle.image_writer.specs.PieceInFile.{DiffersAt}
+use Rattle.module_view.specs.Module.{ModuleView}
+use Rattle.link_pieces.specs.Pieces.{link_pieces, link_contents}
+use Rattle.link_plan.specs.Fixes.{piece_fixes}
+use Rattle.link_image.specs.LinkedBytes.{owners_in, contents_at, linked_bytes, linked_contents}
+use Rattle.link_image.specs.Steps.{mixed_at, mixed_contents}
+
+module _ (modules : List ModuleView) (rows : List SectionRow) (layout : Layout) (base : ℕ) where
+  abbrev total : ℕ
+  total = length (link_pieces modules)
+
+  abbrev mixed : ℕ → List (List ℕ)
+  mixed count = mixed_contents modules rows layout base count
+
+  abbrev at : ℕ → ℕ → List ℕ
+  at count k = mixed_at modules rows layout base count k
+
+  pub mixed_read : (count k : ℕ) → k < total → get_or (mixed count) k [] ≡ at count k
+  unfolding mixed_contents
+  mixed_read count k lt = get_or-map-range_with_len (at count) 0 total k k [] lt (omega arith)
+
+  pub length-mixed : (count : ℕ) → length (mixed count) ≡ total
+  unfolding mixed_contents
+  length-mixed count = length-map-range_with_len (at count) 0 total
+
+  -- a piece that is patched, and one that is not yet
+  pub patched_at : (count k : ℕ) → k < count → at count k ≡ linked_bytes modules rows layout base k
+  patched_at count k lt = rw (lt-ltb k count lt) refl
+
+  pub unpatched_at : (count k : ℕ) → count ≤ k → at count k ≡ contents_at modules k
+  unpatched_at count k le = rw (le-ltb k count le) refl
+
+  length_linked : (k : ℕ) → length (linked_bytes modules rows layout base k) ≡ length (contents_at modules k)
+  length_linked k = length_patched base (get_or layout.pieces.items k 0) layout (owners_in modules rows) (piece_fixes modules k) (contents_at modules k)
+
+  pub length_at : (count k : ℕ) → length (at count k) ≡ length (contents_at modules k)
+  length_at count k =
+      elim (cases_lt k count) [
+        | inl lt ↦ ap length (patched_at count k lt) ∙ length_linked k
+        | inr le ↦ ap length (unpatched_at count k le)
+      ]
+
+  -- at first none is patched
+  pub mixed_none : length (link_contents modules) ≡ total → mixed 0 ≡ link_contents modules
+  mixed_none same =
+      ext_get_or [] (mixed 0) (link_contents modules) (length-mixed 0 ∙ sym same) (λ k lt.
+      mixed_read 0 k (let n = length-mixed 0 in omega (arith, n)) ∙ unpatched_at 0 k (omega arith))
+
+  -- in the end all are
+  pub mixed_all : (count : ℕ) → total ≤ count → mixed count ≡ linked_contents modules rows layout base
+  unfolding linked_contents
+  mixed_all count le =
+      ext_get_or [] (mixed count) (map (linked_bytes modules rows layout base) (range_with_len 0 total)) (length-mixed count ∙ sym (length-map-range_with_len (linked_bytes modules rows layout base) 0 total)) (λ k lt.
+      let within : k < total = let n = length-mixed count in omega (arith, n) in
+      mixed_read count k within ∙ patched_at count k (omega arith) ∙ sym (get_or-map-range_with_len (linked_bytes modules rows layout base) 0 total k k [] within (omega arith)))
+
+  -- one piece more is patched
+  beside : (count other : ℕ) → other ≢ count → at (count + 1) other ≡ at count other
+  beside count other apart =
+      elim (cases_lt other count) [
+        | inl lt ↦ patched_at (count + 1) other (omega arith) ∙ sym (patched_at count other lt)
+        | inr le ↦ unpatched_at (count + 1) other (above count other le apart) ∙ sym (unpatched_at count other le)
+      ]
+    where
+      above : (count other : ℕ) → count ≤ other → other ≢ count → count + 1 ≤ other
+      above count other le apart =
+          elim (cases_lt count other) [
+            | inl lt ↦ omega arith
+            | inr ge ↦ absurd (apart (omega arith))
+          ]
+
+  others_same : (count other : ℕ) → other ≢ count → get_or (mixed (count + 1)) other [] ≡ get_or (mixed count) other []
+  others_same count other apart =
+      elim (cases_lt other total) [
+        | inl lt ↦ mixed_read (count + 1) other lt ∙ beside count other apart ∙ sym (mixed_read count other lt)
+        | inr le ↦
+            get_or_past (mixed (count + 1)) other [] (let n = length-mixed (count + 1) in omega (arith, n)) ∙ sym (get_or_past (mixed count) other [] (let n = length-mixed count in omega (arith, n)))
+      ]
+
+  pub mixed_differs : (count : ℕ) → count < total → DiffersAt count (mixed count) (mixed (count + 1))
+  mixed_differs count lt = record {
+    same_length = ap length (mixed_read (count + 1) count lt) ∙ length_at (count + 1) count ∙ sym (length_at count count) ∙ sym (ap length (mixed_read count count lt));
+    others = others_same count;
+  }
+
+  -- a piece without bytes is as it was
+  pub mixed_same : (count : ℕ) → length (contents_at modules count) ≡ 0 → mixed (count + 1) ≡ mixed count
+  mixed_same count none =
+      ext_get_or [] (mixed (count + 1)) (mixed count) (length-mixed (count + 1) ∙ sym (length-mixed count)) (λ k lt.
+      let within : k < total = let n = length-mixed (count + 1) in omega (arith, n) in
+      mixed_read (count + 1) k within
+      ∙ elim (cases_eq k count) [
+        | inl here ↦
+            nothing (at (count + 1) k) (length_at (count + 1) k ∙ ap (λ (i : ℕ). length (contents_at modules i)) here ∙ none)
+            ∙ sym (nothing (at count k) (length_at count k ∙ ap (λ (i : ℕ). length (contents_at modules i)) here ∙ none))
+        | inr apart ↦ beside count k apart
+      ]
+      ∙ sym (mixed_read count k within))
+    where
+      nothing : (xs : List ℕ) → length xs ≡ 0 → xs ≡ []
+      nothing [] e = refl
+      nothing (x ∷ xs) e = absurd (omega arith)
+
+  -- room stays
+  pub mixed_room : (pieces : List Piece) (sections : List OutSection) (count : ℕ) → map piece_contents pieces ≡ link_contents modules → length pieces ≡ total → All (λ k. k < length pieces) (all_pieces sections) → HaveRoom pieces sections (map piece_contents pieces) → HaveRoom pieces sections (mixed count)
+  mixed_room pieces sections count are same within room = λ i d lt.
+      let k = get_or (all_pieces sections) i d in
+      let old = room i d lt in
+      let below : k < total = let w = within i d lt in omega (arith, w, same) in
+      let len : length (get_or (mixed count) k []) ≡ length (get_or (map piece_contents pieces) k []) =
+      ap length (mixed_read count k below) ∙ length_at count k ∙ ap (λ (cs : List (List ℕ)). length (get_or cs k [])) (sym are) in
+      (let fits = old.0 in omega (arith, fits, len), λ some. old.1 (omega (arith, some, len)))

@@ -1,0 +1,37 @@
+-- What layouts say of the fields of a link: the places of pieces and of sections decide it.
+use Rattle.std.proofs.Common.{◌≡◌, ℕ, List, length, map, get_or, Option, option_map, ap, ◌∙◌}
+use Rattle.std.specs.List.{range_with_len}
+use Rattle.std.proofs.Math.Path.{fun_ext}
+use Rattle.link_base.specs.Refusals.{first_refusal_below}
+use Rattle.link_base.specs.declared.fault.Fault.{Fault}
+use Rattle.section_group.specs.Uniqueness.{SectionRow}
+use Rattle.address_layout.specs.declared.layout.Layout.{Layout}
+use Rattle.relocate.specs.PatchedBytes.{patched_bytes, range_fault}
+use Rattle.relocate.proofs.PlaceLemmas.{bytes_by_places}
+use Rattle.relocate.proofs.PlaceLemmas as places
+use Rattle.module_view.specs.Module.{ModuleView}
+use Rattle.link_pieces.specs.Pieces.{link_pieces}
+use Rattle.link_plan.specs.Fixes.{piece_at, piece_fixes}
+use Rattle.link_image.specs.LinkedBytes.{owners_in, contents_at, linked_bytes, linked_contents, out_of_range, piece_range_fault, fields_range_fault}
+
+module _ (layout other : Layout) (pieces : layout.pieces.items ≡ other.pieces.items) (sections : layout.sections.items ≡ other.sections.items) where
+  piece_same : (modules : List ModuleView) (rows : List SectionRow) (base k : ℕ) → linked_bytes modules rows layout base k ≡ linked_bytes modules rows other base k
+  piece_same modules rows base k =
+      bytes_by_places layout other pieces sections base (get_or layout.pieces.items k 0) (owners_in modules rows) (piece_fixes modules k) (contents_at modules k)
+      ∙ ap (λ (rvas : List ℕ). patched_bytes base (get_or rvas k 0) other (owners_in modules rows) (piece_fixes modules k) (contents_at modules k)) pieces
+
+  fault_same : (modules : List ModuleView) (rows : List SectionRow) (base k : ℕ) → piece_range_fault modules rows layout base k ≡ piece_range_fault modules rows other base k
+  fault_same modules rows base k =
+      ap (option_map (out_of_range (piece_at modules k)))
+      (places.range_by_places layout other pieces sections base (get_or layout.pieces.items k 0) (owners_in modules rows) (piece_fixes modules k) (contents_at modules k)
+      ∙ ap (λ (rvas : List ℕ). range_fault base (get_or rvas k 0) other (owners_in modules rows) (piece_fixes modules k) (contents_at modules k)) pieces)
+
+pub contents_by_places : (modules : List ModuleView) (rows : List SectionRow) (layout other : Layout) → layout.pieces.items ≡ other.pieces.items → layout.sections.items ≡ other.sections.items → linked_contents modules rows layout ≡ linked_contents modules rows other
+unfolding linked_contents
+contents_by_places modules rows layout other pieces sections =
+    fun_ext (λ base. ap (λ (f : ℕ → List ℕ). map f (range_with_len 0 (length (link_pieces modules)))) (fun_ext (λ k. piece_same layout other pieces sections modules rows base k)))
+
+pub range_by_places : (modules : List ModuleView) (rows : List SectionRow) (layout other : Layout) (base : ℕ) → layout.pieces.items ≡ other.pieces.items → layout.sections.items ≡ other.sections.items → fields_range_fault modules rows layout base ≡ fields_range_fault modules rows other base
+unfolding fields_range_fault
+range_by_places modules rows layout other base pieces sections =
+    ap (λ (f : ℕ → Option Fault). first_refusal_below (length (link_pieces modules)) f) (fun_ext (λ k. fault_same layout other pieces sections modules rows base k))

@@ -1,0 +1,63 @@
+-- What the pieces of a link hold in its image, and the first field whose value does not fit (PE Format, "Type Indicators",
+-- x64 Processors; the order is own).
+use Rattle.std.specs.Prelude.{ℕ, Bool, List, [], length, map, slice_index, slice_index_or, Option, Some, option_map, unwrap_or, ◌==◌}
+use Rattle.std.specs.List.{list_any, range_with_len}
+use Rattle.link_base.specs.Bytes.{first_below}
+use Rattle.link_base.specs.Refusals.{first_refusal_below}
+use Rattle.link_base.specs.declared.fault.Fault.{Fault}
+use Rattle.link_base.specs.declared.fault.Fault.TheVariants as faults
+use Rattle.section_group.specs.declared.piece.Piece.{Piece}
+use Rattle.section_group.specs.Uniqueness.{SectionRow}
+use Rattle.address_layout.specs.declared.layout.Layout.{Layout}
+use Rattle.relocate.specs.declared.range.RelocRange.{RelocRange}
+use Rattle.relocate.specs.PatchedBytes.{patched_bytes, range_fault}
+use Rattle.module_view.specs.Module.{ModuleView}
+use Rattle.link_pieces.specs.Pieces.{link_pieces, link_contents}
+use Rattle.link_plan.specs.Fixes.{piece_at, piece_fixes}
+
+-- ---- the section of a piece
+
+abbrev pub no_row : SectionRow
+no_row = record { name = []; flags = 0; pieces = [] }
+
+abbrev pub row_holds : List SectionRow → ℕ → ℕ → Bool
+row_holds rows k i = list_any (λ member. member == k) (slice_index_or rows i no_row).pieces
+
+-- the index of the section that a piece stands in; the number of sections for one that stands in none
+abbrev pub section_of : List SectionRow → ℕ → ℕ
+section_of rows k = unwrap_or (first_below (length rows) (row_holds rows k)) (length rows)
+
+unfoldable pub owners : List SectionRow → ℕ → List ℕ
+owners rows count = map (section_of rows) (range_with_len 0 count)
+
+-- ---- the bytes
+
+abbrev pub owners_in : List ModuleView → List SectionRow → List ℕ
+owners_in modules rows = owners rows (length (link_pieces modules))
+
+abbrev pub contents_at : List ModuleView → ℕ → List ℕ
+contents_at modules k = slice_index_or (link_contents modules) k []
+
+-- the bytes of a piece with its fields, in an image at a base
+abbrev pub linked_bytes : List ModuleView → List SectionRow → Layout → ℕ → ℕ → List ℕ
+linked_bytes modules rows layout base k =
+    patched_bytes base (slice_index layout.pieces.items k) layout (owners_in modules rows) (piece_fixes modules k) (contents_at modules k)
+
+unfoldable pub linked_contents : List ModuleView → List SectionRow → Layout → ℕ → List (List ℕ)
+linked_contents modules rows layout base =
+    map (linked_bytes modules rows layout base) (range_with_len 0 (length (link_pieces modules)))
+
+-- ---- values that do not fit
+
+abbrev pub out_of_range : Piece → RelocRange → Fault
+out_of_range piece range = faults.RelocRange (Some piece.«module») piece.number range.index range.value
+
+-- the first field of a piece whose value does not fit
+abbrev pub piece_range_fault : List ModuleView → List SectionRow → Layout → ℕ → ℕ → Option Fault
+piece_range_fault modules rows layout base k =
+    option_map (out_of_range (piece_at modules k)) (range_fault base (slice_index layout.pieces.items k) layout (owners_in modules rows) (piece_fixes modules k) (contents_at modules k))
+
+-- that of all pieces, in their order
+unfoldable pub fields_range_fault : List ModuleView → List SectionRow → Layout → ℕ → Option Fault
+fields_range_fault modules rows layout base =
+    first_refusal_below (length (link_pieces modules)) (piece_range_fault modules rows layout base)
