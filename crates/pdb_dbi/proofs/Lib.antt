@@ -1,0 +1,4 @@
+pub mod RangeSteps
+pub mod ModuleLemmas
+pub mod SizeLemmas
+pub mod ReadingLemmas

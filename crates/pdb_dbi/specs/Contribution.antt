@@ -1,0 +1,61 @@
+-- A section contribution: the bytes that a module gives to a section of the image (LLVM, "The PDB DBI (Debug Info)
+-- Stream", "Section Contribution Substream"). The checksums of its bytes are 0, and the bytes of records of the second
+-- form that name the section of the object are used (own).
+use Rattle.std.specs.Prelude.{ℕ, ◌+◌, ◌==◌, if◌then◌else◌, List, [], ◌∷◌, ◌++◌, Option, Some, None}
+use Rattle.std.specs.List.{flat_map}
+use Rattle.link_base.specs.Bytes.{u16_at, u32_at}
+use Rattle.link_base.specs.Fields.{fields}
+use Rattle.link_base.specs.declared.numbers.LeNumber.TheVariants.{U16, U32}
+use Rattle.pdb_dbi.specs.declared.rows.Contribution.{Contribution}
+use Rattle.pdb_dbi.specs.declared.form.Form.{Form}
+use Rattle.pdb_dbi.specs.declared.form.Form.TheVariants.{Ver60, V2}
+
+-- ---- the two forms
+
+-- the first word of the part of contributions, by the form of the records
+abbrev pub VER60 : ℕ
+VER60 = 0xF12EBA2D
+
+abbrev pub V2_VERSION : ℕ
+V2_VERSION = 0xF13151E4
+
+abbrev pub form_of_version : ℕ → Option Form
+form_of_version version = if version == VER60 then Some Ver60 else (if version == V2_VERSION then Some V2 else None)
+
+-- the bytes of a record
+abbrev pub record_size : Form → ℕ
+record_size Ver60 = 28
+record_size V2 = 32
+
+-- ---- a record that is written
+
+-- the fields of both forms: the section's number and two bytes of 0, the offset in it, the size, the flags, the module's
+-- position and two bytes of 0, and two checksums
+unfoldable pub record_ver60 : Contribution → List ℕ
+record_ver60 row =
+    fields (U16 row.section ∷ U16 0 ∷ U32 row.offset ∷ U32 row.size ∷ U32 row.flags ∷ U16 row.«module» ∷ U16 0 ∷ U32 0 ∷ U32 0 ∷ [])
+
+-- and behind them the section's number in the object
+unfoldable pub record_v2 : Contribution → List ℕ
+record_v2 row = record_ver60 row ++ fields (U32 row.coff ∷ [])
+
+-- the part of contributions, in the second form
+unfoldable pub contribution_part : List Contribution → List ℕ
+contribution_part list = fields (U32 V2_VERSION ∷ []) ++ flat_map record_v2 list
+
+-- ---- a record that is read
+
+-- the section's number in the object, which the first form lacks
+abbrev pub coff_at : Form → List ℕ → ℕ → ℕ
+coff_at Ver60 part place = 0
+coff_at V2 part place = u32_at part (place + 28)
+
+unfoldable pub contribution_at : Form → List ℕ → ℕ → Contribution
+contribution_at form part place = record {
+  section = u16_at part place;
+  offset = u32_at part (place + 4);
+  size = u32_at part (place + 8);
+  flags = u32_at part (place + 12);
+  «module» = u16_at part (place + 16);
+  coff = coff_at form part place
+}
