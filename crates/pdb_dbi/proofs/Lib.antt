@@ -2,3 +2,5 @@ pub mod RangeSteps
 pub mod ModuleLemmas
 pub mod SizeLemmas
 pub mod ReadingLemmas
+pub mod FieldLemmas
+pub mod LawLemmas

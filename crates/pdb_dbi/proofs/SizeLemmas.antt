@@ -71,7 +71,7 @@ length_files modules =
 
 -- ---- the whole
 
-length_front : length header_front ≡ 24
+pub length_front : length header_front ≡ 24
 unfolding header_front number_bytes
 length_front = refl
 

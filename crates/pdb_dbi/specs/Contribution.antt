@@ -1,7 +1,7 @@
 -- A section contribution: the bytes that a module gives to a section of the image (LLVM, "The PDB DBI (Debug Info)
 -- Stream", "Section Contribution Substream"). The checksums of its bytes are 0, and the bytes of records of the second
 -- form that name the section of the object are used (own).
-use Rattle.std.specs.Prelude.{ℕ, ◌+◌, ◌==◌, if◌then◌else◌, List, [], ◌∷◌, ◌++◌, Option, Some, None}
+use Rattle.std.specs.Prelude.{ℕ, ◌+◌, ◌^◌, ◌<◌, ◌==◌, if◌then◌else◌, List, [], ◌∷◌, ◌++◌, Option, Some, None}
 use Rattle.std.specs.List.{flat_map}
 use Rattle.link_base.specs.Bytes.{u16_at, u32_at}
 use Rattle.link_base.specs.Fields.{fields}
@@ -28,6 +28,15 @@ record_size Ver60 = 28
 record_size V2 = 32
 
 -- ---- a record that is written
+
+-- each number fits its field
+pub record FitsFields (row : Contribution) : Type 0 where
+  pub section_fits : row.section < 2 ^ 16
+  pub offset_fits : row.offset < 2 ^ 32
+  pub size_fits : row.size < 2 ^ 32
+  pub flags_fit : row.flags < 2 ^ 32
+  pub module_fits : row.«module» < 2 ^ 16
+  pub coff_fits : row.coff < 2 ^ 32
 
 -- the fields of both forms: the section's number and two bytes of 0, the offset in it, the size, the flags, the module's
 -- position and two bytes of 0, and two checksums

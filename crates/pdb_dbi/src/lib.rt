@@ -8,6 +8,7 @@
 mod fixed;
 mod form;
 mod format;
+mod laws;
 mod modules;
 mod reading;
 mod records;
@@ -16,6 +17,7 @@ mod sections;
 mod writing;
 
 pub use fixed::{write_info, write_types};
+pub use laws::written_contributions_are_read;
 pub use reading::{DbiError, contributions};
 pub use rows::{Contribution, ModuleName};
 pub use writing::write_dbi;
