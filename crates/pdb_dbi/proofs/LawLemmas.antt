@@ -1,8 +1,9 @@
 -- What is read from a stream that was written.
-use Rattle.std.proofs.Common.{◌≡◌, ℕ, zero, suc, ◌+◌, ◌-◌, ◌*◌, ◌/◌, ◌%◌, ◌^◌, ◌<◌, ◌≤◌, Bool, true, cond, le-leb, eq-eqb, List, [], ◌∷◌, ◌++◌, length, get_or, take, drop, map, All, Option, Some, refl, sym, ap, ◌∙◌, append_assoc, add-one, arith, length-append, length-drop}
+use Rattle.std.proofs.Common.{◌≡◌, ℕ, zero, suc, ◌+◌, ◌-◌, ◌*◌, ◌/◌, ◌%◌, ◌^◌, ◌<◌, ◌≤◌, Bool, true, cond, le-leb, eq-eqb, List, [], ◌∷◌, ◌++◌, length, get_or, take, drop, map, All, Option, Some, refl, sym, ap, subst, ◌∙◌, append_assoc, add-one, arith, length-append, length-drop}
 use Rattle.std.specs.List.{flat_map, range_with_len}
 use Rattle.std.proofs.Math.Seq.{drop-cons, take-append_seam}
-use Rattle.std.proofs.lemmas.List.{drop_at, drop-drop}
+use Rattle.std.proofs.lemmas.List.{drop_at, drop-drop, length-map, get_or-map, map-id}
+use Rattle.std.proofs.Math.Nat.{mul-zero}
 use Rattle.std.proofs.lemmas.List.Elements.{All-get_or}
 use Rattle.std.proofs.lemmas.List.FromFn.{fill_by_all}
 use Rattle.link_base.specs.Bytes.{number_at, number_bytes, has_bytes, bytes_at, field}
@@ -14,7 +15,7 @@ use Rattle.pdb_dbi.specs.declared.rows.Contribution.{Contribution}
 use Rattle.pdb_dbi.specs.declared.rows.ModuleName.{ModuleName}
 use Rattle.pdb_dbi.specs.declared.form.Form.{Form}
 use Rattle.pdb_dbi.specs.declared.form.Form.TheVariants.{Ver60, V2}
-use Rattle.pdb_dbi.specs.Contribution.{FitsFields, V2_VERSION, record_size, record_ver60, record_v2, contribution_part, contribution_at}
+use Rattle.pdb_dbi.specs.Contribution.{FitsFields, VER60, V2_VERSION, form_of_version, without_coff, first_part, coff_at, record_size, record_ver60, record_v2, contribution_part, contribution_at}
 use Rattle.pdb_dbi.specs.ModuleInfo.{module_part}
 use Rattle.pdb_dbi.specs.SectionMap.{section_map}
 use Rattle.pdb_dbi.specs.DbiStream.{DBI_SIGNATURE, header_front, header_sizes, header_end, dbi_header, file_part, optional_streams, dbi_of_parts, dbi_of}
@@ -27,106 +28,173 @@ use Rattle.pdb_dbi.proofs.SizeLemmas.{length_ver60, length_v2, length_contributi
 abbrev base : Contribution → List LeNumber
 base row = U16 row.section ∷ U16 0 ∷ U32 row.offset ∷ U32 row.size ∷ U32 row.flags ∷ U16 row.«module» ∷ U16 0 ∷ U32 0 ∷ U32 0 ∷ []
 
-record_starts : (row : Contribution) (rest : List ℕ) → record_v2 row ++ rest ≡ fields (base row) ++ (fields (U32 row.coff ∷ []) ++ rest)
-unfolding record_v2 record_ver60
-record_starts row rest = append_assoc (fields (base row)) (fields (U32 row.coff ∷ [])) rest
+-- the numbers that both forms have stand at their places
+record StandsAt (row : Contribution) (bytes : List ℕ) : Type 0 where
+  section_stands : number_at 2 bytes 0 ≡ row.section
+  offset_stands : number_at 4 bytes 4 ≡ row.offset
+  size_stands : number_at 4 bytes 8 ≡ row.size
+  flags_stand : number_at 4 bytes 12 ≡ row.flags
+  module_stands : number_at 2 bytes 16 ≡ row.«module»
 
-section_read : (row : Contribution) (rest : List ℕ) → FitsFields row → number_at 2 (record_v2 row ++ rest) 0 ≡ row.section
+base_stands : (row : Contribution) (rest : List ℕ) → FitsFields row → StandsAt row (fields (base row) ++ rest)
 unfolding number_bytes
-section_read row rest fits = ap (λ (xs : List ℕ). number_at 2 xs 0) (record_starts row rest) ∙ field_read (base row) (fields (U32 row.coff ∷ []) ++ rest) 0 (U16 0) (omega arith) fits.section_fits
+base_stands row rest fits = record {
+  section_stands = field_read (base row) rest 0 (U16 0) (omega arith) fits.section_fits;
+  offset_stands = field_read (base row) rest 2 (U16 0) (omega arith) fits.offset_fits;
+  size_stands = field_read (base row) rest 3 (U16 0) (omega arith) fits.size_fits;
+  flags_stand = field_read (base row) rest 4 (U16 0) (omega arith) fits.flags_fit;
+  module_stands = field_read (base row) rest 5 (U16 0) (omega arith) fits.module_fits
+}
 
-offset_read : (row : Contribution) (rest : List ℕ) → FitsFields row → number_at 4 (record_v2 row ++ rest) 4 ≡ row.offset
-unfolding number_bytes
-offset_read row rest fits = ap (λ (xs : List ℕ). number_at 4 xs 4) (record_starts row rest) ∙ field_read (base row) (fields (U32 row.coff ∷ []) ++ rest) 2 (U16 0) (omega arith) fits.offset_fits
-
-size_read : (row : Contribution) (rest : List ℕ) → FitsFields row → number_at 4 (record_v2 row ++ rest) 8 ≡ row.size
-unfolding number_bytes
-size_read row rest fits = ap (λ (xs : List ℕ). number_at 4 xs 8) (record_starts row rest) ∙ field_read (base row) (fields (U32 row.coff ∷ []) ++ rest) 3 (U16 0) (omega arith) fits.size_fits
-
-flags_read : (row : Contribution) (rest : List ℕ) → FitsFields row → number_at 4 (record_v2 row ++ rest) 12 ≡ row.flags
-unfolding number_bytes
-flags_read row rest fits = ap (λ (xs : List ℕ). number_at 4 xs 12) (record_starts row rest) ∙ field_read (base row) (fields (U32 row.coff ∷ []) ++ rest) 4 (U16 0) (omega arith) fits.flags_fit
-
-module_read : (row : Contribution) (rest : List ℕ) → FitsFields row → number_at 2 (record_v2 row ++ rest) 16 ≡ row.«module»
-unfolding number_bytes
-module_read row rest fits = ap (λ (xs : List ℕ). number_at 2 xs 16) (record_starts row rest) ∙ field_read (base row) (fields (U32 row.coff ∷ []) ++ rest) 5 (U16 0) (omega arith) fits.module_fits
-
-coff_read : (row : Contribution) (rest : List ℕ) → FitsFields row → number_at 4 (record_v2 row ++ rest) 28 ≡ row.coff
+first_stands : (row : Contribution) (rest : List ℕ) → FitsFields row → StandsAt row (record_ver60 row ++ rest)
 unfolding record_ver60
-coff_read row rest fits =
+first_stands row rest fits = base_stands row rest fits
+
+record_starts : (row : Contribution) (rest : List ℕ) → record_v2 row ++ rest ≡ record_ver60 row ++ (fields (U32 row.coff ∷ []) ++ rest)
+unfolding record_v2
+record_starts row rest = append_assoc (record_ver60 row) (fields (U32 row.coff ∷ [])) rest
+
+second_stands : (row : Contribution) (rest : List ℕ) → FitsFields row → StandsAt row (record_v2 row ++ rest)
+second_stands row rest fits =
+    subst (StandsAt row) (sym (record_starts row rest)) (first_stands row (fields (U32 row.coff ∷ []) ++ rest) fits)
+
+coff_stands : (row : Contribution) (rest : List ℕ) → FitsFields row → number_at 4 (record_v2 row ++ rest) 28 ≡ row.coff
+coff_stands row rest fits =
     ap (λ (xs : List ℕ). number_at 4 xs 28) (record_starts row rest)
-    ∙ number_behind 4 28 0 28 (fields (base row)) (fields (U32 row.coff ∷ []) ++ rest) (length_ver60 row) refl
+    ∙ number_behind 4 28 0 28 (record_ver60 row) (fields (U32 row.coff ∷ []) ++ rest) (length_ver60 row) refl
     ∙ field_read (U32 row.coff ∷ []) rest 0 (U16 0) (omega arith) fits.coff_fits
 
-same_row : (row : Contribution) (section offset size flags module_position coff : ℕ) → section ≡ row.section → offset ≡ row.offset → size ≡ row.size → flags ≡ row.flags → module_position ≡ row.«module» → coff ≡ row.coff → record { section = section; offset = offset; size = size; flags = flags; «module» = module_position; coff = coff } ≡ row
-same_row row section offset size flags module_position coff a b c d e f = rw (a, b, c, d, e, f) refl
+-- ---- a record that is read
+
+same_row : (row : Contribution) (section offset size flags position coff : ℕ) → section ≡ row.section → offset ≡ row.offset → size ≡ row.size → flags ≡ row.flags → position ≡ row.«module» → coff ≡ row.coff → record { section = section; offset = offset; size = size; flags = flags; «module» = position; coff = coff } ≡ row
+same_row row section offset size flags position coff a b c d e f = rw (a, b, c, d, e, f) refl
 
 at_place : (width i place : ℕ) (part bytes : List ℕ) → drop place part ≡ bytes → number_at width part (place + i) ≡ number_at width bytes i
 at_place width i place part bytes stands = sym (number_at-drop width place i part) ∙ ap (λ (xs : List ℕ). number_at width xs i) stands
 
--- where a record stands, it is read
-record_read : (row : Contribution) (part rest : List ℕ) (place : ℕ) → FitsFields row → drop place part ≡ record_v2 row ++ rest → contribution_at V2 part place ≡ row
+row_read : (form : Form) (row : Contribution) (part bytes : List ℕ) (place : ℕ) → StandsAt row bytes → drop place part ≡ bytes → coff_at form part place ≡ row.coff → contribution_at form part place ≡ row
 unfolding contribution_at
-record_read row part rest place fits stands =
-    let bytes = record_v2 row ++ rest in
+row_read form row part bytes place stands is coff_is =
     let start : place ≡ place + 0 = omega arith in
     same_row row _ _ _ _ _ _
-    (ap (number_at 2 part) start ∙ at_place 2 0 place part bytes stands ∙ section_read row rest fits)
-    (at_place 4 4 place part bytes stands ∙ offset_read row rest fits)
-    (at_place 4 8 place part bytes stands ∙ size_read row rest fits)
-    (at_place 4 12 place part bytes stands ∙ flags_read row rest fits)
-    (at_place 2 16 place part bytes stands ∙ module_read row rest fits)
-    (at_place 4 28 place part bytes stands ∙ coff_read row rest fits)
+    (ap (number_at 2 part) start ∙ at_place 2 0 place part bytes is ∙ stands.section_stands)
+    (at_place 4 4 place part bytes is ∙ stands.offset_stands)
+    (at_place 4 8 place part bytes is ∙ stands.size_stands)
+    (at_place 4 12 place part bytes is ∙ stands.flags_stand)
+    (at_place 2 16 place part bytes is ∙ stands.module_stands)
+    coff_is
 
--- ---- the part
+second_read : (row : Contribution) (part rest : List ℕ) (place : ℕ) → FitsFields row → drop place part ≡ record_v2 row ++ rest → contribution_at V2 part place ≡ row
+second_read row part rest place fits is =
+    row_read V2 row part (record_v2 row ++ rest) place (second_stands row rest fits) is
+    (at_place 4 28 place part (record_v2 row ++ rest) is ∙ coff_stands row rest fits)
 
--- the records from one on stand behind those before it
-rows_from : (list : List Contribution) (k : ℕ) → k ≤ length list → drop (32 * k) (flat_map record_v2 list) ≡ flat_map record_v2 (drop k list)
-rows_from list zero le = refl
-rows_from [] (suc k) le = absurd (omega (arith, le))
-rows_from (row ∷ list) (suc k) le =
-    let place : 32 * suc k ≡ 32 + 32 * k = omega arith in
-    ap (λ (n : ℕ). drop n (record_v2 row ++ flat_map record_v2 list)) place
-    ∙ sym (drop-drop (32 * k) 32 (record_v2 row ++ flat_map record_v2 list))
-    ∙ ap (drop (32 * k)) (drop_at (record_v2 row) (flat_map record_v2 list) 32 (length_v2 row))
-    ∙ rows_from list k (omega (arith, le))
+first_read : (row : Contribution) (part rest : List ℕ) (place : ℕ) → FitsFields row → drop place part ≡ record_ver60 row ++ rest → contribution_at Ver60 part place ≡ without_coff row
+unfolding record_ver60
+first_read row part rest place fits is =
+    row_read Ver60 (without_coff row) part (record_ver60 row ++ rest) place
+    (first_stands (without_coff row) rest (record { section_fits = fits.section_fits; offset_fits = fits.offset_fits; size_fits = fits.size_fits; flags_fit = fits.flags_fit; module_fits = fits.module_fits; coff_fits = omega arith }))
+    is refl
 
-record_stands : (list : List Contribution) (k : ℕ) (d : Contribution) → k < length list → drop (4 + 32 * k) (contribution_part list) ≡ record_v2 (get_or list k d) ++ flat_map record_v2 (drop (suc k) list)
-unfolding contribution_part number_bytes
-record_stands list k d lt =
-    sym (drop-drop (32 * k) 4 (contribution_part list))
-    ∙ ap (drop (32 * k)) (drop_at (fields (U32 V2_VERSION ∷ [])) (flat_map record_v2 list) 4 refl)
-    ∙ rows_from list k (omega (arith, lt))
-    ∙ ap (flat_map record_v2) (drop-cons list k d lt)
+-- ---- a part
 
 none : Contribution
 none = record { section = 0; offset = 0; size = 0; flags = 0; «module» = 0; coff = 0 }
 
-records_read : (list : List Contribution) → All FitsFields list → records_of V2 (contribution_part list) ≡ list
-unfolding records_of record_in
-records_read list fit =
-    let long = length_contributions list in
-    let count : (length (contribution_part list) - 4) / 32 ≡ length list = omega (arith, long) in
-    ap (λ (n : ℕ). map (record_in V2 (contribution_part list)) (range_with_len 0 n)) count
-    ∙ sym (fill_by_all (record_in V2 (contribution_part list)) list (length list) none refl
-    (λ k lt. sym (record_read (get_or list k none) (contribution_part list) (flat_map record_v2 (drop (suc k) list)) (4 + 32 * k) (All-get_or FitsFields list k none lt fit) (record_stands list k none lt))))
+-- by the form: its first word, a record, and what is read of it
+abbrev version_of : Form → ℕ
+version_of Ver60 = VER60
+version_of V2 = V2_VERSION
 
-version_read : (list : List Contribution) → number_at 4 (contribution_part list) 0 ≡ V2_VERSION
+abbrev bytes_of : Form → Contribution → List ℕ
+bytes_of Ver60 row = record_ver60 row
+bytes_of V2 row = record_v2 row
+
+abbrev seen_by : Form → Contribution → Contribution
+seen_by Ver60 row = without_coff row
+seen_by V2 row = row
+
+abbrev rows_part : Form → List Contribution → List ℕ
+rows_part form list = fields (U32 (version_of form) ∷ []) ++ flat_map (bytes_of form) list
+
+length_bytes : (form : Form) (row : Contribution) → length (bytes_of form row) ≡ record_size form
+length_bytes Ver60 row = length_ver60 row
+length_bytes V2 row = length_v2 row
+
+row_seen : (form : Form) (row : Contribution) (part rest : List ℕ) (place : ℕ) → FitsFields row → drop place part ≡ bytes_of form row ++ rest → contribution_at form part place ≡ seen_by form row
+row_seen Ver60 row part rest place fits is = first_read row part rest place fits is
+row_seen V2 row part rest place fits is = second_read row part rest place fits is
+
+count_is : (form : Form) (n size : ℕ) → size ≡ 4 + record_size form * n → (size - 4) / record_size form ≡ n
+count_is Ver60 n size is = omega (arith, is)
+count_is V2 n size is = omega (arith, is)
+
+whole_is : (form : Form) (n size : ℕ) → size ≡ 4 + record_size form * n → (size - 4) % record_size form ≡ 0
+whole_is Ver60 n size is = omega (arith, is)
+whole_is V2 n size is = omega (arith, is)
+
+version_fits : (form : Form) → version_of form < 256 ^ 4
+version_fits Ver60 = omega arith
+version_fits V2 = omega arith
+
+version_tells : (form : Form) → form_of_version (version_of form) ≡ Some form
+version_tells Ver60 = refl
+version_tells V2 = refl
+
+module _ (form : Form) where
+  length_rows : (list : List Contribution) → length (rows_part form list) ≡ 4 + record_size form * length list
+  unfolding number_bytes
+  length_rows list =
+      let rows = length_each (bytes_of form) (record_size form) list (length_bytes form) in
+      omega (arith, rows)
+
+  -- the records from one on stand behind those before it
+  rows_from : (list : List Contribution) (k : ℕ) → k ≤ length list → drop (record_size form * k) (flat_map (bytes_of form) list) ≡ flat_map (bytes_of form) (drop k list)
+  rows_from list zero le = ap (λ (n : ℕ). drop n (flat_map (bytes_of form) list)) (mul-zero (record_size form))
+  rows_from [] (suc k) le = absurd (omega (arith, le))
+  rows_from (row ∷ list) (suc k) le =
+      ap (λ (n : ℕ). drop n (bytes_of form row ++ flat_map (bytes_of form) list)) (place (record_size form) k)
+      ∙ sym (drop-drop (record_size form * k) (record_size form) (bytes_of form row ++ flat_map (bytes_of form) list))
+      ∙ ap (drop (record_size form * k)) (drop_at (bytes_of form row) (flat_map (bytes_of form) list) (record_size form) (length_bytes form row))
+      ∙ rows_from list k (omega (arith, le))
+    where
+      place : (size n : ℕ) → size * suc n ≡ size + size * n
+      place size n = grind arith
+
+  row_stands : (list : List Contribution) (k : ℕ) → k < length list → drop (4 + record_size form * k) (rows_part form list) ≡ bytes_of form (get_or list k none) ++ flat_map (bytes_of form) (drop (suc k) list)
+  unfolding number_bytes
+  row_stands list k lt =
+      sym (drop-drop (record_size form * k) 4 (rows_part form list))
+      ∙ ap (drop (record_size form * k)) (drop_at (fields (U32 (version_of form) ∷ [])) (flat_map (bytes_of form) list) 4 refl)
+      ∙ rows_from list k (omega (arith, lt))
+      ∙ ap (flat_map (bytes_of form)) (drop-cons list k none lt)
+
+  rows_read : (list : List Contribution) → All FitsFields list → records_of form (rows_part form list) ≡ map (seen_by form) list
+  unfolding records_of record_in
+  rows_read list fit =
+      ap (λ (n : ℕ). map (record_in form (rows_part form list)) (range_with_len 0 n)) (count_is form (length list) (length (rows_part form list)) (length_rows list))
+      ∙ sym (fill_by_all (record_in form (rows_part form list)) (map (seen_by form) list) (length list) none (length-map list (seen_by form))
+      (λ k lt. get_or-map (seen_by form) list k none none lt ∙ sym (row_seen form (get_or list k none) (rows_part form list) (flat_map (bytes_of form) (drop (suc k) list)) (4 + record_size form * k) (All-get_or FitsFields list k none lt fit) (row_stands list k lt))))
+
+  form_is : (list : List Contribution) → form_of (rows_part form list) ≡ Some form
+  form_is list =
+      let long = length_rows list in
+      let there : has_bytes (rows_part form list) 0 4 ≡ true = le-leb _ _ (omega (arith, long)) in
+      rw (there, field_read (U32 (version_of form) ∷ []) (flat_map (bytes_of form) list) 0 (U16 0) (omega arith) (version_fits form)) (version_tells form)
+
+  part_read : (list : List Contribution) → All FitsFields list → contributions_by (Some (rows_part form list)) ≡ Some (map (seen_by form) list)
+  part_read list fit =
+      let whole = whole_is form (length list) (length (rows_part form list)) (length_rows list) in
+      ap (λ (f : Option Form). records_by f (rows_part form list)) (form_is list)
+      ∙ rw (eq-eqb _ _ whole) (ap Some (rows_read list fit))
+
+pub first_part_read : (list : List Contribution) → All FitsFields list → contributions_by (Some (first_part list)) ≡ Some (map without_coff list)
+unfolding first_part
+first_part_read list fit = part_read Ver60 list fit
+
+second_part_read : (list : List Contribution) → All FitsFields list → contributions_by (Some (contribution_part list)) ≡ Some list
 unfolding contribution_part
-version_read list = field_read (U32 V2_VERSION ∷ []) (flat_map record_v2 list) 0 (U16 0) (omega arith) (omega arith)
-
-form_is : (list : List Contribution) → form_of (contribution_part list) ≡ Some V2
-form_is list =
-    let long = length_contributions list in
-    let there : has_bytes (contribution_part list) 0 4 ≡ true = le-leb _ _ (omega (arith, long)) in
-    rw (there, version_read list) refl
-
-pub part_read : (list : List Contribution) → All FitsFields list → records_by (form_of (contribution_part list)) (contribution_part list) ≡ Some list
-part_read list fit =
-    let long = length_contributions list in
-    let whole : (length (contribution_part list) - 4) % 32 ≡ 0 = omega (arith, long) in
-    ap (λ (form : Option Form). records_by form (contribution_part list)) (form_is list)
-    ∙ rw (eq-eqb _ _ whole) (ap Some (records_read list fit))
+second_part_read list fit = part_read V2 list fit ∙ ap Some (map-id list)
 
 -- ---- the stream
 
@@ -206,4 +274,10 @@ module _ (modules contributions sections files : List ℕ) (small : length (dbi_
 pub stream_read : (modules : List ModuleName) (list : List Contribution) (headers : List ℕ) → All FitsFields list → length (dbi_of modules list headers) ≤ 1073741824 → contributions_in (dbi_of modules list headers) ≡ Some list
 stream_read modules list headers fit small =
     ap contributions_by (part_is (module_part list modules) (contribution_part list) (section_map headers) (file_part modules) small)
-    ∙ part_read list fit
+    ∙ second_part_read list fit
+
+-- a stream with a part of the first form
+pub first_form_read : (modules sections files : List ℕ) (list : List Contribution) → All FitsFields list → length (dbi_of_parts modules (first_part list) sections files) ≤ 1073741824 → contributions_in (dbi_of_parts modules (first_part list) sections files) ≡ Some (map without_coff list)
+first_form_read modules sections files list fit small =
+    ap contributions_by (part_is modules (first_part list) sections files small)
+    ∙ first_part_read list fit

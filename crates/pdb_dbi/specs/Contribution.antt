@@ -52,6 +52,14 @@ record_v2 row = record_ver60 row ++ fields (U32 row.coff ∷ [])
 unfoldable pub contribution_part : List Contribution → List ℕ
 contribution_part list = fields (U32 V2_VERSION ∷ []) ++ flat_map record_v2 list
 
+-- the part in the first form, as other linkers write it
+unfoldable pub first_part : List Contribution → List ℕ
+first_part list = fields (U32 VER60 ∷ []) ++ flat_map record_ver60 list
+
+-- a contribution as the first form has it
+abbrev pub without_coff : Contribution → Contribution
+without_coff row = record row { coff = 0 }
+
 -- ---- a record that is read
 
 -- the section's number in the object, which the first form lacks

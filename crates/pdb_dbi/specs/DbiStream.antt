@@ -1,12 +1,12 @@
 -- The stream of debug information (LLVM, "The PDB DBI (Debug Info) Stream"). Which streams it names is own.
-use Rattle.std.specs.Prelude.{ℕ, ◌*◌, List, [], ◌∷◌, ◌++◌, length, replicate}
+use Rattle.std.specs.Prelude.{ℕ, ◌+◌, ◌*◌, List, [], ◌∷◌, ◌++◌, length, replicate, sum_by}
 use Rattle.link_base.specs.Fields.{fields}
 use Rattle.link_base.specs.PeFormat.{FILE_MACHINE_AMD64}
 use Rattle.link_base.specs.declared.numbers.LeNumber.TheVariants.{U16, U32}
 use Rattle.pdb_dbi.specs.declared.rows.Contribution.{Contribution}
 use Rattle.pdb_dbi.specs.declared.rows.ModuleName.{ModuleName}
 use Rattle.pdb_dbi.specs.Contribution.{contribution_part}
-use Rattle.pdb_dbi.specs.ModuleInfo.{module_part}
+use Rattle.pdb_dbi.specs.ModuleInfo.{module_part, module_size}
 use Rattle.pdb_dbi.specs.SectionMap.{section_map}
 
 -- the greatest size of a stream that is written (own)
@@ -86,3 +86,8 @@ dbi_of_parts modules contributions sections files =
 abbrev pub dbi_of : List ModuleName → List Contribution → List ℕ → List ℕ
 dbi_of modules list headers =
     dbi_of_parts (module_part list modules) (contribution_part list) (section_map headers) (file_part modules)
+
+-- its size, by the names of the modules, the number of contributions and that of sections
+abbrev pub dbi_size : List ModuleName → ℕ → ℕ → ℕ
+dbi_size modules contributions sections =
+    64 + (sum_by module_size modules + ((4 + 32 * contributions) + ((4 + 20 * (sections + 1)) + ((4 + 4 * length modules) + 22))))

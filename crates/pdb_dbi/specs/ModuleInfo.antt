@@ -49,3 +49,11 @@ module_record list (position, names) = module_header (first_of list position) ++
 -- the records of all modules, counted from 0
 abbrev pub module_part : List Contribution → List ModuleName → List ℕ
 module_part list modules = flat_map (module_record list) (enumerate_from 0 modules)
+
+-- ---- their sizes
+
+abbrev pub text_size : ModuleName → ℕ
+text_size names = length names.name + 1 + (length names.file + 1)
+
+abbrev pub module_size : ModuleName → ℕ
+module_size names = 64 + (text_size names + padding (text_size names))

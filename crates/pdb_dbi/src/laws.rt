@@ -3,8 +3,9 @@
 ghost use Rattle.std.specs.Prelude.{◌≡◌, ◌≤◌, ℕ, List, All, length, map, Some};
 ghost use Rattle.std.specs.List.{slice_get};
 ghost use Rattle.pdb_msf.specs.WrittenFile.{MSF_LIMIT, file_size, msf_of};
-ghost use Rattle.pdb_dbi.specs.Contribution.{FitsFields};
-ghost use Rattle.pdb_dbi.specs.DbiStream.{STREAM_LIMIT, dbi_of};
+ghost use Rattle.pdb_dbi.specs.Contribution.{FitsFields, first_part, without_coff};
+ghost use Rattle.pdb_dbi.specs.DbiStream.{STREAM_LIMIT, dbi_of, dbi_of_parts, dbi_size};
+ghost use Rattle.pdb_dbi.specs.SectionMap.{section_count};
 ghost use Rattle.pdb_dbi.specs.DbiReading.{DBI_STREAM, contributions_in, contributions_of};
 
 use crate::rows::{Contribution, ModuleName};
@@ -22,3 +23,18 @@ pub fn written_contributions_are_read()
 {
     written_streams_are_read();
 }
+
+/// From a stream whose part of contributions has the first form the same is read, without the sections of the objects.
+#[tactic(auto, using(crate::proofs::LawLemmas::first_form_read))]
+pub fn contributions_of_the_first_form_are_read()
+    ensures { (modules : List ℕ) (sections : List ℕ) (files : List ℕ) (list : List Contribution) → All FitsFields list
+        → length (dbi_of_parts modules (first_part list) sections files) ≤ STREAM_LIMIT
+        → contributions_in (dbi_of_parts modules (first_part list) sections files) ≡ Some (map without_coff list) }
+{}
+
+/// The size of a stream that is written, by the names of the modules, the number of contributions and that of sections.
+#[tactic(auto, using(crate::proofs::SizeLemmas::length_dbi))]
+pub fn size_of_a_written_stream()
+    ensures { (modules : List ModuleName) (list : List Contribution) (headers : List ℕ)
+        → length (dbi_of modules list headers) ≡ dbi_size modules (length list) (section_count headers) }
+{}
