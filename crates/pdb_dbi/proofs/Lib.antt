@@ -4,3 +4,4 @@ pub mod SizeLemmas
 pub mod ReadingLemmas
 pub mod FieldLemmas
 pub mod LawLemmas
+mod WorkedStream
