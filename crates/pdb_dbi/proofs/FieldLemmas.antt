@@ -1,11 +1,11 @@
 -- Fields that are written one after the other, read where they stand.
-use Rattle.std.proofs.Common.{◌≡◌, ℕ, zero, suc, ◌+◌, ◌^◌, ◌<◌, List, [], ◌∷◌, ◌++◌, length, get_or, take, drop, refl, sym, ap, ◌∙◌, append_assoc, arith, length-append}
+use Rattle.std.proofs.Common.{◌≡◌, ℕ, zero, suc, ◌+◌, ◌^◌, ◌<◌, List, [], ◌∷◌, ◌++◌, length, get_or, take, refl, sym, ap, ◌∙◌, append_assoc, arith, length-append}
 use Rattle.std.proofs.lemmas.List.{drop_at}
 use Rattle.link_base.specs.Bytes.{number_at, number_bytes}
 use Rattle.link_base.specs.Fields.{field_bytes, fields}
 use Rattle.link_base.specs.declared.numbers.LeNumber.{LeNumber}
 use Rattle.link_base.specs.declared.numbers.LeNumber.TheVariants.{U8, U16, U32, U64}
-use Rattle.link_base.proofs.CallerLemmas.{number_at-number_bytes, number_at-drop, length-number_bytes}
+use Rattle.link_base.proofs.CallerLemmas.{number_at-number_bytes, number_at-drop}
 
 abbrev pub width_of : LeNumber → ℕ
 width_of (U8 number) = 1

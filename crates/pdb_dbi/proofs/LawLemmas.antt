@@ -1,12 +1,12 @@
 -- What is read from a stream that was written.
-use Rattle.std.proofs.Common.{◌≡◌, ℕ, zero, suc, ◌+◌, ◌-◌, ◌*◌, ◌/◌, ◌%◌, ◌^◌, ◌<◌, ◌≤◌, Bool, true, cond, le-leb, eq-eqb, List, [], ◌∷◌, ◌++◌, length, get_or, take, drop, map, All, Option, Some, refl, sym, ap, subst, ◌∙◌, append_assoc, add-one, arith, length-append, length-drop}
+use Rattle.std.proofs.Common.{◌≡◌, ℕ, zero, suc, ◌+◌, ◌-◌, ◌*◌, ◌/◌, ◌%◌, ◌^◌, ◌<◌, ◌≤◌, true, le-leb, eq-eqb, List, [], ◌∷◌, ◌++◌, length, get_or, take, drop, map, All, Option, Some, refl, sym, ap, subst, ◌∙◌, append_assoc, arith}
 use Rattle.std.specs.List.{flat_map, range_with_len}
 use Rattle.std.proofs.Math.Seq.{drop-cons, take-append_seam}
 use Rattle.std.proofs.lemmas.List.{drop_at, drop-drop, length-map, get_or-map, map-id}
 use Rattle.std.proofs.Math.Nat.{mul-zero}
 use Rattle.std.proofs.lemmas.List.Elements.{All-get_or}
 use Rattle.std.proofs.lemmas.List.FromFn.{fill_by_all}
-use Rattle.link_base.specs.Bytes.{number_at, number_bytes, has_bytes, bytes_at, field}
+use Rattle.link_base.specs.Bytes.{number_at, number_bytes, has_bytes, bytes_at}
 use Rattle.link_base.specs.Fields.{fields}
 use Rattle.link_base.proofs.CallerLemmas.{number_at-drop}
 use Rattle.link_base.specs.declared.numbers.LeNumber.{LeNumber}
@@ -21,7 +21,7 @@ use Rattle.pdb_dbi.specs.SectionMap.{section_map}
 use Rattle.pdb_dbi.specs.DbiStream.{DBI_SIGNATURE, header_front, header_sizes, header_end, dbi_header, file_part, optional_streams, dbi_of_parts, dbi_of}
 use Rattle.pdb_dbi.specs.DbiReading.{has_header, part_place, part_size, part_of, form_of, record_in, records_of, records_by, contributions_by, contributions_in}
 use Rattle.pdb_dbi.proofs.FieldLemmas.{number_behind, field_read}
-use Rattle.pdb_dbi.proofs.SizeLemmas.{length_ver60, length_v2, length_contributions, length_front, length_header, parts_within, length_each}
+use Rattle.pdb_dbi.proofs.SizeLemmas.{length_ver60, length_v2, length_front, length_header, parts_within, length_each}
 
 -- ---- a record
 
@@ -43,7 +43,7 @@ base_stands row rest fits = record {
   offset_stands = field_read (base row) rest 2 (U16 0) (omega arith) fits.offset_fits;
   size_stands = field_read (base row) rest 3 (U16 0) (omega arith) fits.size_fits;
   flags_stand = field_read (base row) rest 4 (U16 0) (omega arith) fits.flags_fit;
-  module_stands = field_read (base row) rest 5 (U16 0) (omega arith) fits.module_fits
+  module_stands = field_read (base row) rest 5 (U16 0) (omega arith) fits.module_fits;
 }
 
 first_stands : (row : Contribution) (rest : List ℕ) → FitsFields row → StandsAt row (record_ver60 row ++ rest)

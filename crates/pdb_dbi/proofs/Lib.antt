@@ -4,4 +4,5 @@ pub mod SizeLemmas
 pub mod ReadingLemmas
 pub mod FieldLemmas
 pub mod LawLemmas
+pub mod CallerLemmas
 mod WorkedStream

@@ -1,5 +1,5 @@
 -- The first contribution of each module, and the records of modules, one more at a time.
-use Rattle.std.proofs.Common.{◌≡◌, ◌≤◌, ℕ, zero, suc, ◌+◌, ◌<◌, Bool, true, false, cond, eqb, List, [], ◌∷◌, ◌++◌, length, get_or, take, set, map, Option, Some, None, refl, sym, ap, ◌∙◌, subst, inl, inr, append_assoc, add-one, arith}
+use Rattle.std.proofs.Common.{◌≡◌, ◌≤◌, ℕ, zero, suc, ◌+◌, ◌<◌, Bool, true, false, cond, List, [], ◌∷◌, ◌++◌, length, get_or, take, set, map, Option, Some, None, refl, sym, ap, ◌∙◌, inl, inr, append_assoc, add-one, arith}
 use Rattle.std.specs.List.{flat_map, find, range_with_len, enumerate_from}
 use Rattle.std.specs.Option.{option_or, is_none, is_some, unwrap_or}
 use Rattle.std.proofs.Math.Seq.{take-suc}

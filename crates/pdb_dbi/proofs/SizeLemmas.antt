@@ -1,5 +1,5 @@
 -- The sizes of the parts of the stream.
-use Rattle.std.proofs.Common.{◌≡◌, ℕ, ◌+◌, ◌*◌, ◌≤◌, ◌<◌, List, [], ◌∷◌, ◌++◌, length, replicate, sum_by, refl, ap, ◌∙◌, arith, length-append}
+use Rattle.std.proofs.Common.{◌≡◌, ℕ, ◌+◌, ◌*◌, ◌%◌, ◌≤◌, List, [], ◌∷◌, ◌++◌, length, replicate, sum_by, refl, arith, length-append}
 use Rattle.std.specs.List.{flat_map, range_with_len, enumerate_from}
 use Rattle.std.proofs.lemmas.List.FromFn.{length-range_with_len}
 use Rattle.std.proofs.lemmas.List.{length-replicate}
@@ -75,6 +75,9 @@ length_record list position names =
     let filled = length_padded (module_text names) in
     let text = length_text names in
     omega (arith, both, header, filled, text)
+
+pub record_aligned : (list : List Contribution) (position : ℕ) (names : ModuleName) → length (module_record list (position, names)) % 4 ≡ 0
+record_aligned list position names = let size = length_record list position names in omega (arith, size)
 
 length_records : (list : List Contribution) (start : ℕ) (modules : List ModuleName) → length (flat_map (module_record list) (enumerate_from start modules)) ≡ sum_by module_size modules
 length_records list start [] = refl

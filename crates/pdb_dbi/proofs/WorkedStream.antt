@@ -1,6 +1,6 @@
 -- The definitions on one small image: a section of code that one object gives, and a section of data that the linker makes.
 -- The bytes are those of the structures that LLVM documents.
-use Rattle.std.proofs.Common.{◌≡◌, ℕ, List, [], ◌∷◌, ◌++◌, take, drop, Option, Some, None, refl}
+use Rattle.std.proofs.Common.{◌≡◌, ℕ, List, [], ◌∷◌, ◌++◌, take, drop, Some, None, refl}
 use Rattle.std.specs.Prelude.{codes}
 use Rattle.link_base.specs.Bytes.{number_at, number_bytes}
 use Rattle.pdb_dbi.specs.declared.rows.Contribution.{Contribution}

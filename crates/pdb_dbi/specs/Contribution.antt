@@ -74,5 +74,5 @@ contribution_at form part place = record {
   size = u32_at part (place + 8);
   flags = u32_at part (place + 12);
   «module» = u16_at part (place + 16);
-  coff = coff_at form part place
+  coff = coff_at form part place;
 }

@@ -1,9 +1,10 @@
 //! Laws of the definitions, each the contract of a function that does nothing.
 
-ghost use Rattle.std.specs.Prelude.{◌≡◌, ◌≤◌, ℕ, List, All, length, map, Some};
+ghost use Rattle.std.specs.Prelude.{◌≡◌, ◌≤◌, ◌%◌, ℕ, List, All, length, map, Some};
 ghost use Rattle.std.specs.List.{slice_get};
 ghost use Rattle.pdb_msf.specs.WrittenFile.{MSF_LIMIT, file_size, msf_of};
 ghost use Rattle.pdb_dbi.specs.Contribution.{FitsFields, first_part, without_coff};
+ghost use Rattle.pdb_dbi.specs.ModuleInfo.{module_record};
 ghost use Rattle.pdb_dbi.specs.DbiStream.{STREAM_LIMIT, dbi_of, dbi_of_parts, dbi_size};
 ghost use Rattle.pdb_dbi.specs.SectionMap.{section_count};
 ghost use Rattle.pdb_dbi.specs.DbiReading.{DBI_STREAM, contributions_in, contributions_of};
@@ -30,6 +31,12 @@ pub fn contributions_of_the_first_form_are_read()
     ensures { (modules : List ℕ) (sections : List ℕ) (files : List ℕ) (list : List Contribution) → All FitsFields list
         → length (dbi_of_parts modules (first_part list) sections files) ≤ STREAM_LIMIT
         → contributions_in (dbi_of_parts modules (first_part list) sections files) ≡ Some (map without_coff list) }
+{}
+
+/// The record of each module takes a multiple of 4 bytes, so that each record begins at one.
+#[tactic(auto, using(crate::proofs::SizeLemmas::record_aligned))]
+pub fn module_records_are_aligned()
+    ensures { (list : List Contribution) (position : ℕ) (names : ModuleName) → length (module_record list (position, names)) % 4 ≡ 0 }
 {}
 
 /// The size of a stream that is written, by the names of the modules, the number of contributions and that of sections.

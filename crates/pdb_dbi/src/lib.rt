@@ -18,9 +18,12 @@ mod writing;
 
 pub use fixed::{write_info, write_types};
 pub use laws::{
-    contributions_of_the_first_form_are_read, size_of_a_written_stream,
+    contributions_of_the_first_form_are_read, module_records_are_aligned, size_of_a_written_stream,
     written_contributions_are_read,
 };
 pub use reading::{DbiError, contributions};
 pub use rows::{Contribution, ModuleName};
 pub use writing::write_dbi;
+
+#[cfg(test)]
+mod tests;

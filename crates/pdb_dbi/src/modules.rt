@@ -66,11 +66,7 @@ fn no_contribution(position: u16) -> Contribution
 }
 
 /// Appends the record of a module.
-fn push_module(
-    out: &mut Vec<u8>,
-    first: Contribution,
-    names: &ModuleName<'_>,
-) -> Result<(), Memory>
+fn push_module(out: &mut Vec<u8>, first: Contribution, names: &ModuleName<'_>) -> Result<(), Memory>
     ensures { OnOk result (out.new.items ≡ out.old.items ++ (module_header first ++ padded (module_text names.now))) }
 {
     push_module_header(out, first)?;

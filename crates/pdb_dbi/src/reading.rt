@@ -14,6 +14,7 @@ use std::alloc::Global;
 
 /// Where the size of the part of modules stands in the header, and where that of contributions does.
 const MODULES_OFFSET: usize = 24;
+
 const CONTRIBUTIONS_OFFSET: usize = 28;
 
 /// The bytes of the first word of the part.

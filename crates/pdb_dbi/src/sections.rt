@@ -15,6 +15,7 @@ use link_base::{LeNumber, Memory, push_fields, u32_in};
 
 /// Where the size in memory stands in the header of a section, and where the flags do.
 const SIZE_OFFSET: usize = 8;
+
 const FLAGS_OFFSET: usize = 36;
 
 /// Appends the section map of an image with these headers of sections.

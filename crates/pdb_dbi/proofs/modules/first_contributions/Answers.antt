@@ -1,5 +1,4 @@
-use Rattle.std.proofs.Common.{◌≡◌, ◌<◌, refl, sym, ap, ◌∙◌, length, get_or, arith, not, Bool, Option, None, Vec, Global}
-use Rattle.std.specs.Option.{is_none}
+use Rattle.std.proofs.Common.{◌<◌, refl, ap, ◌∙◌, length, get_or, arith, not, Option, None, Vec, Global}
 use Rattle.std.proofs.lemmas.List.{length-set, get_or_default}
 use Rattle.std.proofs.lemmas.List.Elements.{All-get_or}
 use Rattle.pdb_dbi.specs.declared.rows.Contribution.{Contribution}
