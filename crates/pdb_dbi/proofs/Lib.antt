@@ -1,4 +1,4 @@
-pub mod RangeSteps
+pub mod RangeLemmas
 pub mod ModuleLemmas
 pub mod SizeLemmas
 pub mod ReadingLemmas

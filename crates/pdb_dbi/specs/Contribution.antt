@@ -1,6 +1,5 @@
 -- A section contribution: the bytes that a module gives to a section of the image (LLVM, "The PDB DBI (Debug Info)
--- Stream", "Section Contribution Substream"). The checksums of its bytes are 0, and the bytes of records of the second
--- form that name the section of the object are used (own).
+-- Stream", "Section Contribution Substream"). Its two checksums are written as 0 and are not read (own).
 use Rattle.std.specs.Prelude.{ℕ, ◌+◌, ◌^◌, ◌<◌, ◌==◌, if◌then◌else◌, List, [], ◌∷◌, ◌++◌, Option, Some, None}
 use Rattle.std.specs.List.{flat_map}
 use Rattle.link_base.specs.Bytes.{u16_at, u32_at}

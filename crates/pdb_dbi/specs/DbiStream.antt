@@ -46,6 +46,10 @@ BUILD_NUMBER = 0x8E00
 abbrev pub NO_STREAM : ℕ
 NO_STREAM = 0xFFFF
 
+-- the bytes of the numbers of optional streams
+abbrev pub OPTIONAL_STREAMS_SIZE : ℕ
+OPTIONAL_STREAMS_SIZE = 22
+
 -- ---- the header
 
 unfoldable pub header_front : List ℕ
@@ -56,7 +60,7 @@ header_front =
 -- the numbers of optional streams, and of the names for edit and continue
 unfoldable pub header_sizes : ℕ → ℕ → ℕ → ℕ → List ℕ
 header_sizes modules contributions sections files =
-    fields (U32 modules ∷ U32 contributions ∷ U32 sections ∷ U32 files ∷ U32 0 ∷ U32 0 ∷ U32 22 ∷ U32 0 ∷ [])
+    fields (U32 modules ∷ U32 contributions ∷ U32 sections ∷ U32 files ∷ U32 0 ∷ U32 0 ∷ U32 OPTIONAL_STREAMS_SIZE ∷ U32 0 ∷ [])
 
 -- flags, the machine, and four bytes of 0
 unfoldable pub header_end : List ℕ
@@ -90,4 +94,4 @@ dbi_of modules list headers =
 -- its size, by the names of the modules, the number of contributions and that of sections
 abbrev pub dbi_size : List ModuleName → ℕ → ℕ → ℕ
 dbi_size modules contributions sections =
-    64 + (sum_by module_size modules + ((4 + 32 * contributions) + ((4 + 20 * (sections + 1)) + ((4 + 4 * length modules) + 22))))
+    64 + (sum_by module_size modules + ((4 + 32 * contributions) + ((4 + 20 * (sections + 1)) + ((4 + 4 * length modules) + OPTIONAL_STREAMS_SIZE))))

@@ -33,7 +33,10 @@ pub(crate) const HEADERS_STREAM: u16 = 8;
 /// No stream.
 pub(crate) const NO_STREAM: u16 = 0xffff;
 
-/// The age of the file.
+/// The bytes of the numbers of optional streams.
+pub(crate) const OPTIONAL_STREAMS_SIZE: usize = 22;
+
+/// The age of the file, which is that of the image's debug data.
 pub(crate) const AGE: u32 = 1;
 
 /// Version 14.0 of the tools, in the new form.

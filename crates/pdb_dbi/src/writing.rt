@@ -8,8 +8,8 @@ ghost use Rattle.pdb_dbi.specs.Contribution.{contribution_part};
 ghost use Rattle.pdb_dbi.specs.SectionMap.{section_map};
 
 use crate::format::{
-    AGE, BUILD_NUMBER, DBI_SIGNATURE, DBI_V70, GLOBALS_STREAM, HEADERS_STREAM, NO_STREAM,
-    PUBLICS_STREAM, RECORDS_STREAM,
+    AGE, BUILD_NUMBER, DBI_HEADER_SIZE, DBI_SIGNATURE, DBI_V70, GLOBALS_STREAM, HEADERS_STREAM,
+    NO_STREAM, OPTIONAL_STREAMS_SIZE, PUBLICS_STREAM, RECORDS_STREAM,
 };
 use crate::modules::{module_part, push_zeros};
 use crate::records::{contributions_len, push_contributions};
@@ -39,13 +39,17 @@ pub fn write_dbi(
     ensures { IfOk result (λ stream. stream.items ≡ dbi_of modules.now list.now headers.now) }
 {
     let part = module_part(alloc, modules, list)?;
-    let mut out = Vec::new(alloc);
+    let contributions = contributions_len(list);
+    let sections = section_map_len(headers);
+    let files = files_len(modules);
+    let behind = contributions + sections + files + OPTIONAL_STREAMS_SIZE;
+    let mut out = Vec::with_capacity(alloc, DBI_HEADER_SIZE + part.len() + behind)?;
     push_header(
         &mut out,
         part.len() as u32,
-        contributions_len(list) as u32,
-        section_map_len(headers) as u32,
-        files_len(modules) as u32,
+        contributions as u32,
+        sections as u32,
+        files as u32,
     )?;
     out.extend_from_slice(&part)?;
     push_last_parts(&mut out, modules, list, headers)?;
@@ -133,7 +137,7 @@ fn push_header_sizes(
             LeNumber::U32(files),
             LeNumber::U32(0),
             LeNumber::U32(0),
-            LeNumber::U32(22),
+            LeNumber::U32(OPTIONAL_STREAMS_SIZE as u32),
             LeNumber::U32(0),
         ],
     )

@@ -1,5 +1,5 @@
 use Rattle.pdb_dbi.specs.SectionMap.{section_descriptor}
-use Rattle.pdb_dbi.proofs.RangeSteps.{joined_behind}
+use Rattle.pdb_dbi.proofs.RangeLemmas.{joined_behind}
 use Rattle.pdb_dbi.proofs.sections.push_sections.Goals as goal
 
 pub loop-index-preserved : goal.loop-index-preserved
