@@ -15,7 +15,7 @@ use Rattle.pdb_dbi.specs.declared.rows.Contribution.{Contribution}
 use Rattle.pdb_dbi.specs.declared.rows.ModuleName.{ModuleName}
 use Rattle.pdb_dbi.specs.declared.form.Form.{Form}
 use Rattle.pdb_dbi.specs.declared.form.Form.TheVariants.{Ver60, V2}
-use Rattle.pdb_dbi.specs.Contribution.{FitsFields, VER60, V2_VERSION, form_of_version, without_coff, first_part, coff_at, record_size, record_ver60, record_v2, contribution_part, contribution_at}
+use Rattle.pdb_dbi.specs.Contribution.{FitsFields, SECTION_CONTRIBUTIONS_VER60, SECTION_CONTRIBUTIONS_V2, form_of_version, without_coff, first_part, coff_at, record_size, record_ver60, record_v2, contribution_part, contribution_at}
 use Rattle.pdb_dbi.specs.ModuleInfo.{module_part}
 use Rattle.pdb_dbi.specs.SectionMap.{section_map}
 use Rattle.pdb_dbi.specs.DbiStream.{DBI_SIGNATURE, header_front, header_sizes, header_end, dbi_header, file_part, optional_streams, dbi_of_parts, dbi_of}
@@ -103,8 +103,8 @@ none = record { section = 0; offset = 0; size = 0; flags = 0; «module» = 0; co
 
 -- by the form: its first word, a record, and what is read of it
 abbrev version_of : Form → ℕ
-version_of Ver60 = VER60
-version_of V2 = V2_VERSION
+version_of Ver60 = SECTION_CONTRIBUTIONS_VER60
+version_of V2 = SECTION_CONTRIBUTIONS_V2
 
 abbrev bytes_of : Form → Contribution → List ℕ
 bytes_of Ver60 row = record_ver60 row

@@ -12,14 +12,14 @@ use Rattle.pdb_dbi.specs.declared.form.Form.TheVariants.{Ver60, V2}
 -- ---- the two forms
 
 -- the first word of the part of contributions, by the form of the records
-abbrev pub VER60 : ℕ
-VER60 = 0xF12EBA2D
+abbrev pub SECTION_CONTRIBUTIONS_VER60 : ℕ
+SECTION_CONTRIBUTIONS_VER60 = 0xF12EBA2D
 
-abbrev pub V2_VERSION : ℕ
-V2_VERSION = 0xF13151E4
+abbrev pub SECTION_CONTRIBUTIONS_V2 : ℕ
+SECTION_CONTRIBUTIONS_V2 = 0xF13151E4
 
 abbrev pub form_of_version : ℕ → Option Form
-form_of_version version = if version == VER60 then Some Ver60 else (if version == V2_VERSION then Some V2 else None)
+form_of_version version = if version == SECTION_CONTRIBUTIONS_VER60 then Some Ver60 else (if version == SECTION_CONTRIBUTIONS_V2 then Some V2 else None)
 
 -- the bytes of a record
 abbrev pub record_size : Form → ℕ
@@ -49,11 +49,11 @@ record_v2 row = record_ver60 row ++ fields (U32 row.coff ∷ [])
 
 -- the part of contributions, in the second form
 unfoldable pub contribution_part : List Contribution → List ℕ
-contribution_part list = fields (U32 V2_VERSION ∷ []) ++ flat_map record_v2 list
+contribution_part list = fields (U32 SECTION_CONTRIBUTIONS_V2 ∷ []) ++ flat_map record_v2 list
 
 -- the part in the first form, as other linkers write it
 unfoldable pub first_part : List Contribution → List ℕ
-first_part list = fields (U32 VER60 ∷ []) ++ flat_map record_ver60 list
+first_part list = fields (U32 SECTION_CONTRIBUTIONS_VER60 ∷ []) ++ flat_map record_ver60 list
 
 -- a contribution as the first form has it
 abbrev pub without_coff : Contribution → Contribution

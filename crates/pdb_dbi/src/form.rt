@@ -3,7 +3,10 @@
 ghost use Rattle.std.specs.Prelude.{◌≡◌, ◌<◌};
 ghost use Rattle.pdb_dbi.specs.Contribution.{form_of_version, record_size};
 
-use crate::format::{SECTION_CONTRIBUTIONS_V2, SECTION_CONTRIBUTIONS_VER60};
+use crate::format::{
+    CONTRIBUTION_V2_SIZE, CONTRIBUTION_VER60_SIZE, SECTION_CONTRIBUTIONS_V2,
+    SECTION_CONTRIBUTIONS_VER60,
+};
 
 /// The form of the records, which the first word of their part tells.
 #[derive(Clone, Copy)]
@@ -33,8 +36,8 @@ impl Form {
         ensures some { 0 < result }
     {
         match self {
-            Form::Ver60 => 28,
-            Form::V2 => 32,
+            Form::Ver60 => CONTRIBUTION_VER60_SIZE,
+            Form::V2 => CONTRIBUTION_V2_SIZE,
         }
     }
 }

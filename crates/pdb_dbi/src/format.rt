@@ -6,6 +6,15 @@ pub(crate) const SECTION_CONTRIBUTIONS_VER60: u32 = 0xf12e_ba2d;
 /// The same where they do.
 pub(crate) const SECTION_CONTRIBUTIONS_V2: u32 = 0xf131_51e4;
 
+/// The bytes of the first word.
+pub(crate) const VERSION_SIZE: usize = 4;
+
+/// The bytes of a contribution where it names no section of the object.
+pub(crate) const CONTRIBUTION_VER60_SIZE: usize = 28;
+
+/// The same where it does.
+pub(crate) const CONTRIBUTION_V2_SIZE: usize = 32;
+
 /// What the stream of debug information begins with.
 pub(crate) const DBI_SIGNATURE: u32 = 0xffff_ffff;
 
@@ -59,6 +68,9 @@ pub(crate) const FIRST_TYPE: u32 = 0x1000;
 
 /// The buckets of the hash table of types.
 pub(crate) const HASH_BUCKETS: u32 = 0x3_ffff;
+
+/// The bytes of a section's descriptor.
+pub(crate) const DESCRIPTOR_SIZE: usize = 20;
 
 /// A section may be read.
 pub(crate) const SECTION_READ: u16 = 0x1;

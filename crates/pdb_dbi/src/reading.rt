@@ -6,7 +6,7 @@ ghost use Rattle.pdb_dbi.specs.Contribution.{record_size, coff_at, contribution_
 ghost use Rattle.pdb_dbi.specs.DbiReading.{DBI_HEADER_SIZE, has_header, part_place, part_size, part_of, form_of, has_whole_records, record_in, records_of, contributions_of, contributions_in, GivesContributions};
 
 use crate::form::Form;
-use crate::format::{DBI_HEADER_SIZE, DBI_SIGNATURE, DBI_STREAM};
+use crate::format::{DBI_HEADER_SIZE, DBI_SIGNATURE, DBI_STREAM, VERSION_SIZE};
 use crate::rows::Contribution;
 use link_base::{Memory, PdbKind, field_u32, slice_in, u16_in, u32_in};
 use pdb_msf::{Msf, StreamError};
@@ -16,9 +16,6 @@ use std::alloc::Global;
 const MODULES_OFFSET: usize = 24;
 
 const CONTRIBUTIONS_OFFSET: usize = 28;
-
-/// The bytes of the first word of the part.
-const VERSION_SIZE: usize = 4;
 
 /// Why contributions are not given.
 #[derive(Clone, Copy, Debug, PartialEq, Eq)]

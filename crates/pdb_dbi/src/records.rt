@@ -5,7 +5,7 @@ ghost use Rattle.pdb_dbi.specs.DbiStream.{STREAM_LIMIT};
 ghost use Rattle.pdb_dbi.specs.Contribution.{record_ver60, record_v2, contribution_part};
 ghost use Rattle.std.specs.List.{flat_map};
 
-use crate::format::SECTION_CONTRIBUTIONS_V2;
+use crate::format::{CONTRIBUTION_V2_SIZE, SECTION_CONTRIBUTIONS_V2, VERSION_SIZE};
 use crate::rows::Contribution;
 use link_base::{LeNumber, Memory, push_fields};
 
@@ -24,7 +24,7 @@ pub(crate) fn contributions_len(list: &[Contribution]) -> usize
     requires { length (contribution_part list.now) ≤ STREAM_LIMIT }
     ensures { result ≡ length (contribution_part list.now) }
 {
-    4 + 32 * list.len()
+    VERSION_SIZE + CONTRIBUTION_V2_SIZE * list.len()
 }
 
 fn push_records(out: &mut Vec<u8>, list: &[Contribution]) -> Result<(), Memory>

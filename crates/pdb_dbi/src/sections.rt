@@ -8,7 +8,8 @@ ghost use Rattle.link_base.specs.Limits.{SECTION_LIMIT};
 ghost use Rattle.link_base.specs.PeFormat.{SIZEOF_SECTION_HEADER};
 
 use crate::format::{
-    SECTION_ABSOLUTE, SECTION_EXECUTE, SECTION_READ, SECTION_SELECTOR, SECTION_WRITE,
+    DESCRIPTOR_SIZE, SECTION_ABSOLUTE, SECTION_EXECUTE, SECTION_READ, SECTION_SELECTOR,
+    SECTION_WRITE,
 };
 use link_base::pe_format::{SCN_MEM_EXECUTE, SCN_MEM_READ, SCN_MEM_WRITE, SIZEOF_SECTION_HEADER};
 use link_base::{LeNumber, Memory, push_fields, u32_in};
@@ -40,7 +41,7 @@ pub(crate) fn section_map_len(headers: &[u8]) -> usize
     requires { length headers.now ≤ SIZEOF_SECTION_HEADER * SECTION_LIMIT }
     ensures { result ≡ length (section_map headers.now) }
 {
-    4 + 20 * (headers.len() / SIZEOF_SECTION_HEADER + 1)
+    4 + DESCRIPTOR_SIZE * (headers.len() / SIZEOF_SECTION_HEADER + 1)
 }
 
 /// Appends the descriptors of the first sections.
