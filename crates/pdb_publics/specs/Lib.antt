@@ -1,0 +1,4 @@
+pub mod NameHash
+pub mod PublicOrder
+pub mod PublicStreams
+pub mod Lookup
