@@ -84,7 +84,7 @@ count_small keys i v key items is small read =
     omega (arith, value, most, cut)
 
 -- those of the buckets below one are the keys below it
-below_more : (keys : List HashKey) (bucket : ℕ) → count_by (λ key. ltb key.bucket bucket) keys + count keys bucket ≡ count_by (λ key. ltb key.bucket (suc bucket)) keys
+pub below_more : (keys : List HashKey) (bucket : ℕ) → count_by (λ key. ltb key.bucket bucket) keys + count keys bucket ≡ count_by (λ key. ltb key.bucket (suc bucket)) keys
 below_more [] bucket = refl
 below_more (key ∷ keys) bucket =
     let rest = below_more keys bucket in

@@ -23,7 +23,7 @@ width (U16 n) = 2
 width (U32 n) = 4
 width (U64 n) = 8
 
-length_field : (field : LeNumber) → length (field_bytes field) ≡ width field
+pub length_field : (field : LeNumber) → length (field_bytes field) ≡ width field
 length_field (U8 n) = length-number_bytes 1 n
 length_field (U16 n) = length-number_bytes 2 n
 length_field (U32 n) = length-number_bytes 4 n

@@ -2,3 +2,4 @@ pub mod NameHash
 pub mod PublicOrder
 pub mod PublicStreams
 pub mod Lookup
+pub mod WrittenPublics

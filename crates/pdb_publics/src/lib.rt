@@ -10,6 +10,7 @@ mod format;
 mod hash_part;
 mod hashing;
 mod keys;
+mod laws;
 mod range;
 mod record;
 mod rows;
@@ -18,5 +19,9 @@ mod writing;
 
 pub use finding::find;
 pub use hashing::bucket;
+pub use laws::written_publics_are_found;
 pub use rows::{Public, PublicRow, PublicStreams};
 pub use writing::write_publics;
+
+#[cfg(test)]
+mod tests;
