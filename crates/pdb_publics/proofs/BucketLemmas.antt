@@ -1,9 +1,8 @@
 -- The bits, the words and the range of a bucket in a stream of publics that was written.
-use Rattle.std.proofs.Common.{◌≡◌, ℕ, zero, suc, ◌+◌, ◌-◌, ◌*◌, ◌/◌, ◌%◌, ◌<◌, ◌≤◌, Bool, true, false, cond, eqb, leb, ltb, le-leb, lt-ltb, le-ltb, eq-eqb, ◌&&◌, List, [], ◌∷◌, ◌++◌, length, get_or, take, drop, map, replicate, sum, refl, sym, ap, ◌∙◌, subst, inl, inr, append_assoc, arith, length-append}
+use Rattle.std.proofs.Common.{◌≡◌, ℕ, zero, suc, ◌+◌, ◌-◌, ◌*◌, ◌/◌, ◌%◌, ◌<◌, ◌≤◌, true, false, ltb, le-leb, lt-ltb, le-ltb, eq-eqb, List, [], ◌∷◌, ◌++◌, length, get_or, take, map, replicate, sum, refl, sym, ap, ◌∙◌, inl, inr, append_assoc, arith}
 use Rattle.std.specs.List.{All, range_with_len, count_by}
 use Rattle.std.proofs.lemmas.Bool.{cases_lt}
-use Rattle.std.proofs.lemmas.List.{take_all, length-replicate, get_or-replicate, get_or_append_left, get_or-append_right, get_or_default}
-use Rattle.std.proofs.lemmas.List.Elements.{All-tail, All-head}
+use Rattle.std.proofs.lemmas.List.{get_or-replicate, get_or_append_left, get_or-append_right}
 use Rattle.std.proofs.lemmas.List.Sums.{sum_by-cons, sum_by-take-le, sum_by_more}
 use Rattle.std.proofs.lemmas.List.FromFn.{length-map-range_with_len, get_or-map-range_with_len}
 use Rattle.link_base.specs.Bytes.{number_at}
@@ -12,10 +11,10 @@ use Rattle.link_base.specs.declared.numbers.LeNumber.TheVariants.{U32}
 use Rattle.pdb_publics.specs.declared.keys.HashKey.{HashKey}
 use Rattle.pdb_publics.specs.declared.keys.PlaceKey.{PlaceKey}
 use Rattle.pdb_publics.specs.PublicOrder.{IsKey}
-use Rattle.pdb_publics.specs.PublicStreams.{counts, hash_record, hash_records, bits, has_some, bitmap_byte, bitmap, words, hash_part, address_map, publics_of}
+use Rattle.pdb_publics.specs.PublicStreams.{counts, hash_record, hash_records, has_some, bitmap_byte, bitmap, words, address_map, publics_of}
 use Rattle.pdb_publics.specs.Lookup.{records_len, tables_len, bitmap_at, has_bucket, is_set, passing, word, is_word, first_record, has_next, end_record, has_end, has_range, hash_entry}
-use Rattle.pdb_publics.proofs.CountLemmas.{number_behind, passing_same, passing_stays, passing_grows, passing_next, passing_below, Next, next_passing, sum_stays, length_words, word_there, bit_read, no_bit, indicator}
-use Rattle.pdb_publics.proofs.PartLemmas.{length_counts, counts_at, sum_below, sum_counts}
+use Rattle.pdb_publics.proofs.CountLemmas.{number_behind, passing_same, passing_stays, passing_grows, passing_next, passing_below, next_passing, sum_stays, length_words, word_there, bit_read, no_bit, indicator}
+use Rattle.pdb_publics.proofs.PartLemmas.{length_counts, sum_below, sum_counts}
 use Rattle.pdb_publics.proofs.RecordLemmas.{first_u32}
 use Rattle.pdb_publics.proofs.StreamLemmas.{length_fields}
 use Rattle.pdb_publics.proofs.WrittenLemmas.{words_of, hash_head, publics_head, length_hash_head, length_publics_head, length_hash_records, length_bitmap, length_hash_part, behind_head, flat, Fits, small, behind, records_len_is, tables_len_is}

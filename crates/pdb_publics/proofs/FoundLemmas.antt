@@ -1,6 +1,6 @@
 -- A search in written streams finds the row of a name.
-use Rattle.std.proofs.Common.{◌≡◌, ℕ, zero, suc, ◌+◌, ◌<◌, ◌≤◌, Bool, true, false, cond, List, [], ◌∷◌, length, get_or, map, Option, Some, None, Ok, unwrap_or, option_map, refl, sym, ap, ◌∙◌, subst, inl, inr, ◌⊎◌, arith}
-use Rattle.std.specs.List.{All, Contains, slice_get}
+use Rattle.std.proofs.Common.{◌≡◌, ℕ, zero, suc, ◌<◌, ◌≤◌, Bool, true, false, List, [], ◌∷◌, length, get_or, map, Option, Some, None, Ok, unwrap_or, option_map, refl, sym, ap, ◌∙◌, inl, inr, ◌⊎◌, arith}
+use Rattle.std.specs.List.{Contains, slice_get}
 use Rattle.std.proofs.lemmas.List.{get_or_default}
 use Rattle.std.proofs.lemmas.List.Sorted.{All-permutation, Contains-permutation, IsPermutation-sym}
 use Rattle.link_base.specs.NameText.{same_name}
@@ -8,15 +8,13 @@ use Rattle.pdb_msf.specs.Streams.{stream_of}
 use Rattle.pdb_msf.specs.WrittenFile.{MSF_LIMIT, file_size, msf_of}
 use Rattle.pdb_msf.proofs.LawLemmas.{reads}
 use Rattle.pdb_publics.specs.declared.rows.PublicRow.{PublicRow}
-use Rattle.pdb_publics.specs.declared.rows.Public.{Public}
-use Rattle.pdb_publics.specs.PublicOrder.{row_cmp, by_name, by_hash, by_place, extent}
-use Rattle.pdb_publics.specs.PublicStreams.{records_of, records_stream, publics_stream}
-use Rattle.pdb_publics.specs.Lookup.{Answer, found_in, found}
+use Rattle.pdb_publics.specs.PublicOrder.{row_cmp, by_name}
+use Rattle.pdb_publics.specs.PublicStreams.{records_stream, publics_stream}
+use Rattle.pdb_publics.specs.Lookup.{found_in, found}
 use Rattle.pdb_publics.specs.WrittenPublics.{IsRow, AreRows, row_named, public_of, public_named}
 use Rattle.pdb_publics.proofs.SortLemmas.{order_permutes}
 use Rattle.pdb_publics.proofs.KeyLemmas.{hashed_are_keys}
 use Rattle.pdb_publics.proofs.StreamLemmas.{extent_fits}
-use Rattle.pdb_publics.proofs.WrittenLemmas.{Fits}
 use Rattle.pdb_publics.proofs.LawLemmas.{Written, none_found, row_found}
 
 -- ---- the rows in the order of their names

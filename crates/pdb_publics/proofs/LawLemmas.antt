@@ -1,38 +1,31 @@
 -- What is found in streams that were written.
-use Rattle.std.proofs.Common.{◌≡◌, ◌≢◌, ℕ, zero, suc, ◌+◌, ◌-◌, ◌*◌, ◌<◌, ◌≤◌, Bool, true, false, cond, eqb, ltb, lt-ltb, le-ltb, List, [], ◌∷◌, ◌++◌, length, get_or, take, drop, Option, Some, None, Ok, Err, unwrap_or, option_map, refl, sym, ap, ◌∙◌, subst, inl, inr, ◌⊎◌, add-one, arith, rules}
+use Rattle.std.proofs.Common.{◌≡◌, ℕ, zero, suc, ◌+◌, ◌-◌, ◌<◌, ◌≤◌, Bool, true, false, cond, eqb, ltb, lt-ltb, le-ltb, List, [], ◌∷◌, length, get_or, take, drop, Option, Some, None, Ok, unwrap_or, refl, sym, ap, ◌∙◌, inl, inr, ◌⊎◌, arith, rules}
 use Rattle.std.specs.List.{All, Contains, count_by}
-use Rattle.std.specs.List.Sorted.{IsSorted, IsPermutation}
-use Rattle.std.specs.Option.{option_or}
+use Rattle.std.specs.List.Sorted.{IsSorted}
 use Rattle.std.specs.Ordering.{is_lt, nat_cmp, ordering_then}
 use Rattle.std.specs.Cmp.Lexicographic.{bytes_decides}
 use Rattle.std.specs.declared.cmp.Ordering.{Ordering}
 use Rattle.std.specs.declared.cmp.Ordering.TheVariants.{Less, Equal, Greater}
-use Rattle.std.proofs.lemmas.Bool.{false≢true, true≢false, cases_lt}
+use Rattle.std.proofs.lemmas.Bool.{false≢true, cases_lt}
 use Rattle.std.proofs.lemmas.List.{get_or_default}
-use Rattle.std.proofs.lemmas.List.Elements.{All-nil, All-cons, All-weaker}
 use Rattle.std.proofs.lemmas.List.Sums.{sum_by-cons, count_by-le-length}
-use Rattle.std.proofs.lemmas.List.Sorted.{sorted_far, ranks_by, All-permutation, Contains-permutation, IsPermutation-sym, length_permutation}
+use Rattle.std.proofs.lemmas.List.Sorted.{sorted_far, ranks_by, All-permutation, Contains-permutation}
 use Rattle.link_base.specs.NameText.{same_name}
 use Rattle.link_base.specs.Refusals.{first_refusal_below}
-use Rattle.link_base.specs.declared.kinds.database.PdbKind.TheVariants.{Hash}
 use Rattle.pdb_publics.specs.declared.rows.PublicRow.{PublicRow}
-use Rattle.pdb_publics.specs.declared.rows.Public.{Public}
 use Rattle.pdb_publics.specs.declared.keys.HashKey.{HashKey}
-use Rattle.pdb_publics.specs.declared.keys.PlaceKey.{PlaceKey}
 use Rattle.pdb_publics.specs.NameHash.{bucket}
-use Rattle.pdb_publics.specs.PublicOrder.{row_cmp, hash_cmp, by_name, by_hash, by_place, record_size, extent, hash_key, hash_keys, IsKey}
-use Rattle.pdb_publics.specs.PublicStreams.{counts, count, has_some, records_of, publics_of, records_stream, publics_stream}
-use Rattle.pdb_publics.specs.Lookup.{Answer, has_bucket, passing, first_record, end_record, has_range, verdict, verdict_of, name_at, public_at, hash_entry, first_named, found_in_bucket, found_in}
-use Rattle.pdb_publics.specs.WrittenPublics.{IsRow, AreRows, row_named, public_of, public_named}
+use Rattle.pdb_publics.specs.PublicOrder.{hash_cmp, by_hash, by_place, record_size, extent, hash_key, hash_keys}
+use Rattle.pdb_publics.specs.PublicStreams.{counts, has_some, records_of, publics_of}
+use Rattle.pdb_publics.specs.Lookup.{Answer, has_bucket, passing, first_record, end_record, verdict, hash_entry, first_named, found_in_bucket, found_in}
+use Rattle.pdb_publics.specs.WrittenPublics.{IsRow, public_of}
 use Rattle.pdb_publics.proofs.SortLemmas.{order_permutes, order_sorted}
-use Rattle.pdb_publics.proofs.KeyLemmas.{hash_total, hashed_are_keys, length_hash_keys}
-use Rattle.pdb_publics.proofs.StreamLemmas.{length_records}
-use Rattle.pdb_publics.proofs.CountLemmas.{count_low, count_high, indicator}
+use Rattle.pdb_publics.proofs.KeyLemmas.{hash_total, length_hash_keys}
+use Rattle.pdb_publics.proofs.CountLemmas.{count_low, count_high}
 use Rattle.pdb_publics.proofs.PartLemmas.{counts_at, below_more}
 use Rattle.pdb_publics.proofs.RecordLemmas.{record_stands, public_read, name_read}
-use Rattle.pdb_publics.proofs.ReadLemmas.{same_itself}
 use Rattle.pdb_publics.proofs.WrittenLemmas.{Fits, parts_are_there}
-use Rattle.pdb_publics.proofs.BucketLemmas.{entry_read, bucket_read, number_read, Ranges, range_read}
+use Rattle.pdb_publics.proofs.BucketLemmas.{entry_read, bucket_read, number_read, range_read}
 
 -- ---- the first answer, where all that answer answer the same
 

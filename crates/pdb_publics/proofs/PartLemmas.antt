@@ -1,19 +1,18 @@
 -- The parts of a hash part, one item more at a time.
-use Rattle.std.proofs.Common.{◌≡◌, ◌≢◌, ℕ, zero, suc, ◌+◌, ◌-◌, ◌*◌, ◌^◌, ◌<◌, ◌≤◌, Bool, true, false, cond, eqb, ltb, le-ltb, List, [], ◌∷◌, ◌++◌, length, get_or, set, take, drop, map, replicate, sum, refl, sym, ap, ◌∙◌, subst, inl, inr, append_assoc, add-one, arith, rules, length-append}
-use Rattle.std.specs.List.{All, range_with_len, count_by, sum_by, flat_map}
+use Rattle.std.proofs.Common.{◌≡◌, ℕ, zero, suc, ◌+◌, ◌*◌, ◌^◌, ◌<◌, ◌≤◌, Bool, true, false, cond, eqb, ltb, le-ltb, List, [], ◌∷◌, ◌++◌, length, get_or, set, take, drop, map, replicate, sum, refl, sym, ap, ◌∙◌, inl, inr, append_assoc, add-one, arith}
+use Rattle.std.specs.List.{range_with_len, count_by, flat_map}
 use Rattle.std.proofs.Math.Nat.{pow-succ'}
-use Rattle.std.proofs.lemmas.Bool.{cases_lt, cases_Bool, eqb-true}
 use Rattle.std.proofs.lemmas.Bool.Decides.{eqb_tells, nat_tests}
 use Rattle.std.proofs.lemmas.List.{append-nil, drop_all, length-take, get_or_default, ext_get_or, length-set, get_or-set_same, get_or-set_other, drop_more, take_more, map-append, take_all}
-use Rattle.std.proofs.lemmas.List.FromFn.{length-map-range_with_len, get_or-map-range_with_len, map-range_with_len_more, take-map-range_with_len}
-use Rattle.std.proofs.lemmas.List.Sums.{sum_by-cons, sum_by-append, sum_by_push, sum_by_more, count_by-le-length, sum-map}
+use Rattle.std.proofs.lemmas.List.FromFn.{length-map-range_with_len, get_or-map-range_with_len, map-range_with_len_more}
+use Rattle.std.proofs.lemmas.List.Sums.{sum_by-cons, sum_by_push, sum_by_more, count_by-le-length}
 use Rattle.std.specs.Char.{to_ascii_lowercase}
 use Rattle.link_base.specs.Bytes.{number_bytes}
 use Rattle.link_base.proofs.CallerLemmas.{length-number_bytes}
 use Rattle.pdb_publics.specs.declared.keys.HashKey.{HashKey}
 use Rattle.pdb_publics.specs.declared.rows.PublicRow.{PublicRow}
 use Rattle.pdb_publics.specs.PublicOrder.{lowered}
-use Rattle.pdb_publics.specs.PublicStreams.{count, counts, bit_of, bits, has_some, bitmap_byte, word_of, words}
+use Rattle.pdb_publics.specs.PublicStreams.{count, counts, bit_of, bits, bitmap_byte, word_of, words}
 
 -- ---- how many keys have each bucket
 

@@ -1,5 +1,5 @@
 -- The bits of the bitmap, and the range of a bucket.
-use Rattle.std.proofs.Common.{◌≡◌, ℕ, zero, suc, ◌+◌, ◌-◌, ◌*◌, ◌/◌, ◌%◌, ◌<◌, ◌≤◌, Bool, true, false, cond, eqb, ltb, leb, ◌&&◌, lt-ltb, le-ltb, le-leb, List, get_or, refl, sym, ap, ◌∙◌, add-one, arith, rules}
+use Rattle.std.proofs.Common.{◌≡◌, ℕ, zero, suc, ◌+◌, ◌*◌, ◌/◌, ◌%◌, ◌<◌, ◌≤◌, Bool, true, false, cond, leb, ◌&&◌, lt-ltb, le-ltb, le-leb, List, get_or, refl, sym, ap, ◌∙◌, add-one, arith, rules}
 use mir.Val.{bool_byte}
 use Rattle.pdb_publics.specs.Lookup.{records_len, is_set, bitmap_at, has_bucket, passing, word, is_word, first_record, has_next, end_record, has_end, has_range, IsRange}
 

@@ -1,14 +1,13 @@
 -- A symbol record as it is read back.
-use Rattle.std.proofs.Common.{◌≡◌, ℕ, zero, suc, ◌+◌, ◌-◌, ◌*◌, ◌/◌, ◌<◌, ◌≤◌, Bool, true, false, cond, eqb, leb, le-leb, lt-ltb, ◌&&◌, List, [], ◌∷◌, ◌++◌, length, get_or, take, drop, replicate, Option, Some, None, option_map, refl, sym, ap, ◌∙◌, subst, append_assoc, arith, rules, length-append, length-drop}
+use Rattle.std.proofs.Common.{◌≡◌, ℕ, zero, suc, ◌+◌, ◌-◌, ◌<◌, ◌≤◌, Bool, true, false, eqb, leb, le-leb, lt-ltb, List, [], ◌∷◌, ◌++◌, length, get_or, take, drop, replicate, Some, option_map, refl, sym, ap, ◌∙◌, append_assoc, arith, rules, length-append, length-drop}
 use Rattle.std.specs.List.{position, position_or_len}
-use Rattle.std.proofs.lemmas.Bool.{false≢true}
-use Rattle.std.proofs.lemmas.List.{drop-drop, drop_at, take_at, length-replicate, get_or-replicate, get_or_append_left, get_or-append-add, append-nil}
+use Rattle.std.proofs.lemmas.List.{drop-drop, drop_at, take_at, length-replicate, get_or-replicate, get_or_append_left, get_or-append-add}
 use Rattle.std.proofs.lemmas.List.Sums.{sum_by-cons, position_or_len_is}
 use Rattle.link_base.specs.Bytes.{number_at, number_bytes, bytes_at, is_nul, text_at}
 use Rattle.link_base.specs.Fields.{fields, field_bytes}
 use Rattle.link_base.specs.declared.numbers.LeNumber.{LeNumber}
 use Rattle.link_base.specs.declared.numbers.LeNumber.TheVariants.{U16, U32}
-use Rattle.link_base.proofs.CallerLemmas.{number_at-number_bytes, length-number_bytes, number_at-drop}
+use Rattle.link_base.proofs.CallerLemmas.{number_at-number_bytes, number_at-drop}
 use Rattle.pdb_publics.specs.declared.rows.PublicRow.{PublicRow}
 use Rattle.pdb_publics.specs.PublicOrder.{record_size, extent}
 use Rattle.pdb_publics.specs.PublicStreams.{flags_of, record_of, records_of}

@@ -1,5 +1,5 @@
 -- The lengths of the streams and of their parts.
-use Rattle.std.proofs.Common.{◌≡◌, ℕ, ◌+◌, ◌-◌, ◌*◌, ◌<◌, ◌≤◌, List, [], ◌∷◌, ◌++◌, length, replicate, refl, sym, ap, ◌∙◌, subst, arith, length-append}
+use Rattle.std.proofs.Common.{◌≡◌, ℕ, ◌-◌, ◌*◌, ◌≤◌, List, [], ◌∷◌, ◌++◌, length, replicate, refl, sym, ap, ◌∙◌, subst, arith, length-append}
 use Rattle.std.specs.List.{All, sum_by}
 use Rattle.std.proofs.lemmas.List.{length-replicate}
 use Rattle.std.proofs.lemmas.List.Sums.{sum_by-cons}
@@ -13,7 +13,7 @@ use Rattle.pdb_publics.specs.declared.rows.PublicRow.{PublicRow}
 use Rattle.pdb_publics.specs.declared.keys.HashKey.{HashKey}
 use Rattle.pdb_publics.specs.declared.keys.PlaceKey.{PlaceKey}
 use Rattle.pdb_publics.specs.PublicOrder.{row_cmp, by_name, record_size, extent, by_hash, IsKey}
-use Rattle.pdb_publics.specs.PublicStreams.{PUBLIC_NAME_LIMIT, flags_of, record_of, records_of, hash_records, counts, words, hash_part, address_map, publics_of}
+use Rattle.pdb_publics.specs.PublicStreams.{PUBLIC_NAME_LIMIT, flags_of, record_of, records_of, hash_part, address_map, publics_of}
 use Rattle.pdb_publics.proofs.SortLemmas.{order_permutes}
 use Rattle.pdb_publics.proofs.KeyLemmas.{hashed_are_keys, length_by_hash, rows_are_few}
 

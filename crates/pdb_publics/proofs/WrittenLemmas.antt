@@ -1,10 +1,8 @@
 -- The stream of publics as it is read back.
-use Rattle.std.proofs.Common.{◌≡◌, ℕ, zero, suc, ◌+◌, ◌-◌, ◌*◌, ◌/◌, ◌%◌, ◌<◌, ◌≤◌, Bool, true, false, cond, eqb, leb, ltb, le-leb, lt-ltb, le-ltb, eq-eqb, ◌&&◌, List, [], ◌∷◌, ◌++◌, length, get_or, take, drop, map, replicate, sum, refl, sym, ap, ◌∙◌, subst, inl, inr, append_assoc, arith, length-append}
-use Rattle.std.specs.List.{All, range_with_len, count_by}
-use Rattle.std.proofs.lemmas.Bool.{cases_lt}
-use Rattle.std.proofs.lemmas.List.{take_all, length-replicate, get_or-replicate, get_or_append_left, get_or-append_right}
-use Rattle.std.proofs.lemmas.List.Sums.{sum_by-take-le, sum_by_more}
-use Rattle.std.proofs.lemmas.List.FromFn.{length-map-range_with_len, get_or-map-range_with_len}
+use Rattle.std.proofs.Common.{◌≡◌, ℕ, ◌+◌, ◌*◌, ◌≤◌, true, le-leb, List, [], ◌∷◌, ◌++◌, length, map, replicate, refl, ap, ◌∙◌, append_assoc, arith, length-append}
+use Rattle.std.specs.List.{All, range_with_len}
+use Rattle.std.proofs.lemmas.List.{length-replicate}
+use Rattle.std.proofs.lemmas.List.FromFn.{length-map-range_with_len}
 use Rattle.link_base.specs.Bytes.{number_at}
 use Rattle.link_base.specs.Fields.{fields}
 use Rattle.link_base.specs.declared.numbers.LeNumber.{LeNumber}
@@ -12,11 +10,10 @@ use Rattle.link_base.specs.declared.numbers.LeNumber.TheVariants.{U16, U32}
 use Rattle.pdb_publics.specs.declared.keys.HashKey.{HashKey}
 use Rattle.pdb_publics.specs.declared.keys.PlaceKey.{PlaceKey}
 use Rattle.pdb_publics.specs.PublicOrder.{IsKey}
-use Rattle.pdb_publics.specs.PublicStreams.{count, counts, hash_record, hash_records, bits, has_some, bitmap_byte, bitmap, words, hash_part, address_map, publics_of}
-use Rattle.pdb_publics.specs.Lookup.{hash_len, map_len, records_len, tables_len, fills, has_parts, bitmap_at, has_bucket, is_set, passing, word, is_word, first_record, has_next, end_record, has_end, has_range, hash_entry}
-use Rattle.pdb_publics.proofs.CountLemmas.{number_behind, passing_same, passing_stays, passing_grows, passing_next, passing_below, Next, next_passing, sum_stays, length_words, word_there, bit_read, no_bit, indicator}
-use Rattle.pdb_publics.proofs.PartLemmas.{length_counts, counts_at, sum_below, sum_counts}
-use Rattle.pdb_publics.proofs.StreamLemmas.{width, length_fields, length_map}
+use Rattle.pdb_publics.specs.PublicStreams.{counts, hash_record, hash_records, bitmap_byte, bitmap, words, hash_part, address_map, publics_of}
+use Rattle.pdb_publics.specs.Lookup.{hash_len, map_len, records_len, tables_len, fills, has_parts}
+use Rattle.pdb_publics.proofs.CountLemmas.{number_behind}
+use Rattle.pdb_publics.proofs.StreamLemmas.{length_fields, length_map}
 use Rattle.pdb_publics.proofs.RecordLemmas.{first_u32, later_field}
 
 -- ---- lengths

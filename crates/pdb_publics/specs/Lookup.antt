@@ -1,6 +1,6 @@
 -- A public symbol found by its name, through the hash part of the stream of publics (LLVM, "The PDB Public Symbol Stream";
 -- what is malformed, and how far it is looked at, is own).
-use Rattle.std.specs.Prelude.{◌≡◌, ◌≤◌, ℕ, zero, suc, ◌+◌, ◌-◌, ◌*◌, ◌/◌, ◌%◌, ◌^◌, Bool, true, ◌&&◌, ◌==◌, nat_le, nat_lt, if◌then◌else◌, List, [], slice_index, length, Option, Some, None, Result, Ok, Err, unwrap_or, option_map}
+use Rattle.std.specs.Prelude.{◌≡◌, ◌≤◌, ℕ, zero, suc, ◌+◌, ◌-◌, ◌*◌, ◌/◌, ◌%◌, ◌^◌, Bool, true, ◌&&◌, ◌==◌, nat_le, nat_lt, if◌then◌else◌, List, [], slice_index, Option, Some, None, Result, Ok, Err, unwrap_or}
 use Rattle.link_base.specs.Bytes.{u16_at, u32_at, bytes_at, has_bytes, text_at}
 use Rattle.link_base.specs.NameText.{same_name}
 use Rattle.link_base.specs.Refusals.{first_refusal_below}

@@ -46,12 +46,7 @@ fn copied_rows<'a>(alloc: Global, rows: &[PublicRow<'a>]) -> Result<Vec<PublicRo
 {
     let mut copies = Vec::with_capacity(alloc, rows.len())?;
     for row in rows {
-        copies.push(PublicRow {
-            name: row.name.again(),
-            section: row.section,
-            offset: row.offset,
-            function: row.function,
-        })?;
+        copies.push(row.again())?;
     }
     Ok(copies)
 }

@@ -1,5 +1,7 @@
 //! Public symbols as they are given, and as they are found.
 
+ghost use Rattle.std.specs.Prelude.{◌≡◌};
+
 use link_base::Name;
 
 /// A public symbol: its name, the number of its section from 1, its offset in the section, and whether it is a function.
@@ -9,6 +11,20 @@ pub struct PublicRow<'a> {
     pub section: u16,
     pub offset: u32,
     pub function: bool,
+}
+
+impl<'a> PublicRow<'a> {
+    /// An equal row.
+    pub(crate) fn again(&self) -> PublicRow<'a>
+        ensures { result ≡ self.now }
+    {
+        PublicRow {
+            name: self.name.again(),
+            section: self.section,
+            offset: self.offset,
+            function: self.function,
+        }
+    }
 }
 
 /// A public symbol that was found: the number of its section, its offset in the section, and its flags, of which 2 stands

@@ -126,99 +126,110 @@ fn file_of(alloc: Global, publics: &[u8], records: &[u8]) -> Result<Vec<u8>, Msf
     write_msf(alloc, &joined, &lengths)
 }
 
+/// The offset of the public of a name, in a file with such streams.
+fn offset_of(
+    alloc: Global,
+    publics: &[u8],
+    records: &[u8],
+    name: &[u8],
+) -> Result<Option<u32>, PdbKind> {
+    let Ok(file) = file_of(alloc, publics, records) else {
+        return Err(PdbKind::Superblock);
+    };
+    let msf = Msf::open(&file)?;
+    match find(&msf, Name::of(name)) {
+        Ok(Some(public)) => Ok(Some(public.offset)),
+        Ok(None) => Ok(None),
+        Err(kind) => Err(kind),
+    }
+}
+
 #[test]
 fn a_public_is_found_by_its_name(rt: HostRuntime) -> Result<(), Fail> {
     let streams = three_rows(rt.alloc())?;
-    let file = file_of(rt.alloc(), &streams.publics, &streams.records)?;
-    let msf = Msf::open(&file)?;
-    let cases: [(&[u8], Option<Public>); 6] = [
-        (
-            b"main",
-            Some(Public {
-                section: 1,
-                offset: 0,
-                flags: 2,
-            }),
-        ),
-        (
-            b"Ab",
-            Some(Public {
-                section: 1,
-                offset: 8,
-                flags: 0,
-            }),
-        ),
-        (
-            b"aB",
-            Some(Public {
-                section: 1,
-                offset: 0,
-                flags: 0,
-            }),
-        ),
+    let cases: [(&[u8], Option<u32>); 6] = [
+        (b"main", Some(0)),
+        (b"Ab", Some(8)),
+        (b"aB", Some(0)),
         (b"AB", None),
         (b"nix", None),
         (b"", None),
     ];
-    for (name, public) in &cases {
-        assert_eq!(rt; find(&msf, Name::of(*name)), Ok(*public));
+    for (name, offset) in &cases {
+        let found = offset_of(rt.alloc(), &streams.publics, &streams.records, *name);
+        assert_eq!(rt; found, Ok(*offset));
     }
     Ok(())
 }
 
-/// A stream of publics with a number of four bytes changed, or cut: `main` is refused or not found, and so is `aB`.
+/// The bytes before a place, or all.
+fn front(bytes: &[u8], len: usize) -> &[u8] {
+    if len > bytes.len() {
+        return bytes;
+    }
+    let (front, _) = bytes.split_at(len);
+    front
+}
+
+/// Streams that are cut refuse what they do not hold.
+#[test]
+fn cut_streams_are_refused(rt: HostRuntime) -> Result<(), Fail> {
+    let streams = three_rows(rt.alloc())?;
+    let publics = streams.publics.as_slice();
+    let records = streams.records.as_slice();
+    let refused = Err(PdbKind::Hash);
+    assert_eq!(rt; offset_of(rt.alloc(), b"\0", records, b"main"), refused);
+    assert_eq!(rt;
+        offset_of(rt.alloc(), front(publics, 603), records, b"main"),
+        refused
+    );
+    assert_eq!(rt;
+        offset_of(rt.alloc(), publics, front(records, 59), b"main"),
+        refused
+    );
+    assert_eq!(rt;
+        offset_of(rt.alloc(), publics, front(records, 59), b"aB"),
+        Ok(Some(0))
+    );
+    Ok(())
+}
+
+/// Of a stream of publics with a number of four bytes changed: whether the table is refused for `main`, and for `aB`.
 #[test]
 fn a_malformed_table_is_refused(rt: HostRuntime) -> Result<(), Fail> {
     let streams = three_rows(rt.alloc())?;
-    let refused = Err(PdbKind::Hash);
-    let found = Ok(Some(Public {
-        section: 1,
-        offset: 0,
-        flags: 2,
-    }));
-    let second = Ok(Some(Public {
-        section: 1,
-        offset: 0,
-        flags: 0,
-    }));
     for (at, number, main, other) in [
         // A hash part, an address map, records, and tables that leave what holds them, and a bitmap that is cut.
-        (0usize, 15u32, refused, refused),
-        (4, 13, refused, refused),
-        (36, 25, refused, refused),
-        (40, 525, refused, refused),
-        (40, 515, refused, refused),
+        (0usize, 15u32, true, true),
+        (4, 13, true, true),
+        (36, 25, true, true),
+        (40, 525, true, true),
+        (40, 515, true, true),
         // No word is left, and one.
-        (40, 519, refused, refused),
-        (40, 523, refused, refused),
+        (40, 519, true, true),
+        (40, 523, true, true),
         // An offset of none, and one behind the records.
-        (44, 0, refused, second),
-        (44, 60, refused, second),
-        (52, 0, found, refused),
+        (44, 0, true, false),
+        (44, 60, true, false),
+        (52, 0, false, true),
         // A bit that is not set, and one more behind the last, whose word is not there.
-        (136, 0, Ok(None), second),
-        (576, 1, found, refused),
-        // Words that count no whole records, that descend, and that leave the records.
-        (584, 24, refused, second),
-        (588, 8, refused, refused),
-        (588, 48, refused, refused),
+        (136, 0, false, false),
+        (576, 1, false, true),
+        // Words that descend, that count no whole records, and that leave the records.
+        (584, 24, true, false),
+        (588, 8, true, true),
+        (588, 48, true, true),
         // Fields that nobody looks at.
-        (28, 0, found, second),
-        (600, 99, found, second),
+        (28, 0, false, false),
+        (600, 99, false, false),
     ] {
         let mut publics = streams.publics.clone()?;
         assert!(rt; at <= 600 && publics.len() == 604);
         publics[at..at + 4].copy_from_slice(&number.to_le_bytes());
-        let file = file_of(rt.alloc(), &publics, &streams.records)?;
-        let msf = Msf::open(&file)?;
-        assert_eq!(rt; find(&msf, Name::of(b"main")), main, "main at {at}");
-        assert_eq!(rt; find(&msf, Name::of(b"aB")), other, "aB at {at}");
+        let answer = offset_of(rt.alloc(), &publics, &streams.records, b"main");
+        assert_eq!(rt; answer.is_err(), main, "main at {at}");
+        let answer = offset_of(rt.alloc(), &publics, &streams.records, b"aB");
+        assert_eq!(rt; answer.is_err(), other, "aB at {at}");
     }
-
-    let one_byte = file_of(rt.alloc(), b"\0", &streams.records)?;
-    assert_eq!(rt; find(&Msf::open(&one_byte)?, Name::of(b"main")), refused);
-    let cut = file_of(rt.alloc(), &streams.publics, &streams.records[..59])?;
-    assert_eq!(rt; find(&Msf::open(&cut)?, Name::of(b"main")), refused);
-    assert_eq!(rt; find(&Msf::open(&cut)?, Name::of(b"aB")), second);
     Ok(())
 }

@@ -1,4 +1,4 @@
-use Rattle.std.proofs.Common.{arith, ◌+◌, ◌-◌, ℕ, refl, ap, sym, ◌∙◌, Option, unwrap_or, Ok, None}
+use Rattle.std.proofs.Common.{◌+◌, ◌-◌, ℕ, refl, ap, sym, ◌∙◌, Option, unwrap_or, Ok, None}
 use Rattle.link_base.specs.Refusals.{first_refusal_below}
 use Rattle.link_base.proofs.RefusalLemmas.{first_refusal_below-more, first_refusal_below-found}
 use Rattle.pdb_publics.specs.Lookup.{stream_bytes_of, verdict, hash_entry, first_named, Answer}

@@ -1,4 +1,4 @@
-use Rattle.std.proofs.Common.{arith, ℕ}
+use Rattle.std.proofs.Common.{arith}
 use Rattle.pdb_publics.specs.Lookup.{stream_bytes_of}
 use Rattle.pdb_publics.proofs.ReadLemmas.{other_text, one_text}
 use Rattle.pdb_publics.proofs.finding.is_text.Goals as goal

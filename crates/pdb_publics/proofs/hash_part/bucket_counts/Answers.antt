@@ -1,4 +1,4 @@
-use Rattle.std.proofs.Common.{arith, sym, subst, ap, ◌∙◌, ◌<◌, ◌≤◌, length, take}
+use Rattle.std.proofs.Common.{arith, sym, subst, ap, ◌∙◌, length, take}
 use Rattle.pdb_publics.specs.PublicOrder.{IsKey}
 use Rattle.pdb_publics.proofs.PartLemmas.{no_counts, length_counts, key_counted, count_small}
 use Rattle.pdb_publics.proofs.hash_part.bucket_counts.Goals as goal

@@ -1,4 +1,4 @@
-use Rattle.std.proofs.Common.{arith, refl, sym, ap, ◌∙◌, ◌++◌, ◌+◌, List, ℕ, get_or, length, length-append, drop}
+use Rattle.std.proofs.Common.{arith, refl, sym, ap, ◌∙◌, ◌++◌, List, ℕ, get_or, length, length-append}
 use Rattle.std.proofs.lemmas.List.{append-nil, drop_all}
 use Rattle.std.proofs.lemmas.List.Sums.{sum_by_more}
 use Rattle.pdb_publics.specs.PublicStreams.{word_of, words}

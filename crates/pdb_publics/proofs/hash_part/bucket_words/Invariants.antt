@@ -1,4 +1,4 @@
-use Rattle.std.proofs.Common.{◌≡◌, ◌≤◌, ◌+◌, ◌*◌, ◌++◌, take, drop, sum, length}
+use Rattle.std.proofs.Common.{◌≡◌, ◌≤◌, ◌*◌, ◌++◌, take, drop, sum, length}
 use Rattle.pdb_publics.specs.PublicStreams.{words}
 use Rattle.pdb_publics.proofs.hash_part.bucket_words.Given as goal
 

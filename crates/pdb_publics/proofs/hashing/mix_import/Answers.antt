@@ -1,4 +1,4 @@
-use Rattle.std.proofs.Common.{◌∙◌, ◌+◌, ◌*◌, ap, bit_xor, ℕ, List, drop, arith, rules}
+use Rattle.std.proofs.Common.{◌∙◌, ◌+◌, ◌*◌, ap, bit_xor, ℕ, arith}
 use Rattle.link_base.specs.Bytes.{number_at}
 use Rattle.pdb_publics.specs.NameHash.{mix}
 use Rattle.pdb_publics.proofs.HashLemmas.{import_short, import_long}

@@ -1,4 +1,4 @@
-use Rattle.std.proofs.Common.{◌∙◌, ap, refl, sym, ℕ, List}
+use Rattle.std.proofs.Common.{◌∙◌, ap, refl}
 use Rattle.pdb_publics.specs.NameHash.{bucket}
 use Rattle.pdb_publics.specs.PublicOrder.{hash_keys}
 use Rattle.pdb_publics.proofs.KeyLemmas.{hash_key_made}

@@ -1,4 +1,4 @@
-use Rattle.std.proofs.Common.{◌∙◌, ap, sym, map, length, arith}
+use Rattle.std.proofs.Common.{◌∙◌, ap, sym, map, length}
 use Rattle.std.specs.Char.{to_ascii_lowercase}
 use Rattle.std.proofs.lemmas.List.{length-map}
 use Rattle.pdb_publics.proofs.PartLemmas.{written_back, lowered_joined}

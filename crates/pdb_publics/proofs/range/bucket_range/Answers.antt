@@ -1,4 +1,4 @@
-use Rattle.std.proofs.Common.{◌≡◌, arith, sym, subst, ap, ◌∙◌, ◌/◌, ℕ, false}
+use Rattle.std.proofs.Common.{◌≡◌, sym, subst, ap, ◌∙◌, ◌/◌, ℕ, false}
 use Rattle.pdb_publics.specs.Lookup.{stream_bytes_of, has_range, IsRange}
 use Rattle.pdb_publics.proofs.RangeLemmas.{no_word, no_end, descends, leaves, range_is}
 use Rattle.pdb_publics.proofs.range.bucket_range.Goals as goal

@@ -1,4 +1,4 @@
-use Rattle.std.proofs.Common.{arith, sym, ap, ◌∙◌, ◌/◌, ◌+◌, ℕ}
+use Rattle.std.proofs.Common.{arith, sym, ap, ◌∙◌, ◌/◌, ℕ}
 use Rattle.pdb_publics.specs.Lookup.{stream_bytes_of}
 use Rattle.pdb_publics.proofs.RangeLemmas.{no_next, has_another, end_last, end_next, end_missing}
 use Rattle.pdb_publics.proofs.range.end_record.Goals as goal

@@ -1,4 +1,4 @@
-use Rattle.std.proofs.Common.{arith, refl, ap, ◌∙◌}
+use Rattle.std.proofs.Common.{arith, refl}
 use Rattle.pdb_publics.specs.Lookup.{passing, is_set}
 use Rattle.pdb_publics.proofs.RangeLemmas.{bit_counted}
 use Rattle.pdb_publics.proofs.range.set_in_byte.Goals as goal

@@ -1,5 +1,4 @@
-use Rattle.std.proofs.Common.{◌∙◌, arith, ap}
-use Rattle.pdb_publics.specs.PublicOrder.{by_hash}
+use Rattle.std.proofs.Common.{◌∙◌}
 use Rattle.pdb_publics.proofs.StreamLemmas.{extent_fits, keys_fit, keys_are_few, names_fit}
 use Rattle.pdb_publics.proofs.writing.write_publics.Goals as goal
 
