@@ -85,6 +85,15 @@ one_place_key a b e =
     let r = one_number a.record_offset b.record_offset offset.1 in
     λ i. record { section = s i; offset = o i; record_offset = r i }
 
+pub rows_one_order : (rows sorted : List PublicRow) → IsPermutation rows sorted → IsSorted row_cmp sorted → sorted ≡ by_name rows
+rows_one_order rows sorted moved up = is_in_order row_cmp row_total one_row rows sorted moved up
+
+pub hash_keys_one_order : (rows : List PublicRow) (sorted : List HashKey) → IsPermutation (hash_keys 0 rows) sorted → IsSorted hash_cmp sorted → sorted ≡ by_hash rows
+hash_keys_one_order rows sorted moved up = is_in_order hash_cmp hash_total one_hash_key (hash_keys 0 rows) sorted moved up
+
+pub place_keys_one_order : (rows : List PublicRow) (sorted : List PlaceKey) → IsPermutation (place_keys 0 rows) sorted → IsSorted place_cmp sorted → sorted ≡ by_place rows
+place_keys_one_order rows sorted moved up = is_in_order place_cmp place_total one_place_key (place_keys 0 rows) sorted moved up
+
 pub rows_in_order : (rows given sorted : List PublicRow) → given ≡ rows → IsPermutation given sorted → IsSorted row_cmp sorted → sorted ≡ by_name rows
 rows_in_order rows given sorted is moved up = is_in_order row_cmp row_total one_row given sorted moved up ∙ ap by_name is
 

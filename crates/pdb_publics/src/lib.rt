@@ -19,7 +19,7 @@ mod writing;
 
 pub use finding::find;
 pub use hashing::bucket;
-pub use laws::written_publics_are_found;
+pub use laws::{publics_have_one_order, written_publics_are_found};
 pub use rows::{Public, PublicRow, PublicStreams};
 pub use writing::write_publics;
 
