@@ -1,0 +1,14 @@
+pub mod HashLemmas
+pub mod SortLemmas
+pub mod KeyLemmas
+pub mod PartLemmas
+pub mod ReadLemmas
+pub mod RangeLemmas
+pub mod StreamLemmas
+pub mod CountLemmas
+pub mod RecordLemmas
+pub mod WrittenLemmas
+pub mod BucketLemmas
+pub mod LawLemmas
+pub mod FoundLemmas
+pub mod CallerLemmas

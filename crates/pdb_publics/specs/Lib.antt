@@ -1,0 +1,5 @@
+pub mod NameHash
+pub mod PublicOrder
+pub mod PublicStreams
+pub mod Lookup
+pub mod WrittenPublics
