@@ -1,0 +1,4 @@
+pub mod Entries
+pub mod ResourceFile
+pub mod Read
+pub mod Left

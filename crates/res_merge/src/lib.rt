@@ -1,0 +1,14 @@
+//! Resources: reads compiled resource files, and merges what they hold into the resource tree of an image. It takes the
+//! bytes of a file and gives its entries, and takes entries and gives the tree, to the crates that link. Its contracts
+//! promise that the items of a file are what the format says of its bytes, up to the first malformed entry, and each byte
+//! of the tree. Which resources go into an image, and where the tree stands in it, are left to others.
+#![tactic(auto)]
+
+mod entry;
+mod names;
+mod reader;
+mod resource;
+
+pub use link_base::{ResFault, ResName};
+pub use reader::Resources;
+pub use resource::{ResError, Resource};
