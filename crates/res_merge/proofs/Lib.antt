@@ -1,3 +1,4 @@
 pub mod HeaderLemmas
 pub mod WalkLemmas
 mod WorkedFile
+mod WorkedTree
