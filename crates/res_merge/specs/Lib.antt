@@ -5,4 +5,5 @@ pub mod Left
 pub mod Order
 pub mod Runs
 pub mod Tree
+pub mod Levels
 pub mod Lookup

@@ -1,16 +1,16 @@
 -- The order of resources in a tree: by type, by name and by language, each text before each number (PE Format, "The .rsrc
 -- Section": "Resource Directory Table").
-use Rattle.std.specs.Prelude.{◌≡◌, ℕ, ◌+◌, ◌*◌, ◌%◌, ◌≤◌, ◌^◌, Bool, true, false, ◌&&◌, if◌then◌else◌, List, [], ◌∷◌, length, sum_by, Option, Some, None, AllPairs}
-use Rattle.std.specs.List.{All}
+use Rattle.std.specs.Prelude.{◌≡◌, ℕ, ◌+◌, ◌*◌, ◌%◌, ◌≤◌, ◌^◌, Bool, true, false, ◌&&◌, if◌then◌else◌, List, [], ◌∷◌, length, sum_by, Option, Some, None}
+use Rattle.std.specs.List.{All, IsDistinct}
 use Rattle.std.specs.Ordering.{nat_cmp, then_cmp, on, is_lt, is_eq}
 use Rattle.std.specs.declared.cmp.Ordering.{Ordering}
 use Rattle.std.specs.Cmp.Lexicographic.{slice_cmp}
 use Rattle.res_merge.specs.Entries.{Key, Number, Text, Entry}
 
--- the bytes of a text with the higher byte of each unit first, so that lists of units compare as these do
+-- the bytes of a text's units, the higher byte of each first, so that lists of units compare as these do
 abbrev pub high_first : List ℕ → List ℕ
 high_first (low ∷ high ∷ rest) = high ∷ low ∷ high_first rest
-high_first rest = rest
+high_first rest = []
 
 -- a text comes before a number
 abbrev pub sort_key : Key → List ℕ
@@ -66,6 +66,6 @@ entry_size entry = key_size entry.kind + key_size entry.name + length entry.body
 -- at most 1 GiB
 pub record AreMergeable (entries : List Entry) : Type 0 where
   pub few : length entries ≤ RESOURCE_LIMIT
-  pub apart : AllPairs (λ left right. same_resource left right ≡ false) entries
+  pub apart : IsDistinct same_resource entries
   pub short : All (λ entry. IsShort entry.kind × IsShort entry.name) entries
   pub small : sum_by entry_size entries ≤ DATA_LIMIT

@@ -6,8 +6,10 @@
 
 mod entry;
 mod names;
+mod order;
 mod reader;
 mod resource;
+mod runs;
 
 pub use link_base::{ResFault, ResName};
 pub use reader::Resources;
