@@ -1,7 +1,11 @@
 pub mod HeaderLemmas
 pub mod WalkLemmas
 pub mod OrderLemmas
+pub mod RowLemmas
+pub mod WritingLemmas
 pub mod RunLemmas
+pub mod SizeLemmas
+pub mod PlaceLemmas
 pub mod SortLemmas
 mod WorkedFile
 mod WorkedTree

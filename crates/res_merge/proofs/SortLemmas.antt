@@ -97,9 +97,10 @@ module _ {K : Type 0} {R : K → K → Ordering} (o : IsTotalOrder R) where
   pub sorted_ascends : (xs : List K) → IsSortedBy (λ x y. is_lt (R x y)) xs → IsDistinct (λ x y. is_eq (R x y)) xs → Ascends R xs
   unfolding IsDistinct
   sorted_ascends [] sorted apart = tt
-  sorted_ascends (x ∷ xs) sorted apart =
-      (above_all x xs (recursion_from_All (λ (y : K). is_lt (R y x) ≡ false) xs (λ k d lt. sorted_far (λ x y. is_lt (R x y)) (ranks_by o (λ (z : K). z)) (x ∷ xs) sorted 0 (suc k) d (omega arith) (omega arith))) apart.0,
-      sorted_ascends xs (λ k d low lt. subst (λ (i : ℕ). is_lt (R (get_or (x ∷ xs) i d) (get_or xs k d)) ≡ false) (next k) (sorted (suc k) d (omega arith) (omega arith))) apart.1)
+  sorted_ascends (x ∷ xs) sorted apart = (
+    above_all x xs (recursion_from_All (λ (y : K). is_lt (R y x) ≡ false) xs (λ k d lt. sorted_far (λ x y. is_lt (R x y)) (ranks_by o (λ (z : K). z)) (x ∷ xs) sorted 0 (suc k) d (omega arith) (omega arith))) apart.0,
+    sorted_ascends xs (λ k d low lt. subst (λ (i : ℕ). is_lt (R (get_or (x ∷ xs) i d) (get_or xs k d)) ≡ false) (next k) (sorted (suc k) d (omega arith) (omega arith))) apart.1,
+  )
     where
       next : (k : ℕ) → suc k + 1 ≡ suc (k + 1)
       next k = omega arith

@@ -6,7 +6,7 @@ use Rattle.res_merge.specs.Entries.{Number, Text, Entry}
 use Rattle.res_merge.specs.ResourceFile.{aligned}
 use Rattle.res_merge.specs.Order.{in_order, put_in_order}
 use Rattle.res_merge.specs.Runs.{runs}
-use Rattle.res_merge.specs.Tree.{table, tables, texts, rows, language_rows, leaves, data_from, tree_of, tree_size}
+use Rattle.res_merge.specs.Tree.{table, tables, texts, rows, language_rows, leaves, data_from, all_tables, tree_of, tree_size}
 use Rattle.res_merge.specs.Lookup.{row_count, rows_at, is_named, first_named, table_step, leaf_step, leaf_data, place_in, resource_data}
 
 entries : List Entry
@@ -20,22 +20,22 @@ tree = tree_of 0 0x2000 (in_order entries)
 
 -- the counts of the table of names, and its entries: the text first
 tree-names : bytes_at tree 0x24 20 ≡ 1 ∷ 0 ∷ 1 ∷ 0 ∷ 0x88 ∷ 0 ∷ 0 ∷ 0x80 ∷ 0x38 ∷ 0 ∷ 0 ∷ 0x80 ∷ 1 ∷ 0 ∷ 0 ∷ 0 ∷ 0x50 ∷ 0 ∷ 0 ∷ 0x80 ∷ []
-unfolding entries tree number_bytes aligned in_order put_in_order runs table tables texts rows language_rows leaves data_from tree_of
+unfolding entries tree number_bytes aligned in_order put_in_order runs table tables texts rows language_rows leaves data_from all_tables tree_of
 tree-names = refl
 
 tree-size : tree_size (in_order entries) ≡ length tree
-unfolding entries tree number_bytes aligned in_order put_in_order runs table tables texts rows language_rows leaves data_from tree_of tree_size
+unfolding entries tree number_bytes aligned in_order put_in_order runs table tables texts rows language_rows leaves data_from all_tables tree_of tree_size
 tree-size = refl
 
 -- what is found in it: the data of the text, those of the number, and nothing of another type
 tree-text : place_in tree 0x2000 (Number 10) (Text (78 ∷ 0 ∷ [])) 0x409 ≡ Some (0x208C, 1)
-unfolding entries tree number_at number_bytes aligned in_order put_in_order runs table tables texts rows language_rows leaves data_from tree_of row_count rows_at is_named first_named table_step leaf_step leaf_data place_in
+unfolding entries tree number_at number_bytes aligned in_order put_in_order runs table tables texts rows language_rows leaves data_from all_tables tree_of row_count rows_at is_named first_named table_step leaf_step leaf_data place_in
 tree-text = refl
 
 tree-number : place_in tree 0x2000 (Number 10) (Number 1) 0x409 ≡ Some (0x2090, 1)
-unfolding entries tree number_at number_bytes aligned in_order put_in_order runs table tables texts rows language_rows leaves data_from tree_of row_count rows_at is_named first_named table_step leaf_step leaf_data place_in
+unfolding entries tree number_at number_bytes aligned in_order put_in_order runs table tables texts rows language_rows leaves data_from all_tables tree_of row_count rows_at is_named first_named table_step leaf_step leaf_data place_in
 tree-number = refl
 
 tree-other : place_in tree 0x2000 (Number 11) (Number 1) 0x409 ≡ None
-unfolding entries tree number_at number_bytes aligned in_order put_in_order runs table tables texts rows language_rows leaves data_from tree_of row_count rows_at is_named first_named table_step leaf_step leaf_data place_in
+unfolding entries tree number_at number_bytes aligned in_order put_in_order runs table tables texts rows language_rows leaves data_from all_tables tree_of row_count rows_at is_named first_named table_step leaf_step leaf_data place_in
 tree-other = refl

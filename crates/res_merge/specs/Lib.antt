@@ -6,4 +6,5 @@ pub mod Order
 pub mod Runs
 pub mod Tree
 pub mod Levels
+pub mod Parts
 pub mod Lookup

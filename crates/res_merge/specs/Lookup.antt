@@ -4,8 +4,9 @@ use Rattle.std.specs.Prelude.{ℕ, ◌+◌, ◌-◌, ◌*◌, ◌/◌, Bool, fal
 use Rattle.std.specs.List.{range_with_len}
 use Rattle.link_base.specs.Bytes.{u16_at, u32_at, has_bytes, bytes_at}
 use Rattle.link_base.specs.NameText.{same_name}
+use Rattle.res_merge.specs.declared.rows.Row.{Row}
 use Rattle.res_merge.specs.Entries.{Key, Number, Text}
-use Rattle.res_merge.specs.Tree.{Row, HIGH_BIT, TABLE_SIZE, ROW_SIZE, LEAF_SIZE}
+use Rattle.res_merge.specs.Tree.{HIGH_BIT, TABLE_SIZE, ROW_SIZE, LEAF_SIZE}
 
 -- ---- a table, by its offset in the range that the tree stands in
 

@@ -4,6 +4,7 @@ use Rattle.std.specs.List.{flat_map}
 use Rattle.link_base.specs.Bytes.{number_bytes}
 use Rattle.link_base.specs.Fields.{fields}
 use Rattle.link_base.specs.declared.numbers.LeNumber.TheVariants.{U16, U32}
+use Rattle.res_merge.specs.declared.rows.Row.{Row}
 use Rattle.res_merge.specs.Entries.{Key, Number, Text, Entry}
 use Rattle.res_merge.specs.ResourceFile.{aligned}
 use Rattle.res_merge.specs.Runs.{Run, names_of, kinds_of, kind_of_run, name_of_run}
@@ -23,10 +24,7 @@ LEAF_SIZE = 16
 
 -- ---- tables
 
--- an entry of a table: a number, or a text by its offset; and where it leads, to a table or to a leaf
-pub record Row : Type 0 where
-  pub id : ℕ
-  pub target : ℕ
+-- an entry of a table is a number, or a text by its offset; and where it leads, to a table or to a leaf
 
 abbrev pub is_text_row : Row → Bool
 is_text_row row = nat_le HIGH_BIT row.id
@@ -132,14 +130,19 @@ kind_rows entries = rows kind_of_run (texts_place entries) (names_place entries)
 abbrev pub name_rows : List Entry → List Row
 name_rows entries = rows name_of_run (name_texts_place entries) (languages_place entries) (names_of entries)
 
+-- all tables
+unfoldable pub all_tables : ℕ → List Entry → List ℕ
+all_tables time entries =
+    table time (kind_rows entries)
+    ++ (tables time (kinds_of entries) (name_rows entries)
+    ++ tables time (names_of entries) (language_rows (leaves_place entries) entries))
+
 -- the tree of resources in order, at an RVA
 unfoldable pub tree_of : ℕ → ℕ → List Entry → List ℕ
 tree_of time rva entries =
-    table time (kind_rows entries)
-    ++ (tables time (kinds_of entries) (name_rows entries)
-    ++ (tables time (names_of entries) (language_rows (leaves_place entries) entries)
+    all_tables time entries
     ++ (leaves (rva + data_place entries) entries
-    ++ (texts kind_of_run (kinds_of entries) ++ (texts name_of_run (names_of entries) ++ data_from 0 entries)))))
+    ++ (texts kind_of_run (kinds_of entries) ++ (texts name_of_run (names_of entries) ++ data_from 0 entries)))
 
 unfoldable pub tree_size : List Entry → ℕ
 tree_size entries = data_place entries + length (data_from 0 entries)

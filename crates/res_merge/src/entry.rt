@@ -29,7 +29,7 @@ pub(crate) struct EntryRead<'a> {
 /// The next multiple of four.
 #[tactic(auto, unfolding(crate::specs::ResourceFile::aligned))]
 pub(crate) fn aligned(n: usize) -> usize
-    requires { n < 2 ^ 60 }
+    requires { n < 2 ^ 63 + 2 ^ 32 }
     ensures is { result ≡ aligned n }
     ensures above { n ≤ result }
     ensures near { result < n + 4 }

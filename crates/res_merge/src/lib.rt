@@ -5,12 +5,18 @@
 #![tactic(auto)]
 
 mod entry;
+mod leaves;
+mod merge;
 mod names;
 mod order;
+mod parts;
 mod reader;
 mod resource;
+mod rows;
 mod runs;
+mod tables;
 
 pub use link_base::{ResFault, ResName};
+pub use merge::{tree, tree_length};
 pub use reader::Resources;
 pub use resource::{ResError, Resource};
