@@ -6,6 +6,7 @@ pub mod WritingLemmas
 pub mod RunLemmas
 pub mod SizeLemmas
 pub mod PlaceLemmas
+pub mod LookupLemmas
 pub mod SortLemmas
 mod WorkedFile
 mod WorkedTree

@@ -6,6 +6,7 @@
 
 mod entry;
 mod leaves;
+mod lookup;
 mod merge;
 mod names;
 mod order;
@@ -17,6 +18,7 @@ mod runs;
 mod tables;
 
 pub use link_base::{ResFault, ResName};
+pub use lookup::find_resource;
 pub use merge::{tree, tree_length};
 pub use reader::Resources;
 pub use resource::{ResError, Resource};
