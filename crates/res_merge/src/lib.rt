@@ -22,3 +22,6 @@ pub use lookup::find_resource;
 pub use merge::{tree, tree_length};
 pub use reader::Resources;
 pub use resource::{ResError, Resource};
+
+#[cfg(test)]
+mod tests;
