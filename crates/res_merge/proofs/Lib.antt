@@ -9,4 +9,4 @@ pub mod PlaceLemmas
 pub mod LookupLemmas
 pub mod SortLemmas
 mod WorkedFile
-mod WorkedTree
+pub mod WorkedTree

@@ -1,15 +1,14 @@
 -- The order of resources: how texts compare unit by unit, and that it is a total order.
-use Rattle.std.proofs.Common.{◌≡◌, ◌≢◌, ◌⊎◌, ℕ, eqb, lt-ltb, le-ltb, zero, suc, ◌+◌, ◌-◌, ◌*◌, ◌/◌, ◌<◌, ◌≤◌, Bool, true, false, min, List, [], ◌∷◌, length, drop, get_or, refl, sym, ap, ◌∙◌, subst, inl, inr, drop-cons, arith, rules}
-use Rattle.std.specs.Ordering.{nat_cmp, ordering_then, is_lt, MatchOrdering}
+use Rattle.std.proofs.Common.{◌≡◌, ◌⊎◌, ℕ, lt-ltb, suc, ◌+◌, ◌-◌, ◌*◌, ◌/◌, ◌<◌, ◌≤◌, min, List, [], ◌∷◌, length, drop, get_or, refl, sym, ap, ◌∙◌, inl, inr, drop-cons, arith, rules}
+use Rattle.std.specs.Ordering.{nat_cmp, ordering_then, MatchOrdering}
 use Rattle.std.specs.Cmp.{IsTotalOrder, nat_cmp_total, tied_itself, ranks}
 use Rattle.std.specs.Cmp.Rules.{comparing}
 use Rattle.std.specs.Cmp.Lexicographic.{slice_cmp}
 use Rattle.std.specs.declared.cmp.Ordering.{Ordering}
 use Rattle.std.specs.declared.cmp.Ordering.TheVariants.{Less, Equal, Greater}
-use Rattle.std.proofs.lemmas.Bool.{false≢true, cases_lt}
+use Rattle.std.proofs.lemmas.Bool.{cases_lt}
 use Rattle.std.proofs.lemmas.List.{length-drop}
-use Rattle.res_merge.specs.Entries.{Key, Entry}
-use Rattle.res_merge.specs.Order.{high_first, sort_key, key_cmp, entry_cmp}
+use Rattle.res_merge.specs.Order.{high_first, key_cmp, entry_cmp}
 
 pub key_total : IsTotalOrder key_cmp
 key_total = search (comparing, rules) depth 12

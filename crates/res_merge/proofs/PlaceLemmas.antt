@@ -1,19 +1,18 @@
 -- Where the parts of a tree stand, by its types and names, and how many entries its tables have.
-use Rattle.std.proofs.Common.{◌≡◌, ℕ, suc, ◌+◌, ◌*◌, ◌<◌, ◌≤◌, ◌^◌, Bool, true, false, cond, zero, List, [], ◌∷◌, ◌++◌, length, map, get_or, refl, sym, ap, ◌∙◌, subst, append_assoc, arith}
-use Rattle.std.specs.List.{All, AllByRecursion, sum_by}
+use Rattle.std.proofs.Common.{◌≡◌, ℕ, suc, ◌+◌, ◌<◌, ◌≤◌, ◌^◌, Bool, true, false, cond, zero, List, [], ◌∷◌, ◌++◌, length, map, get_or, refl, sym, ap, ◌∙◌, subst, arith}
+use Rattle.std.specs.List.{AllByRecursion, sum_by}
 use Rattle.std.proofs.lemmas.List.Elements.{recursion_from_All}
-use Rattle.std.proofs.lemmas.List.{length-map, get_or-map}
+use Rattle.std.proofs.lemmas.List.{length-map}
 use Rattle.res_merge.specs.declared.resource.Resource.{Resource}
 use Rattle.res_merge.specs.declared.parts.Places.{Places}
-use Rattle.res_merge.specs.declared.rows.Row.{Row}
 use Rattle.res_merge.specs.declared.runs.Run as code
 use Rattle.res_merge.specs.Entries.{Key, Entry, entry_of}
 use Rattle.res_merge.specs.Order.{IsShort}
-use Rattle.res_merge.specs.Runs.{Run, run_before, runs, heads, same_name, same_kind, names_of, kinds_of, kind_of_run, name_of_run}
-use Rattle.res_merge.specs.Tree.{text_size, table_size, table, tables, leaves, texts, rows, language_rows, data_place, data_from, tree_size, names_place, languages_place, leaves_place, texts_place, name_texts_place, kind_rows, name_rows, all_tables, tree_of}
+use Rattle.res_merge.specs.Runs.{Run, run_before, runs, heads, same_name, same_kind, names_of, kind_of_run, name_of_run}
+use Rattle.res_merge.specs.Tree.{text_size, table_size, table, rows, language_rows, data_place, data_from, tree_size, leaves_place, kind_rows, name_rows}
 use Rattle.res_merge.specs.Levels.{run_of}
 use Rattle.res_merge.specs.Parts.{AreParts, ArePlaces, body_place}
-use Rattle.res_merge.proofs.SizeLemmas.{runs_count, runs_few, run_count, AreShort}
+use Rattle.res_merge.proofs.SizeLemmas.{runs_count, runs_few, run_count}
 
 module _ (list : List Resource) (names types : List Run) (parts : AreParts (map entry_of list) names types) where
   entries : List Entry

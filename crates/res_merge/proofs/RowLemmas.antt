@@ -1,10 +1,8 @@
 -- The entries of tables, one after another.
-use Rattle.std.proofs.Common.{◌≡◌, ℕ, zero, suc, ◌+◌, ◌-◌, ◌*◌, ◌<◌, ◌≤◌, List, [], ◌∷◌, ◌++◌, length, take, drop, get_or, map, refl, sym, ap, ◌∙◌, append_assoc, append-nil, add-one, drop-cons, arith}
-use Rattle.std.specs.List.{sum_by}
+use Rattle.std.proofs.Common.{◌≡◌, ℕ, ◌+◌, ◌<◌, ◌≤◌, List, [], ◌∷◌, ◌++◌, length, drop, get_or, map, sym, ap, ◌∙◌, append_assoc, append-nil, add-one, drop-cons}
 use Rattle.std.proofs.lemmas.List.{drop_all}
 use Rattle.std.proofs.lemmas.List.Sums.{sum_by-cons}
 use Rattle.res_merge.specs.declared.runs.Run as code
-use Rattle.res_merge.specs.declared.rows.Row.{Row}
 use Rattle.res_merge.specs.Entries.{Key, Entry}
 use Rattle.res_merge.specs.Runs.{Run}
 use Rattle.res_merge.specs.Tree.{HIGH_BIT, LEAF_SIZE, table_size, text_size, texts_size, tables_size, row_id, rows, language_rows}

@@ -1,20 +1,20 @@
 -- Runs of resources, one resource after another.
-use Rattle.std.proofs.Common.{◌≡◌, ℕ, zero, suc, ◌+◌, ◌-◌, ◌<◌, ◌≤◌, Bool, true, false, cond, List, [], ◌∷◌, ◌++◌, length, take, drop, get_or, map, refl, sym, ap, ◌∙◌, append_assoc, add-one, drop-cons, arith}
+use Rattle.std.proofs.Common.{◌≡◌, ℕ, ◌+◌, ◌<◌, ◌≤◌, Bool, true, false, cond, List, [], ◌∷◌, ◌++◌, length, drop, get_or, map, refl, sym, ap, ◌∙◌, append_assoc, add-one, drop-cons, arith}
 use Rattle.std.specs.Prelude.{◌&&◌}
 use Rattle.std.specs.Ordering.{is_eq}
 use Rattle.std.specs.declared.cmp.Ordering.{Ordering}
 use Rattle.std.specs.declared.cmp.Ordering.TheVariants.{Less, Equal, Greater}
 use Rattle.std.proofs.lemmas.Bool.{false≢true}
-use Rattle.link_base.proofs.TestLemmas.{and_both}
 use Rattle.std.proofs.lemmas.List.{drop_all}
 use Rattle.link_base.specs.declared.kinds.resource.ResName.TheVariants as name
 use Rattle.res_merge.specs.declared.resource.Resource.{Resource}
 use Rattle.res_merge.specs.Entries.{Key, Entry, entry_of}
 use Rattle.res_merge.specs.Order.{key_cmp, same_key}
-use Rattle.res_merge.specs.Runs.{Run, same_kind, same_name, run_before, runs}
+use Rattle.res_merge.specs.Runs.{Run, run_before, runs}
 use Rattle.res_merge.specs.Levels.{same_at}
 use Rattle.res_merge.specs.declared.runs.Level.{Level}
 use Rattle.res_merge.specs.declared.runs.Level.TheVariants.{Types, Names}
+use Rattle.res_merge.proofs.HeaderLemmas.{and_both}
 use Rattle.res_merge.proofs.OrderLemmas.{key_total}
 
 equal : (r : Ordering) → is_eq r ≡ true → r ≡ Equal

@@ -1,15 +1,14 @@
 -- How large the parts of a tree are.
-use Rattle.std.proofs.Common.{◌≡◌, ℕ, zero, suc, ◌+◌, ◌-◌, ◌*◌, ◌/◌, ◌<◌, ◌≤◌, ◌^◌, Bool, true, false, cond, List, [], ◌∷◌, ◌++◌, length, map, refl, sym, ap, ◌∙◌, arith}
+use Rattle.std.proofs.Common.{◌≡◌, ℕ, suc, ◌+◌, ◌-◌, ◌*◌, ◌<◌, ◌≤◌, ◌^◌, Bool, true, false, cond, List, [], ◌∷◌, length, refl, ap, arith}
 use Rattle.std.specs.List.{sum_by, All}
 use Rattle.std.proofs.lemmas.List.{length-append, length-replicate}
 use Rattle.std.proofs.lemmas.List.Sums.{sum_by-cons}
-use Rattle.std.specs.List.Sorted.{IsPermutation}
 use Rattle.std.proofs.lemmas.List.Sorted.{sum_by-IsPermutation, length_permutation, All-permutation}
 use Rattle.res_merge.specs.Entries.{Key, Number, Text, Entry}
 use Rattle.res_merge.specs.ResourceFile.{aligned}
 use Rattle.res_merge.specs.Order.{in_order, IsShort, key_size, entry_size, RESOURCE_LIMIT, DATA_LIMIT, AreMergeable}
 use Rattle.res_merge.specs.Runs.{Run, run_before, runs, heads, same_kind, same_name, names_of, kinds_of, kind_of_run, name_of_run}
-use Rattle.res_merge.specs.Tree.{table_size, tables_size, text_size, texts_size, rows, language_rows, data_from, data_place, tree_size}
+use Rattle.res_merge.specs.Tree.{table_size, tables_size, text_size, texts_size, data_from, tree_size}
 use Rattle.res_merge.proofs.SortLemmas.{order_moves}
 
 -- ---- runs

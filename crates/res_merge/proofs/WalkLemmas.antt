@@ -1,18 +1,18 @@
 -- A file is read one entry after another.
-use Rattle.std.proofs.Common.{◌≡◌, ℕ, zero, suc, ◌+◌, ◌-◌, ◌<◌, ◌≤◌, Bool, true, false, cond, eqb, eqb-true, ltb, List, [], ◌∷◌, length, Result, Ok, Err, refl, sym, ap, ◌∙◌, inl, inr, lt-ltb, le-ltb, le-leb, arith}
-use Rattle.std.proofs.lemmas.Bool.{false≢true, cases_lt}
+use Rattle.std.proofs.Common.{◌≡◌, ℕ, zero, suc, ◌+◌, ◌<◌, ◌≤◌, Bool, true, false, cond, eqb, eqb-true, ltb, List, [], ◌∷◌, length, Result, Ok, Err, refl, sym, ap, ◌∙◌, lt-ltb, le-ltb, le-leb, arith}
+use Rattle.std.proofs.lemmas.Bool.{ltb-false}
 use Rattle.std.specs.Prelude.{◌&&◌}
 use borrow.Author.Tests.{ltb-true}
-use Rattle.link_base.proofs.TestLemmas.{and_both, and_second, ltb_false}
+use Rattle.link_base.proofs.TestLemmas.{and_second}
 use Rattle.link_base.specs.Bytes.{has_bytes}
 use Rattle.link_base.specs.declared.kinds.resource.ResFault.{ResFault}
 use Rattle.link_base.specs.declared.kinds.resource.ResFault.TheVariants as bad
 use Rattle.res_merge.specs.declared.resource.ResError.{ResError}
 use Rattle.res_merge.specs.declared.reader.Resources.{Resources}
 use Rattle.res_merge.specs.Entries.{Entry}
-use Rattle.res_merge.specs.ResourceFile.{FIRST_ENTRY_SIZE, EntryRead, entry_read, item_then, entries_from, entries_at, resources_of}
+use Rattle.res_merge.specs.ResourceFile.{EntryRead, entry_read, item_then, entries_from, entries_at, resources_of}
 use Rattle.res_merge.specs.Left.{items_left}
-use Rattle.res_merge.proofs.HeaderLemmas.{EntryEnds, entry_ends}
+use Rattle.res_merge.proofs.HeaderLemmas.{EntryEnds, entry_ends, and_both}
 
 -- how many entries may come does not matter, where the file has no more bytes
 entries_enough : (n m : ℕ) (bytes : List ℕ) (offset : ℕ) → length bytes ≤ offset + n → length bytes ≤ offset + m → entries_from n bytes offset ≡ entries_from m bytes offset
@@ -69,7 +69,7 @@ unfolding resources_of
 left_at reader offset is long = by_test (eqb reader.at 0) refl is
   where
     there : eqb reader.at 0 ≡ true → has_bytes reader.bytes.now 0 32 ≡ true
-    there e = le-leb _ _ (omega (arith, ltb_false (length reader.bytes.now) 32 (and_second (eqb reader.at 0) _ e long)))
+    there e = le-leb _ _ (omega (arith, ltb-false (length reader.bytes.now) 32 (and_second (eqb reader.at 0) _ e long)))
 
     by_test : (b : Bool) → eqb reader.at 0 ≡ b → offset ≡ cond b 32 reader.at → cond b (resources_of reader.bytes.now) (entries_at reader.bytes.now reader.at) ≡ entries_at reader.bytes.now offset
     by_test true e at = rw (there e, at) refl

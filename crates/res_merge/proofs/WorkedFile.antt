@@ -2,7 +2,7 @@
 use Rattle.std.proofs.Common.{◌≡◌, ℕ, List, [], ◌∷◌, ◌++◌, take, Ok, Err, refl}
 use Rattle.link_base.specs.Bytes.{number_at, first_below}
 use Rattle.link_base.specs.declared.kinds.resource.ResFault.TheVariants as bad
-use Rattle.res_merge.specs.Entries.{Number, Text}
+use Rattle.res_merge.specs.Entries.{Number}
 use Rattle.res_merge.specs.ResourceFile.{aligned, text_units, name_read, heading, size_is_bad, header_is_bad, entry_with, entry_read, entries_from, resources_of}
 
 start : List ℕ

@@ -1,5 +1,5 @@
 -- What the iterator over a file still has to give.
-use Rattle.std.specs.Prelude.{Bool, List, [], if◌then◌else◌, Result, ◌==◌}
+use Rattle.std.specs.Prelude.{List, if◌then◌else◌, Result, ◌==◌}
 use Rattle.res_merge.specs.Entries.{Entry}
 use Rattle.res_merge.specs.ResourceFile.{resources_of, entries_at}
 use Rattle.res_merge.specs.declared.resource.ResError.{ResError}

@@ -1,6 +1,6 @@
 -- The order of resources in a tree: by type, by name and by language, each text before each number (PE Format, "The .rsrc
 -- Section": "Resource Directory Table").
-use Rattle.std.specs.Prelude.{◌≡◌, ℕ, ◌+◌, ◌*◌, ◌%◌, ◌≤◌, ◌^◌, Bool, true, false, ◌&&◌, if◌then◌else◌, List, [], ◌∷◌, length, sum_by, Option, Some, None}
+use Rattle.std.specs.Prelude.{◌≡◌, ℕ, ◌+◌, ◌%◌, ◌≤◌, ◌^◌, Bool, if◌then◌else◌, List, [], ◌∷◌, length, sum_by}
 use Rattle.std.specs.List.{All, IsDistinct}
 use Rattle.std.specs.Ordering.{nat_cmp, then_cmp, on, is_lt, is_eq}
 use Rattle.std.specs.declared.cmp.Ordering.{Ordering}

@@ -1,7 +1,7 @@
 -- What the code reads, as plain data.
-use Rattle.std.specs.Prelude.{ℕ, Result, Ok, Err}
+use Rattle.std.specs.Prelude.{Result, Ok, Err}
 use Rattle.link_base.specs.declared.kinds.resource.ResFault.{ResFault}
-use Rattle.res_merge.specs.Entries.{Key, key_of, entry_of}
+use Rattle.res_merge.specs.Entries.{key_of, entry_of}
 use Rattle.res_merge.specs.ResourceFile as file
 use Rattle.res_merge.specs.declared.names.NameRead.{NameRead}
 use Rattle.res_merge.specs.declared.entry.Heading.{Heading}

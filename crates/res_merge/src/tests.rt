@@ -19,7 +19,9 @@ fn a_resource_is_read_and_the_zeros_behind_it_may_be_missing(rt: HostRuntime) ->
     let mut resources = Resources::new(FILE);
     match resources.next() {
         Some(Ok(resource)) => {
-            assert!(rt; resource.kind == ResName::Number(10) && resource.name == ResName::Number(1));
+            assert!(rt;
+                resource.kind == ResName::Number(10) && resource.name == ResName::Number(1)
+            );
             assert_eq!(rt; resource.language, 0x409);
             assert_eq!(rt; resource.body, b"AB".as_slice());
         }
@@ -62,7 +64,11 @@ fn a_malformed_entry_is_an_error_at_its_offset(rt: HostRuntime) -> Result<(), Fa
             *old = byte;
         }
         bytes.truncate(len);
-        assert_eq!(rt; first_fault(&bytes), Some(ResError { kind, at }), "{len} {place}");
+        assert_eq!(rt;
+            first_fault(&bytes),
+            Some(ResError { kind, at }),
+            "{len} {place}"
+        );
     }
     Ok(())
 }
@@ -79,29 +85,64 @@ fn long_type(alloc: Global, units: usize) -> Result<Option<ResError>, Fail> {
 
 #[test]
 fn a_type_of_32001_units_is_too_long(rt: HostRuntime) -> Result<(), Fail> {
-    let name = Some(ResError { kind: ResFault::Name, at: 32 });
-    let header = Some(ResError { kind: ResFault::Header, at: 32 });
+    let name = Some(ResError {
+        kind: ResFault::Name,
+        at: 32,
+    });
+    let header = Some(ResError {
+        kind: ResFault::Header,
+        at: 32,
+    });
     assert_eq!(rt; long_type(rt.alloc(), 32_000)?, header);
     assert_eq!(rt; long_type(rt.alloc(), 32_001)?, name);
     Ok(())
 }
 
 /// Two resources of the type 10 and the language 0x409: the number 1, and the text N.
-fn two<'a>() -> [Resource<'a>; 2] {
-    let kind = ResName::Number(10);
-    let language = 0x409;
-    [
-        Resource { kind, name: ResName::Number(1), language, body: b"Y" },
-        Resource { kind, name: ResName::Text(b"N\0"), language, body: b"X" },
-    ]
-}
-
 #[test]
 fn a_tree_has_its_texts_first_and_its_resources_are_found(rt: HostRuntime) -> Result<(), Fail> {
-    let list = two();
+    let list = [
+        Resource {
+            kind: ResName::Number(10),
+            name: ResName::Number(1),
+            language: 0x409,
+            body: b"Y",
+        },
+        Resource {
+            kind: ResName::Number(10),
+            name: ResName::Text(b"N\0"),
+            language: 0x409,
+            body: b"X",
+        },
+    ];
     let out = tree(rt.alloc(), &list, 0, 0x2000)?;
-    assert_eq!(rt; Some(tree_length(rt.alloc(), &list)? as usize), Some(out.len()));
+    assert_eq!(rt;
+        Some(tree_length(rt.alloc(), &list)? as usize),
+        Some(out.len())
+    );
     assert!(rt; out.len() == 0x91);
-    assert_eq!(rt; &out[0x24..0x38], b"\x01\0\x01\0\x88\0\0\x80\x38\0\0\x80\x01\0\0\0\x50\0\0\x80".as_slice());
+    assert_eq!(rt;
+        &out[0x24..0x38],
+        b"\x01\0\x01\0\x88\0\0\x80\x38\0\0\x80\x01\0\0\0\x50\0\0\x80".as_slice()
+    );
+    let mut memory = vec![in rt.alloc(); 0u8; 0x2000]?;
+    memory.extend_from_slice(&out)?;
+    assert!(rt; memory.len() == 0x2091);
+    let kind = ResName::Number(10);
+    for (name, found) in [
+        (ResName::Number(1), Some((0x2090, 1))),
+        (ResName::Text(b"N\0"), Some((0x208c, 1))),
+        (ResName::Number(2), None),
+        (ResName::Text(b"M\0"), None),
+    ] {
+        assert_eq!(rt;
+            find_resource(&memory, 0x2000, 0x91, kind, name, 0x409),
+            found
+        );
+        assert_eq!(rt;
+            find_resource(&memory, 0x2000, 0x91, kind, name, 0x40a),
+            None
+        );
+    }
     Ok(())
 }

@@ -1,10 +1,9 @@
-use Rattle.std.proofs.Common.{◌≡◌, ℕ, ◌+◌, ◌<◌, ◌^◌, List, ◌∷◌, ◌++◌, length, map, drop, get_or, sym, ap, ◌∙◌, arith}
-use Rattle.std.specs.Prelude.{replicate}
+use Rattle.std.proofs.Common.{ℕ, ◌+◌, List, ◌∷◌, ◌++◌, length, map, drop, get_or, ap, ◌∙◌, arith}
 use Rattle.res_merge.specs.Entries.{Entry, entry_of}
 use Rattle.res_merge.specs.Tree.{data_from, leaves}
 use Rattle.res_merge.specs.ResourceFile.{aligned}
-use Rattle.res_merge.proofs.RunLemmas.{any_resource, next_said, none_said}
-use Rattle.res_merge.proofs.WritingLemmas.{written, all_written, leaf_fields, leaves_written, leaves_end, data_size, data_more}
+use Rattle.res_merge.proofs.RunLemmas.{any_resource, next_said}
+use Rattle.res_merge.proofs.WritingLemmas.{written, leaf_fields, leaves_written, data_size, data_more}
 use Rattle.res_merge.proofs.leaves.push_leaves.Goals as goal
 
 pub overflow_cast-size : goal.overflow_cast-size

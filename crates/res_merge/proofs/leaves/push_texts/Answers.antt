@@ -1,4 +1,4 @@
-use Rattle.std.proofs.Common.{ℕ, sym, subst}
+use Rattle.std.proofs.Common.{sym, subst}
 use Rattle.res_merge.specs.Entries.{Key}
 use Rattle.res_merge.specs.Order.{IsShort}
 use Rattle.res_merge.proofs.leaves.push_texts.Goals as goal

@@ -1,4 +1,4 @@
-use Rattle.std.proofs.Common.{◌∙◌, arith}
+use Rattle.std.proofs.Common.{arith}
 use Rattle.res_merge.proofs.PlaceLemmas.{whole_is, whole_small}
 use Rattle.res_merge.specs.Levels.{run_of}
 use Rattle.std.proofs.Common.{map}

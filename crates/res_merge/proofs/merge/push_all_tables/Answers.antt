@@ -1,10 +1,10 @@
-use Rattle.std.proofs.Common.{◌≡◌, ℕ, ◌≤◌, List, ◌++◌, length, map, sym, ap, ◌∙◌, append_assoc, arith}
+use Rattle.std.proofs.Common.{ℕ, List, ◌++◌, length, map, sym, ap, ◌∙◌, append_assoc, arith}
 use Rattle.res_merge.specs.declared.rows.Row.{Row}
-use Rattle.res_merge.specs.Entries.{Entry, entry_of}
-use Rattle.res_merge.specs.Runs.{Run, names_of, kinds_of, kind_of_run, name_of_run}
+use Rattle.res_merge.specs.Entries.{entry_of}
+use Rattle.res_merge.specs.Runs.{Run, kinds_of, kind_of_run, name_of_run}
 use Rattle.res_merge.specs.Levels.{run_of}
 use Rattle.res_merge.specs.Tree.{table, tables, language_rows, kind_rows, name_rows, leaves_place, all_tables}
-use Rattle.res_merge.proofs.PlaceLemmas.{whole_small, few, names_count, names_few, types_count, types_few, type_rows_are, name_rows_are, leaves_are, rows_length, language_length, length_said, grown}
+use Rattle.res_merge.proofs.PlaceLemmas.{whole_small, names_count, names_few, types_count, types_few, type_rows_are, name_rows_are, leaves_are, rows_length, language_length, length_said, grown}
 use Rattle.res_merge.proofs.merge.push_all_tables.Goals as goal
 
 pub rows-requires-clause-texts : goal.rows-requires-clause-texts

@@ -1,6 +1,6 @@
-use Rattle.std.proofs.Common.{◌≡◌, ℕ, ◌+◌, List, [], ◌++◌, length, map, sym, ap, ◌∙◌, append_assoc, arith}
+use Rattle.std.proofs.Common.{ℕ, ◌+◌, List, ◌++◌, map, ap, ◌∙◌, append_assoc, arith}
 use Rattle.res_merge.specs.Entries.{Entry, entry_of}
-use Rattle.res_merge.specs.Runs.{Run, names_of, kinds_of, kind_of_run, name_of_run}
+use Rattle.res_merge.specs.Runs.{names_of, kinds_of, kind_of_run, name_of_run}
 use Rattle.res_merge.specs.Levels.{run_of}
 use Rattle.res_merge.specs.Tree.{leaves, texts, data_from, data_place, all_tables, tree_of}
 use Rattle.res_merge.proofs.PlaceLemmas.{whole_is, whole_small, data_are, grown, names_short, types_short}

@@ -1,4 +1,4 @@
-use Rattle.std.proofs.Common.{◌∙◌, ap, ℕ, sym, refl, arith}
+use Rattle.std.proofs.Common.{◌∙◌, ap, ℕ, sym, arith}
 use Rattle.link_base.specs.Bytes.{first_below}
 use Rattle.link_base.proofs.CallerLemmas.{first_below-more, first_below-found, first_below-all_fail}
 use Rattle.res_merge.specs.ResourceFile.{is_text_end, text_units}

@@ -1,5 +1,5 @@
 use Rattle.std.proofs.Common.{sym, ◌∙◌, arith}
-use Rattle.res_merge.proofs.OrderLemmas.{unit_level, unit_decides, units_end}
+use Rattle.res_merge.proofs.OrderLemmas.{unit_level, units_end}
 use Rattle.res_merge.proofs.order.compare_texts.Goals as goal
 
 pub loop-k-preserved : goal.loop-k-preserved

@@ -1,10 +1,10 @@
-use Rattle.std.proofs.Common.{◌≡◌, ap, sym, ◌∙◌, subst, map, List, arith, rules}
+use Rattle.std.proofs.Common.{◌≡◌, subst, map, List, rules}
 use Rattle.std.specs.List.Sorted.{IsPermutation}
 use Rattle.std.specs.Ordering.{is_lt}
 use Rattle.std.proofs.lemmas.List.Sorted.{IsPermutation-map, ranks_by, answers_always}
 use Rattle.res_merge.specs.declared.resource.Resource.{Resource}
-use Rattle.res_merge.specs.Entries.{Entry, entry_of}
-use Rattle.res_merge.specs.Order.{entry_cmp, in_order}
+use Rattle.res_merge.specs.Entries.{entry_of}
+use Rattle.res_merge.specs.Order.{entry_cmp}
 use Rattle.res_merge.proofs.OrderLemmas.{entry_total}
 use Rattle.res_merge.proofs.SortLemmas.{sorted_is, sorted_map}
 use Rattle.res_merge.proofs.order.in_order.Goals as goal

@@ -1,4 +1,4 @@
-use Rattle.std.proofs.Common.{◌≡◌, ℕ, ◌+◌, ◌≤◌, List, ◌∷◌, [], length, map, drop, get_or, sym, ap, ◌∙◌, arith}
+use Rattle.std.proofs.Common.{◌+◌, List, ◌∷◌, length, map, drop, get_or, sym, ap, ◌∙◌, arith}
 use Rattle.res_merge.specs.Entries.{Entry, entry_of}
 use Rattle.res_merge.specs.Tree.{data_from}
 use Rattle.res_merge.proofs.RunLemmas.{any_resource, next_said, none_said}

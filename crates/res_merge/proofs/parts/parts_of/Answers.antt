@@ -1,8 +1,7 @@
-use Rattle.std.proofs.Common.{◌≤◌, ◌<◌, ◌^◌, length, subst, List, map, sym, ap, ◌∙◌, arith}
+use Rattle.std.proofs.Common.{◌≤◌, ◌<◌, ◌^◌, length, subst, List, map, sym, ap, ◌∙◌}
 use Rattle.res_merge.specs.declared.runs.Run as code
 use Rattle.res_merge.specs.declared.resource.Resource.{Resource}
 use Rattle.res_merge.specs.Entries.{Entry, entry_of}
-use Rattle.res_merge.specs.Order.{in_order}
 use Rattle.res_merge.specs.Runs.{Run, runs, heads, same_name, same_kind}
 use Rattle.res_merge.specs.Levels.{run_of}
 use Rattle.res_merge.proofs.SizeLemmas.{tree_small, order_few, AreShort, order_short}

@@ -1,4 +1,4 @@
-use Rattle.std.proofs.Common.{◌≡◌, ℕ, ◌+◌, List, ◌++◌, length, map, drop, get_or, sym, ap, ◌∙◌, refl, arith}
+use Rattle.std.proofs.Common.{ℕ, ◌+◌, List, ◌++◌, map, drop, get_or, ap, ◌∙◌, arith}
 use Rattle.res_merge.specs.declared.rows.Row.{Row}
 use Rattle.res_merge.specs.Entries.{Entry, entry_of}
 use Rattle.res_merge.specs.Tree.{language_rows}

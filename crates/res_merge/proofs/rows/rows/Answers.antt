@@ -1,6 +1,5 @@
-use Rattle.std.proofs.Common.{◌≡◌, ℕ, ◌+◌, List, ◌∷◌, ◌++◌, length, map, drop, get_or, sym, ap, ◌∙◌, refl, arith}
+use Rattle.std.proofs.Common.{◌≡◌, ℕ, ◌+◌, List, ◌∷◌, ◌++◌, map, drop, get_or, sym, ap, ◌∙◌, arith}
 use Rattle.res_merge.specs.declared.rows.Row.{Row}
-use Rattle.res_merge.specs.Entries.{Key}
 use Rattle.res_merge.specs.Runs.{Run}
 use Rattle.res_merge.specs.Levels.{key_at, run_of}
 use Rattle.res_merge.specs.Tree.{HIGH_BIT, row_id, text_size, table_size, rows}

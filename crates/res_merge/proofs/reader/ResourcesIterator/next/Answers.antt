@@ -1,4 +1,4 @@
-use Rattle.std.proofs.Common.{ℕ, List, ◌∷◌, length, Ok, Err, Result, sym, ap, ◌∙◌, arith}
+use Rattle.std.proofs.Common.{List, ◌∷◌, length, Ok, Err, Result, sym, ap, ◌∙◌, arith}
 use Rattle.link_base.specs.declared.kinds.resource.ResFault.TheVariants as bad
 use Rattle.res_merge.specs.declared.resource.ResError.{ResError}
 use Rattle.res_merge.specs.Entries.{Entry, entry_of}
