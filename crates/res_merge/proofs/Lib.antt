@@ -7,6 +7,9 @@ pub mod RunLemmas
 pub mod SizeLemmas
 pub mod PlaceLemmas
 pub mod LookupLemmas
+pub mod FoundLemmas
+pub mod NamedLemmas
+pub mod LeafLemmas
 pub mod SortLemmas
 mod WorkedFile
 pub mod WorkedTree

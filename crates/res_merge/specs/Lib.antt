@@ -8,3 +8,4 @@ pub mod Tree
 pub mod Levels
 pub mod Parts
 pub mod Lookup
+pub mod Found
