@@ -10,6 +10,7 @@ pub mod LookupLemmas
 pub mod FoundLemmas
 pub mod NamedLemmas
 pub mod LeafLemmas
+pub mod DescentLemmas
 pub mod SortLemmas
 mod WorkedFile
 pub mod WorkedTree

@@ -1,5 +1,5 @@
 -- What is found of some resources: the data of the one that has a type, a name and a language. Own.
-use Rattle.std.specs.Prelude.{ℕ, Bool, false, ◌&&◌, ◌==◌, if◌then◌else◌, List, [], ◌∷◌, take, drop, Option, Some, None}
+use Rattle.std.specs.Prelude.{ℕ, Bool, false, ◌&&◌, ◌==◌, if◌then◌else◌, List, [], ◌∷◌, take, drop, sum_by, Option, Some, None}
 use Rattle.link_base.specs.NameText.{same_name}
 use Rattle.res_merge.specs.Entries.{Key, Number, Text, Entry}
 use Rattle.res_merge.specs.Runs.{Run}
@@ -30,3 +30,10 @@ named_data name language [] entries = None
 named_data name language (run ∷ runs) entries =
     if equal_key name run.head.name then body_of language (take run.count entries)
     else named_data name language runs (drop run.count entries)
+
+-- the first type that is this one, and the name among its names
+unfoldable pub kind_data : Key → Key → ℕ → List Run → List Run → List Entry → Option (List ℕ)
+kind_data kind name language [] names entries = None
+kind_data kind name language (run ∷ runs) names entries =
+    if equal_key kind run.head.kind then named_data name language (take run.count names) entries
+    else kind_data kind name language runs (drop run.count names) (drop (sum_by (λ r. r.count) (take run.count names)) entries)
