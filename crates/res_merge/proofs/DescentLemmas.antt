@@ -22,17 +22,17 @@ use Rattle.res_merge.proofs.LeafLemmas.{Stand, leaf_inside, stand_next, bytes_of
 
 -- ---- lists
 
-each_take : {X : Type 0} (P : X → Type 0) (count : ℕ) (xs : List X) → AllByRecursion P xs → AllByRecursion P (take count xs)
+pub each_take : {X : Type 0} (P : X → Type 0) (count : ℕ) (xs : List X) → AllByRecursion P xs → AllByRecursion P (take count xs)
 each_take P zero xs each = tt
 each_take P (suc count) [] each = tt
 each_take P (suc count) (x ∷ xs) each = (each.0, each_take P count xs each.1)
 
-each_drop : {X : Type 0} (P : X → Type 0) (count : ℕ) (xs : List X) → AllByRecursion P xs → AllByRecursion P (drop count xs)
+pub each_drop : {X : Type 0} (P : X → Type 0) (count : ℕ) (xs : List X) → AllByRecursion P xs → AllByRecursion P (drop count xs)
 each_drop P zero xs each = each
 each_drop P (suc count) [] each = tt
 each_drop P (suc count) (x ∷ xs) each = each_drop P count xs each.1
 
-taken_length : {X : Type 0} (count : ℕ) (xs : List X) → count ≤ length xs → length (take count xs) ≡ count
+pub taken_length : {X : Type 0} (count : ℕ) (xs : List X) → count ≤ length xs → length (take count xs) ≡ count
 taken_length zero xs le = refl
 taken_length (suc count) [] le = absurd (omega arith)
 taken_length (suc count) (x ∷ xs) le = ap suc (taken_length count xs (omega arith))
@@ -51,14 +51,14 @@ languages_drop (suc count) leaf (entry ∷ entries) =
     let place : leaf + 16 + 16 * count ≡ leaf + 16 * suc count = omega arith in
     languages_drop count (leaf + 16) entries ∙ ap (λ (n : ℕ). language_rows n (drop count entries)) place
 
-rows_take : (key : Run → Key) (count text table : ℕ) (runs : List Run) → take count (rows key text table runs) ≡ rows key text table (take count runs)
+pub rows_take : (key : Run → Key) (count text table : ℕ) (runs : List Run) → take count (rows key text table runs) ≡ rows key text table (take count runs)
 unfolding rows
 rows_take key zero text table runs = refl
 rows_take key (suc count) text table [] = refl
 rows_take key (suc count) text table (run ∷ runs) =
     ap (λ (rs : List Row). record { id = row_id text (key run); target = HIGH_BIT + table } ∷ rs) (rows_take key count (text + text_size (key run)) (table + table_size run.count) runs)
 
-text_length : (key : Key) → length (text_bytes key) ≡ text_size key
+pub text_length : (key : Key) → length (text_bytes key) ≡ text_size key
 unfolding aligned
 text_length (Number number) = refl
 text_length (Text units) =
@@ -107,14 +107,14 @@ pub record NamesAfter (part : List ℕ) (rva time text table : ℕ) (names : Lis
   pub names_stand : NamesStand part rva time text table leaf place zeros names entries
 
 module _ (part : List ℕ) (rva time text table leaf place zeros : ℕ) (run : Run) (names : List Run) (entries : List Entry) (stands : NamesStand part rva time text table leaf place zeros (run ∷ names) entries) where
-  count_fits : run.count ≤ length entries
+  pub count_fits : run.count ≤ length entries
   count_fits = omega (arith, stands.counts, sum_by-cons run_count run names)
 
-  text_is : drop text part ≡ text_bytes run.head.name ++ (texts name_of_run names ++ stands.texts_rest)
+  pub text_is : drop text part ≡ text_bytes run.head.name ++ (texts name_of_run names ++ stands.texts_rest)
   unfolding texts
   text_is = stands.texts_are ∙ append_assoc (text_bytes run.head.name) (texts name_of_run names) stands.texts_rest
 
-  table_is : drop table part ≡ table_bytes time (language_rows leaf (take run.count entries)) ++ (tables time names (language_rows (leaf + 16 * run.count) (drop run.count entries)) ++ stands.tables_rest)
+  pub table_is : drop table part ≡ table_bytes time (language_rows leaf (take run.count entries)) ++ (tables time names (language_rows (leaf + 16 * run.count) (drop run.count entries)) ++ stands.tables_rest)
   unfolding tables
   table_is =
       stands.tables_are
@@ -160,7 +160,7 @@ module _ (part : List ℕ) (rva time text table leaf place zeros : ℕ) (run : R
         ap (λ (rs : List Row). bytes_of part rva (option_and_then (leaf_target part) (first_named part (Number language) rs))) table_rows
         ∙ language_found part rva language small fits run.count leaf place zeros entries stands.stand
 
-target_of : (table : ℕ) → table_target (HIGH_BIT + table) ≡ Some table
+pub target_of : (table : ℕ) → table_target (HIGH_BIT + table) ≡ Some table
 target_of table =
     let there : leb HIGH_BIT (HIGH_BIT + table) ≡ true = le-leb _ _ (omega arith) in
     let back : HIGH_BIT + table - HIGH_BIT ≡ table = omega arith in

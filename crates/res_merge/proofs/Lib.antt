@@ -11,6 +11,7 @@ pub mod FoundLemmas
 pub mod NamedLemmas
 pub mod LeafLemmas
 pub mod DescentLemmas
+pub mod KindLemmas
 pub mod SortLemmas
 mod WorkedFile
 pub mod WorkedTree
