@@ -20,12 +20,12 @@ use Rattle.res_merge.proofs.LeafLemmas.{Stand, bytes_of}
 use Rattle.res_merge.proofs.DescentLemmas.{each_take, each_drop, taken_length, rows_take, text_length, target_of, NamesStand, NamesAfter, names_next, text_is, table_is, by_language, names_found}
 
 -- what is not empty stands inside
-inside : (part xs rest : List ℕ) (at : ℕ) → drop at part ≡ xs ++ rest → 0 < length xs → at < length part
+pub inside : (part xs rest : List ℕ) (at : ℕ) → drop at part ≡ xs ++ rest → 0 < length xs → at < length part
 inside part xs rest at is some =
     let size : length part - at ≡ length xs + length rest = sym (length-drop at part) ∙ ap length is ∙ length-append xs rest in
     omega arith
 
-row_small : (part rest : List ℕ) (text : ℕ) (key : Key) → length part < 2 ^ 31 → drop text part ≡ text_bytes key ++ rest → IsSmallKey key → row_id text key < 2 ^ 32
+pub row_small : (part rest : List ℕ) (text : ℕ) (key : Key) → length part < 2 ^ 31 → drop text part ≡ text_bytes key ++ rest → IsSmallKey key → row_id text key < 2 ^ 32
 row_small part rest text (Number number) small is also = omega (arith, also)
 row_small part rest text (Text units) small is also =
     omega (arith, small, inside part (text_bytes (Text units)) rest text is (simp (length-append) (omega (arith, length-number_bytes 2 (length units / 2)))))
@@ -82,18 +82,18 @@ module _ (part : List ℕ) (rva time kind_text kind_table text table leaf place 
   kind_count_fits : run.count ≤ length names
   kind_count_fits = omega (arith, stands.kind_counts, sum_by-cons run_count run kinds)
 
-  kind_text_is : drop kind_text part ≡ text_bytes run.head.kind ++ (texts kind_of_run kinds ++ stands.texts_rest)
+  pub kind_text_is : drop kind_text part ≡ text_bytes run.head.kind ++ (texts kind_of_run kinds ++ stands.texts_rest)
   unfolding texts
   kind_text_is = stands.kind_texts_are ∙ append_assoc (text_bytes run.head.kind) (texts kind_of_run kinds) stands.texts_rest
 
-  kind_table_is : drop kind_table part ≡ table_bytes time (rows name_of_run text table (take run.count names)) ++ (tables time kinds (drop run.count (rows name_of_run text table names)) ++ stands.tables_rest)
+  pub kind_table_is : drop kind_table part ≡ table_bytes time (rows name_of_run text table (take run.count names)) ++ (tables time kinds (drop run.count (rows name_of_run text table names)) ++ stands.tables_rest)
   unfolding tables
   kind_table_is =
       stands.kind_tables_are
       ∙ append_assoc (table_bytes time (take run.count (rows name_of_run text table names))) (tables time kinds (drop run.count (rows name_of_run text table names))) stands.tables_rest
       ∙ ap (λ (rs : List Row). table_bytes time rs ++ (tables time kinds (drop run.count (rows name_of_run text table names)) ++ stands.tables_rest)) (rows_take name_of_run run.count text table names)
 
-  kinds_next : KindsAfter part rva time (kind_text + text_size run.head.kind) (kind_table + table_size run.count) kinds (drop run.count names) (drop (sum_by run_count (take run.count names)) entries)
+  pub kinds_next : KindsAfter part rva time (kind_text + text_size run.head.kind) (kind_table + table_size run.count) kinds (drop run.count names) (drop (sum_by run_count (take run.count names)) entries)
   kinds_next =
       let far = names_behind part rva time run.count text table leaf place zeros names entries kind_count_fits stands.names_are in
       let size : length (table_bytes time (rows name_of_run text table (take run.count names))) ≡ table_size run.count =

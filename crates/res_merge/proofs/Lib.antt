@@ -12,6 +12,7 @@ pub mod NamedLemmas
 pub mod LeafLemmas
 pub mod DescentLemmas
 pub mod KindLemmas
+pub mod PositionLemmas
 pub mod SortLemmas
 mod WorkedFile
 pub mod WorkedTree
