@@ -68,33 +68,33 @@ text_length (Text units) =
 
 pub record StandAfter (part : List ℕ) (rva leaf : ℕ) (entries : List Entry) : Type 0 where
   pub place : ℕ
-  pub zeros : ℕ
-  pub stand : Stand part rva leaf place zeros entries
+  pub filling : ℕ
+  pub stand : Stand part rva leaf place filling entries
 
-stand_after : (part : List ℕ) (rva count leaf place zeros : ℕ) (entries : List Entry) → count ≤ length entries → Stand part rva leaf place zeros entries → StandAfter part rva (leaf + 16 * count) (drop count entries)
-stand_after part rva zero leaf place zeros entries le stand =
+stand_after : (part : List ℕ) (rva count leaf place filling : ℕ) (entries : List Entry) → count ≤ length entries → Stand part rva leaf place filling entries → StandAfter part rva (leaf + 16 * count) (drop count entries)
+stand_after part rva zero leaf place filling entries le stand =
     let same : leaf ≡ leaf + 16 * 0 = omega arith in
-    subst (λ (n : ℕ). StandAfter part rva n entries) same (record { place = place; zeros = zeros; stand = stand })
-stand_after part rva (suc count) leaf place zeros [] le stand = absurd (omega arith)
-stand_after part rva (suc count) leaf place zeros (entry ∷ entries) le stand =
+    subst (λ (n : ℕ). StandAfter part rva n entries) same (record { place = place; filling = filling; stand = stand })
+stand_after part rva (suc count) leaf place filling [] le stand = absurd (omega arith)
+stand_after part rva (suc count) leaf place filling (entry ∷ entries) le stand =
     let next : leaf + 16 + 16 * count ≡ leaf + 16 * suc count = omega arith in
     subst (λ (n : ℕ). StandAfter part rva n (drop count entries)) next
-    (stand_after part rva count (leaf + 16) _ _ entries (omega arith) (stand_next part rva leaf place zeros entry entries stand))
+    (stand_after part rva count (leaf + 16) _ _ entries (omega arith) (stand_next part rva leaf place filling entry entries stand))
 
-languages_small : (part : List ℕ) (rva leaf place zeros : ℕ) (entries : List Entry) → length part < 2 ^ 31 → Stand part rva leaf place zeros entries → AllByRecursion (λ entry. entry.language < 2 ^ 16) entries → AllByRecursion IsSmallRow (language_rows leaf entries)
+languages_small : (part : List ℕ) (rva leaf place filling : ℕ) (entries : List Entry) → length part < 2 ^ 31 → Stand part rva leaf place filling entries → AllByRecursion (λ entry. entry.language < 2 ^ 16) entries → AllByRecursion IsSmallRow (language_rows leaf entries)
 unfolding language_rows
-languages_small part rva leaf place zeros [] small stand each = tt
-languages_small part rva leaf place zeros (entry ∷ entries) small stand each =
-    ((omega (arith, each.0), omega (arith, leaf_inside part rva leaf place zeros entry entries stand, small)), languages_small part rva (leaf + 16) (place + zeros + length entry.body) _ entries small (stand_next part rva leaf place zeros entry entries stand) each.1)
+languages_small part rva leaf place filling [] small stand each = tt
+languages_small part rva leaf place filling (entry ∷ entries) small stand each =
+    ((omega (arith, each.0), omega (arith, leaf_inside part rva leaf place filling entry entries stand, small)), languages_small part rva (leaf + 16) (place + filling + length entry.body) _ entries small (stand_next part rva leaf place filling entry entries stand) each.1)
 
 -- ---- names
 
-pub record NamesStand (part : List ℕ) (rva time text table leaf place zeros : ℕ) (names : List Run) (entries : List Entry) : Type 0 where
+pub record NamesStand (part : List ℕ) (rva time text table leaf place filling : ℕ) (names : List Run) (entries : List Entry) : Type 0 where
   pub texts_rest : List ℕ
   pub tables_rest : List ℕ
   pub texts_are : drop text part ≡ texts name_of_run names ++ texts_rest
   pub tables_are : drop table part ≡ tables time names (language_rows leaf entries) ++ tables_rest
-  pub stand : Stand part rva leaf place zeros entries
+  pub stand : Stand part rva leaf place filling entries
   pub counts : sum_by run_count names ≡ length entries
   pub short : AllByRecursion (λ run. IsShort run.head.name × IsSmallKey run.head.name) names
   pub small : AllByRecursion (λ entry. entry.language < 2 ^ 16) entries
@@ -103,10 +103,10 @@ pub record NamesStand (part : List ℕ) (rva time text table leaf place zeros : 
 pub record NamesAfter (part : List ℕ) (rva time text table : ℕ) (names : List Run) (entries : List Entry) : Type 0 where
   pub leaf : ℕ
   pub place : ℕ
-  pub zeros : ℕ
-  pub names_stand : NamesStand part rva time text table leaf place zeros names entries
+  pub filling : ℕ
+  pub names_stand : NamesStand part rva time text table leaf place filling names entries
 
-module _ (part : List ℕ) (rva time text table leaf place zeros : ℕ) (run : Run) (names : List Run) (entries : List Entry) (stands : NamesStand part rva time text table leaf place zeros (run ∷ names) entries) where
+module _ (part : List ℕ) (rva time text table leaf place filling : ℕ) (run : Run) (names : List Run) (entries : List Entry) (stands : NamesStand part rva time text table leaf place filling (run ∷ names) entries) where
   pub count_fits : run.count ≤ length entries
   count_fits = omega (arith, stands.counts, sum_by-cons run_count run names)
 
@@ -124,13 +124,13 @@ module _ (part : List ℕ) (rva time text table leaf place zeros : ℕ) (run : R
 
   pub names_next : NamesAfter part rva time (text + text_size run.head.name) (table + table_size run.count) names (drop run.count entries)
   names_next =
-      let after = stand_after part rva run.count leaf place zeros entries count_fits stands.stand in
+      let after = stand_after part rva run.count leaf place filling entries count_fits stands.stand in
       let size : length (table_bytes time (language_rows leaf (take run.count entries))) ≡ table_size run.count =
       table_length time (language_rows leaf (take run.count entries)) ∙ ap (λ (n : ℕ). 16 + 8 * n) (language_length leaf (take run.count entries) ∙ taken_length run.count entries count_fits) in
       record {
         leaf = leaf + 16 * run.count;
         place = after.place;
-        zeros = after.zeros;
+        filling = after.filling;
         names_stand = record {
           texts_rest = stands.texts_rest;
           tables_rest = stands.tables_rest;
@@ -148,7 +148,7 @@ module _ (part : List ℕ) (rva time text table leaf place zeros : ℕ) (run : R
     table_rows : rows_at part table ≡ language_rows leaf (take run.count entries)
     table_rows =
         table_read part _ table time (language_rows leaf (take run.count entries)) table_is
-        (subst (λ (rs : List Row). AllByRecursion IsSmallRow rs) (languages_take run.count leaf entries) (each_take IsSmallRow run.count (language_rows leaf entries) (languages_small part rva leaf place zeros entries small stands.stand stands.small)))
+        (subst (λ (rs : List Row). AllByRecursion IsSmallRow rs) (languages_take run.count leaf entries) (each_take IsSmallRow run.count (language_rows leaf entries) (languages_small part rva leaf place filling entries small stands.stand stands.small)))
         (omega (arith, language_length leaf (take run.count entries), taken_length run.count entries count_fits, count_fits, stands.few))
 
     pub name_read : (wanted : Key) → IsSmallKey wanted → is_named part wanted (row_id text run.head.name) ≡ equal_key wanted run.head.name
@@ -158,7 +158,7 @@ module _ (part : List ℕ) (rva time text table leaf place zeros : ℕ) (run : R
     unfolding leaf_step
     language_step_found fits language =
         ap (λ (rs : List Row). bytes_of part rva (option_and_then (leaf_target part) (first_named part (Number language) rs))) table_rows
-        ∙ language_found part rva language small fits run.count leaf place zeros entries stands.stand
+        ∙ language_found part rva language small fits run.count leaf place filling entries stands.stand
 
 pub target_of : (table : ℕ) → table_target (HIGH_BIT + table) ≡ Some table
 target_of table =
@@ -170,17 +170,17 @@ target_of table =
 abbrev pub by_language : List ℕ → ℕ → ℕ → Option ℕ → Option (List ℕ)
 by_language part rva language target = bytes_of part rva (option_and_then (leaf_step part (Number language)) (option_and_then table_target target))
 
-pub names_found : (part : List ℕ) (rva time language : ℕ) (wanted : Key) → length part < 2 ^ 31 → rva + length part < 2 ^ 32 → IsSmallKey wanted → (count text table leaf place zeros : ℕ) (names : List Run) (entries : List Entry) → NamesStand part rva time text table leaf place zeros names entries → by_language part rva language (first_named part wanted (rows name_of_run text table (take count names))) ≡ named_data wanted language (take count names) entries
+pub names_found : (part : List ℕ) (rva time language : ℕ) (wanted : Key) → length part < 2 ^ 31 → rva + length part < 2 ^ 32 → IsSmallKey wanted → (count text table leaf place filling : ℕ) (names : List Run) (entries : List Entry) → NamesStand part rva time text table leaf place filling names entries → by_language part rva language (first_named part wanted (rows name_of_run text table (take count names))) ≡ named_data wanted language (take count names) entries
 unfolding first_named rows named_data
-names_found part rva time language wanted small fits also zero text table leaf place zeros names entries stands = refl
-names_found part rva time language wanted small fits also (suc count) text table leaf place zeros [] entries stands = refl
-names_found part rva time language wanted small fits also (suc count) text table leaf place zeros (run ∷ names) entries stands =
-    let after = names_next part rva time text table leaf place zeros run names entries stands in
-    ap (λ (b : Bool). by_language part rva language (cond b (Some (HIGH_BIT + table)) (first_named part wanted (rows name_of_run (text + text_size run.head.name) (table + table_size run.count) (take count names))))) (name_read part rva time text table leaf place zeros run names entries stands small wanted also)
-    ∙ by_test (equal_key wanted run.head.name) (names_found part rva time language wanted small fits also count (text + text_size run.head.name) (table + table_size run.count) after.leaf after.place after.zeros names (drop run.count entries) after.names_stand)
+names_found part rva time language wanted small fits also zero text table leaf place filling names entries stands = refl
+names_found part rva time language wanted small fits also (suc count) text table leaf place filling [] entries stands = refl
+names_found part rva time language wanted small fits also (suc count) text table leaf place filling (run ∷ names) entries stands =
+    let after = names_next part rva time text table leaf place filling run names entries stands in
+    ap (λ (b : Bool). by_language part rva language (cond b (Some (HIGH_BIT + table)) (first_named part wanted (rows name_of_run (text + text_size run.head.name) (table + table_size run.count) (take count names))))) (name_read part rva time text table leaf place filling run names entries stands small wanted also)
+    ∙ by_test (equal_key wanted run.head.name) (names_found part rva time language wanted small fits also count (text + text_size run.head.name) (table + table_size run.count) after.leaf after.place after.filling names (drop run.count entries) after.names_stand)
   where
     by_test : (b : Bool) → by_language part rva language (first_named part wanted (rows name_of_run (text + text_size run.head.name) (table + table_size run.count) (take count names))) ≡ named_data wanted language (take count names) (drop run.count entries) → by_language part rva language (cond b (Some (HIGH_BIT + table)) (first_named part wanted (rows name_of_run (text + text_size run.head.name) (table + table_size run.count) (take count names)))) ≡ cond b (body_of language (take run.count entries)) (named_data wanted language (take count names) (drop run.count entries))
     by_test true later =
         ap (λ (t : Option ℕ). bytes_of part rva (option_and_then (leaf_step part (Number language)) t)) (target_of table)
-        ∙ language_step_found part rva time text table leaf place zeros run names entries stands small fits language
+        ∙ language_step_found part rva time text table leaf place filling run names entries stands small fits language
     by_test false later = later

@@ -30,13 +30,13 @@ row_small part rest text (Number number) small is also = omega (arith, also)
 row_small part rest text (Text units) small is also =
     omega (arith, small, inside part (text_bytes (Text units)) rest text is (simp (length-append) (omega (arith, length-number_bytes 2 (length units / 2)))))
 
-names_small : (part : List ℕ) (rva time text table leaf place zeros : ℕ) (names : List Run) (entries : List Entry) → length part < 2 ^ 31 → NamesStand part rva time text table leaf place zeros names entries → AllByRecursion IsSmallRow (rows name_of_run text table names)
+names_small : (part : List ℕ) (rva time text table leaf place filling : ℕ) (names : List Run) (entries : List Entry) → length part < 2 ^ 31 → NamesStand part rva time text table leaf place filling names entries → AllByRecursion IsSmallRow (rows name_of_run text table names)
 unfolding rows
-names_small part rva time text table leaf place zeros [] entries small stands = tt
-names_small part rva time text table leaf place zeros (run ∷ names) entries small stands =
-    let after = names_next part rva time text table leaf place zeros run names entries stands in
-    let low = inside part (table_bytes time (language_rows leaf (take run.count entries))) _ table (table_is part rva time text table leaf place zeros run names entries stands) (omega (arith, table_length time (language_rows leaf (take run.count entries)))) in
-    ((row_small part _ text run.head.name small (text_is part rva time text table leaf place zeros run names entries stands) stands.short.0.1, omega (arith, low, small)), names_small part rva time (text + text_size run.head.name) (table + table_size run.count) after.leaf after.place after.zeros names (drop run.count entries) small after.names_stand)
+names_small part rva time text table leaf place filling [] entries small stands = tt
+names_small part rva time text table leaf place filling (run ∷ names) entries small stands =
+    let after = names_next part rva time text table leaf place filling run names entries stands in
+    let low = inside part (table_bytes time (language_rows leaf (take run.count entries))) _ table (table_is part rva time text table leaf place filling run names entries stands) (omega (arith, table_length time (language_rows leaf (take run.count entries)))) in
+    ((row_small part _ text run.head.name small (text_is part rva time text table leaf place filling run names entries stands) stands.short.0.1, omega (arith, low, small)), names_small part rva time (text + text_size run.head.name) (table + table_size run.count) after.leaf after.place after.filling names (drop run.count entries) small after.names_stand)
 
 -- ---- names behind so many
 
@@ -46,26 +46,26 @@ pub record NamesBehind (part : List ℕ) (rva time : ℕ) (all : List Row) (name
   pub after : NamesAfter part rva time text table names entries
   pub rows_are : all ≡ rows name_of_run text table names
 
-names_behind : (part : List ℕ) (rva time count text table leaf place zeros : ℕ) (names : List Run) (entries : List Entry) → count ≤ length names → NamesStand part rva time text table leaf place zeros names entries → NamesBehind part rva time (drop count (rows name_of_run text table names)) (drop count names) (drop (sum_by run_count (take count names)) entries)
+names_behind : (part : List ℕ) (rva time count text table leaf place filling : ℕ) (names : List Run) (entries : List Entry) → count ≤ length names → NamesStand part rva time text table leaf place filling names entries → NamesBehind part rva time (drop count (rows name_of_run text table names)) (drop count names) (drop (sum_by run_count (take count names)) entries)
 unfolding rows
-names_behind part rva time zero text table leaf place zeros names entries le stands =
-    record { text = text; table = table; after = record { leaf = leaf; place = place; zeros = zeros; names_stand = stands }; rows_are = refl }
-names_behind part rva time (suc count) text table leaf place zeros [] entries le stands = absurd (omega arith)
-names_behind part rva time (suc count) text table leaf place zeros (run ∷ names) entries le stands =
-    let next = names_next part rva time text table leaf place zeros run names entries stands in
-    let far = names_behind part rva time count (text + text_size run.head.name) (table + table_size run.count) next.leaf next.place next.zeros names (drop run.count entries) (omega arith) next.names_stand in
+names_behind part rva time zero text table leaf place filling names entries le stands =
+    record { text = text; table = table; after = record { leaf = leaf; place = place; filling = filling; names_stand = stands }; rows_are = refl }
+names_behind part rva time (suc count) text table leaf place filling [] entries le stands = absurd (omega arith)
+names_behind part rva time (suc count) text table leaf place filling (run ∷ names) entries le stands =
+    let next = names_next part rva time text table leaf place filling run names entries stands in
+    let far = names_behind part rva time count (text + text_size run.head.name) (table + table_size run.count) next.leaf next.place next.filling names (drop run.count entries) (omega arith) next.names_stand in
     let left : drop (sum_by run_count (take count names)) (drop run.count entries) ≡ drop (sum_by run_count (take (suc count) (run ∷ names))) entries =
     drop-drop (sum_by run_count (take count names)) run.count entries ∙ ap (λ (n : ℕ). drop n entries) (sym (sum_by-cons run_count run (take count names))) in
     subst (λ (es : List Entry). NamesBehind part rva time (drop count (rows name_of_run (text + text_size run.head.name) (table + table_size run.count) names)) (drop count names) es) left far
 
 -- ---- types
 
-pub record KindsStand (part : List ℕ) (rva time kind_text kind_table text table leaf place zeros : ℕ) (kinds names : List Run) (entries : List Entry) : Type 0 where
+pub record KindsStand (part : List ℕ) (rva time kind_text kind_table text table leaf place filling : ℕ) (kinds names : List Run) (entries : List Entry) : Type 0 where
   pub texts_rest : List ℕ
   pub tables_rest : List ℕ
   pub kind_texts_are : drop kind_text part ≡ texts kind_of_run kinds ++ texts_rest
   pub kind_tables_are : drop kind_table part ≡ tables time kinds (rows name_of_run text table names) ++ tables_rest
-  pub names_are : NamesStand part rva time text table leaf place zeros names entries
+  pub names_are : NamesStand part rva time text table leaf place filling names entries
   pub kind_counts : sum_by run_count kinds ≡ length names
   pub kinds_short : AllByRecursion (λ run. IsShort run.head.kind × IsSmallKey run.head.kind) kinds
   pub names_few : length names < 2 ^ 16
@@ -75,10 +75,10 @@ pub record KindsAfter (part : List ℕ) (rva time kind_text kind_table : ℕ) (k
   pub table : ℕ
   pub leaf : ℕ
   pub place : ℕ
-  pub zeros : ℕ
-  pub kinds_stand : KindsStand part rva time kind_text kind_table text table leaf place zeros kinds names entries
+  pub filling : ℕ
+  pub kinds_stand : KindsStand part rva time kind_text kind_table text table leaf place filling kinds names entries
 
-module _ (part : List ℕ) (rva time kind_text kind_table text table leaf place zeros : ℕ) (run : Run) (kinds names : List Run) (entries : List Entry) (stands : KindsStand part rva time kind_text kind_table text table leaf place zeros (run ∷ kinds) names entries) where
+module _ (part : List ℕ) (rva time kind_text kind_table text table leaf place filling : ℕ) (run : Run) (kinds names : List Run) (entries : List Entry) (stands : KindsStand part rva time kind_text kind_table text table leaf place filling (run ∷ kinds) names entries) where
   kind_count_fits : run.count ≤ length names
   kind_count_fits = omega (arith, stands.kind_counts, sum_by-cons run_count run kinds)
 
@@ -95,7 +95,7 @@ module _ (part : List ℕ) (rva time kind_text kind_table text table leaf place 
 
   pub kinds_next : KindsAfter part rva time (kind_text + text_size run.head.kind) (kind_table + table_size run.count) kinds (drop run.count names) (drop (sum_by run_count (take run.count names)) entries)
   kinds_next =
-      let far = names_behind part rva time run.count text table leaf place zeros names entries kind_count_fits stands.names_are in
+      let far = names_behind part rva time run.count text table leaf place filling names entries kind_count_fits stands.names_are in
       let size : length (table_bytes time (rows name_of_run text table (take run.count names))) ≡ table_size run.count =
       table_length time (rows name_of_run text table (take run.count names)) ∙ ap (λ (n : ℕ). 16 + 8 * n) (rows_length name_of_run text table (take run.count names) ∙ taken_length run.count names kind_count_fits) in
       record {
@@ -103,7 +103,7 @@ module _ (part : List ℕ) (rva time kind_text kind_table text table leaf place 
         table = far.table;
         leaf = far.after.leaf;
         place = far.after.place;
-        zeros = far.after.zeros;
+        filling = far.after.filling;
         kinds_stand = record {
           texts_rest = stands.texts_rest;
           tables_rest = stands.tables_rest;
@@ -120,7 +120,7 @@ module _ (part : List ℕ) (rva time kind_text kind_table text table leaf place 
     kind_rows_read : rows_at part kind_table ≡ rows name_of_run text table (take run.count names)
     kind_rows_read =
         table_read part _ kind_table time (rows name_of_run text table (take run.count names)) kind_table_is
-        (subst (λ (rs : List Row). AllByRecursion IsSmallRow rs) (rows_take name_of_run run.count text table names) (each_take IsSmallRow run.count (rows name_of_run text table names) (names_small part rva time text table leaf place zeros names entries small stands.names_are)))
+        (subst (λ (rs : List Row). AllByRecursion IsSmallRow rs) (rows_take name_of_run run.count text table names) (each_take IsSmallRow run.count (rows name_of_run text table names) (names_small part rva time text table leaf place filling names entries small stands.names_are)))
         (omega (arith, rows_length name_of_run text table (take run.count names), taken_length run.count names kind_count_fits, kind_count_fits, stands.names_few))
 
     kind_read : (wanted : Key) → IsSmallKey wanted → is_named part wanted (row_id kind_text run.head.kind) ≡ equal_key wanted run.head.kind
@@ -130,23 +130,23 @@ module _ (part : List ℕ) (rva time kind_text kind_table text table leaf place 
     unfolding table_step
     name_step_found fits name language also =
         ap (λ (rs : List Row). by_language part rva language (first_named part name rs)) kind_rows_read
-        ∙ names_found part rva time language name small fits also run.count text table leaf place zeros names entries stands.names_are
+        ∙ names_found part rva time language name small fits also run.count text table leaf place filling names entries stands.names_are
 
 -- what the table of types leads to
 abbrev pub by_name : List ℕ → ℕ → Key → ℕ → Option ℕ → Option (List ℕ)
 by_name part rva name language target =
     bytes_of part rva (option_and_then (leaf_step part (Number language)) (option_and_then (table_step part name) (option_and_then table_target target)))
 
-pub kinds_found : (part : List ℕ) (rva time language : ℕ) (wanted name : Key) → length part < 2 ^ 31 → rva + length part < 2 ^ 32 → IsSmallKey wanted → IsSmallKey name → (kind_text kind_table text table leaf place zeros : ℕ) (kinds names : List Run) (entries : List Entry) → KindsStand part rva time kind_text kind_table text table leaf place zeros kinds names entries → by_name part rva name language (first_named part wanted (rows kind_of_run kind_text kind_table kinds)) ≡ kind_data wanted name language kinds names entries
+pub kinds_found : (part : List ℕ) (rva time language : ℕ) (wanted name : Key) → length part < 2 ^ 31 → rva + length part < 2 ^ 32 → IsSmallKey wanted → IsSmallKey name → (kind_text kind_table text table leaf place filling : ℕ) (kinds names : List Run) (entries : List Entry) → KindsStand part rva time kind_text kind_table text table leaf place filling kinds names entries → by_name part rva name language (first_named part wanted (rows kind_of_run kind_text kind_table kinds)) ≡ kind_data wanted name language kinds names entries
 unfolding first_named rows kind_data
-kinds_found part rva time language wanted name small fits also too kind_text kind_table text table leaf place zeros [] names entries stands = refl
-kinds_found part rva time language wanted name small fits also too kind_text kind_table text table leaf place zeros (run ∷ kinds) names entries stands =
-    let after = kinds_next part rva time kind_text kind_table text table leaf place zeros run kinds names entries stands in
-    ap (λ (b : Bool). by_name part rva name language (cond b (Some (HIGH_BIT + kind_table)) (first_named part wanted (rows kind_of_run (kind_text + text_size run.head.kind) (kind_table + table_size run.count) kinds)))) (kind_read part rva time kind_text kind_table text table leaf place zeros run kinds names entries stands small wanted also)
-    ∙ by_test (equal_key wanted run.head.kind) (kinds_found part rva time language wanted name small fits also too (kind_text + text_size run.head.kind) (kind_table + table_size run.count) after.text after.table after.leaf after.place after.zeros kinds (drop run.count names) (drop (sum_by run_count (take run.count names)) entries) after.kinds_stand)
+kinds_found part rva time language wanted name small fits also too kind_text kind_table text table leaf place filling [] names entries stands = refl
+kinds_found part rva time language wanted name small fits also too kind_text kind_table text table leaf place filling (run ∷ kinds) names entries stands =
+    let after = kinds_next part rva time kind_text kind_table text table leaf place filling run kinds names entries stands in
+    ap (λ (b : Bool). by_name part rva name language (cond b (Some (HIGH_BIT + kind_table)) (first_named part wanted (rows kind_of_run (kind_text + text_size run.head.kind) (kind_table + table_size run.count) kinds)))) (kind_read part rva time kind_text kind_table text table leaf place filling run kinds names entries stands small wanted also)
+    ∙ by_test (equal_key wanted run.head.kind) (kinds_found part rva time language wanted name small fits also too (kind_text + text_size run.head.kind) (kind_table + table_size run.count) after.text after.table after.leaf after.place after.filling kinds (drop run.count names) (drop (sum_by run_count (take run.count names)) entries) after.kinds_stand)
   where
     by_test : (b : Bool) → by_name part rva name language (first_named part wanted (rows kind_of_run (kind_text + text_size run.head.kind) (kind_table + table_size run.count) kinds)) ≡ kind_data wanted name language kinds (drop run.count names) (drop (sum_by run_count (take run.count names)) entries) → by_name part rva name language (cond b (Some (HIGH_BIT + kind_table)) (first_named part wanted (rows kind_of_run (kind_text + text_size run.head.kind) (kind_table + table_size run.count) kinds))) ≡ cond b (named_data name language (take run.count names) entries) (kind_data wanted name language kinds (drop run.count names) (drop (sum_by run_count (take run.count names)) entries))
     by_test true later =
         ap (λ (t : Option ℕ). bytes_of part rva (option_and_then (leaf_step part (Number language)) (option_and_then (table_step part name) t))) (target_of kind_table)
-        ∙ name_step_found part rva time kind_text kind_table text table leaf place zeros run kinds names entries stands small fits name language too
+        ∙ name_step_found part rva time kind_text kind_table text table leaf place filling run kinds names entries stands small fits name language too
     by_test false later = later

@@ -13,6 +13,7 @@ pub mod LeafLemmas
 pub mod DescentLemmas
 pub mod KindLemmas
 pub mod PositionLemmas
+pub mod GroupLemmas
 pub mod SortLemmas
 mod WorkedFile
 pub mod WorkedTree

@@ -182,13 +182,13 @@ module _ (time rva : ℕ) (entries : List Entry) (held : AreHeld entries) where
       }
 
 -- the entries of the table of types are numbers of four bytes
-kinds_small : (bytes : List ℕ) (rva time kind_text kind_table text table leaf place zeros : ℕ) (kinds names : List Run) (entries : List Entry) → length bytes < 2 ^ 31 → KindsStand bytes rva time kind_text kind_table text table leaf place zeros kinds names entries → AllByRecursion IsSmallRow (rows kind_of_run kind_text kind_table kinds)
+kinds_small : (bytes : List ℕ) (rva time kind_text kind_table text table leaf place filling : ℕ) (kinds names : List Run) (entries : List Entry) → length bytes < 2 ^ 31 → KindsStand bytes rva time kind_text kind_table text table leaf place filling kinds names entries → AllByRecursion IsSmallRow (rows kind_of_run kind_text kind_table kinds)
 unfolding rows
-kinds_small bytes rva time kind_text kind_table text table leaf place zeros [] names entries small stands = tt
-kinds_small bytes rva time kind_text kind_table text table leaf place zeros (run ∷ kinds) names entries small stands =
-    let after = kinds_next bytes rva time kind_text kind_table text table leaf place zeros run kinds names entries stands in
-    let low = inside bytes (part.table time (rows name_of_run text table (take run.count names))) _ kind_table (kind_table_is bytes rva time kind_text kind_table text table leaf place zeros run kinds names entries stands) (omega (arith, table_length time (rows name_of_run text table (take run.count names)))) in
-    ((row_small bytes _ kind_text run.head.kind small (kind_text_is bytes rva time kind_text kind_table text table leaf place zeros run kinds names entries stands) stands.kinds_short.0.1, omega (arith, low, small)), kinds_small bytes rva time (kind_text + text_size run.head.kind) (kind_table + table_size run.count) after.text after.table after.leaf after.place after.zeros kinds (drop run.count names) (drop (sum_by run_count (take run.count names)) entries) small after.kinds_stand)
+kinds_small bytes rva time kind_text kind_table text table leaf place filling [] names entries small stands = tt
+kinds_small bytes rva time kind_text kind_table text table leaf place filling (run ∷ kinds) names entries small stands =
+    let after = kinds_next bytes rva time kind_text kind_table text table leaf place filling run kinds names entries stands in
+    let low = inside bytes (part.table time (rows name_of_run text table (take run.count names))) _ kind_table (kind_table_is bytes rva time kind_text kind_table text table leaf place filling run kinds names entries stands) (omega (arith, table_length time (rows name_of_run text table (take run.count names)))) in
+    ((row_small bytes _ kind_text run.head.kind small (kind_text_is bytes rva time kind_text kind_table text table leaf place filling run kinds names entries stands) stands.kinds_short.0.1, omega (arith, low, small)), kinds_small bytes rva time (kind_text + text_size run.head.kind) (kind_table + table_size run.count) after.text after.table after.leaf after.place after.filling kinds (drop run.count names) (drop (sum_by run_count (take run.count names)) entries) small after.kinds_stand)
 
 -- what is found in a tree is what its runs say
 pub tree_found : (time rva language : ℕ) (kind name : Key) (entries : List Entry) → AreHeld entries → tree_size entries < 2 ^ 31 → rva + tree_size entries < 2 ^ 32 → IsSmallKey kind → IsSmallKey name → option_map (λ (place : ℕ × ℕ). bytes_at (tree_of time rva entries) (place.0 - rva) place.1) (place_in (tree_of time rva entries) rva kind name language) ≡ kind_data kind name language (kinds_of entries) (names_of entries) entries

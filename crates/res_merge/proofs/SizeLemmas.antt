@@ -71,10 +71,10 @@ texts_near : (key : Run → Key) (size : Entry → ℕ) (list : List Run) → ((
 texts_near key size [] is = omega arith
 texts_near key size (run ∷ rest) is = omega (arith, texts_near key size rest is, text_near (key run), is run, sum_by-cons (λ (run : Run). text_size (key run)) run rest, sum_by-cons size run.head (heads rest))
 
-data_near : (zeros : ℕ) (list : List Entry) → length (data_from zeros list) ≤ zeros + (sum_by (λ entry. length entry.body) list + 3 * length list)
+data_near : (filling : ℕ) (list : List Entry) → length (data_from filling list) ≤ filling + (sum_by (λ entry. length entry.body) list + 3 * length list)
 unfolding data_from aligned
-data_near zeros [] = omega arith
-data_near zeros (entry ∷ rest) = simp (length-append, length-replicate) (omega (arith, data_near (aligned (length entry.body) - length entry.body) rest, sum_by-cons (λ (entry : Entry). length entry.body) entry rest))
+data_near filling [] = omega arith
+data_near filling (entry ∷ rest) = simp (length-append, length-replicate) (omega (arith, data_near (aligned (length entry.body) - length entry.body) rest, sum_by-cons (λ (entry : Entry). length entry.body) entry rest))
 
 entry_sums : (list : List Entry) → sum_by entry_size list ≡ sum_by (λ entry. key_size entry.kind) list + sum_by (λ entry. key_size entry.name) list + sum_by (λ entry. length entry.body) list
 entry_sums [] = refl

@@ -50,17 +50,17 @@ pub leaves_end : (rva : ℕ) (left : List Entry) → left ≡ [] → leaves rva 
 unfolding leaves
 leaves_end rva left is = ap (leaves rva) is
 
-pub data_written : (zeros : ℕ) (entry : Entry) (rest left : List Entry) → left ≡ entry ∷ rest → data_from zeros left ≡ replicate zeros 0 ++ (entry.body ++ data_from (padding (length entry.body)) rest)
+pub data_written : (filling : ℕ) (entry : Entry) (rest left : List Entry) → left ≡ entry ∷ rest → data_from filling left ≡ replicate filling 0 ++ (entry.body ++ data_from (padding (length entry.body)) rest)
 unfolding data_from
-data_written zeros entry rest left is = ap (data_from zeros) is
+data_written filling entry rest left is = ap (data_from filling) is
 
-pub data_end : (zeros : ℕ) (left : List Entry) → left ≡ [] → data_from zeros left ≡ []
+pub data_end : (filling : ℕ) (left : List Entry) → left ≡ [] → data_from filling left ≡ []
 unfolding data_from
-data_end zeros left is = ap (data_from zeros) is
+data_end filling left is = ap (data_from filling) is
 
-pub data_zeros : (zeros : ℕ) (entry : Entry) (rest : List Entry) → length (data_from zeros (entry ∷ rest)) ≡ zeros + length (data_from 0 (entry ∷ rest))
+pub data_zeros : (filling : ℕ) (entry : Entry) (rest : List Entry) → length (data_from filling (entry ∷ rest)) ≡ filling + length (data_from 0 (entry ∷ rest))
 unfolding data_from
-data_zeros zeros entry rest = simp (length-append, length-replicate) (omega arith)
+data_zeros filling entry rest = simp (length-append, length-replicate) (omega arith)
 
 pub aligned-above : (n : ℕ) → n ≤ aligned n
 unfolding aligned

@@ -100,8 +100,8 @@ padding size = aligned size - size
 
 -- the data, behind so many zeros, each from a multiple of four on
 unfoldable pub data_from : ℕ → List Entry → List ℕ
-data_from zeros [] = []
-data_from zeros (entry ∷ rest) = replicate zeros 0 ++ (entry.body ++ data_from (padding (length entry.body)) rest)
+data_from filling [] = []
+data_from filling (entry ∷ rest) = replicate filling 0 ++ (entry.body ++ data_from (padding (length entry.body)) rest)
 
 -- ---- the parts
 
