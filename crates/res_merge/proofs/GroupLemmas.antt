@@ -42,7 +42,7 @@ units_one (x ∷ z ∷ xs) (y ∷ w ∷ ys) even also e =
     cc
 
 -- keys that compare equal are one
-keys_one : (a b : Key) → IsShort a → IsShort b → same_key a b ≡ true → a ≡ b
+pub keys_one : (a b : Key) → IsShort a → IsShort b → same_key a b ≡ true → a ≡ b
 keys_one a b short also e = go a b short also ((bytes_eq-Decides (sort_key a) (sort_key b)).0 (sym (is_eq-slice_cmp (sort_key a) (sort_key b)) ∙ e))
   where
     go : (a b : Key) → IsShort a → IsShort b → sort_key a ≡ sort_key b → a ≡ b
@@ -52,17 +52,17 @@ keys_one a b short also e = go a b short also ((bytes_eq-Decides (sort_key a) (s
     go (Text xs) (Text ys) short also e = let left : high_first xs ≡ high_first ys = cc in ap Text (units_one xs ys short.0 also.0 left)
 
 -- a key that is wanted is the key
-wanted_is : (wanted key : Key) → equal_key wanted key ≡ true → wanted ≡ key
+pub wanted_is : (wanted key : Key) → equal_key wanted key ≡ true → wanted ≡ key
 wanted_is (Number m) (Number n) e = ap Number (sym (eqb-true n m e))
 wanted_is (Number m) (Text ys) e = absurd (false≢true e)
 wanted_is (Text xs) (Number n) e = absurd (false≢true e)
 wanted_is (Text xs) (Text ys) e = ap Text (sym ((bytes_eq-Decides ys xs).0 e))
 
-same_itself : (key : Key) → same_key key key ≡ true
+pub same_itself : (key : Key) → same_key key key ≡ true
 same_itself key = ap is_eq (tied_itself key_total key)
 
 -- of keys that differ one at most is wanted
-one_wanted : (wanted a b : Key) → same_key a b ≡ false → equal_key wanted a ≡ true → equal_key wanted b ≡ false
+pub one_wanted : (wanted a b : Key) → same_key a b ≡ false → equal_key wanted a ≡ true → equal_key wanted b ≡ false
 one_wanted wanted a b differ is = go (equal_key wanted b) refl
   where
     go : (c : Bool) → equal_key wanted b ≡ c → c ≡ false
@@ -92,7 +92,7 @@ module _ {K : Type 0} {R : K → K → Ordering} (o : IsTotalOrder R) where
   lower Greater p q = absurd (true≢false p)
 
   -- what differs from the next one differs from all that follow
-  separated : (x y : K) (ys : List K) → Rises R (x ∷ y ∷ ys) → is_eq (R x y) ≡ false → AllByRecursion (λ z. is_eq (R x z) ≡ false) (y ∷ ys)
+  pub separated : (x y : K) (ys : List K) → Rises R (x ∷ y ∷ ys) → is_eq (R x y) ≡ false → AllByRecursion (λ z. is_eq (R x z) ≡ false) (y ∷ ys)
   separated x y ys rises differ = (differ, each ys rises.1.0)
     where
       each : (zs : List K) → AllByRecursion (λ z. is_gt (R y z) ≡ false) zs → AllByRecursion (λ z. is_eq (R x z) ≡ false) zs
@@ -100,7 +100,7 @@ module _ {K : Type 0} {R : K → K → Ordering} (o : IsTotalOrder R) where
       each (z ∷ zs) all = (ap is_eq (chain x y z (lower (R x y) rises.0.0 differ) all.0), each zs all.1)
 
 -- the first of each run rise too
-heads_rise : (R : Entry → Entry → Ordering) (same : Entry → Entry → Bool) (list : List Entry) → Rises R list → Rises R (heads (runs same list))
+pub heads_rise : (R : Entry → Entry → Ordering) (same : Entry → Entry → Bool) (list : List Entry) → Rises R list → Rises R (heads (runs same list))
 unfolding runs
 heads_rise R same [] rises = tt
 heads_rise R same (entry ∷ rest) rises =
@@ -122,10 +122,10 @@ kind_cmp = on (λ entry. entry.kind) key_cmp
 abbrev pub name_cmp : Entry → Entry → Ordering
 name_cmp = then_cmp (on (λ entry. entry.kind) key_cmp) (on (λ entry. entry.name) key_cmp)
 
-kind_total : IsTotalOrder kind_cmp
+pub kind_total : IsTotalOrder kind_cmp
 kind_total = search (comparing, rules) depth 12
 
-name_total : IsTotalOrder name_cmp
+pub name_total : IsTotalOrder name_cmp
 name_total = search (comparing, rules) depth 12
 
 then_eq : (a b : Ordering) → is_eq (ordering_then a b) ≡ (is_eq a && is_eq b)
@@ -133,5 +133,5 @@ then_eq Less b = refl
 then_eq Equal b = refl
 then_eq Greater b = refl
 
-same_is : (x y : Entry) → same_name x y ≡ is_eq (name_cmp x y)
+pub same_is : (x y : Entry) → same_name x y ≡ is_eq (name_cmp x y)
 same_is x y = sym (then_eq (key_cmp x.kind y.kind) (key_cmp x.name y.name))

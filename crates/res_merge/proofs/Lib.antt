@@ -14,6 +14,7 @@ pub mod DescentLemmas
 pub mod KindLemmas
 pub mod PositionLemmas
 pub mod GroupLemmas
+pub mod RunDataLemmas
 pub mod SortLemmas
 mod WorkedFile
 pub mod WorkedTree
