@@ -28,6 +28,34 @@ pair_data kind name language [] entries = None
 pair_data kind name language (run ∷ runs) entries =
     cond (is_pair kind name run.head) (body_of language (take run.count entries)) (pair_data kind name language runs (drop run.count entries))
 
+-- ---- runs
+
+no_runs : (same : Entry → Entry → Bool) (list : List Entry) → runs same list ≡ [] → list ≡ []
+unfolding runs
+no_runs same [] e = refl
+no_runs same (entry ∷ rest) e = absurd (go (runs same rest) e)
+  where
+    go : (list : List Run) → run_before same entry 1 list ≡ [] → ⊥
+    go [] e = cc
+    go (run ∷ list) e = by_test (same entry run.head) e
+      where
+        by_test : (b : Bool) → cond b (record { head = entry; count = 1 + run.count } ∷ list) (record { head = entry; count = 1 } ∷ run ∷ list) ≡ [] → ⊥
+        by_test true e = cc
+        by_test false e = cc
+
+-- the head of the first run is the first resource
+first_head : (same : Entry → Entry → Bool) (entry : Entry) (rest : List Entry) (run : Run) (list : List Run) → runs same (entry ∷ rest) ≡ run ∷ list → run.head ≡ entry
+unfolding runs
+first_head same entry rest run list e = go (runs same rest) e
+  where
+    go : (later : List Run) → run_before same entry 1 later ≡ run ∷ list → run.head ≡ entry
+    go [] e = let is : run ≡ record { head = entry; count = 1 } = cc in ap (λ (r : Run). r.head) is
+    go (next ∷ later) e = by_test (same entry next.head) e
+      where
+        by_test : (b : Bool) → cond b (record { head = entry; count = 1 + next.count } ∷ later) (record { head = entry; count = 1 } ∷ next ∷ later) ≡ run ∷ list → run.head ≡ entry
+        by_test true e = let is : run ≡ record { head = entry; count = 1 + next.count } = cc in ap (λ (r : Run). r.head) is
+        by_test false e = let is : run ≡ record { head = entry; count = 1 } = cc in ap (λ (r : Run). r.head) is
+
 -- ---- resources of one type and name
 
 module _ (kind name : Key) (language : ℕ) where
@@ -71,32 +99,6 @@ module _ (kind name : Key) (language : ℕ) where
       ap (λ (k : Key). equal_key kind k && equal_key name a.name) (keys_one a.kind b.kind short.0 also.0 parts.0)
       ∙ ap (λ (k : Key). equal_key kind b.kind && equal_key name k) (keys_one a.name b.name short.1 also.1 parts.1)
 
-  no_runs : (list : List Entry) → runs same_name list ≡ [] → list ≡ []
-  unfolding runs
-  no_runs [] e = refl
-  no_runs (entry ∷ rest) e = absurd (go (runs same_name rest) e)
-    where
-      go : (list : List Run) → run_before same_name entry 1 list ≡ [] → ⊥
-      go [] e = cc
-      go (run ∷ list) e = by_test (same_name entry run.head) e
-        where
-          by_test : (b : Bool) → cond b (record { head = entry; count = 1 + run.count } ∷ list) (record { head = entry; count = 1 } ∷ run ∷ list) ≡ [] → ⊥
-          by_test true e = cc
-          by_test false e = cc
-
-  -- the head of the first run is the first resource
-  first_head : (entry : Entry) (rest : List Entry) (run : Run) (list : List Run) → runs same_name (entry ∷ rest) ≡ run ∷ list → run.head ≡ entry
-  unfolding runs
-  first_head entry rest run list e = go (runs same_name rest) e
-    where
-      go : (later : List Run) → run_before same_name entry 1 later ≡ run ∷ list → run.head ≡ entry
-      go [] e = let same : run ≡ record { head = entry; count = 1 } = cc in ap (λ (r : Run). r.head) same
-      go (next ∷ later) e = by_test (same_name entry next.head) e
-        where
-          by_test : (b : Bool) → cond b (record { head = entry; count = 1 + next.count } ∷ later) (record { head = entry; count = 1 } ∷ next ∷ later) ≡ run ∷ list → run.head ≡ entry
-          by_test true e = let same : run ≡ record { head = entry; count = 1 + next.count } = cc in ap (λ (r : Run). r.head) same
-          by_test false e = let same : run ≡ record { head = entry; count = 1 } = cc in ap (λ (r : Run). r.head) same
-
   found_in : (entry : Entry) (b c : Bool) (later : Option (List ℕ)) → is_pair kind name entry ≡ b → eqb entry.language language ≡ c → cond b (cond c (Some entry.body) later) later ≡ cond (is_resource kind name language entry) (Some entry.body) later
   found_in entry true true later e f = rw (resource_parts entry, e, f) refl
   found_in entry true false later e f = rw (resource_parts entry, e, f) refl
@@ -109,11 +111,11 @@ module _ (kind name : Key) (language : ℕ) where
   pairs_said (entry ∷ next ∷ rest) short rises = go (runs same_name (next ∷ rest)) refl (pairs_said (next ∷ rest) short.1 rises.1)
     where
       go : (later : List Run) → runs same_name (next ∷ rest) ≡ later → pair_data kind name language later (next ∷ rest) ≡ data_of kind name language (next ∷ rest) → pair_data kind name language (run_before same_name entry 1 later) (entry ∷ next ∷ rest) ≡ data_of kind name language (entry ∷ next ∷ rest)
-      go [] none was = absurd (let empty : next ∷ rest ≡ [] = no_runs (next ∷ rest) none in let no : ⊥ = cc in no)
+      go [] none was = absurd (let empty : next ∷ rest ≡ [] = no_runs same_name (next ∷ rest) none in let no : ⊥ = cc in no)
       go (run ∷ later) some was = by_test (same_name entry run.head) refl
         where
           head : run.head ≡ next
-          head = first_head next rest run later some
+          head = first_head same_name next rest run later some
 
           more : 1 + run.count ≡ suc run.count
           more = omega arith
@@ -138,3 +140,68 @@ module _ (kind name : Key) (language : ℕ) where
               rw more (longer (is_pair kind name entry) (eqb entry.language language) refl (sym pair) refl)
           by_test false e =
               alone (is_pair kind name entry) (eqb entry.language language) refl refl (sym (same_is entry next) ∙ ap (same_name entry) (sym head) ∙ e)
+
+  -- ---- names of one type
+
+  -- where one has the type, none of another type is found
+  no_pairs : (head : Entry) (names : List Run) (entries : List Entry) → equal_key kind head.kind ≡ true → AllByRecursion (λ other. is_eq (kind_cmp head other) ≡ false) (heads names) → pair_data kind name language names entries ≡ None
+  unfolding pair_data
+  no_pairs head [] entries is apart = refl
+  no_pairs head (run ∷ names) entries is apart =
+      let other : equal_key kind run.head.kind ≡ false = one_wanted kind head.kind run.head.kind apart.0 is in
+      rw other (no_pairs head names (drop run.count entries) is apart.1)
+
+  pub kinds_said : (names : List Run) (entries : List Entry) → AreShort (heads names) → Rises kind_cmp (heads names) → kind_data kind name language (runs same_kind (heads names)) names entries ≡ pair_data kind name language names entries
+  unfolding runs pair_data kind_data named_data
+  kinds_said [] entries short rises = refl
+  kinds_said (run ∷ []) entries short rises = go (equal_key kind run.head.kind) (equal_key name run.head.name)
+    where
+      go : (b c : Bool) → cond b (cond c (body_of language (take run.count entries)) None) None ≡ cond (b && c) (body_of language (take run.count entries)) None
+      go true c = refl
+      go false c = refl
+  kinds_said (run ∷ next ∷ names) entries short rises = go (runs same_kind (heads (next ∷ names))) refl (kinds_said (next ∷ names) (drop run.count entries) short.1 rises.1)
+    where
+      left : List Entry
+      left = drop run.count entries
+
+      go : (later : List Run) → runs same_kind (heads (next ∷ names)) ≡ later → kind_data kind name language later (next ∷ names) (drop run.count entries) ≡ pair_data kind name language (next ∷ names) (drop run.count entries) → kind_data kind name language (run_before same_kind run.head 1 later) (run ∷ next ∷ names) entries ≡ pair_data kind name language (run ∷ next ∷ names) entries
+      go [] none was = absurd (let empty : heads (next ∷ names) ≡ [] = no_runs same_kind (heads (next ∷ names)) none in let no : ⊥ = cc in no)
+      go (first ∷ later) some was = by_test (same_kind run.head first.head) refl
+        where
+          head : first.head ≡ next.head
+          head = first_head same_kind next.head (heads names) first later some
+
+          more : 1 + first.count ≡ suc first.count
+          more = omega arith
+
+          behind_all : drop (sum_by run_count (run ∷ take first.count (next ∷ names))) entries ≡ drop (sum_by run_count (take first.count (next ∷ names))) (drop run.count entries)
+          behind_all = ap (λ (n : ℕ). drop n entries) (sum_by-cons run_count run (take first.count (next ∷ names))) ∙ sym (drop-drop (sum_by run_count (take first.count (next ∷ names))) run.count entries)
+
+          longer : (b c : Bool) → equal_key kind first.head.kind ≡ b → cond b (cond c (body_of language (take run.count entries)) (named_data name language (take first.count (next ∷ names)) (drop run.count entries))) (kind_data kind name language later (drop first.count (next ∷ names)) (drop (sum_by run_count (run ∷ take first.count (next ∷ names))) entries)) ≡ cond (b && c) (body_of language (take run.count entries)) (pair_data kind name language (next ∷ names) (drop run.count entries))
+          longer true c e =
+              ap (λ (o : Option (List ℕ)). cond c (body_of language (take run.count entries)) o)
+              (sym (ap (λ (b : Bool). cond b (named_data name language (take first.count (next ∷ names)) (drop run.count entries)) (kind_data kind name language later (drop first.count (next ∷ names)) (drop (sum_by run_count (take first.count (next ∷ names))) (drop run.count entries)))) e) ∙ was)
+          longer false c e =
+              ap (kind_data kind name language later (drop first.count (next ∷ names))) behind_all
+              ∙ sym (ap (λ (b : Bool). cond b (named_data name language (take first.count (next ∷ names)) (drop run.count entries)) (kind_data kind name language later (drop first.count (next ∷ names)) (drop (sum_by run_count (take first.count (next ∷ names))) (drop run.count entries)))) e) ∙ was
+
+          one : drop (sum_by run_count (run ∷ [])) entries ≡ drop run.count entries
+          one = ap (λ (n : ℕ). drop n entries) (single run.count)
+            where
+              single : (n : ℕ) → 0 + n ≡ n
+              single n = omega arith
+
+          alone : (b c : Bool) → equal_key kind run.head.kind ≡ b → is_eq (kind_cmp run.head next.head) ≡ false → cond b (cond c (body_of language (take run.count entries)) None) (kind_data kind name language (first ∷ later) (next ∷ names) (drop (sum_by run_count (run ∷ [])) entries)) ≡ cond (b && c) (body_of language (take run.count entries)) (pair_data kind name language (next ∷ names) (drop run.count entries))
+          alone true c e differ =
+              ap (λ (o : Option (List ℕ)). cond c (body_of language (take run.count entries)) o)
+              (sym (no_pairs run.head (next ∷ names) (drop run.count entries) e (separated kind_total run.head next.head (heads names) rises differ)))
+          alone false c e differ = ap (kind_data kind name language (first ∷ later) (next ∷ names)) one ∙ was
+
+          by_test : (b : Bool) → same_kind run.head first.head ≡ b → kind_data kind name language (cond b (record { head = run.head; count = 1 + first.count } ∷ later) (record { head = run.head; count = 1 } ∷ first ∷ later)) (run ∷ next ∷ names) entries ≡ pair_data kind name language (run ∷ next ∷ names) entries
+          by_test true e =
+              let kinds : run.head.kind ≡ first.head.kind = keys_one run.head.kind first.head.kind short.0.0 (subst (λ (h : Entry). IsShort h.kind) (sym head) short.1.0.0) e in
+              rw more
+              (ap (λ (b : Bool). cond b (cond (equal_key name run.head.name) (body_of language (take run.count entries)) (named_data name language (take first.count (next ∷ names)) (drop run.count entries))) (kind_data kind name language later (drop first.count (next ∷ names)) (drop (sum_by run_count (run ∷ take first.count (next ∷ names))) entries))) (ap (equal_key kind) kinds)
+              ∙ longer (equal_key kind first.head.kind) (equal_key name run.head.name) refl
+              ∙ ap (λ (b : Bool). cond (b && equal_key name run.head.name) (body_of language (take run.count entries)) (pair_data kind name language (next ∷ names) (drop run.count entries))) (sym (ap (equal_key kind) kinds)))
+          by_test false e = alone (equal_key kind run.head.kind) (equal_key name run.head.name) refl (ap (same_kind run.head) (sym head) ∙ e)
