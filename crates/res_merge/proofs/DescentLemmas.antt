@@ -12,12 +12,12 @@ use Rattle.res_merge.specs.Order.{IsShort}
 use Rattle.res_merge.specs.Runs.{Run, kind_of_run, name_of_run}
 use Rattle.res_merge.specs.Tree.{table as table_bytes, HIGH_BIT, table_size, text_size, text_bytes, texts, tables, rows, language_rows, row_id}
 use Rattle.res_merge.specs.Lookup.{rows_at, is_named, first_named, table_target, table_step, leaf_target, leaf_step}
-use Rattle.res_merge.specs.Found.{equal_key, body_of, named_data, kind_data}
+use Rattle.res_merge.specs.Found.{IsSmallKey, equal_key, body_of, named_data, kind_data}
 use Rattle.res_merge.proofs.SizeLemmas.{run_count}
 use Rattle.res_merge.proofs.WritingLemmas.{aligned-above}
 use Rattle.res_merge.proofs.PlaceLemmas.{rows_length, language_length}
 use Rattle.res_merge.proofs.FoundLemmas.{behind, IsSmallRow, table_read, table_length}
-use Rattle.res_merge.proofs.NamedLemmas.{IsSmallKey, named_as}
+use Rattle.res_merge.proofs.NamedLemmas.{named_as}
 use Rattle.res_merge.proofs.LeafLemmas.{Stand, leaf_inside, stand_next, bytes_of, language_found}
 
 -- ---- lists

@@ -11,11 +11,11 @@ use Rattle.res_merge.specs.Order.{IsShort}
 use Rattle.res_merge.specs.Runs.{Run, kind_of_run, name_of_run}
 use Rattle.res_merge.specs.Tree.{table as table_bytes, HIGH_BIT, table_size, text_size, text_bytes, texts, tables, rows, language_rows, row_id}
 use Rattle.res_merge.specs.Lookup.{rows_at, is_named, first_named, table_target, table_step, leaf_step}
-use Rattle.res_merge.specs.Found.{equal_key, named_data, kind_data}
+use Rattle.res_merge.specs.Found.{IsSmallKey, equal_key, named_data, kind_data}
 use Rattle.res_merge.proofs.SizeLemmas.{run_count}
 use Rattle.res_merge.proofs.PlaceLemmas.{rows_length}
 use Rattle.res_merge.proofs.FoundLemmas.{behind, IsSmallRow, table_read, table_length}
-use Rattle.res_merge.proofs.NamedLemmas.{IsSmallKey, named_as}
+use Rattle.res_merge.proofs.NamedLemmas.{named_as}
 use Rattle.res_merge.proofs.LeafLemmas.{Stand, bytes_of}
 use Rattle.res_merge.proofs.DescentLemmas.{each_take, each_drop, taken_length, rows_take, text_length, target_of, NamesStand, NamesAfter, names_next, text_is, table_is, by_language, names_found}
 

@@ -15,6 +15,7 @@ pub mod KindLemmas
 pub mod PositionLemmas
 pub mod GroupLemmas
 pub mod RunDataLemmas
+pub mod Theorems
 pub mod SortLemmas
 mod WorkedFile
 pub mod WorkedTree

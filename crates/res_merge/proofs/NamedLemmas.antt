@@ -12,13 +12,8 @@ use Rattle.res_merge.specs.ResourceFile.{aligned}
 use Rattle.res_merge.specs.Order.{IsShort}
 use Rattle.res_merge.specs.Tree.{HIGH_BIT, text_bytes, row_id}
 use Rattle.res_merge.specs.Lookup.{is_text_at, is_named}
-use Rattle.res_merge.specs.Found.{equal_key}
+use Rattle.res_merge.specs.Found.{IsSmallKey, equal_key}
 use Rattle.res_merge.proofs.FoundLemmas.{behind, number_there}
-
--- a number of two bytes
-abbrev pub IsSmallKey : Key → Type 0
-IsSmallKey (Number number) = number < 2 ^ 16
-IsSmallKey (Text units) = Unit {0}
 
 other : (m n : ℕ) → m ≢ n → eqb m n ≡ false
 other m n apart =

@@ -13,12 +13,11 @@ use Rattle.res_merge.specs.Runs.{Run, heads, same_name, same_kind, names_of, kin
 use Rattle.res_merge.specs.Tree as part
 use Rattle.res_merge.specs.Tree.{table_size, tables_size, text_size, texts_size, text_bytes, tables, texts, leaves, rows, language_rows, data_from, kind_rows, name_rows, names_place, languages_place, leaves_place, texts_place, name_texts_place, data_place, all_tables, tree_of, tree_size}
 use Rattle.res_merge.specs.Lookup.{rows_at, first_named, table_step, place_in}
-use Rattle.res_merge.specs.Found.{kind_data}
+use Rattle.res_merge.specs.Found.{IsSmallKey, kind_data}
 use Rattle.res_merge.proofs.WritingLemmas.{leaf_fields}
 use Rattle.res_merge.proofs.SizeLemmas.{run_count, runs_count, runs_few}
 use Rattle.res_merge.proofs.PlaceLemmas.{rows_length, language_length, runs_each, heads_each}
 use Rattle.res_merge.proofs.FoundLemmas.{behind, IsSmallRow, table_read, table_length}
-use Rattle.res_merge.proofs.NamedLemmas.{IsSmallKey}
 use Rattle.res_merge.proofs.LeafLemmas.{Stand}
 use Rattle.res_merge.proofs.DescentLemmas.{taken_length, text_length, NamesStand}
 use Rattle.res_merge.proofs.KindLemmas.{row_small, inside, KindsStand, kinds_next, kind_text_is, kind_table_is, by_name, kinds_found}

@@ -1,8 +1,19 @@
 -- What is found of some resources: the data of the one that has a type, a name and a language. Own.
-use Rattle.std.specs.Prelude.{ℕ, Bool, false, ◌&&◌, ◌==◌, if◌then◌else◌, List, [], ◌∷◌, take, drop, sum_by, Option, Some, None}
+use Rattle.std.specs.Prelude.{ℕ, ◌<◌, ◌^◌, Bool, false, ◌&&◌, ◌==◌, if◌then◌else◌, List, [], ◌∷◌, take, drop, sum_by, Option, Some, None}
+use Rattle.std.specs.List.{All}
 use Rattle.link_base.specs.NameText.{same_name}
 use Rattle.res_merge.specs.Entries.{Key, Number, Text, Entry}
 use Rattle.res_merge.specs.Runs.{Run}
+
+-- a number has two bytes
+abbrev pub IsSmallKey : Key → Type 0
+IsSmallKey (Number number) = number < 2 ^ 16
+IsSmallKey (Text units) = Unit {0}
+
+-- the numbers and the languages of resources have two bytes
+pub record AreNumbered (entries : List Entry) : Type 0 where
+  pub keys : All (λ entry. IsSmallKey entry.kind × IsSmallKey entry.name) entries
+  pub languages : All (λ entry. entry.language < 2 ^ 16) entries
 
 -- one number, or one text
 abbrev pub equal_key : Key → Key → Bool
