@@ -1,7 +1,7 @@
 -- The steps from the tables of a tree to its leaves, where they stand.
-use Rattle.std.proofs.Common.{◌≡◌, ℕ, zero, suc, ◌+◌, ◌-◌, ◌*◌, ◌/◌, ◌^◌, ◌<◌, ◌≤◌, Bool, true, false, cond, leb, List, [], ◌∷◌, ◌++◌, length, take, drop, Option, Some, None, refl, sym, ap, ◌∙◌, subst, le-leb, append_assoc, length-append, length-drop, arith}
-use Rattle.std.specs.List.{sum_by, flat_map, AllByRecursion}
-use Rattle.std.specs.Option.{option_map, option_and_then}
+use Rattle.std.proofs.Common.{◌≡◌, ℕ, zero, suc, ◌+◌, ◌-◌, ◌*◌, ◌/◌, ◌^◌, ◌<◌, ◌≤◌, Bool, true, false, cond, leb, List, [], ◌∷◌, ◌++◌, length, take, drop, Option, Some, refl, ap, ◌∙◌, subst, le-leb, append_assoc, length-append, length-drop, arith}
+use Rattle.std.specs.List.{sum_by, AllByRecursion}
+use Rattle.std.specs.Option.{option_and_then}
 use Rattle.std.proofs.lemmas.List.{length-replicate}
 use Rattle.std.proofs.lemmas.List.Sums.{sum_by-cons}
 use Rattle.link_base.proofs.CallerLemmas.{length-number_bytes}
@@ -9,13 +9,13 @@ use Rattle.res_merge.specs.declared.rows.Row.{Row}
 use Rattle.res_merge.specs.Entries.{Key, Number, Text, Entry}
 use Rattle.res_merge.specs.ResourceFile.{aligned}
 use Rattle.res_merge.specs.Order.{IsShort}
-use Rattle.res_merge.specs.Runs.{Run, kind_of_run, name_of_run}
+use Rattle.res_merge.specs.Runs.{Run, name_of_run}
 use Rattle.res_merge.specs.Tree.{table as table_bytes, HIGH_BIT, table_size, text_size, text_bytes, texts, tables, rows, language_rows, row_id}
-use Rattle.res_merge.specs.Lookup.{rows_at, is_named, first_named, table_target, table_step, leaf_target, leaf_step}
-use Rattle.res_merge.specs.Found.{IsSmallKey, equal_key, body_of, named_data, kind_data}
+use Rattle.res_merge.specs.Lookup.{rows_at, is_named, first_named, table_target, leaf_target, leaf_step}
+use Rattle.res_merge.specs.Found.{IsSmallKey, equal_key, body_of, named_data}
 use Rattle.res_merge.proofs.SizeLemmas.{run_count}
 use Rattle.res_merge.proofs.WritingLemmas.{aligned-above}
-use Rattle.res_merge.proofs.PlaceLemmas.{rows_length, language_length}
+use Rattle.res_merge.proofs.PlaceLemmas.{language_length}
 use Rattle.res_merge.proofs.FoundLemmas.{behind, IsSmallRow, table_read, table_length}
 use Rattle.res_merge.proofs.NamedLemmas.{named_as}
 use Rattle.res_merge.proofs.LeafLemmas.{Stand, leaf_inside, stand_next, bytes_of, language_found}

@@ -1,27 +1,21 @@
 -- What the runs of resources in order say is what the resources say.
-use Rattle.std.proofs.Common.{◌≡◌, ◌≢◌, ℕ, zero, suc, ◌+◌, ◌-◌, ◌%◌, ◌<◌, ◌≤◌, Bool, true, false, cond, eqb, List, [], ◌∷◌, length, take, drop, map, Option, Some, None, refl, sym, ap, ◌∙◌, subst, arith}
+use Rattle.std.proofs.Common.{◌≡◌, ℕ, ◌+◌, ◌%◌, Bool, true, false, cond, List, [], ◌∷◌, length, refl, sym, ap, ◌∙◌, arith}
 use Rattle.std.specs.Prelude.{◌&&◌}
-use Rattle.std.specs.List.{sum_by, AllByRecursion}
-use Rattle.std.specs.Ordering.{nat_cmp, ordering_then, ordering_reverse, then_cmp, on, is_eq, is_lt, is_gt}
+use Rattle.std.specs.List.{AllByRecursion}
+use Rattle.std.specs.Ordering.{ordering_then, ordering_reverse, then_cmp, on, is_eq, is_gt}
 use Rattle.std.specs.Cmp.{IsTotalOrder, tied_itself}
-use Rattle.std.specs.Cmp.Lexicographic.{slice_cmp}
 use Rattle.std.specs.Cmp.Rules.{comparing}
 use Rattle.std.specs.declared.cmp.Ordering.{Ordering}
 use Rattle.std.specs.declared.cmp.Ordering.TheVariants.{Less, Equal, Greater}
 use Rattle.std.proofs.Common.{rules}
 use Rattle.std.proofs.lemmas.Bool.{false≢true, true≢false, eqb-true}
-use Rattle.std.proofs.lemmas.List.{drop-drop}
-use Rattle.std.proofs.lemmas.List.Sums.{sum_by-cons}
 use Rattle.std.proofs.lemmas.Slice.Eq.{bytes_eq-Decides}
 use Rattle.std.proofs.lemmas.Map.Text.{is_eq-slice_cmp}
-use Rattle.link_base.specs.NameText.{same_name as same_text}
 use Rattle.res_merge.specs.Entries.{Key, Number, Text, Entry}
-use Rattle.res_merge.specs.Order.{high_first, sort_key, key_cmp, entry_cmp, same_key, IsShort}
-use Rattle.res_merge.specs.Runs.{Run, run_before, runs, heads, same_kind, same_name}
-use Rattle.res_merge.specs.Found.{equal_key, is_resource, data_of, body_of, named_data, kind_data}
-use Rattle.res_merge.proofs.HeaderLemmas.{and_both}
-use Rattle.res_merge.proofs.OrderLemmas.{key_total, entry_total}
-use Rattle.res_merge.proofs.SizeLemmas.{run_count}
+use Rattle.res_merge.specs.Order.{high_first, sort_key, key_cmp, same_key, IsShort}
+use Rattle.res_merge.specs.Runs.{Run, run_before, runs, heads, same_name}
+use Rattle.res_merge.specs.Found.{equal_key}
+use Rattle.res_merge.proofs.OrderLemmas.{key_total}
 use Rattle.res_merge.proofs.PlaceLemmas.{runs_each, heads_each}
 
 -- ---- keys

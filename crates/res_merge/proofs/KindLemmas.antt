@@ -1,7 +1,7 @@
 -- The steps from the table of types, where the tables of a tree stand.
-use Rattle.std.proofs.Common.{◌≡◌, ℕ, zero, suc, ◌+◌, ◌-◌, ◌*◌, ◌/◌, ◌^◌, ◌<◌, ◌≤◌, Bool, true, false, cond, List, [], ◌∷◌, ◌++◌, length, take, drop, Option, Some, None, refl, sym, ap, ◌∙◌, subst, append_assoc, length-append, length-drop, arith}
+use Rattle.std.proofs.Common.{◌≡◌, ℕ, zero, suc, ◌+◌, ◌-◌, ◌*◌, ◌/◌, ◌^◌, ◌<◌, ◌≤◌, Bool, true, false, cond, List, [], ◌∷◌, ◌++◌, length, take, drop, Option, Some, refl, sym, ap, ◌∙◌, subst, append_assoc, length-append, length-drop, arith}
 use Rattle.std.specs.List.{sum_by, AllByRecursion}
-use Rattle.std.specs.Option.{option_map, option_and_then}
+use Rattle.std.specs.Option.{option_and_then}
 use Rattle.std.proofs.lemmas.List.{drop-drop}
 use Rattle.std.proofs.lemmas.List.Sums.{sum_by-cons}
 use Rattle.link_base.proofs.CallerLemmas.{length-number_bytes}
@@ -16,8 +16,8 @@ use Rattle.res_merge.proofs.SizeLemmas.{run_count}
 use Rattle.res_merge.proofs.PlaceLemmas.{rows_length}
 use Rattle.res_merge.proofs.FoundLemmas.{behind, IsSmallRow, table_read, table_length}
 use Rattle.res_merge.proofs.NamedLemmas.{named_as}
-use Rattle.res_merge.proofs.LeafLemmas.{Stand, bytes_of}
-use Rattle.res_merge.proofs.DescentLemmas.{each_take, each_drop, taken_length, rows_take, text_length, target_of, NamesStand, NamesAfter, names_next, text_is, table_is, by_language, names_found}
+use Rattle.res_merge.proofs.LeafLemmas.{bytes_of}
+use Rattle.res_merge.proofs.DescentLemmas.{each_take, taken_length, rows_take, text_length, target_of, NamesStand, NamesAfter, names_next, text_is, table_is, by_language, names_found}
 
 -- what is not empty stands inside
 pub inside : (part xs rest : List ℕ) (at : ℕ) → drop at part ≡ xs ++ rest → 0 < length xs → at < length part

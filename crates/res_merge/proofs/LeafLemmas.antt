@@ -1,11 +1,11 @@
 -- What the leaves of a tree lead to where they and their data stand.
-use Rattle.std.proofs.Common.{◌≡◌, ℕ, zero, suc, ◌+◌, ◌-◌, ◌*◌, ◌^◌, ◌<◌, ◌≤◌, Bool, true, false, cond, eqb, leb, ltb, List, [], ◌∷◌, ◌++◌, length, take, drop, Option, Some, None, refl, sym, ap, ◌∙◌, lt-ltb, le-leb, append_assoc, length-append, length-drop, arith}
-use Rattle.std.specs.Prelude.{◌&&◌, replicate}
+use Rattle.std.proofs.Common.{◌≡◌, ℕ, zero, suc, ◌+◌, ◌-◌, ◌^◌, ◌<◌, ◌≤◌, Bool, true, false, cond, eqb, leb, ltb, List, [], ◌∷◌, ◌++◌, length, take, drop, Option, Some, refl, sym, ap, ◌∙◌, lt-ltb, le-leb, append_assoc, length-append, length-drop, arith}
+use Rattle.std.specs.Prelude.{replicate}
 use Rattle.std.specs.Option.{option_map, option_and_then}
 use Rattle.std.proofs.lemmas.List.{length-replicate}
-use Rattle.link_base.specs.Bytes.{number_at, number_bytes, u32_at, has_bytes, bytes_at}
+use Rattle.link_base.specs.Bytes.{number_bytes, u32_at, has_bytes, bytes_at}
 use Rattle.link_base.proofs.CallerLemmas.{length-number_bytes}
-use Rattle.res_merge.specs.Entries.{Key, Number, Entry}
+use Rattle.res_merge.specs.Entries.{Number, Entry}
 use Rattle.res_merge.specs.ResourceFile.{aligned}
 use Rattle.res_merge.specs.Tree.{HIGH_BIT, LEAF_SIZE, leaves, padding, data_from, language_rows}
 use Rattle.res_merge.specs.Lookup.{is_named, first_named, leaf_target, leaf_data}

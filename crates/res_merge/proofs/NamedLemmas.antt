@@ -1,10 +1,10 @@
 -- What an entry of a table names where its text stands.
-use Rattle.std.proofs.Common.{◌≡◌, ◌≢◌, ◌⊎◌, ℕ, zero, suc, ◌+◌, ◌-◌, ◌*◌, ◌/◌, ◌%◌, ◌^◌, ◌<◌, ◌≤◌, Bool, true, false, eqb, leb, List, [], ◌∷◌, ◌++◌, length, take, drop, refl, sym, ap, ◌∙◌, subst, inl, inr, le-leb, append_assoc, length-append, length-drop, arith}
+use Rattle.std.proofs.Common.{◌≡◌, ◌≢◌, ◌⊎◌, ℕ, ◌+◌, ◌-◌, ◌*◌, ◌/◌, ◌<◌, ◌≤◌, Bool, true, false, eqb, leb, List, [], ◌∷◌, ◌++◌, length, take, drop, refl, sym, ap, ◌∙◌, inl, inr, le-leb, append_assoc, length-append, length-drop, arith}
 use Rattle.std.specs.Prelude.{◌&&◌, replicate}
 use Rattle.std.specs.Cmp.Lexicographic.{unequal}
-use Rattle.std.proofs.lemmas.Bool.{false≢true, cases_lt}
+use Rattle.std.proofs.lemmas.Bool.{cases_lt}
 use Rattle.std.proofs.lemmas.Bool.Decides.{eqb_tells}
-use Rattle.link_base.specs.Bytes.{number_at, number_bytes, u16_at, has_bytes, bytes_at}
+use Rattle.link_base.specs.Bytes.{number_bytes, u16_at, has_bytes, bytes_at}
 use Rattle.link_base.specs.NameText.{same_name}
 use Rattle.link_base.proofs.CallerLemmas.{length-number_bytes}
 use Rattle.res_merge.specs.Entries.{Key, Number, Text}

@@ -1,12 +1,12 @@
 -- Where the parts of a tree stand in it, and what the steps from its root lead to.
-use Rattle.std.proofs.Common.{◌≡◌, ℕ, zero, suc, ◌+◌, ◌-◌, ◌*◌, ◌^◌, ◌<◌, ◌≤◌, List, [], ◌∷◌, ◌++◌, length, take, drop, Option, Some, None, refl, sym, ap, ◌∙◌, subst, append_assoc, length-append, length-drop, arith}
+use Rattle.std.proofs.Common.{◌≡◌, ℕ, suc, ◌+◌, ◌-◌, ◌*◌, ◌^◌, ◌<◌, ◌≤◌, List, [], ◌∷◌, ◌++◌, length, take, drop, refl, sym, ap, ◌∙◌, append_assoc, length-append, length-drop, arith}
 use Rattle.std.specs.List.{sum_by, AllByRecursion}
-use Rattle.std.specs.Option.{option_map, option_and_then}
+use Rattle.std.specs.Option.{option_map}
 use Rattle.std.proofs.lemmas.List.Sums.{sum_by-cons}
 use Rattle.link_base.specs.Bytes.{bytes_at}
 use Rattle.link_base.proofs.CallerLemmas.{length-number_bytes}
 use Rattle.res_merge.specs.declared.rows.Row.{Row}
-use Rattle.res_merge.specs.Entries.{Key, Number, Entry}
+use Rattle.res_merge.specs.Entries.{Key, Entry}
 use Rattle.res_merge.specs.ResourceFile.{aligned}
 use Rattle.res_merge.specs.Order.{IsShort}
 use Rattle.res_merge.specs.Runs.{Run, heads, same_name, same_kind, names_of, kinds_of, kind_of_run, name_of_run}
@@ -18,8 +18,7 @@ use Rattle.res_merge.proofs.WritingLemmas.{leaf_fields}
 use Rattle.res_merge.proofs.SizeLemmas.{run_count, runs_count, runs_few}
 use Rattle.res_merge.proofs.PlaceLemmas.{rows_length, language_length, runs_each, heads_each}
 use Rattle.res_merge.proofs.FoundLemmas.{behind, IsSmallRow, table_read, table_length}
-use Rattle.res_merge.proofs.LeafLemmas.{Stand}
-use Rattle.res_merge.proofs.DescentLemmas.{taken_length, text_length, NamesStand}
+use Rattle.res_merge.proofs.DescentLemmas.{taken_length, text_length}
 use Rattle.res_merge.proofs.KindLemmas.{row_small, inside, KindsStand, kinds_next, kind_text_is, kind_table_is, by_name, kinds_found}
 
 -- ---- how long the parts are
@@ -63,18 +62,12 @@ pub record AreHeld (entries : List Entry) : Type 0 where
   pub keys : AllByRecursion (λ entry. IsSmallKey entry.kind × IsSmallKey entry.name) entries
   pub languages : AllByRecursion (λ entry. entry.language < 2 ^ 16) entries
 
-module _ (time rva : ℕ) (entries : List Entry) (held : AreHeld entries) where
-  tree : List ℕ
-  tree = tree_of time rva entries
-
+module _ (time rva : ℕ) (entries : List Entry) where
   names_count : sum_by run_count (names_of entries) ≡ length entries
   names_count = runs_count same_name entries
 
   kinds_count : sum_by run_count (kinds_of entries) ≡ length (names_of entries)
   kinds_count = runs_count same_kind (heads (names_of entries)) ∙ length_heads (names_of entries)
-
-  data_part : List ℕ
-  data_part = data_from 0 entries
 
   parts_are : tree_of time rva entries ≡ part.table time (kind_rows entries) ++ (tables time (kinds_of entries) (name_rows entries) ++ (tables time (names_of entries) (language_rows (leaves_place entries) entries) ++ (leaves (rva + data_place entries) entries ++ (texts kind_of_run (kinds_of entries) ++ (texts name_of_run (names_of entries) ++ data_from 0 entries)))))
   unfolding tree_of all_tables
@@ -125,9 +118,7 @@ module _ (time rva : ℕ) (entries : List Entry) (held : AreHeld entries) where
   unfolding tree_size
   data_inside = omega (arith, tree_length_is)
 
-  IsNameHeld : Entry → Type 0
-  IsNameHeld entry = IsShort entry.name × IsSmallKey entry.name
-
+module _ (time rva : ℕ) (entries : List Entry) (held : AreHeld entries) where
   names_held : AllByRecursion (λ run. IsShort run.head.name × IsSmallKey run.head.name) (names_of entries)
   names_held = runs_each (λ entry. IsShort entry.name × IsSmallKey entry.name) same_name entries (both entries held.short held.keys)
     where
@@ -157,25 +148,25 @@ module _ (time rva : ℕ) (entries : List Entry) (held : AreHeld entries) where
       record {
         texts_rest = _;
         tables_rest = _;
-        kind_texts_are = at_texts;
-        kind_tables_are = at_names;
+        kind_texts_are = at_texts time rva entries;
+        kind_tables_are = at_names time rva entries;
         names_are = record {
           texts_rest = _;
           tables_rest = _;
-          texts_are = at_name_texts;
-          tables_are = at_languages;
+          texts_are = at_name_texts time rva entries;
+          tables_are = at_languages time rva entries;
           stand = record {
             rest = _;
-            leaves_are = at_leaves ∙ ap (λ (n : ℕ). leaves (rva + n) entries ++ (texts kind_of_run (kinds_of entries) ++ (texts name_of_run (names_of entries) ++ data_from 0 entries))) none;
-            data_are = at_data;
-            inside = data_inside;
+            leaves_are = at_leaves time rva entries ∙ ap (λ (n : ℕ). leaves (rva + n) entries ++ (texts kind_of_run (kinds_of entries) ++ (texts name_of_run (names_of entries) ++ data_from 0 entries))) none;
+            data_are = at_data time rva entries;
+            inside = data_inside time rva entries;
           };
-          counts = names_count;
+          counts = names_count time rva entries;
           short = names_held;
           small = held.languages;
           few = held.few;
         };
-        kind_counts = kinds_count;
+        kind_counts = kinds_count time rva entries;
         kinds_short = kinds_held;
         names_few = names_few;
       }
@@ -193,9 +184,9 @@ kinds_small bytes rva time kind_text kind_table text table leaf place filling (r
 pub tree_found : (time rva language : ℕ) (kind name : Key) (entries : List Entry) → AreHeld entries → tree_size entries < 2 ^ 31 → rva + tree_size entries < 2 ^ 32 → IsSmallKey kind → IsSmallKey name → option_map (λ (place : ℕ × ℕ). bytes_at (tree_of time rva entries) (place.0 - rva) place.1) (place_in (tree_of time rva entries) rva kind name language) ≡ kind_data kind name language (kinds_of entries) (names_of entries) entries
 unfolding place_in table_step
 tree_found time rva language kind name entries held small fits also too =
-    let size = tree_length_is time rva entries held in
+    let size = tree_length_is time rva entries in
     let low : length (tree_of time rva entries) < 2 ^ 31 = omega arith in
     let root : rows_at (tree_of time rva entries) 0 ≡ kind_rows entries =
-    table_read (tree_of time rva entries) _ 0 time (kind_rows entries) (at_root time rva entries held) (kinds_small (tree_of time rva entries) rva time _ _ _ _ _ _ _ (kinds_of entries) (names_of entries) entries low (stands time rva entries held)) (omega (arith, rows_length kind_of_run (texts_place entries) (names_place entries) (kinds_of entries), kinds_few time rva entries held)) in
+    table_read (tree_of time rva entries) _ 0 time (kind_rows entries) (at_root time rva entries) (kinds_small (tree_of time rva entries) rva time _ _ _ _ _ _ _ (kinds_of entries) (names_of entries) entries low (stands time rva entries held)) (omega (arith, rows_length kind_of_run (texts_place entries) (names_place entries) (kinds_of entries), kinds_few time rva entries held)) in
     ap (λ (list : List Row). by_name (tree_of time rva entries) rva name language (first_named (tree_of time rva entries) kind list)) root
     ∙ kinds_found (tree_of time rva entries) rva time language kind name low (omega arith) also too _ _ _ _ _ _ _ (kinds_of entries) (names_of entries) entries (stands time rva entries held)

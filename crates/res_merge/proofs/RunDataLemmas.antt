@@ -1,5 +1,5 @@
 -- What the runs of resources in order say is what the resources say.
-use Rattle.std.proofs.Common.{◌≡◌, ℕ, zero, suc, ◌+◌, ◌<◌, ◌≤◌, Bool, true, false, cond, eqb, List, [], ◌∷◌, length, take, drop, Option, Some, None, refl, sym, ap, ◌∙◌, subst, arith}
+use Rattle.std.proofs.Common.{◌≡◌, ℕ, suc, ◌+◌, Bool, true, false, cond, eqb, List, [], ◌∷◌, take, drop, Option, Some, None, refl, sym, ap, ◌∙◌, subst, arith}
 use Rattle.std.specs.Prelude.{◌&&◌}
 use Rattle.std.specs.List.{sum_by, AllByRecursion}
 use Rattle.std.specs.Ordering.{is_eq}
@@ -7,13 +7,12 @@ use Rattle.std.proofs.lemmas.Bool.{false≢true}
 use Rattle.std.proofs.lemmas.List.{drop-drop}
 use Rattle.std.proofs.lemmas.List.Sums.{sum_by-cons}
 use Rattle.res_merge.specs.Entries.{Key, Entry}
-use Rattle.res_merge.specs.Order.{key_cmp, same_key, IsShort}
-use Rattle.res_merge.specs.Runs.{Run, run_before, runs, heads, same_kind, same_name, names_of, kinds_of}
+use Rattle.res_merge.specs.Order.{same_key, IsShort}
+use Rattle.res_merge.specs.Runs.{Run, run_before, runs, heads, same_kind, same_name}
 use Rattle.res_merge.specs.Found.{equal_key, is_resource, data_of, body_of, named_data, kind_data}
 use Rattle.res_merge.proofs.HeaderLemmas.{and_both}
 use Rattle.res_merge.proofs.SizeLemmas.{run_count}
-use Rattle.res_merge.proofs.PlaceLemmas.{runs_each}
-use Rattle.res_merge.proofs.GroupLemmas.{keys_one, wanted_is, same_itself, one_wanted, Rises, separated, heads_rise, kind_cmp, name_cmp, kind_total, name_total, same_is}
+use Rattle.res_merge.proofs.GroupLemmas.{keys_one, wanted_is, same_itself, one_wanted, Rises, separated, kind_cmp, name_cmp, kind_total, name_total, same_is}
 
 abbrev pub AreShort : List Entry → Type 0
 AreShort list = AllByRecursion (λ entry. IsShort entry.kind × IsShort entry.name) list

@@ -1,22 +1,22 @@
 -- The resources of a tree are found in it, and no others.
-use Rattle.std.proofs.Common.{◌≡◌, ℕ, zero, suc, ◌+◌, ◌-◌, ◌^◌, ◌<◌, ◌≤◌, Bool, true, false, cond, eqb, leb, List, [], ◌∷◌, length, take, drop, Option, Some, None, refl, sym, ap, ◌∙◌, subst, arith}
+use Rattle.std.proofs.Common.{◌≡◌, ℕ, zero, suc, ◌+◌, ◌-◌, ◌^◌, ◌<◌, ◌≤◌, Bool, true, false, cond, eqb, leb, List, [], ◌∷◌, length, take, drop, Option, Some, None, refl, sym, ap, ◌∙◌, arith}
 use Rattle.std.specs.Prelude.{◌&&◌}
-use Rattle.std.specs.List.{All, AllByRecursion, IsDistinct}
+use Rattle.std.specs.List.{AllByRecursion, IsDistinct}
 use Rattle.std.specs.Option.{option_map, option_and_then}
 use Rattle.std.specs.Ordering.{ordering_then, nat_cmp, is_lt, is_eq, is_gt}
 use Rattle.std.specs.Cmp.{tied_itself}
 use Rattle.std.specs.declared.cmp.Ordering.{Ordering}
 use Rattle.std.specs.declared.cmp.Ordering.TheVariants.{Less, Equal, Greater}
 use Rattle.std.proofs.lemmas.Bool.{false≢true, true≢false, eqb-true}
-use Rattle.std.proofs.lemmas.List.{length-take-le, take-take, drop-drop, drop-take, length-drop}
+use Rattle.std.proofs.lemmas.List.{take-take, drop-drop, drop-take}
 use Rattle.std.proofs.lemmas.List.Elements.{recursion_from_All, All-from_recursion}
-use Rattle.std.proofs.lemmas.List.Sorted.{All-permutation, length_permutation}
+use Rattle.std.proofs.lemmas.List.Sorted.{All-permutation}
 use Rattle.link_base.specs.Bytes.{u32_at, bytes_at}
 use Rattle.res_merge.specs.Entries.{Key, Entry}
-use Rattle.res_merge.specs.Order.{key_cmp, entry_cmp, same_key, same_resource, put_in_order, in_order, IsShort, AreMergeable}
-use Rattle.res_merge.specs.Runs.{names_of, kinds_of, heads, runs, same_name}
+use Rattle.res_merge.specs.Order.{key_cmp, entry_cmp, same_resource, put_in_order, in_order, IsShort, AreMergeable}
+use Rattle.res_merge.specs.Runs.{names_of, kinds_of, same_name}
 use Rattle.res_merge.specs.Tree.{tree_of, tree_size}
-use Rattle.res_merge.specs.Lookup.{leaf_data, leaf_step, table_step, place_in, resource_data}
+use Rattle.res_merge.specs.Lookup.{leaf_data, place_in, resource_data}
 use Rattle.res_merge.specs.Found.{IsSmallKey, AreNumbered, equal_key, is_resource, data_of, kind_data}
 use Rattle.res_merge.proofs.HeaderLemmas.{and_both}
 use Rattle.res_merge.proofs.OrderLemmas.{entry_total}
@@ -25,7 +25,7 @@ use Rattle.res_merge.proofs.SizeLemmas.{tree_small, order_few, order_short}
 use Rattle.res_merge.proofs.PlaceLemmas.{runs_each, heads_each}
 use Rattle.res_merge.proofs.GroupLemmas.{wanted_is, Rises, heads_rise, kind_cmp, name_cmp}
 use Rattle.res_merge.proofs.RunDataLemmas.{AreShort, pairs_said, kinds_said}
-use Rattle.res_merge.proofs.PositionLemmas.{AreHeld, tree_length_is, tree_found}
+use Rattle.res_merge.proofs.PositionLemmas.{AreHeld, tree_found}
 
 -- ---- the data of a resource do not depend on the order
 
