@@ -1,0 +1,11 @@
+pub mod Entries
+pub mod ResourceFile
+pub mod Read
+pub mod Left
+pub mod Order
+pub mod Runs
+pub mod Tree
+pub mod Levels
+pub mod Parts
+pub mod Lookup
+pub mod Found
