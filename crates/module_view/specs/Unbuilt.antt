@@ -5,8 +5,8 @@ use Rattle.std.specs.Ordering.{int_eq}
 use Rattle.link_base.specs.Bytes.{has_flag}
 use Rattle.link_base.specs.NameText.{same_name, begins, begins_import}
 use Rattle.link_base.specs.SectionName.{base_name}
-use Rattle.link_base.specs.PeFormat.{SCN_LNK_COMDAT, SYM_CLASS_EXTERNAL, SYM_CLASS_WEAK_EXTERNAL, SYM_UNDEFINED, SYM_ABSOLUTE}
-use Rattle.coff_records.specs.ObjectFile.{section_total, section_name_of, raw_size_of, flags_of, is_uninitialised, relocation_total, SymbolView, name_in, section_number_in, class_in, symbol_entries}
+use Rattle.link_base.specs.PeFormat.{SCN_LNK_COMDAT, SYM_CLASS_EXTERNAL, SYM_CLASS_WEAK_EXTERNAL, SYM_UNDEFINED, REL_AMD64_ADDR64, REL_AMD64_ADDR32}
+use Rattle.coff_records.specs.ObjectFile.{section_total, section_name_of, raw_size_of, flags_of, is_uninitialised, relocations_of, SymbolView, name_in, value_in, section_number_in, class_in, symbol_entries}
 use Rattle.module_view.specs.PlacedSection.{is_placed}
 
 -- ---- files that have no reader yet
@@ -24,6 +24,14 @@ is_unread_form bytes = begins bytes library_start || begins bytes short_import_s
 
 -- ---- sections
 
+-- a type of relocation whose field holds an address, which depends on the base (PE Format, "Type Indicators", "x64
+-- Processors")
+abbrev pub is_based_kind : ℕ → Bool
+is_based_kind kind = (kind == REL_AMD64_ADDR64) || (kind == REL_AMD64_ADDR32)
+
+abbrev pub has_based_field : List ℕ → ℕ → Bool
+has_based_field bytes section = list_any (λ relocation. is_based_kind relocation.kind) (relocations_of bytes section)
+
 -- directives for the linker, of at least one byte
 abbrev pub holds_directives : List ℕ → ℕ → Bool
 holds_directives bytes section =
@@ -36,10 +44,11 @@ is_special_section bytes section =
     (same_name (base_name (section_name_of bytes section)) (codes ".pdata") && is_placed bytes section)
     || same_name (base_name (section_name_of bytes section)) (codes ".rsrc")
 
--- a section that needs more than a place: one with relocations, a COMDAT, directives, or a table that the linker reads
+-- a section that is not linked yet: one with addresses in its fields, a COMDAT, directives, or a table that the linker
+-- reads
 unfoldable pub is_unbuilt_section : List ℕ → ℕ → Bool
 is_unbuilt_section bytes section =
-    not (relocation_total bytes section == 0)
+    has_based_field bytes section
     || (has_flag (flags_of bytes section) SCN_LNK_COMDAT || (holds_directives bytes section || is_special_section bytes section))
 
 -- ---- symbols
@@ -51,11 +60,11 @@ is_external_name symbol = (class_in symbol == SYM_CLASS_EXTERNAL) || (class_in s
 abbrev pub has_section_number : SymbolView → ℤ → Bool
 has_section_number symbol number = int_eq (section_number_in symbol) number
 
--- an external symbol that is undefined, a common or absolute
-abbrev pub is_outside_sections : SymbolView → Bool
-is_outside_sections symbol =
+-- a common: an external symbol in no section, with its size as its value (PE Format, "Section Number Values")
+abbrev pub is_common : SymbolView → Bool
+is_common symbol =
     (class_in symbol == SYM_CLASS_EXTERNAL)
-    && (has_section_number symbol SYM_UNDEFINED || has_section_number symbol SYM_ABSOLUTE)
+    && (has_section_number symbol SYM_UNDEFINED && not (value_in symbol == 0))
 
 -- an undefined symbol that names an entry of the import address table
 abbrev pub is_import_reference : SymbolView → Bool
@@ -65,11 +74,11 @@ is_import_reference symbol = has_section_number symbol SYM_UNDEFINED && begins_i
 abbrev pub is_loader_name : List ℕ → Bool
 is_loader_name name = same_name name (codes "_tls_used") || same_name name (codes "_load_config_used")
 
--- a symbol that needs more than an address in its section
+-- a symbol that is not linked yet: a weak external, a common, an entry of the import address table, or a loader's name
 unfoldable pub is_unbuilt_symbol : SymbolView → Bool
 is_unbuilt_symbol symbol =
     (class_in symbol == SYM_CLASS_WEAK_EXTERNAL)
-    || (is_outside_sections symbol
+    || (is_common symbol
     || (is_import_reference symbol
     || (is_external_name symbol && is_loader_name (name_in symbol))))
 

@@ -6,17 +6,18 @@ ghost use Rattle.link_base.specs.NameText.{same_name};
 ghost use Rattle.link_base.specs.SectionName.{base_name};
 ghost use Rattle.coff_records.specs.ObjectFile.{section_total, section_name_of, flags_of, raw_size_of, body_of, name_in};
 ghost use Rattle.module_view.specs.PlacedSection.{comes_in};
-ghost use Rattle.module_view.specs.Unbuilt.{is_unbuilt_section, is_loader_name, is_outside_sections, is_import_reference, is_external_name, is_unbuilt_symbol};
+ghost use Rattle.module_view.specs.Unbuilt.{is_based_kind, has_based_field, is_unbuilt_section, is_loader_name, is_common, is_import_reference, is_external_name, is_unbuilt_symbol};
 
 use crate::base_name::has_base_name;
 use crate::placed_section::comes_in;
 use coff_object::{Object, Section, SymbolRecord};
 use link_base::Name;
 use link_base::pe_format::{
-    SCN_LNK_COMDAT, SYM_ABSOLUTE, SYM_CLASS_EXTERNAL, SYM_CLASS_WEAK_EXTERNAL, SYM_UNDEFINED,
+    REL_AMD64_ADDR32, REL_AMD64_ADDR64, SCN_LNK_COMDAT, SYM_CLASS_EXTERNAL,
+    SYM_CLASS_WEAK_EXTERNAL, SYM_UNDEFINED,
 };
 
-/// Whether a section of this number, which was read, needs more than a place.
+/// Whether a section of this number, which was read, has a form that is not linked yet.
 #[tactic(auto, unfolding(crate::specs::Unbuilt::is_unbuilt_section))]
 pub(crate) fn is_unbuilt_section(object: &Object<'_>, number: u32, section: &Section<'_>) -> bool
     requires first { 1 ≤ number }
@@ -27,10 +28,28 @@ pub(crate) fn is_unbuilt_section(object: &Object<'_>, number: u32, section: &Sec
     requires body { option_copied section.now.body ≡ body_of object.now number }
     ensures { result ≡ is_unbuilt_section object.now number }
 {
-    object.relocation_count(number) != 0
+    has_based_field(object, number)
         || section.flags & SCN_LNK_COMDAT != 0
         || holds_directives(section)
         || is_special_section(section)
+}
+
+/// Whether a field of a section holds an address.
+fn has_based_field(object: &Object<'_>, number: u32) -> bool
+    requires first { 1 ≤ number }
+    requires last { number ≤ section_total object.now }
+    ensures { result ≡ has_based_field object.now number }
+{
+    object
+        .relocations(number)
+        .any(|relocation| is_based_kind(relocation.kind))
+}
+
+/// Whether a relocation of this type has a field that holds an address.
+fn is_based_kind(kind: u16) -> bool
+    ensures { result ≡ is_based_kind kind }
+{
+    kind == REL_AMD64_ADDR64 || kind == REL_AMD64_ADDR32
 }
 
 /// Whether a section holds directives for the linker.
@@ -51,24 +70,23 @@ fn is_special_section(section: &Section<'_>) -> bool
         || has_base_name(&section.name, b".rsrc")
 }
 
-/// Whether a symbol needs more than an address in its section. Its name is read only where its class and its section ask
+/// Whether a symbol has a form that is not linked yet. Its name is read only where its class and its section ask
 /// for it.
 #[tactic(auto, unfolding(crate::specs::Unbuilt::is_unbuilt_symbol))]
 pub(crate) fn is_unbuilt_symbol(symbol: &SymbolRecord<'_>) -> bool
     ensures { result ≡ is_unbuilt_symbol symbol.now }
 {
     symbol.class() == SYM_CLASS_WEAK_EXTERNAL
-        || is_outside_sections(symbol)
+        || is_common(symbol)
         || is_import_reference(symbol)
         || is_loader_symbol(symbol)
 }
 
-/// Whether an external symbol is undefined, a common or absolute.
-fn is_outside_sections(symbol: &SymbolRecord<'_>) -> bool
-    ensures { result ≡ is_outside_sections symbol.now }
+/// Whether a symbol is a common: external, in no section, and with a size as its value.
+fn is_common(symbol: &SymbolRecord<'_>) -> bool
+    ensures { result ≡ is_common symbol.now }
 {
-    let section = symbol.section();
-    symbol.class() == SYM_CLASS_EXTERNAL && (section == SYM_UNDEFINED || section == SYM_ABSOLUTE)
+    symbol.class() == SYM_CLASS_EXTERNAL && symbol.section() == SYM_UNDEFINED && symbol.value() != 0
 }
 
 /// Whether an undefined symbol names an entry of the import address table.
