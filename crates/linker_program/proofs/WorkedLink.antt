@@ -25,7 +25,6 @@ use Rattle.coff_records.specs.Relocations.{relocations_place, relocation_count_i
 use Rattle.coff_records.specs.StringTable.{string_table_offset, string_table_size, string_table, text_in}
 use Rattle.module_view.specs.Opening.{resource_start, form_error, is_linker_section, content_error, opening_error}
 use Rattle.module_view.specs.PlacedSection.{comes_in}
-use Rattle.symbol_table.specs.LinkerNames.{linker_meaning}
 use Rattle.module_view.specs.SymbolLists.{is_definition, definitions_of, is_reference, references_of}
 use Rattle.module_view.specs.Unbuilt.{is_unbuilt_section, is_unbuilt_symbol}
 use Rattle.link_pieces.specs.Pieces.{is_named, link_pieces, link_contents}
@@ -73,7 +72,7 @@ unfolding settings options_of word_says known is_word is_text
 entry_asked = refl
 
 built : is_unbuilt_link options ≡ false
-unfolding is_unbuilt_link linker_meaning settings options_of word_says known is_word is_text default_entry with_extension stem
+unfolding is_unbuilt_link settings options_of word_says known is_word is_text default_entry with_extension stem
 built = refl
 
 -- no stage before the tables has a fault

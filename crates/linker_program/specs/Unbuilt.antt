@@ -2,12 +2,11 @@
 use Rattle.std.specs.Prelude.{ℕ, Bool, false, ◌||◌, not, ◌==◌, List, length, Option, Some, None, is_some}
 use Rattle.link_base.specs.NameText.{begins_import}
 use Rattle.link_words.specs.Outcome.{LinkOptions}
-use Rattle.symbol_table.specs.LinkerNames.{linker_meaning}
 
--- an entry that is the slot of an import, or that the linker gives a meaning itself
+-- an entry that is the slot of an import
 abbrev pub is_unbuilt_entry : Option (List ℕ) → Bool
 is_unbuilt_entry None = false
-is_unbuilt_entry (Some name) = begins_import name || is_some (linker_meaning name)
+is_unbuilt_entry (Some name) = begins_import name
 
 abbrev pub is_some_text : {A : Type 0} → List A → Bool
 is_some_text texts = not (length texts == 0)

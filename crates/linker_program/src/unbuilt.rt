@@ -6,7 +6,6 @@ ghost use Rattle.linker_program.specs.Unbuilt.{is_unbuilt_entry, drops_sections,
 
 use link_base::Name;
 use link_words::Options;
-use symbol_table::is_linker_name;
 
 /// Whether a link asks for something that is not built yet.
 #[tactic(auto, unfolding(crate::specs::Unbuilt::is_unbuilt_link))]
@@ -58,12 +57,12 @@ fn drops_sections(refs: Option<bool>) -> bool
     }
 }
 
-/// An entry that is the slot of an import, or that the linker gives a meaning itself.
+/// An entry that is the slot of an import.
 fn is_unbuilt_entry(entry: &Option<Name<'_>>) -> bool
     ensures { result ≡ is_unbuilt_entry entry.now }
 {
     match entry {
-        Some(name) => name.is_import() || is_linker_name(name),
+        Some(name) => name.is_import(),
         None => false,
     }
 }

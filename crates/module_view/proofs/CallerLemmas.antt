@@ -99,12 +99,17 @@ other_kind kind other = (
   eqb-false kind REL_AMD64_ADDR32 (or_right (eqb kind REL_AMD64_ADDR64) (eqb kind REL_AMD64_ADDR32) other),
 )
 
--- no field of its sections holds an address
+-- no field of its sections holds an address, as the test of a type says it and by the types
+pub no_based_kind : (m : ModuleView) → IsOpened m → (section : ℕ) → 1 ≤ section → section ≤ section_total m.bytes → All (λ relocation. is_based_kind relocation.kind ≡ false) (relocations_of m.bytes section)
+no_based_kind m opened section first last =
+    none_pass (λ relocation. is_based_kind relocation.kind) (relocations_of m.bytes section)
+    (no_based_field m.bytes section
+    (built_section m.bytes section (built_sections m.bytes (opened_content m.bytes opened)) first last))
+
 pub no_based_relocation : (m : ModuleView) → IsOpened m → (section : ℕ) → 1 ≤ section → section ≤ section_total m.bytes → All (λ relocation. (relocation.kind ≢ REL_AMD64_ADDR64) × (relocation.kind ≢ REL_AMD64_ADDR32)) (relocations_of m.bytes section)
 no_based_relocation m opened section first last =
-    let built = built_section m.bytes section (built_sections m.bytes (opened_content m.bytes opened)) first last in
     All-weaker (λ relocation. is_based_kind relocation.kind ≡ false) (λ relocation. (relocation.kind ≢ REL_AMD64_ADDR64) × (relocation.kind ≢ REL_AMD64_ADDR32)) (λ relocation other. other_kind relocation.kind other) (relocations_of m.bytes section)
-    (none_pass (λ relocation. is_based_kind relocation.kind) (relocations_of m.bytes section) (no_based_field m.bytes section built))
+    (no_based_kind m opened section first last)
 
 -- ---- where its definitions stand
 

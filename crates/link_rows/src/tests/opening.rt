@@ -31,7 +31,6 @@ fn files_that_are_no_object_of_the_linked_form_are_refused(rt: HostRuntime) -> R
             &CALL[..115],
             b"fault 5 BadObject a.obj RelocationRange 1\n",
         ),
-        ("a.obj", CALL, b"fault 9 Unsupported a.obj NotBuilt\n"),
         (
             "x.lib",
             b"!<arch>\n",
@@ -69,12 +68,10 @@ fn symbol_of(name: &str, section: u16, class: u8, value: u32) -> Symbol<'_> {
     }
 }
 
-/// The name, section, class and value of a symbol that is not linked yet: undefined, a common, absolute, a weak
-/// external, an import, and two that a loader looks for.
-const SYMBOLS: [(&str, u16, u8, u32); 7] = [
-    ("f", 0, 2, 0),
+/// The name, section, class and value of a symbol that is not linked yet: a common, a weak external, an import, and two
+/// that a loader looks for.
+const SYMBOLS: [(&str, u16, u8, u32); 5] = [
     ("f", 0, 2, 8),
-    ("f", 0xffff, 2, 0),
     ("f", 0, 105, 0),
     ("__imp_f", 0, 2, 0),
     ("_tls_used", 1, 2, 0),
@@ -98,7 +95,7 @@ fn assert_not_built(
 }
 
 #[test]
-fn symbols_that_need_more_than_a_place_are_refused(rt: HostRuntime) -> Result<(), Fail> {
+fn symbols_that_need_more_than_a_definition_are_refused(rt: HostRuntime) -> Result<(), Fail> {
     for (name, section, class, value) in SYMBOLS {
         let symbol = symbol_of(name, section, class, value);
         assert_not_built(&rt, rt.alloc(), &[], symbol)?;

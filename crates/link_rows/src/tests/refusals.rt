@@ -1,7 +1,8 @@
 //! Words and inputs that are refused, and names as a line shows them.
 
 use super::case::{assert_case, refusal};
-use super::objects::PLAIN;
+use super::object::Symbol;
+use super::objects::{PLAIN, plain_with};
 use crate::run_with_failures;
 use std::alloc::Global;
 use std::test::Fail;
@@ -45,6 +46,11 @@ fn each_refusal_has_its_status_and_line_and_writes_nothing(rt: HostRuntime) -> R
             b"usage 0 NotBuilt\n",
         ),
         refusal(
+            &["link", "a.obj", "/ENTRY:__imp_main", "/OUT:a.exe"],
+            2,
+            b"usage 0 NotBuilt\n",
+        ),
+        refusal(
             &["link", "/ENTRY:main", "/OUT:a.exe"],
             2,
             b"usage 0 NoInput\n",
@@ -55,8 +61,9 @@ fn each_refusal_has_its_status_and_line_and_writes_nothing(rt: HostRuntime) -> R
     Ok(())
 }
 
-/// Words for an entry whose name the linker gives a meaning itself.
-const LINKER_NAMES: [&str; 12] = [
+/// Words for an entry that is a number or the image itself: one of the input, and those that the linker gives a meaning.
+const NUMBERS: [&str; 12] = [
+    "/ENTRY:n",
     "/ENTRY:__ImageBase",
     "/ENTRY:__guard_fids_table",
     "/ENTRY:__guard_fids_count",
@@ -68,20 +75,28 @@ const LINKER_NAMES: [&str; 12] = [
     "/ENTRY:__guard_eh_cont_table",
     "/ENTRY:__guard_eh_cont_count",
     "/ENTRY:__enclave_config",
-    "/ENTRY:__imp_main",
 ];
 
 #[test]
-fn an_entry_has_a_name_of_the_inputs(rt: HostRuntime) -> Result<(), Fail> {
-    for entry in LINKER_NAMES {
+fn an_entry_stands_in_a_section(rt: HostRuntime) -> Result<(), Fail> {
+    let seven = Symbol {
+        name: "n",
+        value: 7,
+        section: 0xffff,
+        kind: 0,
+        class: 2,
+        aux: &[],
+    };
+    let object = plain_with(rt.alloc(), &[], &[seven])?;
+    for entry in NUMBERS {
         let words = ["link", "a.obj", entry, "/OUT:a.exe"];
-        let ended = run_with_failures(rt.alloc(), &[("a.obj", PLAIN)], &[], &[], &words)?;
+        let ended = run_with_failures(rt.alloc(), &[("a.obj", &object)], &[], &[], &words)?;
         assert_eq!(rt;
             ended.out.taken(),
-            b"usage 0 NotBuilt\n".as_slice(),
+            b"fault 15 BadTarget NoSection - 0 0\n".as_slice(),
             "{entry}"
         );
-        assert_eq!(rt; ended.status, 2, "{entry}");
+        assert_eq!(rt; ended.status, 1, "{entry}");
     }
     Ok(())
 }
