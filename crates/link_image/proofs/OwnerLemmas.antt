@@ -91,17 +91,3 @@ members_read sections i k section lt read =
     ap (λ (s : OutSection). list_any (λ m. eqb m k) s.pieces.items) read
     ∙ ap (λ (r : SectionRow). list_any (λ m. eqb m k) r.pieces) (sym (get_or-map row_of sections i section))
     ∙ ap (λ (r : SectionRow). list_any (λ m. eqb m k) r.pieces) (get_or_default (map row_of sections) i (row_of section) no_row (omega (arith, length-map sections row_of)))
-
-All-left : {X : Type 0} (P : X → Type 0) (xs ys : List X) → All P (xs ++ ys) → All P xs
-All-left P xs ys all = λ k d lt. All-contains P (xs ++ ys) (get_or xs k d) all (Contains-append_left xs ys (get_or xs k d) (Contains-get_or xs k d lt))
-
-All-right : {X : Type 0} (P : X → Type 0) (xs ys : List X) → All P (xs ++ ys) → All P ys
-All-right P xs ys all = λ k d lt. All-contains P (xs ++ ys) (get_or ys k d) all (Contains-append_right xs ys (get_or ys k d) (Contains-get_or ys k d lt))
-
--- the members of each section are pieces where those of all are
-pub members_within : (count : ℕ) (sections : List OutSection) (i : ℕ) (section : OutSection) → All (λ k. k < count) (all_pieces sections) → i < length sections → section ≡ get_or sections i section → All (λ k. k < count) section.pieces.items
-members_within count [] i section all lt read = absurd (omega arith)
-members_within count (s ∷ ss) zero section all lt read =
-    subst (λ (t : OutSection). All (λ k. k < count) t.pieces.items) (sym read) (All-left (λ k. k < count) s.pieces.items (all_pieces ss) all)
-members_within count (s ∷ ss) (suc i) section all lt read =
-    members_within count ss i section (All-right (λ k. k < count) s.pieces.items (all_pieces ss) all) (omega arith) read

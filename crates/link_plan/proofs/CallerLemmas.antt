@@ -1,6 +1,7 @@
 -- What callers may cite of the fields of a plan: the pieces that they mean are named, and each relocation has its number.
 use Rattle.std.proofs.Common.{◌≡◌, ◌≢◌, ℕ, zero, suc, ◌+◌, ◌<◌, Bool, true, false, cond, ◌||◌, List, [], ◌∷◌, length, filter, get_or, Option, Some, None, option_map, Result, Ok, Err, refl, ap, ◌∙◌, eq-eqb, arith, ne_eqb}
 use Rattle.std.specs.List.{All, range_with_len, find}
+use Rattle.std.proofs.lemmas.Bool.{or_right}
 use Rattle.std.proofs.lemmas.List.Elements.{All-nil, All-cons, All-head, All-tail}
 use Rattle.std.proofs.lemmas.List.Folds.{list_any_at}
 use Rattle.std.proofs.lemmas.List.FromFn.{get_or-range_with_len, length-range_with_len, get_or-map-range_with_len, length-map-range_with_len}
@@ -132,14 +133,10 @@ field_stands modules k i d within lt some = by_target (target_of (get_or (piece_
         let count = length-range_with_len 0 (length (link_pieces modules)) in
         let at : get_or (range_with_len 0 (length (link_pieces modules))) k 0 ≡ k = get_or-range_with_len 0 (length (link_pieces modules)) k 0 within ∙ zero_plus k in
         let meant : is_meant modules piece ≡ true = list_any_at (mean_piece modules piece) (range_with_len 0 (length (link_pieces modules))) k 0 (omega (arith, count)) (ap (mean_piece modules piece) at ∙ of_piece) in
-        (inside, ap (λ (b : Bool). (piece_at modules piece).named || b) meant ∙ or_true (piece_at modules piece).named)
+        (inside, ap (λ (b : Bool). (piece_at modules piece).named || b) meant ∙ or_right (piece_at modules piece).named true refl)
       where
         zero_plus : (n : ℕ) → 0 + n ≡ n
         zero_plus n = omega arith
-
-        or_true : (b : Bool) → (b || true) ≡ true
-        or_true true = refl
-        or_true false = refl
     by_target (target.Absolute value) is inside = tt
     by_target target.ImageBase is inside = tt
 

@@ -1,5 +1,5 @@
 -- The pieces of a link, judged one after the other.
-use Rattle.std.proofs.Common.{◌≡◌, ℕ, zero, suc, ◌+◌, ◌-◌, ◌<◌, Bool, true, false, ◌||◌, List, [], ◌∷◌, ◌++◌, length, map, get_or, replicate, Option, None, inl, inr, refl, sym, ap, subst, ◌∙◌, arith}
+use Rattle.std.proofs.Common.{◌≡◌, ℕ, ◌+◌, ◌-◌, ◌<◌, Bool, true, false, ◌||◌, List, [], ◌∷◌, ◌++◌, length, map, get_or, Option, None, inl, inr, refl, sym, ap, subst, ◌∙◌, arith}
 use Rattle.std.specs.List.{list_any, range_with_len}
 use Rattle.std.proofs.lemmas.Bool.{cases_lt}
 use Rattle.std.proofs.lemmas.List.{get_or_default, length-map, length-append, get_or_append_left, get_or-append_right}
@@ -96,15 +96,6 @@ meant_more modules k j piece fixes was now read are before after =
     ∙ ap (λ (b : Bool). is_meant_among modules k j || b) (sym (or_none_false (mean_piece modules j k)))
     ∙ sym (list_any-append (mean_piece modules j) (range_with_len 0 k) (k ∷ []))
     ∙ ap (list_any (mean_piece modules j)) (sym (range_more 0 k k (omega arith)))
-
--- nothing is marked at first
-pub unmarked : (marks : List Bool) (n j : ℕ) → marks ≡ replicate n false → get_or marks j false ≡ false
-unmarked marks n j is = ap (λ (ms : List Bool). get_or ms j false) is ∙ each n j
-  where
-    each : (n j : ℕ) → get_or (replicate n false) j false ≡ false
-    each zero j = refl
-    each (suc n) zero = refl
-    each (suc n) (suc j) = each n j
 
 -- a refusal of one piece, before which none is refused, is that of all
 pub refuses_found : (count k : ℕ) (fault_at : ℕ → Option Fault) (here : Option Fault) (r : Refusal) → k < count → first_refusal_below k fault_at ≡ None → here ≡ fault_at k → RefusesFor here r → RefusesFor (first_refusal_below count fault_at) r

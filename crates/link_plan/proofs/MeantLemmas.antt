@@ -116,10 +116,6 @@ named_same old meant k now are unmarked = record {
 
 -- ---- the pieces of a plan
 
--- what naming keeps of a piece
-bare_named : (b : Bool) (piece : Piece) → bare (named_if b piece) ≡ named_if b (bare piece)
-bare_named b piece = refl
-
 -- the pieces of a link, named where fields mean them
 pub planned : (modules : List ModuleView) (old : List Piece) (meant : List Bool) (now : List Piece) → map bare old ≡ link_pieces modules → ((k : ℕ) → k < length old → get_or meant k false ≡ is_meant modules k) → now ≡ map (λ k. named_if (get_or meant k false) (get_or old k no_piece)) (range_with_len 0 (length old)) → map bare now ≡ plan_pieces modules
 unfolding plan_pieces

@@ -7,7 +7,7 @@ use Rattle.link_base.specs.declared.kinds.target.TargetFault.{TargetFault}
 use Rattle.link_base.specs.declared.kinds.target.TargetFault.TheVariants.{Unplaced, NoSection}
 use Rattle.module_view.specs.Module.{ModuleView}
 use Rattle.symbol_table.specs.declared.meaning.Meaning.{Meaning}
-use Rattle.symbol_table.specs.declared.meaning.Meaning.TheVariants.{Section}
+use Rattle.symbol_table.specs.declared.meaning.Meaning.TheVariants.{Section, ImageBase}
 use Rattle.symbol_table.specs.declared.meaning.NoMeaning.{NoMeaning}
 use Rattle.symbol_table.specs.Resolution.{meaning_of}
 use Rattle.link_pieces.specs.PieceIndex.{piece_index}
@@ -49,9 +49,11 @@ abbrev pub unplaced_fault : Option ℕ → Option Fault
 unplaced_fault None = Some (bad_entry Unplaced)
 unplaced_fault (Some piece) = None
 
--- the section of the entry does not come into the image, or the entry stands in no section
+-- the section of the entry does not come into the image, or the entry stands in no section; the start of the image is the
+-- RVA 0, which says that the image begins nowhere
 abbrev pub meant_fault : List ModuleView → Option Meaning → Option Fault
 meant_fault modules None = None
+meant_fault modules (Some ImageBase) = None
 meant_fault modules (Some (Section position section value)) = unplaced_fault (piece_index modules position section)
 meant_fault modules (Some other) = Some (bad_entry NoSection)
 

@@ -33,7 +33,7 @@ pub(crate) fn entry_meaning<'a>(
     }
 }
 
-/// Where the entry stands, by what it means.
+/// Where the entry stands, by what it means. The start of the image is as no entry: the RVA 0.
 pub(crate) fn entry_place<'a>(
     index: &PieceIndex,
     meaning: &Option<Meaning<'a>>,
@@ -60,6 +60,7 @@ pub(crate) fn entry_place<'a>(
             })),
             None => Err(bad_entry(TargetFault::Unplaced)),
         },
+        Some(Meaning::ImageBase) => Ok(None),
         Some(_) => Err(bad_entry(TargetFault::NoSection)),
     }
 }

@@ -4,3 +4,4 @@ pub mod SettingLemmas
 pub mod WordLemmas
 pub mod LinkLemmas
 mod WorkedWords
+pub mod PdbNameLemmas

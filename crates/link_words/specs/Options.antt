@@ -227,3 +227,9 @@ unfoldable pub outputs_clash : outcome.LinkOptions → Bool
 outputs_clash options =
     (options.debug && bytes_eq options.pdb options.out)
     || (is_named options.out options.map_file || (options.debug && is_named options.pdb options.map_file))
+
+-- ---- the name of the program database
+
+-- it is the one that it has where no word names it
+abbrev pub has_default_pdb : outcome.LinkOptions → Bool
+has_default_pdb options = bytes_eq options.pdb (with_extension options.out (codes ".pdb"))

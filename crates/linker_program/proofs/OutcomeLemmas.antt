@@ -182,7 +182,6 @@ fault_or_image options modules f image (inr (inr (inr (inl x)))) y =
     let size = sizes options pieces x.sections y.sections x.layout.image y.layout.image x.grouped y.grouped (has_size pieces x.sections x.layout x.placed.layout_of) (has_size pieces y.sections y.layout y.placed.layout_of) in
     let same : is_permitted (base_rule options) x.layout.image options.base ≡ is_permitted (base_rule options) y.layout.image options.base = ap (λ (n : ℕ). is_permitted (base_rule options) n options.base) size in
     false≢true (sym x.refused ∙ same ∙ y.permitted)
-
 fault_or_image options modules f image (inr (inr (inr (inr x)))) y =
     absurd (none_some (sym y.in_range ∙ same_ranges options modules y.sections x.sections y.layout x.layout y.grouped x.grouped y.placed x.placed ∙ x.is))
   where

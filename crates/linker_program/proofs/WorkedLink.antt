@@ -20,7 +20,7 @@ use Rattle.coff_records.specs.FileRanges.{is_truncated, body_leaves, counted_lea
 use Rattle.coff_records.specs.SectionHeader.{lacks_section_name, short_name_in, name_offset, long_section_name, section_name_in, is_uninitialised_in, has_overflow_count_in}
 use Rattle.coff_records.specs.SymbolRecord.{lacks_symbol_name, long_name_offset_in, name_in, section_number_in, class_in, aux_count_in}
 use Rattle.coff_object.specs.ObjectFaults.{first_section, first_of, is_other_machine, first_torn_record, symbol_range_fault, string_table_fault, has_no_alignment, has_no_section, value_exceeds, object_fault}
-use Rattle.coff_records.specs.ObjectFile.{section_at, record_offset, record_at, symbol_at, starts_within, symbols_of}
+use Rattle.coff_records.specs.ObjectFile.{section_at, record_offset, record_at, symbol_at, starts_within}
 use Rattle.coff_records.specs.ObjectHeader.{big_object_class, is_big_object, header_size, symbol_size, machine_of, section_total, section_headers_offset, symbols_offset, record_total}
 use Rattle.coff_records.specs.Relocations.{relocations_place, relocation_count_in, relocations_from}
 use Rattle.coff_records.specs.StringTable.{string_table_offset, string_table_size, string_table, text_in}

@@ -2,6 +2,7 @@
 use Rattle.std.specs.Prelude.{ℕ, Bool, false, ◌||◌, not, ◌==◌, List, length, Option, Some, None, is_some}
 use Rattle.link_base.specs.NameText.{begins_import}
 use Rattle.link_words.specs.Outcome.{LinkOptions}
+use Rattle.link_words.specs.Options.{has_default_pdb}
 
 -- an entry that is the slot of an import
 abbrev pub is_unbuilt_entry : Option (List ℕ) → Bool
@@ -28,9 +29,9 @@ asks_for_names options =
     is_some_text options.includes
     || (is_some_text options.alternates || (is_some_text options.exports || (options.dll || options.noentry)))
 
--- a program database or a map
+-- a program database, by itself or by its name, or a map
 abbrev pub asks_for_outputs : LinkOptions → Bool
-asks_for_outputs options = options.debug || is_some options.map_file
+asks_for_outputs options = options.debug || (not (has_default_pdb options) || is_some options.map_file)
 
 unfoldable pub is_unbuilt_link : LinkOptions → Bool
 is_unbuilt_link options =

@@ -5,7 +5,7 @@ ghost use Rattle.link_words.specs.Outcome.{options_said};
 ghost use Rattle.linker_program.specs.Unbuilt.{is_unbuilt_entry, drops_sections, asks_for_libraries, asks_for_names, asks_for_outputs, is_unbuilt_link};
 
 use link_base::Name;
-use link_words::Options;
+use link_words::{Options, has_default_pdb};
 
 /// Whether a link asks for something that is not built yet.
 #[tactic(auto, unfolding(crate::specs::Unbuilt::is_unbuilt_link))]
@@ -40,11 +40,11 @@ fn asks_for_names(options: &Options<'_>) -> bool
         || options.noentry
 }
 
-/// A program database, or a map.
+/// A program database, by itself or by its name, or a map.
 fn asks_for_outputs(options: &Options<'_>) -> bool
     ensures { result ≡ asks_for_outputs (options_said options.now) }
 {
-    options.debug || options.map.is_some()
+    options.debug || !has_default_pdb(options) || options.map.is_some()
 }
 
 /// Whether unreferenced sections are to be dropped.

@@ -12,6 +12,5 @@ mod source;
 mod table;
 
 pub use laws::tables_are_shared;
-pub use linker_names::is_linker_name;
 pub use meaning::{Clash, Meaning, NoMeaning};
 pub use table::SymbolTable;

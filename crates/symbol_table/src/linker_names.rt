@@ -1,6 +1,6 @@
 //! Names that the linker gives a meaning itself.
 
-ghost use Rattle.std.specs.Prelude.{◌≡◌, is_some};
+ghost use Rattle.std.specs.Prelude.{◌≡◌};
 ghost use Rattle.std.specs.List.{list_any};
 ghost use Rattle.link_base.specs.NameText.{same_name};
 ghost use Rattle.symbol_table.specs.LinkerNames.{zero_names, linker_meaning};
@@ -35,13 +35,6 @@ pub(crate) fn linker_meaning<'a>(name: &Name<'_>) -> Result<Meaning<'a>, NoMeani
         return Ok(Meaning::Absolute(0));
     }
     Err(NoMeaning::Undefined)
-}
-
-/// Whether the linker gives a name a meaning itself, where nothing defines it.
-pub fn is_linker_name(name: &Name<'_>) -> bool
-    ensures { result ≡ is_some (linker_meaning name.now) }
-{
-    linker_meaning(name).is_ok()
 }
 
 /// Whether a name means the number 0.

@@ -61,10 +61,9 @@ fn each_refusal_has_its_status_and_line_and_writes_nothing(rt: HostRuntime) -> R
     Ok(())
 }
 
-/// Words for an entry that is a number or the image itself: one of the input, and those that the linker gives a meaning.
-const NUMBERS: [&str; 12] = [
+/// Words for an entry that is a number: one of the input, and those that the linker gives a meaning.
+const NUMBERS: [&str; 11] = [
     "/ENTRY:n",
-    "/ENTRY:__ImageBase",
     "/ENTRY:__guard_fids_table",
     "/ENTRY:__guard_fids_count",
     "/ENTRY:__guard_flags",
@@ -98,6 +97,9 @@ fn an_entry_stands_in_a_section(rt: HostRuntime) -> Result<(), Fail> {
         );
         assert_eq!(rt; ended.status, 1, "{entry}");
     }
+    let words = ["link", "a.obj", "/ENTRY:__ImageBase", "/OUT:a.exe"];
+    let ended = run_with_failures(rt.alloc(), &[("a.obj", &object)], &[], &[], &words)?;
+    assert_eq!(rt; ended.status, 0, "the start of the image");
     Ok(())
 }
 

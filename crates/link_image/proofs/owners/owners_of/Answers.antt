@@ -2,9 +2,10 @@ use Rattle.std.proofs.Common.{◌≡◌, ◌<◌, ◌&&◌, ℕ, List, Bool, con
 use Rattle.std.specs.List.{All, list_any}
 use Rattle.std.proofs.lemmas.List.{length-map}
 use Rattle.section_group.specs.declared.piece.OutSection.{OutSection}
+use Rattle.image_writer.proofs.LaidOutLemmas.{all_here}
 use Rattle.section_group.specs.Uniqueness.{row_of, rows_of}
 use Rattle.link_image.specs.LinkedBytes.{row_holds}
-use Rattle.link_image.proofs.OwnerLemmas.{owner_none, owner_more, owners_are, members_within, members_read}
+use Rattle.link_image.proofs.OwnerLemmas.{owner_none, owner_more, owners_are, members_read}
 use Rattle.link_image.proofs.owners.owners_of.Goals as goal
 
 pub loop-i-init : goal.loop-i-init
@@ -21,7 +22,7 @@ note_members-requires-clause-within c =
     let sections = c.args.sections.now in
     let i = c.loop-i.i in
     let section = c.index-sections-i.result in
-    let within = members_within c.args.count sections i section c.requires.within (omega arith) c.index-sections-i.is in
+    let within = all_here (λ k. k < c.args.count) sections i section (omega arith) c.index-sections-i.is c.requires.within in
     let here : All (λ k. k < length c.loop-i.owner.items) (get_or sections i section).pieces.items =
     subst (λ (s : OutSection). All (λ k. k < length c.loop-i.owner.items) s.pieces.items) c.index-sections-i.is (subst (λ (n : ℕ). All (λ k. k < n) section.pieces.items) (sym c.loop-i.invariant.same_length) within) in
     subst (λ (xs : List ℕ). All (λ k. k < length c.loop-i.owner.items) xs) (sym c.deref.ensures.value) here
