@@ -1,7 +1,8 @@
 //! The image of a link. It takes the plan of `link_plan` and the options, has `section_group` order the pieces,
-//! `address_layout` place them and `image_writer` write them, and gives the bytes to the program that stores them. Its
-//! contract promises the image that the definitions give, whose file loads as planned at every permitted base, or the
-//! first fault of the stages from tables to layout. Reading, and the meaning of names, are left to the crates below.
+//! `address_layout` place them, `image_writer` write them and `relocate` patch their fields where they stand, and gives
+//! the bytes to the program that stores them. Its contract promises the image that the definitions give, whose file loads
+//! as planned at every permitted base, or the first fault of the stages from tables to range. Reading, the meaning of
+//! names, and which fields there are, are left to the crates below.
 #![tactic(auto)]
 
 mod headers;

@@ -44,7 +44,7 @@ fn nothing_yet(alloc: Global, count: u32) -> Result<Vec<RecordTarget>, Memory>
     ensures { IfOk result (λ targets. targets.items ≡ replicate count None) }
 {
     let mut targets = Vec::with_capacity(alloc, count as usize)?;
-    for index in 0..count {
+    for _ in 0..count {
         targets.push(None)?;
     }
     Ok(targets)
