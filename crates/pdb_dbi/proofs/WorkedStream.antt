@@ -64,12 +64,12 @@ modules : List ModuleName
 modules =
     record { name = codes "a.obj"; file = codes "a.obj" } ∷ record { name = codes "* Linker *"; file = [] } ∷ []
 
-row : ℕ → ℕ → ℕ → ℕ → ℕ → ℕ → Contribution
-row section offset size flags position coff =
+written : ℕ → ℕ → ℕ → ℕ → ℕ → ℕ → Contribution
+written section offset size flags position coff =
     record { section = section; offset = offset; size = size; flags = flags; «module» = position; coff = coff }
 
 list : List Contribution
-list = row 1 0 3 0x60500020 0 1 ∷ row 2 0 28 0x40000040 1 0 ∷ row 2 28 30 0x40000040 1 0 ∷ []
+list = written 1 0 3 0x60500020 0 1 ∷ written 2 0 28 0x40000040 1 0 ∷ written 2 28 30 0x40000040 1 0 ∷ []
 
 -- ---- each part as it is written
 
@@ -78,11 +78,11 @@ unfolding header header_front header_sizes header_end number_bytes
 worked_header = refl
 
 worked_modules : module_part list modules ≡ module_rows
-unfolding modules row list module_rows module_record module_header module_text record_ver60 number_bytes
+unfolding modules written list module_rows module_record module_header module_text record_ver60 number_bytes
 worked_modules = refl
 
 worked_contributions : contribution_part list ≡ contribution_rows
-unfolding row list contribution_rows contribution_part record_v2 record_ver60 number_bytes
+unfolding written list contribution_rows contribution_part record_v2 record_ver60 number_bytes
 worked_contributions = refl
 
 worked_sections : section_map headers ≡ section_rows
@@ -100,7 +100,7 @@ worked_numbers = refl
 -- ---- the contributions as they are read
 
 worked_read : contributions_in (header ++ (module_rows ++ (contribution_rows ++ (section_rows ++ (file_rows ++ stream_numbers))))) ≡ Some list
-unfolding header module_rows contribution_rows section_rows file_rows stream_numbers row list part_of has_header part_place part_size records_of record_in contribution_at number_at
+unfolding header module_rows contribution_rows section_rows file_rows stream_numbers written list part_of has_header part_place part_size records_of record_in contribution_at number_at
 worked_read = refl
 
 -- a record of the first form, as lld-link wrote it, with the checksums of its bytes
@@ -113,8 +113,8 @@ first_rows =
 short_header : List ℕ
 short_header = take 24 header ++ (0x00 ∷ 0x00 ∷ 0x00 ∷ 0x00 ∷ 0x20 ∷ 0x00 ∷ 0x00 ∷ 0x00 ∷ []) ++ drop 32 header
 
-worked_first_form : contributions_in (short_header ++ first_rows) ≡ Some (row 2 0 13 0x40100040 1 0 ∷ [])
-unfolding header short_header first_rows row part_of has_header part_place part_size records_of record_in contribution_at number_at
+worked_first_form : contributions_in (short_header ++ first_rows) ≡ Some (written 2 0 13 0x40100040 1 0 ∷ [])
+unfolding header short_header first_rows written part_of has_header part_place part_size records_of record_in contribution_at number_at
 worked_first_form = refl
 
 -- the part leaves the stream, and its last record is cut
