@@ -5,4 +5,5 @@ pub mod TableLemmas
 pub mod RaiseNothing
 pub mod RaisedLemmas
 pub mod SettledLemmas
+pub mod RaisedBytes
 pub mod CallerLemmas

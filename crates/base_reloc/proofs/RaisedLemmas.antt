@@ -53,7 +53,7 @@ raised_holds delta memory field le =
 
 -- ---- all fields
 
-inside_more : (delta : ℕ) (memory : List ℕ) (field : BaseField) (others : List BaseField) → Inside (length memory) (field ∷ others) → Inside (length (raised delta memory field)) others
+pub inside_more : (delta : ℕ) (memory : List ℕ) (field : BaseField) (others : List BaseField) → Inside (length memory) (field ∷ others) → Inside (length (raised delta memory field)) others
 inside_more delta memory field others inside k d lt =
     let len = length-raised delta memory field (inside 0 field (omega arith)) in
     let there = inside (suc k) d (omega arith) in
@@ -72,10 +72,10 @@ raised_elsewhere delta memory (field ∷ others) i inside outside =
     ∙ raised_outside delta memory field i (inside 0 field (omega arith)) (outside 0 field (omega arith))
 
 -- the bytes of a field are outside another that is parted from it
-outside_second : (first second : BaseField) (i : ℕ) → ArePartedBy first second → first.rva ≤ i → i < first.rva + width_of first → IsOutside i second
+pub outside_second : (first second : BaseField) (i : ℕ) → ArePartedBy first second → first.rva ≤ i → i < first.rva + width_of first → IsOutside i second
 outside_second first second i parted low high = elim parted [ inl before ↦ inl (omega arith) | inr behind ↦ inr (omega arith) ]
 
-outside_first : (first second : BaseField) (i : ℕ) → ArePartedBy first second → second.rva ≤ i → i < second.rva + width_of second → IsOutside i first
+pub outside_first : (first second : BaseField) (i : ℕ) → ArePartedBy first second → second.rva ≤ i → i < second.rva + width_of second → IsOutside i first
 outside_first first second i parted low high = elim parted [ inl before ↦ inr (omega arith) | inr behind ↦ inl (omega arith) ]
 
 -- each field is raised where no two share a byte

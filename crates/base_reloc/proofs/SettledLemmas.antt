@@ -75,7 +75,7 @@ all_small delta memory (field ∷ fields) within small =
 
 -- ---- a byte is of a field or of none
 
-OfOne : ℕ → List BaseField → Type 0
+unfoldable pub OfOne : ℕ → List BaseField → Type 0
 OfOne rva fields =
     (k : ℕ) × ((k < length fields) × (((d : BaseField) → (get_or fields k d).rva ≤ rva) × ((d : BaseField) → rva < (get_or fields k d).rva + width_of (get_or fields k d))))
 
@@ -88,7 +88,7 @@ unfolding OfOne
 later_one rva field fields here (inl found) = inl (suc found.0, (omega (arith, found.1.0), found.1.1))
 later_one rva field fields here (inr none) = inr (outside_all rva field fields here none)
 
-of_one : (rva : ℕ) (fields : List BaseField) → OfOne rva fields ⊎ IsOutsideAll rva fields
+pub of_one : (rva : ℕ) (fields : List BaseField) → OfOne rva fields ⊎ IsOutsideAll rva fields
 unfolding OfOne
 of_one rva [] = inr (λ k d lt. absurd (omega arith))
 of_one rva (field ∷ fields) =

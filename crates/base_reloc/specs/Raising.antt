@@ -1,6 +1,6 @@
 -- What raising some fields is to leave. Own.
-use Rattle.std.specs.Prelude.{◌≡◌, ℕ, ◌+◌, ◌*◌, ◌%◌, ◌^◌, ◌<◌, ◌≤◌, ◌⊎◌, List, length, slice_index_or}
-use Rattle.link_base.specs.Bytes.{number_at}
+use Rattle.std.specs.Prelude.{◌≡◌, ℕ, ◌+◌, ◌*◌, ◌%◌, ◌^◌, ◌<◌, ◌≤◌, ◌⊎◌, List, length, slice_index, slice_index_or}
+use Rattle.link_base.specs.Bytes.{number_at, number_bytes}
 use Rattle.base_reloc.specs.declared.field.BaseField.{BaseField}
 use Rattle.base_reloc.specs.Blocks.{width_of}
 
@@ -25,3 +25,8 @@ ShareNoByte fields =
 abbrev pub AreRaised : ℕ → List ℕ → List ℕ → List BaseField → Type 0
 AreRaised delta old new fields =
     (k : ℕ) (d : BaseField) → k < length fields → let field = slice_index_or fields k d in number_at (width_of field) new field.rva ≡ (number_at (width_of field) old field.rva + delta) % 2 ^ (8 * width_of field)
+
+-- the bytes of that number stand in each field
+abbrev pub HoldRaisedBytes : ℕ → List ℕ → List ℕ → List BaseField → Type 0
+HoldRaisedBytes delta old new fields =
+    (k : ℕ) (d : BaseField) (t : ℕ) → k < length fields → t < width_of (slice_index_or fields k d) → let field = slice_index_or fields k d in slice_index new (field.rva + t) ≡ slice_index (number_bytes (width_of field) ((number_at (width_of field) old field.rva + delta) % 2 ^ (8 * width_of field))) t

@@ -5,7 +5,7 @@ ghost use Rattle.std.specs.List.{All};
 ghost use Rattle.std.specs.List.Sorted.{IsStrictlyIncreasing};
 ghost use Rattle.base_reloc.specs.Blocks.{Fields, walk_of, walked_fields, raised_all};
 ghost use Rattle.base_reloc.specs.PageBlocks.{IsAscending, LieWithin, page_rva, pages_of, blocks_of};
-ghost use Rattle.base_reloc.specs.Raising.{IsOutsideAll, ShareNoByte, AreRaised};
+ghost use Rattle.base_reloc.specs.Raising.{IsOutsideAll, ShareNoByte, AreRaised, HoldRaisedBytes};
 
 use crate::field::BaseField;
 
@@ -38,10 +38,14 @@ pub fn raising_changes_its_fields_alone()
         → AreRaised delta memory (raised_all delta memory fields) fields }
 {}
 
-/// A memory is another with its fields raised where each field holds the raised number and no other byte differs.
+/// A memory is another with its fields raised where each field holds the raised number, or the bytes of that number, and no
+/// other byte differs.
 pub fn raised_numbers_settle_a_memory()
-    ensures { (fields : List BaseField) (old new : List ℕ) (delta : ℕ) → All (λ byte. byte < 256) old → All (λ byte. byte < 256) new
+    ensures numbers { (fields : List BaseField) (old new : List ℕ) (delta : ℕ) → All (λ byte. byte < 256) old → All (λ byte. byte < 256) new
         → length new ≡ length old → LieWithin (length old) fields → ShareNoByte fields
         → ((rva : ℕ) → IsOutsideAll rva fields → slice_index new rva ≡ slice_index old rva) → AreRaised delta old new fields
+        → raised_all delta old fields ≡ new }
+    ensures bytes { (fields : List BaseField) (old new : List ℕ) (delta : ℕ) → length new ≡ length old → LieWithin (length old) fields → ShareNoByte fields
+        → ((rva : ℕ) → IsOutsideAll rva fields → slice_index new rva ≡ slice_index old rva) → HoldRaisedBytes delta old new fields
         → raised_all delta old fields ≡ new }
 {}

@@ -6,4 +6,5 @@ pub use Rattle.image_writer.proofs.OnePlan.{one_file}
 pub use Rattle.image_writer.proofs.ImageTheorems.{file_means_plan}
 pub use Rattle.image_writer.proofs.LaidOutLemmas.{have_room}
 pub use Rattle.image_writer.proofs.PieceInFileLemmas.{IsInFile, piece_inside, piece_stands, patched_file}
-pub use Rattle.image_writer.proofs.LoadableLemmas.{written_writable, written_loadable, unrelocated, has_contents, written_means}
+pub use Rattle.image_writer.proofs.LoadableLemmas.{written_writable, written_loadable, has_contents}
+pub use Rattle.image_writer.proofs.RelocatableLemmas.{stays_means, moves_means}

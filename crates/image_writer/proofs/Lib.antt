@@ -26,3 +26,6 @@ pub mod PatchLemmas
 pub mod PieceInFileLemmas
 pub mod OnePlan
 pub mod CallerLemmas
+pub mod MemoryLemmas
+pub mod MovedLemmas
+pub mod RelocatableLemmas

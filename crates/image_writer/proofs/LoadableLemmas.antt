@@ -15,6 +15,7 @@ use Rattle.image_writer.specs.HeaderTable.{size_of_headers}
 use Rattle.image_writer.specs.ExpectedImage.{PlacedBytes, ImagePlan, MeansPlan, plan_bytes, permits, expected_byte, expected_image, image_file}
 use Rattle.image_writer.specs.LoadablePlan.{HasOneLength, IsRelocatable, IsWritable, IsLoadable, AreRowsPlaced, AreInRows}
 use Rattle.section_group.specs.PieceContents.{piece_contents}
+use Rattle.image_writer.specs.MovedContents.{HaveOneLength}
 use Rattle.image_writer.specs.WrittenImage.{placed_piece, section_pieces, section_rows, written_plan, at_each_base, layout_plan, HaveRoom, IsLaidOut, HasContents}
 use Rattle.image_writer.proofs.PlanBytes.{written_bytes}
 use Rattle.image_writer.proofs.ChainLemmas.{start_inside, rows_placed, pieces_in_rows}
@@ -28,10 +29,6 @@ use Rattle.image_writer.proofs.ImageTheorems.{file_means_plan}
 pub has_contents : (pieces : List Piece) (sections : List OutSection) (layout : Layout) → All (λ piece. IsTrue piece.init → length (piece_contents piece) ≡ piece.size) pieces → IsLaidOut pieces sections layout → HasContents pieces sections
 has_contents pieces sections layout filled out =
     λ i d lt. All-get_or (λ (piece : Piece). IsTrue piece.init → length (piece_contents piece) ≡ piece.size) pieces (get_or (all_pieces sections) i d) no_piece (out.within i d lt) filled
-
--- contents by their indexes that have one length at each base
-abbrev pub HaveOneLength : (ℕ → List (List ℕ)) → Type 0
-HaveOneLength contents = (base other k : ℕ) → length (get_or (contents base) k []) ≡ length (get_or (contents other) k [])
 
 -- ---- the lengths of the pieces
 
@@ -86,39 +83,3 @@ written_loadable headers pieces sections layout contents out room same directori
   where
     some : (count len image : ℕ) → len ≡ size_of_headers count → len ≤ image → 0 < image
     some count len image is le = omega arith
-
--- ---- without base relocations
-
-same_maps : (f g : ℕ → ℕ) (xs : List ℕ) → ((x : ℕ) → f x ≡ g x) → map f xs ≡ map g xs
-same_maps f g [] same = refl
-same_maps f g (x ∷ xs) same = rw (same x, same_maps f g xs same) refl
-
-same_image : (plan : ImagePlan) (base other : ℕ) → plan_bytes plan base ≡ plan_bytes plan other → expected_image plan base ≡ expected_image plan other
-unfolding expected_image expected_byte
-same_image plan base other same = same_maps (expected_byte plan base) (expected_byte plan other) (range_with_len 0 plan.size) (λ rva. rw same refl)
-
--- contents that are the same at each base need no base relocations
-pub unrelocated : (headers : Headers) (sections : List OutSection) (layout : Layout) (contents : List (List ℕ)) → slice_get headers.directories DIRECTORY_ENTRY_BASERELOC ≡ Some (0, 0) → IsRelocatable (layout_plan headers sections layout (at_each_base contents))
-unfolding written_plan blocks_of pages_of
-unrelocated headers sections layout contents directory =
-    let plan = layout_plan headers sections layout (at_each_base contents) in
-    record {
-      fields = [];
-      table = (0, 0);
-      directory = directory;
-      inside = omega arith;
-      lists = refl;
-      ascending = λ k lt. absurd (omega arith);
-      within = All-nil _;
-      raises = λ base permitted. same_image plan base headers.base (
-          written_bytes headers (rows_of sections) layout.sections.items layout.pieces.items layout.image (at_each_base contents) base
-          ∙ sym (written_bytes headers (rows_of sections) layout.sections.items layout.pieces.items layout.image (at_each_base contents) headers.base));
-    }
-
--- the file of what is written without base relocations loads as its plan says
-pub written_means : (headers : Headers) (pieces : List Piece) (sections : List OutSection) (layout : Layout) → IsLaidOut pieces sections layout → HasContents pieces sections → length headers.directories ≡ 16 → slice_get headers.directories DIRECTORY_ENTRY_BASERELOC ≡ Some (0, 0) → permits (layout_plan headers sections layout (at_each_base (map piece_contents pieces))) headers.base ≡ true → MeansPlan (layout_plan headers sections layout (at_each_base (map piece_contents pieces))) (image_file (layout_plan headers sections layout (at_each_base (map piece_contents pieces))))
-written_means headers pieces sections layout out has directories directory permitted =
-    let contents = map piece_contents pieces in
-    file_means_plan (layout_plan headers sections layout (at_each_base contents))
-    (written_loadable headers pieces sections layout (at_each_base contents) out (have_room pieces sections has) (λ base other k. refl) directories permitted
-    (unrelocated headers sections layout contents directory))

@@ -31,7 +31,7 @@ use Rattle.image_writer.proofs.PatchLemmas.{bytes_are, length-patched, patched_b
 
 -- ---- a section by its number
 
-pieces_link : (sections : List OutSection) (i : ℕ) → pieces_of (rows_of sections) i ≡ (row_at sections i).1
+pub pieces_link : (sections : List OutSection) (i : ℕ) → pieces_of (rows_of sections) i ≡ (row_at sections i).1
 pieces_link [] i = refl
 pieces_link (s ∷ ss) zero = refl
 pieces_link (s ∷ ss) (suc i) = pieces_link ss i

@@ -64,7 +64,7 @@ lies_in rvas contents image (row ∷ rows) (place ∷ placed) start file (suc i)
     lies_in rvas contents image rows placed (place.rva + place.size) (file + place.raw) i j are.1 (omega arith) below some
 
 -- and above the end before
-low_in : (rvas : List ℕ) (contents : List (List ℕ)) (image : ℕ) (rows : List OutRow) (placed : List Placed) (start file i j : ℕ) → AreWritten rvas contents image rows placed start file → i < length rows → j < length (pieces_of rows i) → 0 < length (get_or contents (get_or (pieces_of rows i) j 0) []) → start ≤ get_or rvas (get_or (pieces_of rows i) j 0) 0
+pub low_in : (rvas : List ℕ) (contents : List (List ℕ)) (image : ℕ) (rows : List OutRow) (placed : List Placed) (start file i j : ℕ) → AreWritten rvas contents image rows placed start file → i < length rows → j < length (pieces_of rows i) → 0 < length (get_or contents (get_or (pieces_of rows i) j 0) []) → start ≤ get_or rvas (get_or (pieces_of rows i) j 0) 0
 unfolding AreWritten
 low_in rvas contents image [] placed start file i j are lt below some = absurd (omega arith)
 low_in rvas contents image (row ∷ rows) [] start file i j are lt below some = absurd are

@@ -4,3 +4,4 @@ pub mod LoadablePlan
 pub mod WrittenImage
 pub mod RawData
 pub mod PieceInFile
+pub mod MovedContents

@@ -1,9 +1,9 @@
 //! Laws of the definitions, each the contract of a function that does nothing.
 
-ghost use Rattle.std.specs.Prelude.{◌≡◌, ◌≤◌, ℕ, true, false, List, [], ◌∷◌, ◌++◌, ◌<◌, length, map, slice_get, slice_index_or, Some};
+ghost use Rattle.std.specs.Prelude.{◌≡◌, ◌≤◌, ℕ, true, false, List, [], ◌∷◌, ◌++◌, ◌<◌, length, slice_index_or};
 ghost use Rattle.std.specs.List.{All};
 ghost use Rattle.link_base.specs.Bytes.{bytes_at};
-ghost use Rattle.link_base.specs.PeFormat.{NUMBEROF_DIRECTORY_ENTRIES, DIRECTORY_ENTRY_BASERELOC};
+ghost use Rattle.link_base.specs.PeFormat.{NUMBEROF_DIRECTORY_ENTRIES};
 ghost use Rattle.link_base.specs.Limits.{SECTION_LIMIT, IMAGE_LIMIT};
 ghost use Rattle.section_group.specs.declared.piece.Piece.{Piece};
 ghost use Rattle.section_group.specs.declared.piece.OutSection.{OutSection};
@@ -11,11 +11,12 @@ ghost use Rattle.address_layout.specs.declared.layout.Layout.{Layout};
 ghost use Rattle.address_layout.specs.Places.{section_count, row_at};
 ghost use Rattle.address_layout.specs.Layout.{IsAlignment, StandOnce, HoldsArrangement, IsRewritten};
 ghost use Rattle.address_layout.specs.Growth.{CanGrow, Appends};
+ghost use Rattle.base_reloc.specs.declared.field.BaseField.{BaseField};
 ghost use Rattle.image_writer.specs.declared.headers.Headers.{Headers};
 ghost use Rattle.image_writer.specs.ExpectedImage.{ImagePlan, MeansPlan, permits, image_file};
 ghost use Rattle.image_writer.specs.LoadablePlan.{IsLoadable};
-ghost use Rattle.section_group.specs.PieceContents.{piece_contents};
-ghost use Rattle.image_writer.specs.WrittenImage.{at_each_base, layout_plan, HaveRoom, IsLaidOut, HasContents};
+ghost use Rattle.image_writer.specs.WrittenImage.{layout_plan, HaveRoom, IsLaidOut};
+ghost use Rattle.image_writer.specs.MovedContents.{HaveOneLength, Stay, Move};
 ghost use Rattle.image_writer.specs.PieceInFile.{piece_at, piece_place, patched, DiffersAt};
 
 /// The file of a loadable plan loads as the plan says: at each permitted base and at no other, with the fields of its base
@@ -45,14 +46,19 @@ pub fn layouts_can_be_written()
         → IsLaidOut pieces sections old → IsRewritten sections old new → IsLaidOut pieces sections new }
 {}
 
-/// The file of what is laid out, with contents that do not depend on the base, loads as planned.
+/// The file of what is laid out loads as planned: where the contents are the same at each permitted base, and where only
+/// fields differ that the table of base relocations lists, each raised by the difference of the bases.
 pub fn written_file_loads_as_planned()
-    ensures { (headers : Headers) (pieces : List Piece) (sections : List OutSection) (layout : Layout)
-        → IsLaidOut pieces sections layout → HasContents pieces sections
-        → length headers.directories ≡ NUMBEROF_DIRECTORY_ENTRIES → slice_get headers.directories DIRECTORY_ENTRY_BASERELOC ≡ Some (0, 0)
-        → permits (layout_plan headers sections layout (at_each_base (map piece_contents pieces))) headers.base ≡ true
-        → MeansPlan (layout_plan headers sections layout (at_each_base (map piece_contents pieces)))
-        (image_file (layout_plan headers sections layout (at_each_base (map piece_contents pieces)))) }
+    ensures stays { (headers : Headers) (pieces : List Piece) (sections : List OutSection) (layout : Layout) (contents : ℕ → List (List ℕ))
+        → IsLaidOut pieces sections layout → HaveRoom pieces sections (contents headers.base) → HaveOneLength contents
+        → length headers.directories ≡ NUMBEROF_DIRECTORY_ENTRIES → permits (layout_plan headers sections layout contents) headers.base ≡ true
+        → Stay headers sections layout contents
+        → MeansPlan (layout_plan headers sections layout contents) (image_file (layout_plan headers sections layout contents)) }
+    ensures moves { (headers : Headers) (pieces : List Piece) (sections : List OutSection) (layout : Layout) (contents : ℕ → List (List ℕ)) (fields : List BaseField)
+        → IsLaidOut pieces sections layout → ((base : ℕ) → HaveRoom pieces sections (contents base)) → HaveOneLength contents
+        → length headers.directories ≡ NUMBEROF_DIRECTORY_ENTRIES → permits (layout_plan headers sections layout contents) headers.base ≡ true
+        → Move headers sections layout contents fields
+        → MeansPlan (layout_plan headers sections layout contents) (image_file (layout_plan headers sections layout contents)) }
 {}
 
 /// In the file of what is laid out the bytes of piece `j` of section `i` stand at its place, and other bytes of the same
