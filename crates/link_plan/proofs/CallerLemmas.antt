@@ -16,17 +16,14 @@ use Rattle.relocate.specs.declared.fix.Target.{Target}
 use Rattle.relocate.specs.declared.fix.Target.TheVariants as target
 use Rattle.relocate.specs.Field.{has_field, fix_at}
 use Rattle.relocate.specs.Value.{meant, target_of}
-use Rattle.relocate.specs.PatchedBytes.{AreNumbered, is_based, HaveNoBased}
+use Rattle.relocate.specs.PatchedBytes.{AreNumbered}
 use Rattle.module_view.specs.Module.{ModuleView, module_at, no_module}
-use Rattle.module_view.specs.Opening.{IsOpened}
-use Rattle.module_view.proofs.CallerLemmas.{no_based_relocation}
 use Rattle.module_view.specs.SymbolLists.{is_absolute}
 use Rattle.symbol_table.specs.declared.meaning.Meaning.{Meaning}
 use Rattle.symbol_table.specs.declared.meaning.Meaning.TheVariants as meaning
 use Rattle.symbol_table.specs.declared.meaning.NoMeaning.{NoMeaning}
 use Rattle.symbol_table.specs.Resolution.{meaning_of}
 use Rattle.link_pieces.specs.Pieces.{link_pieces}
-use Rattle.link_pieces.proofs.CallerLemmas.{piece_is}
 use Rattle.link_pieces.specs.PieceIndex.{piece_index, holds_section}
 use Rattle.link_plan.specs.Targets.{target_in, section_target, meant_target, has_meaning, local_target, symbol_target, is_record}
 use Rattle.link_plan.specs.Fixes.{fix_of, fixes_from, piece_at, piece_fixes, piece_in, meant_in, is_that, means_piece, mean_piece, is_meant, planned_piece, plan_pieces}
@@ -155,26 +152,3 @@ planned_at modules k lt = get_or-map-range_with_len (planned_piece modules) 0 (l
 pub plan_count : (modules : List ModuleView) → length (plan_pieces modules) ≡ length (link_pieces modules)
 unfolding plan_pieces
 plan_count modules = length-map-range_with_len (planned_piece modules) 0 (length (link_pieces modules))
-
--- ---- no field holds an address
-
-is_based_other : (fix : Fix) → fix.kind ≢ 1 → fix.kind ≢ 2 → is_based fix ≡ false
-is_based_other fix wide narrow = rw (ne_eqb fix.kind 1 wide, ne_eqb fix.kind 2 narrow) refl
-
-none_based : (modules : List ModuleView) (position : ℕ) (bytes : List ℕ) (index : ℕ) (relocations : List Relocation) → All (λ relocation. (relocation.kind ≢ 1) × (relocation.kind ≢ 2)) relocations → HaveNoBased (fixes_from modules position bytes index relocations)
-unfolding fixes_from
-none_based modules position bytes index [] none = All-nil (λ fix. has_field fix ≡ true → is_based fix ≡ false)
-none_based modules position bytes index (r ∷ rs) none =
-    let here = All-head (λ (relocation : Relocation). (relocation.kind ≢ 1) × (relocation.kind ≢ 2)) r rs none in
-    All-cons (λ fix. has_field fix ≡ true → is_based fix ≡ false) (fix_of modules position bytes index r) (fixes_from modules position bytes (index + 1) rs)
-    (λ some. is_based_other (fix_of modules position bytes index r) here.0 here.1)
-    (none_based modules position bytes (index + 1) rs (All-tail (λ (relocation : Relocation). (relocation.kind ≢ 1) × (relocation.kind ≢ 2)) r rs none))
-
--- the modules of a link have none
-pub no_based : (modules : List ModuleView) → All IsOpened modules → (k : ℕ) → k < length (link_pieces modules) → HaveNoBased (piece_fixes modules k)
-no_based modules opened k lt =
-    let piece = piece_at modules k in
-    let whole = piece_is modules k lt in
-    let m = module_at modules piece.«module» in
-    none_based modules piece.«module» m.bytes 0 (relocations_of m.bytes piece.number)
-    (no_based_relocation m (opened piece.«module» no_module whole.within) piece.number whole.first whole.last)

@@ -1,5 +1,4 @@
--- What callers may cite of a module that opens: that its object is well formed, that no field holds an address, and where
--- its definitions stand.
+-- What callers may cite of a module that opens: that its object is well formed, and where its definitions stand.
 use Rattle.std.proofs.Common.{◌≡◌, ◌≢◌, ℕ, suc, ◌+◌, ◌-◌, ◌≤◌, ℤ, pos, negsuc, Bool, true, false, cond, ◌||◌, eqb, List, [], ◌∷◌, filter, Option, Some, None, refl, sym, ap, subst, ◌∙◌, arith}
 use Rattle.std.specs.Prelude.{option_map}
 use Rattle.std.specs.Option.{option_or}
@@ -26,7 +25,6 @@ use Rattle.module_view.specs.declared.definition.Place.TheVariants as place
 use Rattle.module_view.specs.declared.error.ModuleError.TheVariants as error
 use Rattle.module_view.specs.Module.{ModuleView}
 use Rattle.module_view.specs.SymbolLists.{is_absolute, is_definition, place_in_section, place_of, defines, definition_of, definitions_of}
-use Rattle.module_view.specs.Unbuilt.{is_based_kind, has_based_field, holds_directives, is_special_section, is_unbuilt_section, has_unbuilt_section, has_unbuilt_symbol}
 use Rattle.module_view.specs.Opening.{opening_error, form_error, object_error, content_error, unsupported, has_linker_section, has_long_section_name, has_long_symbol_name, IsOpened}
 
 -- ---- what does not stand
@@ -52,64 +50,6 @@ opened_sound bytes opened =
     no_fault (object_fault bytes)
     (no_first (object_error bytes) (first_standing (content_error bytes ∷ []))
     (no_later (form_error bytes) (first_standing (object_error bytes ∷ content_error bytes ∷ [])) opened))
-
--- no section or symbol has a form that is not linked yet
-no_form : (test : Bool) (kind : Kind) → unsupported test kind ≡ None → test ≡ false
-no_form false kind none = refl
-no_form true kind none = absurd cc
-
-opened_content : (bytes : List ℕ) → opening_error bytes ≡ None → content_error bytes ≡ None
-unfolding opening_error
-opened_content bytes opened =
-    no_first (content_error bytes) None
-    (no_later (object_error bytes) (first_standing (content_error bytes ∷ []))
-    (no_later (form_error bytes) (first_standing (object_error bytes ∷ content_error bytes ∷ [])) opened))
-
-built_sections : (bytes : List ℕ) → content_error bytes ≡ None → has_unbuilt_section bytes ≡ false
-unfolding content_error
-built_sections bytes none =
-    or_left (has_unbuilt_section bytes) (has_unbuilt_symbol bytes)
-    (no_form (has_unbuilt_section bytes || has_unbuilt_symbol bytes) form.NotBuilt
-    (no_first (unsupported (has_unbuilt_section bytes || has_unbuilt_symbol bytes) form.NotBuilt) None
-    (no_later (unsupported (has_long_section_name bytes || has_long_symbol_name bytes) form.LongName) (first_standing (unsupported (has_unbuilt_section bytes || has_unbuilt_symbol bytes) form.NotBuilt ∷ []))
-    (no_later (unsupported (has_linker_section bytes) form.LinkerSection) (first_standing (unsupported (has_long_section_name bytes || has_long_symbol_name bytes) form.LongName ∷ unsupported (has_unbuilt_section bytes || has_unbuilt_symbol bytes) form.NotBuilt ∷ [])) none))))
-
--- ---- its fields
-
-none_pass : {X : Type 0} (test : X → Bool) (xs : List X) → list_any test xs ≡ false → All (λ x. test x ≡ false) xs
-none_pass test [] none = All-nil (λ x. test x ≡ false)
-none_pass test (x ∷ xs) none =
-    All-cons (λ y. test y ≡ false) x xs (or_left (test x) (list_any test xs) none) (none_pass test xs (or_right (test x) (list_any test xs) none))
-
-built_section : (bytes : List ℕ) (section : ℕ) → has_unbuilt_section bytes ≡ false → 1 ≤ section → section ≤ section_total bytes → is_unbuilt_section bytes section ≡ false
-built_section bytes section built first last =
-    let total = section_total bytes in
-    let place : 1 + (section - 1) ≡ section = omega arith in
-    ap (is_unbuilt_section bytes) (sym (get_or-range_with_len 1 total (section - 1) 0 (omega arith) ∙ place))
-    ∙ none_pass (is_unbuilt_section bytes) (range_with_len 1 total) built (section - 1) 0 (omega (arith, length-range_with_len 1 total))
-
-no_based_field : (bytes : List ℕ) (section : ℕ) → is_unbuilt_section bytes section ≡ false → has_based_field bytes section ≡ false
-unfolding is_unbuilt_section
-no_based_field bytes section built =
-    or_left (has_based_field bytes section) (has_flag (flags_of bytes section) SCN_LNK_COMDAT || (holds_directives bytes section || is_special_section bytes section)) built
-
-other_kind : (kind : ℕ) → is_based_kind kind ≡ false → (kind ≢ REL_AMD64_ADDR64) × (kind ≢ REL_AMD64_ADDR32)
-other_kind kind other = (
-  eqb-false kind REL_AMD64_ADDR64 (or_left (eqb kind REL_AMD64_ADDR64) (eqb kind REL_AMD64_ADDR32) other),
-  eqb-false kind REL_AMD64_ADDR32 (or_right (eqb kind REL_AMD64_ADDR64) (eqb kind REL_AMD64_ADDR32) other),
-)
-
--- no field of its sections holds an address, as the test of a type says it and by the types
-pub no_based_kind : (m : ModuleView) → IsOpened m → (section : ℕ) → 1 ≤ section → section ≤ section_total m.bytes → All (λ relocation. is_based_kind relocation.kind ≡ false) (relocations_of m.bytes section)
-no_based_kind m opened section first last =
-    none_pass (λ relocation. is_based_kind relocation.kind) (relocations_of m.bytes section)
-    (no_based_field m.bytes section
-    (built_section m.bytes section (built_sections m.bytes (opened_content m.bytes opened)) first last))
-
-pub no_based_relocation : (m : ModuleView) → IsOpened m → (section : ℕ) → 1 ≤ section → section ≤ section_total m.bytes → All (λ relocation. (relocation.kind ≢ REL_AMD64_ADDR64) × (relocation.kind ≢ REL_AMD64_ADDR32)) (relocations_of m.bytes section)
-no_based_relocation m opened section first last =
-    All-weaker (λ relocation. is_based_kind relocation.kind ≡ false) (λ relocation. (relocation.kind ≢ REL_AMD64_ADDR64) × (relocation.kind ≢ REL_AMD64_ADDR32)) (λ relocation other. other_kind relocation.kind other) (relocations_of m.bytes section)
-    (no_based_kind m opened section first last)
 
 -- ---- where its definitions stand
 

@@ -5,8 +5,8 @@ use Rattle.std.specs.Ordering.{int_eq}
 use Rattle.link_base.specs.Bytes.{has_flag}
 use Rattle.link_base.specs.NameText.{same_name, begins, begins_import}
 use Rattle.link_base.specs.SectionName.{base_name}
-use Rattle.link_base.specs.PeFormat.{SCN_LNK_COMDAT, SYM_CLASS_EXTERNAL, SYM_CLASS_WEAK_EXTERNAL, SYM_UNDEFINED, REL_AMD64_ADDR64, REL_AMD64_ADDR32}
-use Rattle.coff_records.specs.ObjectFile.{section_total, section_name_of, raw_size_of, flags_of, is_uninitialised, relocations_of, SymbolView, name_in, value_in, section_number_in, class_in, symbol_entries}
+use Rattle.link_base.specs.PeFormat.{SCN_LNK_COMDAT, SYM_CLASS_EXTERNAL, SYM_CLASS_WEAK_EXTERNAL, SYM_UNDEFINED}
+use Rattle.coff_records.specs.ObjectFile.{section_total, section_name_of, raw_size_of, flags_of, is_uninitialised, SymbolView, name_in, value_in, section_number_in, class_in, symbol_entries}
 use Rattle.module_view.specs.PlacedSection.{is_placed}
 
 -- ---- files that have no reader yet
@@ -24,14 +24,6 @@ is_unread_form bytes = begins bytes library_start || begins bytes short_import_s
 
 -- ---- sections
 
--- a type of relocation whose field holds an address, which depends on the base (PE Format, "Type Indicators", "x64
--- Processors")
-abbrev pub is_based_kind : ℕ → Bool
-is_based_kind kind = (kind == REL_AMD64_ADDR64) || (kind == REL_AMD64_ADDR32)
-
-abbrev pub has_based_field : List ℕ → ℕ → Bool
-has_based_field bytes section = list_any (λ relocation. is_based_kind relocation.kind) (relocations_of bytes section)
-
 -- directives for the linker, of at least one byte
 abbrev pub holds_directives : List ℕ → ℕ → Bool
 holds_directives bytes section =
@@ -44,12 +36,10 @@ is_special_section bytes section =
     (same_name (base_name (section_name_of bytes section)) (codes ".pdata") && is_placed bytes section)
     || same_name (base_name (section_name_of bytes section)) (codes ".rsrc")
 
--- a section that is not linked yet: one with addresses in its fields, a COMDAT, directives, or a table that the linker
--- reads
+-- a section that is not linked yet: a COMDAT, directives, or a table that the linker reads
 unfoldable pub is_unbuilt_section : List ℕ → ℕ → Bool
 is_unbuilt_section bytes section =
-    has_based_field bytes section
-    || (has_flag (flags_of bytes section) SCN_LNK_COMDAT || (holds_directives bytes section || is_special_section bytes section))
+    has_flag (flags_of bytes section) SCN_LNK_COMDAT || (holds_directives bytes section || is_special_section bytes section)
 
 -- ---- symbols
 

@@ -6,50 +6,26 @@ ghost use Rattle.link_base.specs.NameText.{same_name};
 ghost use Rattle.link_base.specs.SectionName.{base_name};
 ghost use Rattle.coff_records.specs.ObjectFile.{section_total, section_name_of, flags_of, raw_size_of, body_of, name_in};
 ghost use Rattle.module_view.specs.PlacedSection.{comes_in};
-ghost use Rattle.module_view.specs.Unbuilt.{is_based_kind, has_based_field, is_unbuilt_section, is_loader_name, is_common, is_import_reference, is_external_name, is_unbuilt_symbol};
+ghost use Rattle.module_view.specs.Unbuilt.{is_unbuilt_section, is_loader_name, is_common, is_import_reference, is_external_name, is_unbuilt_symbol};
 
 use crate::base_name::has_base_name;
 use crate::placed_section::comes_in;
 use coff_object::{Object, Section, SymbolRecord};
 use link_base::Name;
 use link_base::pe_format::{
-    REL_AMD64_ADDR32, REL_AMD64_ADDR64, SCN_LNK_COMDAT, SYM_CLASS_EXTERNAL,
-    SYM_CLASS_WEAK_EXTERNAL, SYM_UNDEFINED,
+    SCN_LNK_COMDAT, SYM_CLASS_EXTERNAL, SYM_CLASS_WEAK_EXTERNAL, SYM_UNDEFINED,
 };
 
 /// Whether a section of this number, which was read, has a form that is not linked yet.
 #[tactic(auto, unfolding(crate::specs::Unbuilt::is_unbuilt_section))]
-pub(crate) fn is_unbuilt_section(object: &Object<'_>, number: u32, section: &Section<'_>) -> bool
-    requires first { 1 ≤ number }
-    requires last { number ≤ section_total object.now }
-    requires name { section.now.name ≡ section_name_of object.now number }
-    requires flags { section.now.flags ≡ flags_of object.now number }
-    requires size { section.now.size ≡ raw_size_of object.now number }
-    requires body { option_copied section.now.body ≡ body_of object.now number }
-    ensures { result ≡ is_unbuilt_section object.now number }
+pub(crate) fn is_unbuilt_section(_object: &Object<'_>, _number: u32, section: &Section<'_>) -> bool
+    requires name { section.now.name ≡ section_name_of _object.now _number }
+    requires flags { section.now.flags ≡ flags_of _object.now _number }
+    requires size { section.now.size ≡ raw_size_of _object.now _number }
+    requires body { option_copied section.now.body ≡ body_of _object.now _number }
+    ensures { result ≡ is_unbuilt_section _object.now _number }
 {
-    has_based_field(object, number)
-        || section.flags & SCN_LNK_COMDAT != 0
-        || holds_directives(section)
-        || is_special_section(section)
-}
-
-/// Whether a field of a section holds an address.
-fn has_based_field(object: &Object<'_>, number: u32) -> bool
-    requires first { 1 ≤ number }
-    requires last { number ≤ section_total object.now }
-    ensures { result ≡ has_based_field object.now number }
-{
-    object
-        .relocations(number)
-        .any(|relocation| is_based_kind(relocation.kind))
-}
-
-/// Whether a relocation of this type has a field that holds an address.
-fn is_based_kind(kind: u16) -> bool
-    ensures { result ≡ is_based_kind kind }
-{
-    kind == REL_AMD64_ADDR64 || kind == REL_AMD64_ADDR32
+    section.flags & SCN_LNK_COMDAT != 0 || holds_directives(section) || is_special_section(section)
 }
 
 /// Whether a section holds directives for the linker.
