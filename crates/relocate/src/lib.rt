@@ -32,6 +32,7 @@ pub use laws::{
 pub use link_base::{RelocKind, TargetFault};
 pub use patching::patch;
 pub use range::RelocRange;
+pub use target::is_based;
 
 #[cfg(test)]
 mod tests;

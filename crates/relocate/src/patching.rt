@@ -7,7 +7,6 @@ ghost use Rattle.relocate.specs.PatchedBytes.{patched_bytes};
 ghost use Rattle.relocate.specs.Value.{HaveEntries, ArePatched, IsLeastOutside, fits};
 ghost use Rattle.relocate.specs.Written.{least_range};
 
-use crate::fix::Fix;
 use crate::fixups::Fixups;
 use crate::range::RelocRange;
 use crate::writing::patch_field;
@@ -35,26 +34,8 @@ pub fn patch(
     ensures in_range { OnOk result (All (λ fix. fits base rva layout.now owner.now part.old fix ≡ true) fixups.now) }
     ensures refused { IfErr result (IsLeastOutside base rva layout.now owner.now fixups.now part.old) }
 {
-    patch_fields(part, rva, base, &fixups.fixes, layout, owner)
-}
-
-fn patch_fields(
-    part: &mut [u8],
-    rva: u32,
-    base: u64,
-    fixes: &[Fix],
-    layout: &Layout,
-    owner: &[u32],
-) -> Result<(), RelocRange>
-    requires patchable { ArePatchable (length part.old) fixes.now }
-    requires entries { HaveEntries layout.now owner.now fixes.now }
-    ensures patched { OnOk result (ArePatched base rva layout.now owner.now fixes.now part.old part.new) }
-    ensures written { OnOk result (part.new ≡ patched_bytes base rva layout.now owner.now fixes.now part.old) }
-    ensures in_range { OnOk result (All (λ fix. fits base rva layout.now owner.now part.old fix ≡ true) fixes.now) }
-    ensures refused { IfErr result (IsLeastOutside base rva layout.now owner.now fixes.now part.old) }
-{
     let mut least = None;
-    for fix in fixes {
+    for fix in fixups.fixes() {
         let outside = patch_field(part, rva, base, fix, layout, owner);
         least = least_range(least, fix.index, outside);
     }

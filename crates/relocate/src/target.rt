@@ -3,11 +3,14 @@
 ghost use Rattle.std.specs.Prelude.{◌≡◌};
 ghost use Rattle.link_base.specs.Refusals.{first_standing};
 ghost use Rattle.relocate.specs.FieldFaults.{own_fault, is_absolute, is_image_base, target_faults};
+ghost use Rattle.relocate.specs.PatchedBytes.{is_based};
 
 use crate::error::FieldError;
 use crate::fix::{Fix, Target};
 use link_base::TargetFault;
-use link_base::pe_format::{REL_AMD64_ADDR32, REL_AMD64_ADDR32NB, REL_AMD64_SECTION};
+use link_base::pe_format::{
+    REL_AMD64_ADDR32, REL_AMD64_ADDR32NB, REL_AMD64_ADDR64, REL_AMD64_SECTION,
+};
 
 /// Why the symbol itself has no address.
 fn own_fault(fix: &Fix) -> Option<TargetFault>
@@ -35,6 +38,14 @@ fn is_image_base(fix: &Fix) -> bool
         Some(Ok(Target::ImageBase)) => true,
         _ => false,
     }
+}
+
+/// Whether a field holds an address, so that its value changes with the base (PE Format, "The .reloc Section (Image
+/// Only)").
+pub fn is_based(fix: &Fix) -> bool
+    ensures { result ≡ is_based fix.now }
+{
+    (fix.kind == REL_AMD64_ADDR64 || fix.kind == REL_AMD64_ADDR32) && !is_absolute(fix)
 }
 
 /// The first fault of a relocation's target, each judged where no earlier one stands.

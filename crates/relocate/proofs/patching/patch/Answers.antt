@@ -1,0 +1,35 @@
+use Rattle.std.proofs.Common.{length, arith, subst, ◌<◌, ◌≤◌}
+use Rattle.relocate.specs.Field.{no_fix, fix_at}
+use Rattle.relocate.proofs.PatchLemmas.{PatchedTo, within_at, step, all_in_range, all_patched}
+use Rattle.relocate.proofs.PatchedLemmas.{all_written}
+use Rattle.relocate.proofs.patching.patch.Goals as goal
+
+pub patch_field-outside-requires-clause-within : goal.patch_field-outside-requires-clause-within
+patch_field-outside-requires-clause-within c =
+    let len = c.loop-fix.invariant.len in
+    let lt : c.loop-fix.fix-index < length c.args.fixups.now = rw c.fixes-fix-items.ensures at c.loop-fix-test.true in
+    let end = within_at (length c.args.part.now) (fix_at c.args.fixups.now c.loop-fix.fix-index) (c.requires.patchable.each c.loop-fix.fix-index no_fix lt) in
+    rw c.fixes-fix-items.ensures (omega arith)
+
+pub loop-fix-preserved : goal.loop-fix-preserved
+loop-fix-preserved c =
+    let lt : c.loop-fix.fix-index < length c.args.fixups.now = rw c.fixes-fix-items.ensures at c.loop-fix-test.true in
+    rw (c.patch_field-outside.ensures.patched, c.least_range-least.ensures, c.patch_field-outside.ensures.outside, c.fixes-fix-items.ensures)
+    (step _ _ _ _ _ _ _ _ _ lt c.requires.patchable c.loop-fix.invariant)
+
+pub returns-in-None-clause-patched : goal.returns-in-None-clause-patched
+returns-in-None-clause-patched c =
+    let all : length c.args.fixups.now ≤ c.loop-fix.fix-index = rw c.fixes-fix-items.ensures at c.loop-fix-test.false in
+    let upto : c.loop-fix.fix-index ≤ length c.args.fixups.now = rw c.fixes-fix-items.ensures at c.loop-fix.auto.fix-index-end in
+    all_patched _ _ _ _ _ _ _ _ all upto (subst (PatchedTo c.args.base c.args.rva c.args.layout.now c.args.owner.now c.args.fixups.now c.loop-fix.fix-index c.args.part.now c.loop-fix.part) c.in-None.is c.loop-fix.invariant)
+
+pub returns-in-None-clause-written : goal.returns-in-None-clause-written
+returns-in-None-clause-written c =
+    let all : length c.args.fixups.now ≤ c.loop-fix.fix-index = rw c.fixes-fix-items.ensures at c.loop-fix-test.false in
+    let upto : c.loop-fix.fix-index ≤ length c.args.fixups.now = rw c.fixes-fix-items.ensures at c.loop-fix.auto.fix-index-end in
+    all_written _ _ _ _ _ _ _ _ all upto c.requires.patchable (subst (PatchedTo c.args.base c.args.rva c.args.layout.now c.args.owner.now c.args.fixups.now c.loop-fix.fix-index c.args.part.now c.loop-fix.part) c.in-None.is c.loop-fix.invariant)
+
+pub returns-in-None-clause-in_range : goal.returns-in-None-clause-in_range
+returns-in-None-clause-in_range c =
+    let all : length c.args.fixups.now ≤ c.loop-fix.fix-index = rw c.fixes-fix-items.ensures at c.loop-fix-test.false in
+    all_in_range _ _ _ _ _ _ _ c.loop-fix.part all (subst (PatchedTo c.args.base c.args.rva c.args.layout.now c.args.owner.now c.args.fixups.now c.loop-fix.fix-index c.args.part.now c.loop-fix.part) c.in-None.is c.loop-fix.invariant)

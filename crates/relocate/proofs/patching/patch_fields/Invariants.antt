@@ -1,5 +1,0 @@
-use Rattle.relocate.proofs.PatchLemmas.{PatchedTo}
-use Rattle.relocate.proofs.patching.patch_fields.Given as goal
-
-abbrev pub invariant-loop-fix : goal.invariant-loop-fix
-invariant-loop-fix l = PatchedTo l.base l.rva l.layout l.owner l.fixes l.fix-index l.initial.part l.part l.least
