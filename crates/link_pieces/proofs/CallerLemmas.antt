@@ -21,18 +21,10 @@ use Rattle.module_view.specs.declared.definition.Definition.{Definition}
 use Rattle.module_view.specs.declared.definition.Place.{Place}
 use Rattle.module_view.specs.declared.definition.Place.TheVariants as place
 use Rattle.module_view.proofs.CallerLemmas.{IsPlaceIn, definitions_stand}
-use Rattle.link_pieces.specs.Pieces.{is_place_in, stands_in, is_named, piece_of, pieces_in, link_pieces}
+use Rattle.link_pieces.specs.Pieces.{is_place_in, stands_in, is_named, piece_of, pieces_in, link_pieces, IsSectionOf}
 use Rattle.link_pieces.specs.PieceIndex.{is_piece_of, holds_section, piece_index}
 
 -- ---- what each piece is
-
--- it is a section of its module, and comes into the image
-pub record IsSectionOf (modules : List ModuleView) (piece : Piece) : Type 0 where
-  pub within : piece.«module» < length modules
-  pub first : 1 ≤ piece.number
-  pub last : piece.number ≤ section_total (module_at modules piece.«module»).bytes
-  pub placed : is_placed (module_at modules piece.«module»).bytes piece.number ≡ true
-  pub is : piece ≡ piece_of piece.«module» (module_at modules piece.«module»).bytes piece.number
 
 pub pieces_are : (modules : List ModuleView) → All (IsSectionOf modules) (link_pieces modules)
 pieces_are modules =

@@ -1,6 +1,6 @@
 -- The pieces of a link: the sections of its modules that come into the image, in the order of the modules and of their
 -- section headers, and what they hold. Own.
-use Rattle.std.specs.Prelude.{ℕ, Bool, false, not, ◌==◌, List, [], length, map, filter, None, unwrap_or}
+use Rattle.std.specs.Prelude.{◌≡◌, ◌<◌, ◌≤◌, ℕ, Bool, true, false, not, ◌==◌, List, [], length, map, filter, None, unwrap_or}
 use Rattle.std.specs.List.{range_with_len, flat_map, list_any}
 use Rattle.coff_records.specs.ObjectFile.{section_total, section_name_of, raw_size_of, flags_of, alignment_of, is_uninitialised, body_of}
 use Rattle.section_group.specs.declared.piece.Piece.{Piece}
@@ -60,3 +60,11 @@ link_pieces modules = flat_map (λ k. pieces_in k (module_at modules k).bytes) (
 
 abbrev pub link_contents : List ModuleView → List (List ℕ)
 link_contents modules = flat_map (λ k. contents_in (module_at modules k).bytes) (range_with_len 0 (length modules))
+
+-- a piece of the link is a section of its module, and comes into the image
+pub record IsSectionOf (modules : List ModuleView) (piece : Piece) : Type 0 where
+  pub within : piece.«module» < length modules
+  pub first : 1 ≤ piece.number
+  pub last : piece.number ≤ section_total (module_at modules piece.«module»).bytes
+  pub placed : is_placed (module_at modules piece.«module»).bytes piece.number ≡ true
+  pub is : piece ≡ piece_of piece.«module» (module_at modules piece.«module»).bytes piece.number

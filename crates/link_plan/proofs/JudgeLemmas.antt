@@ -18,9 +18,17 @@ use Rattle.section_group.specs.PieceContents.{piece_contents}
 use Rattle.relocate.specs.declared.fix.Fix.{Fix}
 use Rattle.relocate.specs.Judged.{AreTheFields, ArePatchable}
 use Rattle.module_view.specs.Module.{ModuleView}
-use Rattle.link_pieces.specs.Pieces.{link_pieces, link_contents}
-use Rattle.link_pieces.proofs.CallerLemmas.{IsSectionOf, piece_is, bare_at}
+use Rattle.link_pieces.specs.Pieces.{link_pieces, link_contents, IsSectionOf}
+use Rattle.link_pieces.proofs.CallerLemmas.{piece_is, bare_at}
 use Rattle.link_plan.specs.Fixes.{fixes_in, piece_at, piece_fixes, judged_fault, piece_fault, HaveFields, means_piece, mean_piece, is_meant_among}
+
+-- ---- no relocations
+
+-- a piece without relocations has no fault
+pub none_judged : (piece : Piece) (contents : List ℕ) (large : Bool) (fixes : List Fix) → length fixes ≡ 0 → judged_fault piece contents large fixes ≡ None
+unfolding first_refusal_below
+none_judged piece contents large [] none = refl
+none_judged piece contents large (fix ∷ fixes) none = absurd (omega (arith, none))
 
 -- ---- a piece as it was read
 

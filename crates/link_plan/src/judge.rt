@@ -5,9 +5,8 @@ ghost use Rattle.link_base.specs.Refusals.{RefusesFor};
 ghost use Rattle.section_group.specs.BarePieces.{bare};
 ghost use Rattle.section_group.specs.PieceContents.{piece_contents};
 ghost use Rattle.relocate.specs.Judged.{AreTheFields, ArePatchable, len_of};
-ghost use Rattle.link_pieces.specs.Pieces.{link_pieces, link_contents};
+ghost use Rattle.link_pieces.specs.Pieces.{link_pieces, link_contents, IsSectionOf};
 ghost use Rattle.link_pieces.specs.PieceIndex.{IsPieceIndex};
-ghost use Rattle.link_pieces.proofs.CallerLemmas.{IsSectionOf};
 ghost use Rattle.link_plan.specs.Fixes.{judged_fault, fixes_in, fixes_fault, is_meant, len_if, HaveFields};
 ghost use Rattle.link_plan.specs.Steps.{HoldsTargets};
 
@@ -113,6 +112,9 @@ fn judge<'a>(
     ensures accepted { OnOk result (judged_fault piece.now (piece_contents piece.now) large fixes.now ≡ None) }
     ensures refused { IfErr result (RefusesFor (judged_fault piece.now (piece_contents piece.now) large fixes.now)) }
 {
+    if fixes.is_empty() {
+        return Ok(Fixups::none(alloc));
+    }
     match check(alloc, initialised_bytes(piece), fixes, large, false) {
         Ok(fixups) => Ok(fixups),
         Err(FieldError::Reloc { index, kind }) => Err(Refusal::Fault(Fault::BadReloc {
