@@ -63,11 +63,15 @@ judged_suited body_len large pdata fixes none =
     let passed = passes body_len large pdata (fix_at fixes k) (overlaps_earlier fixes k) (none_each (length fixes) (fault_at body_len large pdata fixes) none k lt) (with_field (fix_at fixes k) some) in
     (has_symbol body_len (fix_at fixes k) passed.place, passed.target))
 
+-- a relocation that can be patched
+pub patchable_suits : (len : ℕ) (fix : Fix) → IsPatchable len fix → IsSuited false false fix
+patchable_suits len fix patchable = (has_symbol (Some len) fix patchable.place, patchable.target)
+
 -- relocations whose fields can be patched
 pub fields_suited : (fixes fixups : List Fix) (len : ℕ) → AreTheFields fixes fixups → ArePatchable len fixups → AreSuited false false fixes
 fields_suited fixes fixups len fields patchable =
     All-from_get_or (λ fix. has_field fix ≡ true → IsSuited false false fix) fixes no_fix
-    (λ k lt some. among_fields (IsSuited false false) fixes fixups k fields (All-weaker (IsPatchable len) (IsSuited false false) (λ fix h. (has_symbol (Some len) fix h.place, h.target)) fixups patchable.each) lt some)
+    (λ k lt some. among_fields (IsSuited false false) fixes fixups k fields (All-weaker (IsPatchable len) (IsSuited false false) (patchable_suits len) fixups patchable.each) lt some)
 
 -- ---- the address of a target
 
@@ -94,7 +98,7 @@ absolute_by false true false one e = absurd (false≢true (sym e))
 absolute_by false false false (inl one) e = absurd (false≢true one)
 absolute_by false false false (inr one) e = absurd (false≢true one)
 
-based_by : (a b c : Bool) → (a || b) && not c ≡ true → ((a ≡ true) ⊎ (b ≡ true)) × (c ≡ false)
+pub based_by : (a b c : Bool) → (a || b) && not c ≡ true → ((a ≡ true) ⊎ (b ≡ true)) × (c ≡ false)
 based_by true b false e = (inl refl, refl)
 based_by true b true e = absurd (false≢true e)
 based_by false true false e = (inr refl, refl)

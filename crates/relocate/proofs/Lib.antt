@@ -9,6 +9,7 @@ pub mod FindLemmas
 pub mod PatchedLemmas
 pub mod OrderLemmas
 pub mod BaseLemmas
+pub mod MovedLemmas
 pub mod CallerLemmas
 mod WorkedFields
 mod TestLemmas

@@ -19,7 +19,7 @@ use Rattle.relocate.proofs.PatchedLemmas.{covers_is}
 
 -- ---- bytes
 
-covered_once : (fixups : List Fix) (byte : ℕ) → AreApart fixups → PassesOnce (covers byte) fixups
+pub covered_once : (fixups : List Fix) (byte : ℕ) → AreApart fixups → PassesOnce (covers byte) fixups
 unfolding PassesOnce
 covered_once fixups byte apart i j d in_i in_j first second =
     let a = covers_is byte (get_or fixups i d) first in

@@ -30,7 +30,7 @@ covers_is byte fix e =
     let within = inside fix.at (field_end fix) byte both.1 in
     (both.0, within.0, within.1)
 
-is_covered : (byte at width : ℕ) → 0 < width → at ≤ byte → byte < at + width → nat_lt 0 width && (nat_le at byte && nat_lt byte (at + width)) ≡ true
+pub is_covered : (byte at width : ℕ) → 0 < width → at ≤ byte → byte < at + width → nat_lt 0 width && (nat_le at byte && nat_lt byte (at + width)) ≡ true
 is_covered byte at width some low high =
     let a = lt-ltb 0 width some in
     let b = le-leb at byte low in

@@ -1,14 +1,15 @@
 //! Laws of the definitions and of the types, each the contract of a function that does nothing.
 
-ghost use Rattle.std.specs.Prelude.{◌≡◌, ℕ, pos, ◌+ℤ◌, ◌-ℤ◌, Bool, true, false, List, [], length, Some, None};
+ghost use Rattle.std.specs.Prelude.{◌≡◌, ℕ, ◌+◌, ◌-◌, ◌*◌, ◌%◌, ◌^◌, ◌<◌, pos, ◌+ℤ◌, ◌-ℤ◌, Bool, true, false, List, [], length, slice_index, Some, None};
 ghost use Rattle.std.specs.List.{All};
+ghost use Rattle.link_base.specs.Bytes.{number_at};
 ghost use Rattle.address_layout.specs.declared.layout.Layout.{Layout};
 ghost use Rattle.relocate.specs.declared.fix.Fix.{Fix};
 ghost use Rattle.relocate.specs.declared.range.RelocRange.{RelocRange};
-ghost use Rattle.relocate.specs.Field.{has_field};
+ghost use Rattle.relocate.specs.Field.{has_field, field_width, fix_at};
 ghost use Rattle.relocate.specs.Judged.{AreTheFields, ArePatchable};
 ghost use Rattle.relocate.specs.PatchedBytes.{patched_bytes, range_fault, is_based, AreNumbered, IsSuited, AreSuited, HaveNoBased};
-ghost use Rattle.relocate.specs.Value.{IsLeastOutside, value_of, fits};
+ghost use Rattle.relocate.specs.Value.{IsLeastOutside, IsOutside, value_of, fits};
 
 use crate::fixups::Fixups;
 use link_base::is_shared;
@@ -37,6 +38,18 @@ pub fn values_stay_at_other_bases()
         → HaveNoBased fixes → range_fault base rva layout owner fixes bytes ≡ range_fault other rva layout owner fixes bytes }
     ensures in_range { (large pdata : Bool) (base other rva : ℕ) (layout : Layout) (owner : List ℕ) (fixes : List Fix) (bytes : List ℕ) → AreSuited large pdata fixes
         → range_fault base rva layout owner fixes bytes ≡ None → range_fault other rva layout owner fixes bytes ≡ None }
+{}
+
+/// At another base each field that holds an address is moved by the difference of the bases, modulo its width, and each
+/// byte of no such field is the same.
+pub fn based_fields_move_with_the_base()
+    ensures moved { (base other rva : ℕ) (layout : Layout) (owner : List ℕ) (fixes fixups : List Fix) (bytes : List ℕ) → AreTheFields fixes fixups → ArePatchable (length bytes) fixups
+        → base < 2 ^ 64 → (k : ℕ) → k < length fixups → is_based (fix_at fixups k) ≡ true
+        → number_at (field_width (fix_at fixups k).kind) (patched_bytes other rva layout owner fixes bytes) (fix_at fixups k).at
+        ≡ (number_at (field_width (fix_at fixups k).kind) (patched_bytes base rva layout owner fixes bytes) (fix_at fixups k).at + (other + 2 ^ 64 - base) % 2 ^ 64) % 2 ^ (8 * field_width (fix_at fixups k).kind) }
+    ensures elsewhere { (base other rva : ℕ) (layout : Layout) (owner : List ℕ) (fixes fixups : List Fix) (bytes : List ℕ) → AreTheFields fixes fixups → ArePatchable (length bytes) fixups
+        → (byte : ℕ) → ((k : ℕ) → k < length fixups → is_based (fix_at fixups k) ≡ true → IsOutside byte (fix_at fixups k))
+        → slice_index (patched_bytes other rva layout owner fixes bytes) byte ≡ slice_index (patched_bytes base rva layout owner fixes bytes) byte }
 {}
 
 /// Patched bytes are as many as the old ones, and without relocations they are the old ones.

@@ -27,7 +27,8 @@ pub use error::FieldError;
 pub use fix::{Fix, Target};
 pub use fixups::Fixups;
 pub use laws::{
-    fixups_are_shared, patches_in_any_order, patching_keeps_the_length, values_stay_at_other_bases,
+    based_fields_move_with_the_base, fixups_are_shared, patches_in_any_order,
+    patching_keeps_the_length, values_stay_at_other_bases,
 };
 pub use link_base::{RelocKind, TargetFault};
 pub use patching::patch;
