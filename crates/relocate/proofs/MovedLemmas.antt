@@ -45,12 +45,12 @@ based_width fix based = by (based_by (eqb fix.kind 1) (eqb fix.kind 2) (is_absol
 
 -- ---- a byte, and the number of a field
 
-byte_patched : (base rva : ℕ) (layout : Layout) (owner : List ℕ) (fixes : List Fix) (bytes : List ℕ) (byte : ℕ) → byte < length bytes → slice_index (patched_bytes base rva layout owner fixes bytes) byte ≡ patched_byte base rva layout owner fixes bytes byte
+pub byte_patched : (base rva : ℕ) (layout : Layout) (owner : List ℕ) (fixes : List Fix) (bytes : List ℕ) (byte : ℕ) → byte < length bytes → slice_index (patched_bytes base rva layout owner fixes bytes) byte ≡ patched_byte base rva layout owner fixes bytes byte
 unfolding patched_bytes
 byte_patched base rva layout owner fixes bytes byte lt =
     get_or-map-range_with_len (patched_byte base rva layout owner fixes bytes) 0 (length bytes) byte byte 0 lt (omega arith)
 
-found_once : (test : Fix → Bool) (fixups : List Fix) (k : ℕ) → PassesOnce test fixups → k < length fixups → test (fix_at fixups k) ≡ true → find test fixups ≡ Some (fix_at fixups k)
+pub found_once : (test : Fix → Bool) (fixups : List Fix) (k : ℕ) → PassesOnce test fixups → k < length fixups → test (fix_at fixups k) ≡ true → find test fixups ≡ Some (fix_at fixups k)
 unfolding PassesOnce
 found_once test fixups k once lt passes = by (find test fixups) refl
   where
@@ -110,7 +110,7 @@ rem_moved n p base other value some lt =
     ∙ rest_moved n p here.1 (other + p * n - base)
     ∙ ap (λ (z : ℤ). (unsigned_abs z + (other + p * n - base) % (p * n)) % n) (sym (int_rem_euclid_is value (pos n) n here.0 here.1 some refl here.2))
 
-based_moved : (base other : ℕ) (value : ℤ) (fix : Fix) → is_based fix ≡ true → base < 2 ^ 64
+pub based_moved : (base other : ℕ) (value : ℤ) (fix : Fix) → is_based fix ≡ true → base < 2 ^ 64
     → held (field_width fix.kind) (value +ℤ (pos other -ℤ pos base)) ≡ (held (field_width fix.kind) value + (other + 2 ^ 64 - base) % 2 ^ 64) % 2 ^ (8 * field_width fix.kind)
 unfolding held
 based_moved base other value fix based lt =

@@ -45,14 +45,14 @@ bytes_in_any_order base rva layout owner fixes fixups bytes len fields patchable
 
 -- ---- a field among the relocations, and a relocation among the fields
 
-IsAmong : List Fix → Fix → Type 0
+unfoldable pub IsAmong : List Fix → Fix → Type 0
 IsAmong fixes fix = (k : ℕ) × (k < length fixes) × (fix_at fixes k ≡ fix)
 
 each_among : (fixes : List Fix) → All (IsAmong fixes) fixes
 unfolding IsAmong
 each_among fixes = All-from_get_or (IsAmong fixes) fixes no_fix (λ k lt. (k, lt, refl))
 
-field_among : (fixes fixups : List Fix) (place : ℕ) → AreTheFields fixes fixups → place < length fixups → (has_field (fix_at fixups place) ≡ true) × (IsAmong fixes (fix_at fixups place))
+pub field_among : (fixes fixups : List Fix) (place : ℕ) → AreTheFields fixes fixups → place < length fixups → (has_field (fix_at fixups place) ≡ true) × (IsAmong fixes (fix_at fixups place))
 field_among fixes fixups place fields lt = (
   All-permutation (λ fix. has_field fix ≡ true) (filter has_field fixes) fixups fields (filter_passes has_field fixes) place no_fix lt,
   All-permutation (IsAmong fixes) (filter has_field fixes) fixups fields (All-filter has_field (IsAmong fixes) fixes (each_among fixes)) place no_fix lt,
