@@ -1,8 +1,8 @@
 -- The headers of an image, by the options of the link (PE Format, "Optional Header (Image Only)" and "DLL
 -- Characteristics"; MSVC linker reference, "/BASE", "/DYNAMICBASE", "/FIXED", "/HEAP", "/HIGHENTROPYVA", "/NXCOMPAT",
 -- "/STACK", "/SUBSYSTEM", "/VERSION"; the time is own).
-use Rattle.std.specs.Prelude.{ℕ, ◌+◌, Bool, ◌&&◌, not, if◌then◌else◌, replicate}
-use Rattle.link_base.specs.PeFormat.{DLLCHARACTERISTICS_HIGH_ENTROPY_VA, DLLCHARACTERISTICS_DYNAMIC_BASE, DLLCHARACTERISTICS_NX_COMPAT, NUMBEROF_DIRECTORY_ENTRIES}
+use Rattle.std.specs.Prelude.{ℕ, ◌+◌, Bool, ◌&&◌, not, if◌then◌else◌, replicate, slice_set}
+use Rattle.link_base.specs.PeFormat.{DLLCHARACTERISTICS_HIGH_ENTROPY_VA, DLLCHARACTERISTICS_DYNAMIC_BASE, DLLCHARACTERISTICS_NX_COMPAT, NUMBEROF_DIRECTORY_ENTRIES, DIRECTORY_ENTRY_BASERELOC}
 use Rattle.image_writer.specs.declared.headers.Headers.{Headers}
 use Rattle.link_words.specs.Outcome.{LinkOptions}
 
@@ -17,9 +17,9 @@ dll_characteristics options =
     + (if can_move options then DLLCHARACTERISTICS_DYNAMIC_BASE else 0)
     + (if options.nx then DLLCHARACTERISTICS_NX_COMPAT else 0)
 
--- the headers of an image that begins at an RVA
-abbrev pub headers_of : LinkOptions → ℕ → Headers
-headers_of options entry = record {
+-- the headers of an image that begins at an RVA, with where the table of base relocations is
+abbrev pub headers_of : LinkOptions → ℕ → ℕ × ℕ → Headers
+headers_of options entry table = record {
   base = options.base;
   entry = entry;
   dll = options.dll;
@@ -31,5 +31,5 @@ headers_of options entry = record {
   time = options.time;
   stack = options.stack;
   heap = options.heap;
-  directories = replicate NUMBEROF_DIRECTORY_ENTRIES (0, 0);
+  directories = slice_set (replicate NUMBEROF_DIRECTORY_ENTRIES (0, 0)) DIRECTORY_ENTRY_BASERELOC table;
 }

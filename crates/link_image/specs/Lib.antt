@@ -1,3 +1,4 @@
+pub mod BaseFields
 pub mod ImageHeaders
 pub mod LinkedBytes
 pub mod LinkedImage

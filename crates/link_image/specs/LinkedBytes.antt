@@ -1,6 +1,6 @@
 -- What the pieces of a link hold in its image, and the first field whose value does not fit (PE Format, "Type Indicators",
 -- x64 Processors; the order is own).
-use Rattle.std.specs.Prelude.{ℕ, Bool, List, [], length, map, slice_index, slice_index_or, Option, Some, option_map, unwrap_or, ◌==◌}
+use Rattle.std.specs.Prelude.{ℕ, Bool, List, [], ◌++◌, length, map, slice_index, slice_index_or, Option, Some, option_map, unwrap_or, ◌==◌}
 use Rattle.std.specs.List.{list_any, range_with_len}
 use Rattle.link_base.specs.Bytes.{first_below}
 use Rattle.link_base.specs.Refusals.{first_refusal_below}
@@ -32,8 +32,9 @@ owners rows count = map (section_of rows) (range_with_len 0 count)
 
 -- ---- the bytes
 
-abbrev pub owners_in : List ModuleView → List SectionRow → List ℕ
-owners_in modules rows = owners rows (length (link_pieces modules))
+-- the section of each piece that a layout has a place for
+abbrev pub owners_in : List SectionRow → Layout → List ℕ
+owners_in rows layout = owners rows (length layout.pieces.items)
 
 abbrev pub contents_at : List ModuleView → ℕ → List ℕ
 contents_at modules k = slice_index_or (link_contents modules) k []
@@ -41,11 +42,15 @@ contents_at modules k = slice_index_or (link_contents modules) k []
 -- the bytes of a piece with its fields, in an image at a base
 abbrev pub linked_bytes : List ModuleView → List SectionRow → Layout → ℕ → ℕ → List ℕ
 linked_bytes modules rows layout base k =
-    patched_bytes base (slice_index layout.pieces.items k) layout (owners_in modules rows) (piece_fixes modules k) (contents_at modules k)
+    patched_bytes base (slice_index layout.pieces.items k) layout (owners_in rows layout) (piece_fixes modules k) (contents_at modules k)
 
 unfoldable pub linked_contents : List ModuleView → List SectionRow → Layout → ℕ → List (List ℕ)
 linked_contents modules rows layout base =
     map (linked_bytes modules rows layout base) (range_with_len 0 (length (link_pieces modules)))
+
+-- and after them the tables that the linker makes, which are the same at each base
+abbrev pub image_contents : List ModuleView → List SectionRow → Layout → List (List ℕ) → ℕ → List (List ℕ)
+image_contents modules rows layout tables base = linked_contents modules rows layout base ++ tables
 
 -- ---- values that do not fit
 
@@ -55,7 +60,7 @@ out_of_range piece range = faults.RelocRange (Some piece.«module») piece.numbe
 -- the first field of a piece whose value does not fit
 abbrev pub piece_range_fault : List ModuleView → List SectionRow → Layout → ℕ → ℕ → Option Fault
 piece_range_fault modules rows layout base k =
-    option_map (out_of_range (piece_at modules k)) (range_fault base (slice_index layout.pieces.items k) layout (owners_in modules rows) (piece_fixes modules k) (contents_at modules k))
+    option_map (out_of_range (piece_at modules k)) (range_fault base (slice_index layout.pieces.items k) layout (owners_in rows layout) (piece_fixes modules k) (contents_at modules k))
 
 -- that of all pieces, in their order
 unfoldable pub fields_range_fault : List ModuleView → List SectionRow → Layout → ℕ → Option Fault

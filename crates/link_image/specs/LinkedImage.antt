@@ -1,28 +1,32 @@
 -- The image of modules: their pieces in sections, the places of these, and what they make. Own.
-use Rattle.std.specs.Prelude.{◌≡◌, ◌≤◌, ℕ, ◌+◌, true, false, List, length, replicate, slice_index, Option, Some, None}
+use Rattle.std.specs.Prelude.{◌≡◌, ◌≤◌, ℕ, ◌+◌, ◌-◌, Bool, true, false, List, [], ◌∷◌, ◌++◌, length, replicate, slice_index, Option, Some, None, codes}
 use Rattle.link_base.specs.Limits.{SECTION_LIMIT, IMAGE_LIMIT}
+use Rattle.link_base.specs.PeFormat.{SCN_CNT_INITIALIZED_DATA, SCN_MEM_DISCARDABLE, SCN_MEM_READ}
 use Rattle.section_group.specs.declared.piece.Piece.{Piece}
 use Rattle.section_group.specs.declared.piece.OutSection.{OutSection}
 use Rattle.section_group.specs.SectionOrder.{Input, input_from}
 use Rattle.section_group.specs.Merging.{HasNoBadMerge}
 use Rattle.section_group.specs.Placement.{IsGrouping}
-use Rattle.section_group.specs.Uniqueness.{rows_of}
+use Rattle.section_group.specs.Uniqueness.{SectionRow, rows_of}
 use Rattle.address_layout.specs.declared.base.BaseRule.{BaseRule}
 use Rattle.address_layout.specs.declared.layout.Layout.{Layout}
 use Rattle.address_layout.specs.PermittedBase.{is_permitted}
 use Rattle.address_layout.specs.Places.{section_count}
 use Rattle.address_layout.specs.Layout.{IsLayout}
-use Rattle.address_layout.specs.Growth.{CanGrow}
+use Rattle.address_layout.specs.Growth.{CanGrow, Appends}
+use Rattle.base_reloc.specs.declared.field.BaseField.{BaseField}
+use Rattle.base_reloc.specs.PageBlocks.{blocks_of}
 use Rattle.image_writer.specs.ExpectedImage.{ImagePlan, MeansPlan, image_file}
-use Rattle.image_writer.specs.WrittenImage.{layout_plan}
+use Rattle.image_writer.specs.WrittenImage.{written_plan}
 use Rattle.module_view.specs.Module.{ModuleView}
 use Rattle.link_words.specs.Outcome.{LinkOptions}
 use Rattle.link_plan.specs.declared.entry.EntryPlace.{EntryPlace}
 use Rattle.link_plan.specs.Entry.{entry_place}
 use Rattle.link_plan.specs.Fixes.{plan_pieces}
 use Rattle.link_image.specs.declared.make.Built.{Built}
+use Rattle.link_image.specs.BaseFields.{is_relocated, AreBaseFields}
 use Rattle.link_image.specs.ImageHeaders.{headers_of}
-use Rattle.link_image.specs.LinkedBytes.{linked_contents, fields_range_fault}
+use Rattle.link_image.specs.LinkedBytes.{image_contents, fields_range_fault}
 
 -- ---- sections
 
@@ -37,9 +41,10 @@ pub record AreGrouped (options : LinkOptions) (pieces : List Piece) (sections : 
 
 -- ---- places
 
-pub record ArePlaced (pieces : List Piece) (sections : List OutSection) (layout : Layout) : Type 0 where
-  pub layout_of : IsLayout pieces sections false layout
-  pub few : section_count sections false ≤ SECTION_LIMIT
+-- the places of the pieces and their sections, with room in the headers for that of base relocations where it will follow
+pub record ArePlaced (pieces : List Piece) (sections : List OutSection) (reloc : Bool) (layout : Layout) : Type 0 where
+  pub layout_of : IsLayout pieces sections reloc layout
+  pub few : section_count sections reloc ≤ SECTION_LIMIT
   pub within : layout.image ≤ IMAGE_LIMIT
   pub growth : CanGrow layout
 
@@ -52,17 +57,49 @@ abbrev pub entry_rva : List ℕ → Option EntryPlace → ℕ
 entry_rva rvas None = 0
 entry_rva rvas (Some place) = slice_index rvas place.piece + place.value
 
+-- ---- the table of base relocations
+
+-- its section, which has one piece: initialised data that can be read, and that is of no use once the image is loaded
+abbrev pub table_row : ℕ → SectionRow
+table_row k = record { name = codes ".reloc"; flags = SCN_CNT_INITIALIZED_DATA + SCN_MEM_DISCARDABLE + SCN_MEM_READ; pieces = k ∷ [] }
+
+-- the table as the last section and the last piece
+pub record HasTable (modules : List ModuleView) (piece_rows : List SectionRow) (before : Layout) (rows : List SectionRow) (layout : Layout) (tables : List (List ℕ)) : Type 0 where
+  pub fields : List BaseField
+  pub based : AreBaseFields modules before.pieces.items fields
+  pub added : Appends before layout (length (blocks_of fields))
+  pub within : layout.image ≤ IMAGE_LIMIT
+  pub rows_are : rows ≡ piece_rows ++ table_row (length before.pieces.items) ∷ []
+  pub tables_are : tables ≡ blocks_of fields ∷ []
+
+abbrev pub IsWhole : Bool → List ModuleView → List SectionRow → Layout → List SectionRow → Layout → List (List ℕ) → Type 0
+IsWhole true modules piece_rows before rows layout tables = HasTable modules piece_rows before rows layout tables
+IsWhole false modules piece_rows before rows layout tables = (rows ≡ piece_rows) × (layout ≡ before) × (tables ≡ [])
+
+-- where everything stands: the sections of the pieces, and after them the table of base relocations where there is one
+pub record IsPlacement (options : LinkOptions) (modules : List ModuleView) (rows : List SectionRow) (layout : Layout) (tables : List (List ℕ)) : Type 0 where
+  pub sections : List OutSection
+  pub grouped : AreGrouped options (plan_pieces modules) sections
+  pub before : Layout
+  pub placed : ArePlaced (plan_pieces modules) sections (is_relocated options modules) before
+  pub whole : IsWhole (is_relocated options modules) modules (rows_of sections) before rows layout tables
+
+-- the RVA and the size of the table, which is the last piece
+abbrev pub table_directory : Layout → List (List ℕ) → ℕ × ℕ
+table_directory layout [] = (0, 0)
+table_directory layout (table ∷ tables) = (slice_index layout.pieces.items (length layout.pieces.items - 1), length table)
+
 -- ---- the image
 
 -- the image of modules, in which every value fits
 pub record IsImageOf (options : LinkOptions) (modules : List ModuleView) (image : ImagePlan) : Type 0 where
-  pub sections : List OutSection
-  pub grouped : AreGrouped options (plan_pieces modules) sections
+  pub rows : List SectionRow
   pub layout : Layout
-  pub placed : ArePlaced (plan_pieces modules) sections layout
+  pub tables : List (List ℕ)
+  pub placement : IsPlacement options modules rows layout tables
   pub permitted : is_permitted (base_rule options) layout.image options.base ≡ true
-  pub in_range : fields_range_fault modules (rows_of sections) layout options.base ≡ None
-  pub is : image ≡ layout_plan (headers_of options (entry_rva layout.pieces.items (entry_place modules options.entry_name))) sections layout (linked_contents modules (rows_of sections) layout)
+  pub in_range : fields_range_fault modules rows layout options.base ≡ None
+  pub is : image ≡ written_plan (headers_of options (entry_rva layout.pieces.items (entry_place modules options.entry_name)) (table_directory layout tables)) rows layout.sections.items layout.pieces.items layout.image (image_contents modules rows layout tables)
 
 -- what was made is the file of the image of the modules, which loads as planned at every permitted base
 pub record IsBuilt (options : LinkOptions) (modules : List ModuleView) (built : Built) : Type 0 where

@@ -1,17 +1,21 @@
 -- What the steps of the code promise one another. It decides nothing.
-use Rattle.std.specs.Prelude.{◌≡◌, ◌<◌, ◌⊎◌, ℕ, true, nat_lt, if◌then◌else◌, List, length, map, slice_index_or}
-use Rattle.std.specs.List.{Contains, range_with_len}
+use Rattle.std.specs.Prelude.{◌≡◌, ◌<◌, ◌≤◌, ◌⊎◌, ℕ, ◌+◌, ◌^◌, true, nat_lt, if◌then◌else◌, List, [], ◌∷◌, ◌++◌, length, map, slice_index, slice_index_or, Option, Some, None}
+use Rattle.std.specs.List.{All, Contains, filter, flat_map, range_with_len}
+use Rattle.std.specs.declared.vec.Vec.{Vec}
 use Rattle.link_base.specs.declared.fault.Fault.{Fault}
 use Rattle.section_group.specs.declared.piece.Piece.{Piece}
 use Rattle.section_group.specs.declared.piece.OutSection.{OutSection}
 use Rattle.section_group.specs.SectionOrder.{no_piece}
 use Rattle.section_group.specs.BarePieces.{bare}
 use Rattle.section_group.specs.PieceContents.{piece_contents, HasItsBytes}
-use Rattle.section_group.specs.Uniqueness.{SectionRow, rows_of}
+use Rattle.section_group.specs.Uniqueness.{SectionRow, row_of, rows_of}
 use Rattle.address_layout.specs.declared.layout.Layout.{Layout}
 use Rattle.address_layout.specs.Layout.{all_pieces}
 use Rattle.relocate.specs.declared.fix.Fix.{Fix}
 use Rattle.relocate.specs.declared.range.RelocRange.{RelocRange}
+use Rattle.base_reloc.specs.declared.field.BaseField.{BaseField}
+use Rattle.base_reloc.specs.PageBlocks.{blocks_of}
+use Rattle.relocate.specs.PatchedBytes.{is_based}
 use Rattle.relocate.specs.Value.{IsLeastOutside}
 use Rattle.image_writer.specs.declared.headers.Headers.{Headers}
 use Rattle.image_writer.specs.ExpectedImage.{image_file}
@@ -19,7 +23,15 @@ use Rattle.image_writer.specs.WrittenImage.{layout_plan, at_each_base, IsLaidOut
 use Rattle.module_view.specs.Module.{ModuleView}
 use Rattle.link_pieces.specs.Pieces.{link_pieces, link_contents}
 use Rattle.link_plan.specs.Fixes.{HaveFields, plan_pieces}
-use Rattle.link_image.specs.LinkedBytes.{owners, contents_at, linked_bytes, out_of_range}
+use Rattle.link_base.specs.Limits.{SECTION_LIMIT}
+use Rattle.link_words.specs.Outcome.{LinkOptions}
+use Rattle.link_plan.specs.declared.plan.LinkPlan.{LinkPlan}
+use Rattle.link_plan.specs.declared.entry.EntryPlace.{EntryPlace}
+use Rattle.link_plan.specs.Plan.{StandsNamed}
+use Rattle.link_image.specs.declared.placement.Placement.{Placement}
+use Rattle.link_image.specs.BaseFields.{base_field, AreBaseFields}
+use Rattle.link_image.specs.LinkedBytes.{owners_in, contents_at, linked_bytes, out_of_range}
+use Rattle.link_image.specs.LinkedImage.{table_row, IsPlacement}
 
 -- the fault says which value of a piece is out of range
 pub record RefusesRange (base rva : ℕ) (layout : Layout) (owner : List ℕ) (fixups : List Fix) (bytes : List ℕ) (piece : Piece) (fault : Fault) : Type 0 where
@@ -27,17 +39,80 @@ pub record RefusesRange (base rva : ℕ) (layout : Layout) (owner : List ℕ) (f
   pub least : IsLeastOutside base rva layout owner fixups bytes range
   pub is : fault ≡ out_of_range piece range
 
--- what was decided before fields are patched: the pieces with their fields, and where these stand
-pub record IsReady (modules : List ModuleView) (pieces : List Piece) (fixups : List (List Fix)) (sections : List OutSection) (layout : Layout) (owner : List ℕ) : Type 0 where
+-- ---- the fields that hold addresses, as they are listed
+
+abbrev pub fields_of : ℕ → List Fix → List BaseField
+fields_of rva fixes = map (base_field rva) (filter is_based fixes)
+
+abbrev pub fields_at : List ℕ → List (List Fix) → ℕ → List BaseField
+fields_at rvas fixups k = fields_of (slice_index rvas k) (slice_index_or fixups k [])
+
+unfoldable pub section_fields : List ℕ → List (List Fix) → List ℕ → List BaseField
+section_fields rvas fixups indexes = flat_map (fields_at rvas fixups) indexes
+
+unfoldable pub all_fields : List ℕ → List (List Fix) → List OutSection → List BaseField
+all_fields rvas fixups sections = flat_map (λ section. section_fields rvas fixups section.pieces.items) sections
+
+-- the RVA of each field of a piece is a number of 32 bits
+abbrev pub Fits : List ℕ → List (List Fix) → ℕ → Type 0
+Fits rvas fixups k = All (λ fix. slice_index rvas k + fix.at < 2 ^ 32) (slice_index_or fixups k [])
+
+-- ---- where everything stands
+
+-- the tables that the linker makes: that of base relocations, where there is one
+abbrev pub tables_of : {A : Type 0} → Option (Vec ℕ A) → List (List ℕ)
+tables_of None = []
+tables_of (Some table) = table.items ∷ []
+
+-- pieces that hold the tables, each as long as its table
+pub record HoldTables (tables : List (List ℕ)) (rest : List Piece) : Type 0 where
+  pub contents : map piece_contents rest ≡ tables
+  pub sizes : (j : ℕ) → j < length rest → (slice_index_or rest j no_piece).size ≡ length (slice_index_or tables j [])
+
+-- a table of base relocations
+pub record IsTable (modules : List ModuleView) (rvas table : List ℕ) : Type 0 where
+  pub fields : List BaseField
+  pub based : AreBaseFields modules rvas fields
+  pub is : table ≡ blocks_of fields
+
+-- the section of the table of a piece is the last
+pub record EndsWithTable (old new : List OutSection) (k : ℕ) : Type 0 where
+  pub section : OutSection
+  pub is : new ≡ old ++ section ∷ []
+  pub row : row_of section ≡ table_row k
+
+-- pieces with one more, which holds the table
+pub record EndsWithPiece (old new : List Piece) (table : List ℕ) : Type 0 where
+  pub piece : Piece
+  pub is : new ≡ old ++ piece ∷ []
+  pub contents : piece_contents piece ≡ table
+  pub size : piece.size ≡ length table
+
+-- the placement of a plan: what it means, that it can be written, and that pieces that need a place stand in a section
+pub record IsPlaced (options : LinkOptions) (plan : LinkPlan) (placement : Placement) : Type 0 where
+  pub means : IsPlacement options plan.modules.items (rows_of placement.sections.items) placement.layout (tables_of placement.table)
+  pub laid : (rest : List Piece) → HoldTables (tables_of placement.table) rest → IsLaidOut (plan.pieces.items ++ rest) placement.sections.items placement.layout
+  pub stands : (k : ℕ) → k < length plan.pieces.items → ((0 < (slice_index_or plan.pieces.items k no_piece).size) ⊎ ((slice_index_or plan.pieces.items k no_piece).named ≡ true)) → Contains (all_pieces placement.sections.items) k
+  pub room : length plan.pieces.items ≤ length placement.layout.pieces.items
+  pub fits : (place : EntryPlace) → StandsNamed plan.pieces.items place → slice_index placement.layout.pieces.items place.piece < 2 ^ 32 → slice_index placement.layout.pieces.items place.piece + place.value < 2 ^ 32
+  pub few : length placement.sections.items ≤ SECTION_LIMIT
+  pub small : All (λ table. length table < 2 ^ 32) (tables_of placement.table)
+
+-- ---- what was decided before fields are patched
+
+-- the pieces with their fields, the tables after them, and where all of these stand
+pub record IsReady (modules : List ModuleView) (pieces : List Piece) (fixups : List (List Fix)) (sections : List OutSection) (layout : Layout) (owner : List ℕ) (tables : List (List ℕ)) : Type 0 where
   pub pieces_are : map bare pieces ≡ plan_pieces modules
   pub contents_are : map piece_contents pieces ≡ link_contents modules
   pub bodies : (k : ℕ) → k < length pieces → HasItsBytes pieces k
   pub fields : HaveFields modules (length pieces) fixups
-  pub laid : IsLaidOut pieces sections layout
+  pub rest : List Piece
+  pub holds : HoldTables tables rest
+  pub laid : IsLaidOut (pieces ++ rest) sections layout
   pub stands : (k : ℕ) → k < length pieces → ((0 < (slice_index_or pieces k no_piece).size) ⊎ ((slice_index_or pieces k no_piece).named ≡ true)) → Contains (all_pieces sections) k
-  pub owner_is : owner ≡ owners (rows_of sections) (length pieces)
+  pub owner_is : owner ≡ owners_in (rows_of sections) layout
 
--- the file of an image whose first pieces are patched
+-- the contents of an image whose first pieces are patched
 abbrev pub mixed_at : List ModuleView → List SectionRow → Layout → ℕ → ℕ → ℕ → List ℕ
 mixed_at modules rows layout base count k =
     if nat_lt k count then linked_bytes modules rows layout base k else contents_at modules k
@@ -46,6 +121,16 @@ unfoldable pub mixed_contents : List ModuleView → List SectionRow → Layout �
 mixed_contents modules rows layout base count =
     map (mixed_at modules rows layout base count) (range_with_len 0 (length (link_pieces modules)))
 
-abbrev pub mixed_file : List ModuleView → Headers → List OutSection → Layout → ℕ → List ℕ
-mixed_file modules headers sections layout count =
-    image_file (layout_plan headers sections layout (at_each_base (mixed_contents modules (rows_of sections) layout headers.base count)))
+-- the file of an image with these headers and contents, and the tables after them
+abbrev pub file_of : Headers → List OutSection → Layout → List (List ℕ) → List (List ℕ) → List ℕ
+file_of headers sections layout contents tables = image_file (layout_plan headers sections layout (at_each_base (contents ++ tables)))
+
+abbrev pub mixed_file : List ModuleView → Headers → List OutSection → Layout → List (List ℕ) → ℕ → List ℕ
+mixed_file modules headers sections layout tables count =
+    file_of headers sections layout (mixed_contents modules (rows_of sections) layout headers.base count) tables
+
+-- what was written of pieces and tables
+pub record IsWritten (headers : Headers) (placement : Placement) (pieces : List Piece) (image : List ℕ) : Type 0 where
+  pub rest : List Piece
+  pub holds : HoldTables (tables_of placement.table) rest
+  pub file : image ≡ file_of headers placement.sections.items placement.layout (map piece_contents pieces) (tables_of placement.table)

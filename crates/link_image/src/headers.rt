@@ -6,15 +6,17 @@ ghost use Rattle.link_image.specs.ImageHeaders.{headers_of, dll_characteristics}
 
 use image_writer::Headers;
 use link_base::pe_format::{
-    DLLCHARACTERISTICS_DYNAMIC_BASE, DLLCHARACTERISTICS_HIGH_ENTROPY_VA,
+    DIRECTORY_ENTRY_BASERELOC, DLLCHARACTERISTICS_DYNAMIC_BASE, DLLCHARACTERISTICS_HIGH_ENTROPY_VA,
     DLLCHARACTERISTICS_NX_COMPAT,
 };
 use link_words::Options;
 
-/// The headers of an image that begins at an RVA. It has no directories.
-pub(crate) fn headers_of(options: &Options<'_>, entry: u32) -> Headers
-    ensures { result ≡ headers_of (options_said options.now) entry }
+/// The headers of an image that begins at an RVA, with the RVA and the size of its table of base relocations.
+pub(crate) fn headers_of(options: &Options<'_>, entry: u32, table: (u32, u32)) -> Headers
+    ensures { result ≡ headers_of (options_said options.now) entry table }
 {
+    let mut directories = [(0, 0); 16];
+    directories[DIRECTORY_ENTRY_BASERELOC] = table;
     Headers {
         base: options.base,
         entry,
@@ -27,7 +29,7 @@ pub(crate) fn headers_of(options: &Options<'_>, entry: u32) -> Headers
         time: options.time,
         stack: options.stack,
         heap: options.heap,
-        directories: [(0, 0); 16],
+        directories,
     }
 }
 

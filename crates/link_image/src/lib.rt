@@ -5,10 +5,13 @@
 //! names, and which fields there are, are left to the crates below.
 #![tactic(auto)]
 
+mod base_fields;
+mod file;
 mod headers;
 mod make;
 mod owners;
 mod patching;
+mod placement;
 mod sections;
 
 pub use make::{Built, build};

@@ -6,11 +6,11 @@ ghost use Rattle.link_plan.specs.Plan.{IsPlanOf};
 ghost use Rattle.link_image.specs.LinkedImage.{IsBuilt};
 ghost use Rattle.link_image.specs.BuildFaults.{RefusesBuild};
 
+use crate::file::write_file;
 use crate::headers::headers_of;
 use crate::owners::owners_of;
 use crate::patching::patch_pieces;
-use crate::sections::{check_own_base, entry_rva, group_pieces, place_pieces};
-use image_writer::image;
+use crate::placement::{check_own_base, entry_rva, place_all, table_directory};
 use link_base::Refusal;
 use link_plan::LinkPlan;
 use link_words::Options;
@@ -37,14 +37,14 @@ pub fn build<'a>(
     ensures built { IfOk result (IsBuilt (options_said options.now) plan.now.modules.items) }
     ensures refused { IfErr result (RefusesBuild (options_said options.now) plan.now.modules.items) }
 {
-    let sections = group_pieces(alloc, plan, options)?;
-    let layout = place_pieces(alloc, plan, options, &sections)?;
-    let count = sections.len() as u32;
-    check_own_base(plan, options, &sections, &layout)?;
-    let headers = headers_of(options, entry_rva(plan, options, &sections, &layout));
-    let owner = owners_of(alloc, &sections, plan.pieces.len())?;
-    let mut image = image(alloc, &headers, &layout, &sections, &plan.pieces)?;
-    patch_pieces(&mut image, plan, &headers, &sections, &layout, &owner)?;
+    let placement = place_all(alloc, plan, options)?;
+    let count = placement.sections.len() as u32;
+    check_own_base(plan, options, &placement)?;
+    let entry = entry_rva(plan, options, &placement);
+    let headers = headers_of(options, entry, table_directory(&placement));
+    let owner = owners_of(alloc, &placement.sections, placement.layout.pieces.len())?;
+    let mut image = write_file(alloc, &headers, &placement, &plan.pieces)?;
+    patch_pieces(&mut image, plan, &headers, &placement, &owner)?;
     Ok(Built {
         image,
         sections: count,

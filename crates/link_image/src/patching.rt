@@ -7,21 +7,20 @@ ghost use Rattle.link_base.specs.PeFormat.{NUMBEROF_DIRECTORY_ENTRIES};
 ghost use Rattle.section_group.specs.PieceContents.{piece_contents};
 ghost use Rattle.section_group.specs.Uniqueness.{rows_of};
 ghost use Rattle.address_layout.specs.Layout.{placed_at};
-ghost use Rattle.image_writer.specs.ExpectedImage.{image_file};
-ghost use Rattle.image_writer.specs.WrittenImage.{layout_plan, at_each_base};
 ghost use Rattle.image_writer.specs.PieceInFile.{piece_place, patched};
 ghost use Rattle.relocate.specs.Judged.{ArePatchable};
 ghost use Rattle.relocate.specs.PatchedBytes.{patched_bytes};
 ghost use Rattle.relocate.specs.Value.{HaveEntries, fits};
 ghost use Rattle.link_image.specs.LinkedBytes.{linked_contents, piece_range_fault, fields_range_fault};
-ghost use Rattle.link_image.specs.Steps.{IsReady, RefusesRange, mixed_file};
+ghost use Rattle.link_image.specs.Steps.{IsReady, RefusesRange, file_of, mixed_file, tables_of};
 
+use crate::placement::Placement;
 use address_layout::Layout;
 use image_writer::Headers;
 use link_base::Fault;
 use link_plan::LinkPlan;
 use relocate::{Fixups, patch};
-use section_group::{OutSection, Piece};
+use section_group::Piece;
 
 /// Patches the fields of all pieces in the file of an image, in the order of the pieces. `owner` has the section of each
 /// piece. The first field whose value does not fit is refused (`RelocRange`), and the file is then of no use.
@@ -29,20 +28,19 @@ pub(crate) fn patch_pieces<'a>(
     image: &mut Vec<u8>,
     plan: &LinkPlan<'a>,
     headers: &Headers,
-    sections: &[OutSection<'a>],
-    layout: &Layout,
+    placement: &Placement<'a>,
     owner: &[u32],
 ) -> Result<(), Fault<'a>>
-    requires ready { IsReady plan.now.modules.items plan.now.pieces.items plan.now.fixes.items sections.now layout.now owner.now }
+    requires ready { IsReady plan.now.modules.items plan.now.pieces.items plan.now.fixes.items placement.now.sections.items placement.now.layout owner.now (tables_of placement.now.table) }
     requires directories { length headers.now.directories ≡ NUMBEROF_DIRECTORY_ENTRIES }
-    requires file { image.old.items ≡ image_file (layout_plan headers.now sections.now layout.now (at_each_base (map piece_contents plan.now.pieces.items))) }
-    ensures patched { OnOk result (image.new.items ≡ image_file (layout_plan headers.now sections.now layout.now
-        (at_each_base (linked_contents plan.now.modules.items (rows_of sections.now) layout.now headers.now.base)))) }
-    ensures in_range { OnOk result (fields_range_fault plan.now.modules.items (rows_of sections.now) layout.now headers.now.base ≡ None) }
-    ensures refused { IfErr result (λ fault. fields_range_fault plan.now.modules.items (rows_of sections.now) layout.now headers.now.base ≡ Some fault) }
+    requires file { image.old.items ≡ file_of headers.now placement.now.sections.items placement.now.layout (map piece_contents plan.now.pieces.items) (tables_of placement.now.table) }
+    ensures patched { OnOk result (image.new.items ≡ file_of headers.now placement.now.sections.items placement.now.layout
+        (linked_contents plan.now.modules.items (rows_of placement.now.sections.items) placement.now.layout headers.now.base) (tables_of placement.now.table)) }
+    ensures in_range { OnOk result (fields_range_fault plan.now.modules.items (rows_of placement.now.sections.items) placement.now.layout headers.now.base ≡ None) }
+    ensures refused { IfErr result (λ fault. fields_range_fault plan.now.modules.items (rows_of placement.now.sections.items) placement.now.layout headers.now.base ≡ Some fault) }
 {
     for k in 0..plan.pieces.len() {
-        patch_at(image, plan, headers, sections, layout, owner, k)?;
+        patch_at(image, plan, headers, placement, owner, k)?;
     }
     Ok(())
 }
@@ -52,23 +50,24 @@ fn patch_at<'a>(
     image: &mut Vec<u8>,
     plan: &LinkPlan<'a>,
     headers: &Headers,
-    sections: &[OutSection<'a>],
-    layout: &Layout,
+    placement: &Placement<'a>,
     owner: &[u32],
     k: usize,
 ) -> Result<(), Fault<'a>>
-    requires ready { IsReady plan.now.modules.items plan.now.pieces.items plan.now.fixes.items sections.now layout.now owner.now }
+    requires ready { IsReady plan.now.modules.items plan.now.pieces.items plan.now.fixes.items placement.now.sections.items placement.now.layout owner.now (tables_of placement.now.table) }
     requires directories { length headers.now.directories ≡ NUMBEROF_DIRECTORY_ENTRIES }
     requires piece { k < length plan.now.pieces.items }
-    requires file { image.old.items ≡ mixed_file plan.now.modules.items headers.now sections.now layout.now k }
-    ensures file { OnOk result (image.new.items ≡ mixed_file plan.now.modules.items headers.now sections.now layout.now (k + 1)) }
-    ensures in_range { OnOk result (piece_range_fault plan.now.modules.items (rows_of sections.now) layout.now headers.now.base k ≡ None) }
-    ensures refused { IfErr result (λ fault. piece_range_fault plan.now.modules.items (rows_of sections.now) layout.now headers.now.base k ≡ Some fault) }
+    requires file { image.old.items ≡ mixed_file plan.now.modules.items headers.now placement.now.sections.items placement.now.layout (tables_of placement.now.table) k }
+    ensures file { OnOk result (image.new.items ≡ mixed_file plan.now.modules.items headers.now placement.now.sections.items placement.now.layout (tables_of placement.now.table) (k + 1)) }
+    ensures in_range { OnOk result (piece_range_fault plan.now.modules.items (rows_of placement.now.sections.items) placement.now.layout headers.now.base k ≡ None) }
+    ensures refused { IfErr result (λ fault. piece_range_fault plan.now.modules.items (rows_of placement.now.sections.items) placement.now.layout headers.now.base k ≡ Some fault) }
 {
-    let piece = &plan.pieces[k];
-    if !piece.init || piece.size == 0 {
+    let fixups = &plan.fixes[k];
+    if fixups.is_empty() {
         return Ok(());
     }
+    let piece = &plan.pieces[k];
+    let layout = &placement.layout;
     let place = file_place(layout, owner, k);
     let rva = layout.pieces[k];
     patch_piece(
@@ -77,7 +76,7 @@ fn patch_at<'a>(
         rva,
         headers.base,
         piece,
-        &plan.fixes[k],
+        fixups,
         layout,
         owner,
     )?;
