@@ -1,8 +1,8 @@
 -- The contents of pieces, of which the first are patched.
-use Rattle.std.proofs.Common.{◌≡◌, ◌≢◌, ℕ, ◌+◌, ◌<◌, ◌≤◌, List, [], ◌∷◌, length, map, get_or, lt-ltb, le-ltb, inl, inr, refl, sym, ap, ◌∙◌, arith}
+use Rattle.std.proofs.Common.{◌≡◌, ◌≢◌, ℕ, ◌+◌, ◌<◌, ◌≤◌, ◌-◌, List, [], ◌∷◌, ◌++◌, length, map, get_or, lt-ltb, le-ltb, inl, inr, refl, sym, ap, ◌∙◌, arith}
 use Rattle.std.specs.List.{All, range_with_len}
 use Rattle.std.proofs.lemmas.Bool.{cases_lt, cases_eq}
-use Rattle.std.proofs.lemmas.List.{ext_get_or, get_or_past}
+use Rattle.std.proofs.lemmas.List.{ext_get_or, get_or_append_left, get_or-append_right, length-map, map-append}
 use Rattle.std.proofs.lemmas.List.FromFn.{get_or-map-range_with_len, length-map-range_with_len}
 use Rattle.section_group.specs.declared.piece.Piece.{Piece}
 use Rattle.section_group.specs.declared.piece.OutSection.{OutSection}
@@ -45,7 +45,7 @@ module _ (modules : List ModuleView) (rows : List SectionRow) (layout : Layout) 
   unpatched_at count k le = rw (le-ltb k count le) refl
 
   length_linked : (k : ℕ) → length (linked_bytes modules rows layout base k) ≡ length (contents_at modules k)
-  length_linked k = length_patched base (get_or layout.pieces.items k 0) layout (owners_in modules rows) (piece_fixes modules k) (contents_at modules k)
+  length_linked k = length_patched base (get_or layout.pieces.items k 0) layout (owners_in rows layout) (piece_fixes modules k) (contents_at modules k)
 
   pub length_at : (count k : ℕ) → length (at count k) ≡ length (contents_at modules k)
   length_at count k =
@@ -83,44 +83,63 @@ module _ (modules : List ModuleView) (rows : List SectionRow) (layout : Layout) 
             | inr ge ↦ absurd (apart (omega arith))
           ]
 
-  others_same : (count other : ℕ) → other ≢ count → get_or (mixed (count + 1)) other [] ≡ get_or (mixed count) other []
-  others_same count other apart =
-      elim (cases_lt other total) [
-        | inl lt ↦ mixed_read (count + 1) other lt ∙ beside count other apart ∙ sym (mixed_read count other lt)
-        | inr le ↦
-            get_or_past (mixed (count + 1)) other [] (let n = length-mixed (count + 1) in omega (arith, n)) ∙ sym (get_or_past (mixed count) other [] (let n = length-mixed count in omega (arith, n)))
-      ]
-
-  pub mixed_differs : (count : ℕ) → count < total → DiffersAt count (mixed count) (mixed (count + 1))
-  mixed_differs count lt = record {
-    same_length = ap length (mixed_read (count + 1) count lt) ∙ length_at (count + 1) count ∙ sym (length_at count count) ∙ sym (ap length (mixed_read count count lt));
-    others = others_same count;
-  }
-
-  -- a piece without bytes is as it was
-  pub mixed_same : (count : ℕ) → length (contents_at modules count) ≡ 0 → mixed (count + 1) ≡ mixed count
-  mixed_same count none =
+  -- a piece whose bytes are not changed is as it was
+  pub mixed_same : (count : ℕ) → linked_bytes modules rows layout base count ≡ contents_at modules count → mixed (count + 1) ≡ mixed count
+  mixed_same count same =
       ext_get_or [] (mixed (count + 1)) (mixed count) (length-mixed (count + 1) ∙ sym (length-mixed count)) (λ k lt.
       let within : k < total = let n = length-mixed (count + 1) in omega (arith, n) in
       mixed_read (count + 1) k within
       ∙ elim (cases_eq k count) [
         | inl here ↦
-            nothing (at (count + 1) k) (length_at (count + 1) k ∙ ap (λ (i : ℕ). length (contents_at modules i)) here ∙ none)
-            ∙ sym (nothing (at count k) (length_at count k ∙ ap (λ (i : ℕ). length (contents_at modules i)) here ∙ none))
+            patched_at (count + 1) k (omega (arith, here))
+            ∙ ap (linked_bytes modules rows layout base) here
+            ∙ same
+            ∙ sym (ap (contents_at modules) here)
+            ∙ sym (unpatched_at count k (omega (arith, here)))
         | inr apart ↦ beside count k apart
       ]
       ∙ sym (mixed_read count k within))
+
+  -- with tables after them
+  pub mixed_front : (tables : List (List ℕ)) (count k : ℕ) → k < total → get_or (mixed count ++ tables) k [] ≡ at count k
+  mixed_front tables count k lt =
+      get_or_append_left (mixed count) tables [] k (let n = length-mixed count in omega (arith, n, lt)) ∙ mixed_read count k lt
+
+  pub tables_differ : (tables : List (List ℕ)) (count : ℕ) → count < total → DiffersAt count (mixed count ++ tables) (mixed (count + 1) ++ tables)
+  tables_differ tables count lt = record {
+    same_length = ap length (mixed_front tables (count + 1) count lt) ∙ length_at (count + 1) count ∙ sym (length_at count count) ∙ sym (ap length (mixed_front tables count count lt));
+    others = λ other apart.
+        elim (cases_lt other total) [
+          | inl within ↦ mixed_front tables (count + 1) other within ∙ beside count other apart ∙ sym (mixed_front tables count other within)
+          | inr past ↦ behind (count + 1) other past ∙ sym (behind count other past)
+        ];
+  }
     where
-      nothing : (xs : List ℕ) → length xs ≡ 0 → xs ≡ []
-      nothing [] e = refl
-      nothing (x ∷ xs) e = absurd (omega arith)
+      behind : (n other : ℕ) → total ≤ other → get_or (mixed n ++ tables) other [] ≡ get_or tables (other - total) []
+      behind n other past = get_or-append_right (mixed n) tables total other [] (length-mixed n) past
 
   -- room stays
-  pub mixed_room : (pieces : List Piece) (sections : List OutSection) (count : ℕ) → map piece_contents pieces ≡ link_contents modules → length pieces ≡ total → All (λ k. k < length pieces) (all_pieces sections) → HaveRoom pieces sections (map piece_contents pieces) → HaveRoom pieces sections (mixed count)
-  mixed_room pieces sections count are same within room = λ i d lt.
+  pub mixed_room : (pieces rest : List Piece) (sections : List OutSection) (count : ℕ) → map piece_contents pieces ≡ link_contents modules → length pieces ≡ total → HaveRoom (pieces ++ rest) sections (map piece_contents (pieces ++ rest)) → HaveRoom (pieces ++ rest) sections (mixed count ++ map piece_contents rest)
+  mixed_room pieces rest sections count are same room = λ i d lt.
       let k = get_or (all_pieces sections) i d in
       let old = room i d lt in
-      let below : k < total = let w = within i d lt in omega (arith, w, same) in
-      let len : length (get_or (mixed count) k []) ≡ length (get_or (map piece_contents pieces) k []) =
-      ap length (mixed_read count k below) ∙ length_at count k ∙ ap (λ (cs : List (List ℕ)). length (get_or cs k [])) (sym are) in
+      let len : length (get_or (mixed count ++ map piece_contents rest) k []) ≡ length (get_or (map piece_contents (pieces ++ rest)) k []) = lengths k in
       (let fits = old.0 in omega (arith, fits, len), λ some. old.1 (omega (arith, some, len)))
+    where
+      many : length (map piece_contents pieces) ≡ total
+      many = length-map pieces piece_contents ∙ same
+
+      lengths : (k : ℕ) → length (get_or (mixed count ++ map piece_contents rest) k []) ≡ length (get_or (map piece_contents (pieces ++ rest)) k [])
+      lengths k =
+          elim (cases_lt k total) [
+            | inl below ↦
+                ap length (mixed_front (map piece_contents rest) count k below)
+                ∙ length_at count k
+                ∙ ap (λ (cs : List (List ℕ)). length (get_or cs k [])) (sym are)
+                ∙ ap length (sym (get_or_append_left (map piece_contents pieces) (map piece_contents rest) [] k (omega (arith, below, many))))
+                ∙ ap (λ (cs : List (List ℕ)). length (get_or cs k [])) (sym (map-append piece_contents pieces rest))
+            | inr past ↦
+                ap length (get_or-append_right (mixed count) (map piece_contents rest) total k [] (length-mixed count) past)
+                ∙ ap length (sym (get_or-append_right (map piece_contents pieces) (map piece_contents rest) total k [] many past))
+                ∙ ap (λ (cs : List (List ℕ)). length (get_or cs k [])) (sym (map-append piece_contents pieces rest))
+          ]

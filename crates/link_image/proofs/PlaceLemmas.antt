@@ -12,19 +12,19 @@ use Rattle.relocate.proofs.PlaceLemmas as places
 use Rattle.module_view.specs.Module.{ModuleView}
 use Rattle.link_pieces.specs.Pieces.{link_pieces}
 use Rattle.link_plan.specs.Fixes.{piece_at, piece_fixes}
-use Rattle.link_image.specs.LinkedBytes.{owners_in, contents_at, linked_bytes, linked_contents, out_of_range, piece_range_fault, fields_range_fault}
+use Rattle.link_image.specs.LinkedBytes.{owners, owners_in, contents_at, linked_bytes, linked_contents, out_of_range, piece_range_fault, fields_range_fault}
 
 module _ (layout other : Layout) (pieces : layout.pieces.items ≡ other.pieces.items) (sections : layout.sections.items ≡ other.sections.items) where
   piece_same : (modules : List ModuleView) (rows : List SectionRow) (base k : ℕ) → linked_bytes modules rows layout base k ≡ linked_bytes modules rows other base k
   piece_same modules rows base k =
-      bytes_by_places layout other pieces sections base (get_or layout.pieces.items k 0) (owners_in modules rows) (piece_fixes modules k) (contents_at modules k)
-      ∙ ap (λ (rvas : List ℕ). patched_bytes base (get_or rvas k 0) other (owners_in modules rows) (piece_fixes modules k) (contents_at modules k)) pieces
+      bytes_by_places layout other pieces sections base (get_or layout.pieces.items k 0) (owners_in rows layout) (piece_fixes modules k) (contents_at modules k)
+      ∙ ap (λ (rvas : List ℕ). patched_bytes base (get_or rvas k 0) other (owners rows (length rvas)) (piece_fixes modules k) (contents_at modules k)) pieces
 
   fault_same : (modules : List ModuleView) (rows : List SectionRow) (base k : ℕ) → piece_range_fault modules rows layout base k ≡ piece_range_fault modules rows other base k
   fault_same modules rows base k =
       ap (option_map (out_of_range (piece_at modules k)))
-      (places.range_by_places layout other pieces sections base (get_or layout.pieces.items k 0) (owners_in modules rows) (piece_fixes modules k) (contents_at modules k)
-      ∙ ap (λ (rvas : List ℕ). range_fault base (get_or rvas k 0) other (owners_in modules rows) (piece_fixes modules k) (contents_at modules k)) pieces)
+      (places.range_by_places layout other pieces sections base (get_or layout.pieces.items k 0) (owners_in rows layout) (piece_fixes modules k) (contents_at modules k)
+      ∙ ap (λ (rvas : List ℕ). range_fault base (get_or rvas k 0) other (owners rows (length rvas)) (piece_fixes modules k) (contents_at modules k)) pieces)
 
 pub contents_by_places : (modules : List ModuleView) (rows : List SectionRow) (layout other : Layout) → layout.pieces.items ≡ other.pieces.items → layout.sections.items ≡ other.sections.items → linked_contents modules rows layout ≡ linked_contents modules rows other
 unfolding linked_contents

@@ -1,10 +1,10 @@
 -- From what grouping and placing say of the pieces of a plan to what they say of the modules.
-use Rattle.std.proofs.Common.{◌≡◌, ℕ, suc, ◌+◌, ◌<◌, ◌^◌, ◌⊎◌, Bool, true, false, List, [], ◌∷◌, length, map, replicate, get_or, Option, Some, None, refl, sym, ap, ◌∙◌, subst, inl, inr, arith}
-use Rattle.std.specs.List.{range_with_len}
-use Rattle.std.proofs.Math.Path.{fun_ext}
-use Rattle.std.proofs.lemmas.List.FromFn.{get_or-map-range_with_len, length-map-range_with_len}
+use Rattle.std.proofs.Common.{◌≡◌, ℕ, suc, ◌+◌, ◌<◌, ◌^◌, ◌⊎◌, Bool, true, false, ◌≤◌, List, [], ◌∷◌, ◌++◌, length, length-append, map, replicate, get_or, Option, Some, None, refl, sym, ap, ◌∙◌, subst, inl, inr, arith}
+use Rattle.std.specs.List.{All, Contains}
 use Rattle.std.proofs.lemmas.Bool.{lt-ltb, and_from, or_left, or_right}
-use Rattle.std.proofs.lemmas.List.{length-map, get_or-replicate, ext_get_or}
+use Rattle.std.proofs.lemmas.List.{length-map, map-append, append-nil, get_or-replicate, get_or_append_left}
+use Rattle.std.proofs.lemmas.List.Elements.{All-nil, All-cons, Contains-append_left}
+use Rattle.std.proofs.lemmas.Grind.{flat_map-append}
 use Rattle.link_base.specs.declared.fault.Fault.TheVariants as faults
 use Rattle.section_group.specs.declared.piece.Piece.{Piece}
 use Rattle.section_group.specs.declared.piece.OutSection.{OutSection}
@@ -24,27 +24,24 @@ use Rattle.address_layout.specs.PermittedBase.{is_permitted, IsBaseRefusal}
 use Rattle.address_layout.proofs.CallerLemmas.{stand_once, stands, layout_bare, size_bare, name_fits}
 use Rattle.image_writer.specs.declared.headers.Headers.{Headers}
 use Rattle.link_base.specs.declared.fault.Fault.{Fault}
-use Rattle.image_writer.specs.ExpectedImage.{ImagePlan, MeansPlan, image_file}
-use Rattle.section_group.specs.PieceContents.{HasItsBytes}
-use Rattle.image_writer.specs.WrittenImage.{section_rows, written_plan, layout_plan, at_each_base, HaveRoom, IsLaidOut, HasContents}
-use Rattle.image_writer.proofs.CallerLemmas.{laid_out, have_room, file_means_plan, written_loadable, unrelocated}
+use Rattle.section_group.specs.PieceContents.{piece_contents}
+use Rattle.image_writer.specs.WrittenImage.{section_rows, written_plan, layout_plan, IsLaidOut}
+use Rattle.image_writer.proofs.CallerLemmas.{laid_out, appended_laid_out}
 use Rattle.module_view.specs.Module.{ModuleView}
 use Rattle.link_plan.specs.Fixes.{plan_pieces}
 use Rattle.link_words.specs.Outcome.{LinkOptions}
 use Rattle.link_plan.specs.declared.entry.EntryPlace.{EntryPlace}
 use Rattle.link_plan.specs.declared.plan.LinkPlan.{LinkPlan}
 use Rattle.link_plan.specs.Plan.{IsPlanOf, StandsNamed}
-use Rattle.link_image.specs.declared.make.Built.{Built}
-use Rattle.relocate.proofs.CallerLemmas.{fields_suited, bytes_stay}
-use Rattle.link_pieces.specs.Pieces.{link_pieces}
-use Rattle.link_plan.specs.Fixes.{piece_fixes}
-use Rattle.link_plan.proofs.CallerLemmas.{no_based, plan_count}
-use Rattle.link_image.specs.ImageHeaders.{headers_of}
-use Rattle.link_image.specs.LinkedBytes.{owners, owners_in, contents_at, linked_bytes, linked_contents, fields_range_fault}
-use Rattle.link_image.specs.Steps.{IsReady}
-use Rattle.link_image.proofs.MixedLemmas.{mixed_all, mixed_room}
-use Rattle.link_image.proofs.FieldLemmas.{total_is}
-use Rattle.link_image.specs.LinkedImage.{link_input, base_rule, entry_rva, AreGrouped, ArePlaced, IsBuilt}
+use Rattle.base_reloc.specs.declared.field.BaseField.{BaseField}
+use Rattle.base_reloc.specs.PageBlocks.{blocks_of}
+use Rattle.address_layout.specs.Growth.{Appends, IsGrowRefusal}
+use Rattle.link_base.specs.Limits.{IMAGE_LIMIT}
+use Rattle.link_image.specs.declared.placement.Placement.{Placement}
+use Rattle.link_image.specs.BaseFields.{is_relocated, AreBaseFields}
+use Rattle.link_image.specs.LinkedBytes.{owners_in, fields_range_fault}
+use Rattle.link_image.specs.Steps.{tables_of, HoldTables, EndsWithTable, IsPlaced, IsReady, IsWritten}
+use Rattle.link_image.specs.LinkedImage.{link_input, base_rule, table_row, AreGrouped, ArePlaced, IsWhole, IsPlacement}
 use Rattle.link_image.specs.BuildFaults.{IsBuildFault}
 
 -- ---- pieces without their bytes
@@ -59,9 +56,9 @@ grouped_modules options modules pieces sections are grouped =
       grouping = subst (λ (ps : List Piece). IsGrouping (link_input options ps) sections) are bared;
     }
 
-pub placed_modules : (modules : List ModuleView) (pieces : List Piece) (sections : List OutSection) (layout : Layout) → map bare pieces ≡ plan_pieces modules → ArePlaced pieces sections layout → ArePlaced (plan_pieces modules) sections layout
-placed_modules modules pieces sections layout are placed = record {
-  layout_of = subst (λ (ps : List Piece). IsLayout ps sections false layout) are (layout_bare pieces sections false layout placed.layout_of);
+pub placed_modules : (modules : List ModuleView) (pieces : List Piece) (sections : List OutSection) (reloc : Bool) (layout : Layout) → map bare pieces ≡ plan_pieces modules → ArePlaced pieces sections reloc layout → ArePlaced (plan_pieces modules) sections reloc layout
+placed_modules modules pieces sections reloc layout are placed = record {
+  layout_of = subst (λ (ps : List Piece). IsLayout ps sections reloc layout) are (layout_bare pieces sections reloc layout placed.layout_of);
   few = placed.few;
   within = placed.within;
   growth = placed.growth;
@@ -77,31 +74,52 @@ standing options pieces sections grouped = stand_once (link_input options pieces
 pub bad_merge : (options : LinkOptions) (modules : List ModuleView) (name : List ℕ) → NamesFirstBad options.merges name → IsBuildFault options modules (faults.BadMerge name)
 bad_merge options modules name named = inl (record { name = name; named = named; is = refl })
 
-pub too_many : (options : LinkOptions) (modules : List ModuleView) (pieces : List Piece) (sections : List OutSection) (count : ℕ) → map bare pieces ≡ plan_pieces modules → AreGrouped options pieces sections → IsPlaceRefusal pieces sections false (bad.TooManySections count) → IsBuildFault options modules (faults.TooManySections count)
-too_many options modules pieces sections count are grouped refused =
-    inr (inl (record { sections = sections; grouped = grouped_modules options modules pieces sections are grouped; count = count; refused = refused; is = refl }))
+pub too_many : (options : LinkOptions) (modules : List ModuleView) (pieces : List Piece) (sections : List OutSection) (reloc : Bool) (count : ℕ) → map bare pieces ≡ plan_pieces modules → AreGrouped options pieces sections → reloc ≡ is_relocated options modules → IsPlaceRefusal pieces sections reloc (bad.TooManySections count) → IsBuildFault options modules (faults.TooManySections count)
+too_many options modules pieces sections reloc count are grouped same refused =
+    inr (inl (record {
+      sections = sections;
+      grouped = grouped_modules options modules pieces sections are grouped;
+      count = count;
+      refused = subst (λ (r : Bool). IsPlaceRefusal (plan_pieces modules) sections r (bad.TooManySections count)) same refused;
+      is = refl;
+    }))
 
-pub too_large : (options : LinkOptions) (modules : List ModuleView) (pieces : List Piece) (sections : List OutSection) (size : ℕ) → map bare pieces ≡ plan_pieces modules → AreGrouped options pieces sections → IsPlaceRefusal pieces sections false (bad.ImageTooLarge size) → IsBuildFault options modules (faults.ImageTooLarge size)
-too_large options modules pieces sections size are grouped refused =
-    let bared : IsPlaceRefusal (map bare pieces) sections false (bad.ImageTooLarge size) = (refused.0, size_bare pieces sections false size refused.1, refused.2) in
+pub too_large : (options : LinkOptions) (modules : List ModuleView) (pieces : List Piece) (sections : List OutSection) (reloc : Bool) (size : ℕ) → map bare pieces ≡ plan_pieces modules → AreGrouped options pieces sections → reloc ≡ is_relocated options modules → IsPlaceRefusal pieces sections reloc (bad.ImageTooLarge size) → IsBuildFault options modules (faults.ImageTooLarge size)
+too_large options modules pieces sections reloc size are grouped same refused =
+    let bared : IsPlaceRefusal (map bare pieces) sections reloc (bad.ImageTooLarge size) = (refused.0, size_bare pieces sections reloc size refused.1, refused.2) in
     inr (inr (inl (record {
       sections = sections;
       grouped = grouped_modules options modules pieces sections are grouped;
       size = size;
-      refused = subst (λ (ps : List Piece). IsPlaceRefusal ps sections false (bad.ImageTooLarge size)) are bared;
+      refused = inl (subst (λ (r : Bool). IsPlaceRefusal (plan_pieces modules) sections r (bad.ImageTooLarge size)) same (subst (λ (ps : List Piece). IsPlaceRefusal ps sections reloc (bad.ImageTooLarge size)) are bared));
       is = refl;
     })))
 
-pub bad_base : (options : LinkOptions) (modules : List ModuleView) (pieces : List Piece) (sections : List OutSection) (layout : Layout) → map bare pieces ≡ plan_pieces modules → AreGrouped options pieces sections → ArePlaced pieces sections layout → is_permitted (base_rule options) layout.image options.base ≡ false → IsBuildFault options modules (faults.BaseRange options.base)
-bad_base options modules pieces sections layout are grouped placed refused =
-    inr (inr (inr (inl (record {
+pub large_table : (options : LinkOptions) (modules : List ModuleView) (pieces : List Piece) (sections : List OutSection) (layout : Layout) (fields : List BaseField) (size : ℕ) → map bare pieces ≡ plan_pieces modules → AreGrouped options pieces sections → ArePlaced pieces sections true layout → is_relocated options modules ≡ true → AreBaseFields modules layout.pieces.items fields → IsGrowRefusal layout (length (blocks_of fields)) (bad.ImageTooLarge size) → IsBuildFault options modules (faults.ImageTooLarge size)
+large_table options modules pieces sections layout fields size are grouped placed relocated based refused =
+    inr (inr (inl (record {
       sections = sections;
       grouped = grouped_modules options modules pieces sections are grouped;
-      layout = layout;
-      placed = placed_modules modules pieces sections layout are placed;
-      refused = refused;
+      size = size;
+      refused = inr (record {
+        relocated = relocated;
+        layout = layout;
+        placed = placed_modules modules pieces sections true layout are placed;
+        fields = fields;
+        based = based;
+        refused = refused;
+      });
       is = refl;
-    }))))
+    })))
+
+pub bad_base : (options : LinkOptions) (modules : List ModuleView) (rows : List OutRow) (layout : Layout) (tables : List (List ℕ)) → IsPlacement options modules rows layout tables → is_permitted (base_rule options) layout.image options.base ≡ false → IsBuildFault options modules (faults.BaseRange options.base)
+bad_base options modules rows layout tables placement refused =
+    inr (inr (inr (inl (record { rows = rows; layout = layout; tables = tables; placement = placement; refused = refused; is = refl }))))
+
+-- a value that does not fit
+pub bad_range : (options : LinkOptions) (modules : List ModuleView) (rows : List OutRow) (layout : Layout) (tables : List (List ℕ)) (fault : Fault) → IsPlacement options modules rows layout tables → is_permitted (base_rule options) layout.image options.base ≡ true → fields_range_fault modules rows layout options.base ≡ Some fault → IsBuildFault options modules fault
+bad_range options modules rows layout tables fault placement permitted is =
+    inr (inr (inr (inr (record { rows = rows; layout = layout; tables = tables; placement = placement; permitted = permitted; is = is }))))
 
 used_there : (options : LinkOptions) (pieces : List Piece) (k : ℕ) → k < length pieces → is_used (link_input options pieces) k ≡ true
 used_there options pieces k lt = and_from _ _ (lt-ltb k (length pieces) lt) (get_or-replicate (length pieces) k true false lt)
@@ -113,13 +131,13 @@ needs_there input k (inr named) = or_right _ _ named
 -- ---- the entry
 
 -- a piece that is named stands in a section, so an offset in it has an RVA
-pub entry_fits : (options : LinkOptions) (pieces : List Piece) (sections : List OutSection) (layout : Layout) (place : EntryPlace) → AreGrouped options pieces sections → ArePlaced pieces sections layout → StandsNamed pieces place → get_or layout.pieces.items place.piece 0 < 2 ^ 32 → get_or layout.pieces.items place.piece 0 + place.value < 2 ^ 32
-entry_fits options pieces sections layout place grouped placed stand fits =
+pub entry_fits : (options : LinkOptions) (pieces : List Piece) (sections : List OutSection) (reloc : Bool) (layout : Layout) (place : EntryPlace) → AreGrouped options pieces sections → ArePlaced pieces sections reloc layout → StandsNamed pieces place → get_or layout.pieces.items place.piece 0 < 2 ^ 32 → get_or layout.pieces.items place.piece 0 + place.value < 2 ^ 32
+entry_fits options pieces sections reloc layout place grouped placed stand fits =
     let piece = place.piece in
     let input = link_input options pieces in
     let used : is_used input piece ≡ true = and_from _ _ (lt-ltb piece (length pieces) stand.within) (get_or-replicate (length pieces) piece true false stand.within) in
     let needs : needs_place input piece ≡ true = or_right _ _ stand.named in
-    name_fits pieces sections false layout piece place.value placed.layout_of.standing placed.within (stands input sections piece grouped.grouping used needs) fits stand.inside
+    name_fits pieces sections reloc layout piece place.value placed.layout_of.standing placed.within (stands input sections piece grouped.grouping used needs) fits stand.inside
 
 -- ---- the base
 
@@ -144,85 +162,105 @@ plan_rows headers sections layout contents same =
     let count : length (rows_of sections) ≡ length sections = length-map sections row_of in
     rows_count (rows_of sections) layout.sections.items (same ∙ sym count) ∙ count
 
--- what is placed can be written
-pub laid : (options : LinkOptions) (pieces : List Piece) (sections : List OutSection) (layout : Layout) → AreGrouped options pieces sections → ArePlaced pieces sections layout → IsLaidOut pieces sections layout
+-- what is placed without a table can be written
+laid : (options : LinkOptions) (pieces : List Piece) (sections : List OutSection) (layout : Layout) → AreGrouped options pieces sections → ArePlaced pieces sections false layout → IsLaidOut pieces sections layout
 laid options pieces sections layout grouped placed =
     laid_out pieces sections layout placed.layout_of.standing (standing options pieces sections grouped) placed.few placed.growth
 
--- each initialised piece of a section has its bytes
-pub has_its_bytes : (pieces : List Piece) (sections : List OutSection) (layout : Layout) → IsLaidOut pieces sections layout → ((k : ℕ) → k < length pieces → HasItsBytes pieces k) → HasContents pieces sections
-has_its_bytes pieces sections layout laid bodies = λ i d lt. bodies (get_or (all_pieces sections) i d) (laid.within i d lt)
+-- ---- the placement of a plan
+
+no_pieces : {A B : Type 0} (f : A → B) (xs : List A) → map f xs ≡ [] → xs ≡ []
+no_pieces f [] e = refl
+no_pieces f (x ∷ xs) e = absurd cc
+
+-- without a table of base relocations
+pub placed_alone : (options : LinkOptions) (plan : LinkPlan) (placement : Placement) → IsPlanOf options plan.modules.items plan → AreGrouped options plan.pieces.items placement.sections.items → ArePlaced plan.pieces.items placement.sections.items false placement.layout → is_relocated options plan.modules.items ≡ false → tables_of placement.table ≡ [] → IsPlaced options plan placement
+placed_alone options plan placement planned grouped placed alone none =
+    let modules = plan.modules.items in
+    let pieces = plan.pieces.items in
+    let sections = placement.sections.items in
+    let layout = placement.layout in
+    let input = link_input options pieces in
+    record {
+      means = record {
+        sections = sections;
+        grouped = grouped_modules options modules pieces sections planned.pieces_are grouped;
+        before = layout;
+        placed = subst (λ (r : Bool). ArePlaced (plan_pieces modules) sections r layout) (sym alone) (placed_modules modules pieces sections false layout planned.pieces_are placed);
+        whole = subst (λ (r : Bool). IsWhole r modules (rows_of sections) layout (rows_of sections) layout (tables_of placement.table)) (sym alone) (refl, refl, none);
+      };
+      laid = λ rest holds.
+          let empty : rest ≡ [] = no_pieces piece_contents rest (holds.contents ∙ none) in
+          subst (λ (ps : List Piece). IsLaidOut ps sections layout) (sym (append-nil pieces) ∙ ap (λ (r : List Piece). pieces ++ r) (sym empty)) (laid options pieces sections layout grouped placed);
+      stands = λ k lt needs. stands input sections k grouped.grouping (used_there options pieces k lt) (needs_there input k needs);
+      room = omega (arith, placed.layout_of.standing.rva_for_each);
+      fits = λ place stand small. entry_fits options pieces sections false layout place grouped placed stand small;
+      few = omega (arith, placed.few);
+      small = subst (λ (ts : List (List ℕ)). All (λ table. length table < 2 ^ 32) ts) (sym none) (All-nil (λ (table : List ℕ). length table < 2 ^ 32));
+    }
+
+one_piece : {A B : Type 0} (f : A → B) (xs : List A) (y : B) → map f xs ≡ y ∷ [] → (x : A) × (xs ≡ x ∷ [])
+one_piece f [] y e = absurd cc
+one_piece f (x ∷ []) y e = (x, refl)
+one_piece f (x ∷ z ∷ xs) y e = absurd cc
+
+sections_more : (sections : List OutSection) (section : OutSection) → all_pieces (sections ++ section ∷ []) ≡ all_pieces sections ++ all_pieces (section ∷ [])
+sections_more sections section = flat_map-append (λ (s : OutSection). s.pieces.items) sections (section ∷ [])
+
+-- with a table after all other sections
+pub placed_with_table : (options : LinkOptions) (plan : LinkPlan) (sections : List OutSection) (before : Layout) (fields : List BaseField) (placement : Placement) → IsPlanOf options plan.modules.items plan → AreGrouped options plan.pieces.items sections → ArePlaced plan.pieces.items sections true before → is_relocated options plan.modules.items ≡ true → AreBaseFields plan.modules.items before.pieces.items fields → EndsWithTable sections placement.sections.items (length plan.pieces.items) → Appends before placement.layout (length (blocks_of fields)) → placement.layout.image ≤ IMAGE_LIMIT → tables_of placement.table ≡ blocks_of fields ∷ [] → length (blocks_of fields) < 2 ^ 32 → IsPlaced options plan placement
+placed_with_table options plan sections before fields placement planned grouped placed relocated based ends added within tables small =
+    let modules = plan.modules.items in
+    let pieces = plan.pieces.items in
+    let layout = placement.layout in
+    let section = ends.section in
+    let input = link_input options pieces in
+    let count : length before.pieces.items ≡ length pieces = placed.layout_of.standing.rva_for_each in
+    let rows : rows_of placement.sections.items ≡ rows_of sections ++ table_row (length before.pieces.items) ∷ [] =
+    ap rows_of ends.is ∙ map-append row_of sections (section ∷ []) ∙ ap (λ (r : OutRow). rows_of sections ++ r ∷ []) (ends.row ∙ ap table_row (sym count)) in
+    let last : section.pieces.items ≡ length pieces ∷ [] = ap (λ (r : OutRow). r.pieces) ends.row in
+    record {
+      means = record {
+        sections = sections;
+        grouped = grouped_modules options modules pieces sections planned.pieces_are grouped;
+        before = before;
+        placed = subst (λ (r : Bool). ArePlaced (plan_pieces modules) sections r before) (sym relocated) (placed_modules modules pieces sections true before planned.pieces_are placed);
+        whole = subst (λ (r : Bool). IsWhole r modules (rows_of sections) before (rows_of placement.sections.items) layout (tables_of placement.table)) (sym relocated)
+            (record { fields = fields; based = based; added = added; within = within; rows_are = rows; tables_are = tables });
+      };
+      laid = λ rest holds.
+          let one = one_piece piece_contents rest (blocks_of fields) (holds.contents ∙ tables) in
+          let size : one.0.size ≡ length (blocks_of fields) =
+          ap (λ (ps : List Piece). (get_or ps 0 no_piece).size) (sym one.1) ∙ holds.sizes 0 (omega (arith, ap length one.1)) ∙ ap (λ (ts : List (List ℕ)). length (get_or ts 0 [])) tables in
+          subst (λ (ss : List OutSection). IsLaidOut (pieces ++ rest) ss layout) (sym ends.is)
+          (subst (λ (r : List Piece). IsLaidOut (pieces ++ r) (sections ++ section ∷ []) layout) (sym one.1)
+          (appended_laid_out pieces one.0 sections section before layout (length (blocks_of fields)) placed.layout_of.standing planned.aligned (standing options pieces sections grouped) placed.few added within last size));
+      stands = λ k lt needs.
+          subst (λ (ss : List OutSection). Contains (all_pieces ss) k) (sym ends.is)
+          (subst (λ (ks : List ℕ). Contains ks k) (sym (sections_more sections section))
+          (Contains-append_left (all_pieces sections) (all_pieces (section ∷ [])) k (stands input sections k grouped.grouping (used_there options pieces k lt) (needs_there input k needs))));
+      room = omega (arith, count, ap length added.pieces, length-append before.pieces.items (added.placed.rva ∷ []));
+      fits = λ place stand fits.
+          let same : get_or layout.pieces.items place.piece 0 ≡ get_or before.pieces.items place.piece 0 =
+          ap (λ (rvas : List ℕ). get_or rvas place.piece 0) added.pieces ∙ get_or_append_left before.pieces.items (added.placed.rva ∷ []) 0 place.piece (omega (arith, stand.within, count)) in
+          let here = entry_fits options pieces sections true before place grouped placed stand (omega (arith, same, fits)) in
+          omega (arith, same, here);
+      few = omega (arith, placed.few, ap length ends.is, length-append sections (section ∷ []));
+      small = subst (λ (ts : List (List ℕ)). All (λ table. length table < 2 ^ 32) ts) (sym tables) (All-cons (λ (table : List ℕ). length table < 2 ^ 32) (blocks_of fields) [] small (All-nil (λ (table : List ℕ). length table < 2 ^ 32)));
+    }
+
+-- ---- what is ready
 
 -- the pieces of a plan with their fields, where they stand
-pub ready : (options : LinkOptions) (modules : List ModuleView) (plan : LinkPlan) (sections : List OutSection) (layout : Layout) (owner : List ℕ) → IsPlanOf options modules plan → AreGrouped options plan.pieces.items sections → ArePlaced plan.pieces.items sections layout → owner ≡ owners (rows_of sections) (length plan.pieces.items) → IsReady modules plan.pieces.items plan.fixes.items sections layout owner
-ready options modules plan sections layout owner planned grouped placed is = record {
+pub ready : (options : LinkOptions) (plan : LinkPlan) (placement : Placement) (headers : Headers) (image owner : List ℕ) → IsPlanOf options plan.modules.items plan → IsPlaced options plan placement → IsWritten headers placement plan.pieces.items image → owner ≡ owners_in (rows_of placement.sections.items) placement.layout → IsReady plan.modules.items plan.pieces.items plan.fixes.items placement.sections.items placement.layout owner (tables_of placement.table)
+ready options plan placement headers image owner planned placed written is = record {
   pieces_are = planned.pieces_are;
   contents_are = planned.contents_are;
   bodies = planned.bodies;
   fields = planned.fields;
-  laid = laid options plan.pieces.items sections layout grouped placed;
-  stands = λ k lt needs. stands (link_input options plan.pieces.items) sections k grouped.grouping (used_there options plan.pieces.items k lt) (needs_there (link_input options plan.pieces.items) k needs);
+  rest = written.rest;
+  holds = written.holds;
+  laid = placed.laid written.rest written.holds;
+  stands = placed.stands;
   owner_is = is;
 }
-
--- the contents are the same at each base, since no field holds an address
-pub contents_stay : (options : LinkOptions) (modules : List ModuleView) (plan : LinkPlan) (rows : List OutRow) (layout : Layout) (base other : ℕ) → IsPlanOf options modules plan → linked_contents modules rows layout base ≡ linked_contents modules rows layout other
-unfolding linked_contents
-contents_stay options modules plan rows layout base other planned =
-    let n = length (link_pieces modules) in
-    let count : length plan.pieces.items ≡ n = sym (length-map plan.pieces.items bare) ∙ ap (λ (ps : List Piece). length ps) planned.pieces_are ∙ plan_count modules in
-    ext_get_or [] (map (linked_bytes modules rows layout base) (range_with_len 0 n)) (map (linked_bytes modules rows layout other) (range_with_len 0 n)) (length-map-range_with_len (linked_bytes modules rows layout base) 0 n ∙ sym (length-map-range_with_len (linked_bytes modules rows layout other) 0 n)) (λ k lt.
-    let within : k < n = let len = length-map-range_with_len (linked_bytes modules rows layout base) 0 n in omega (arith, len) in
-    let piece : k < length plan.pieces.items = omega (arith, count, within) in
-    get_or-map-range_with_len (linked_bytes modules rows layout base) 0 n k k [] within (omega arith)
-    ∙ bytes_stay false false base other (get_or layout.pieces.items k 0) layout (owners_in modules rows) (piece_fixes modules k) (contents_at modules k) (fields_suited (piece_fixes modules k) (get_or plan.fixes.items k []) (length (contents_at modules k)) (planned.fields.fields k piece) (planned.fields.patchable k piece)) (no_based modules planned.opened k within)
-    ∙ sym (get_or-map-range_with_len (linked_bytes modules rows layout other) 0 n k k [] within (omega arith)))
-
--- what is written of a plan means it
-pub built : (options : LinkOptions) (modules : List ModuleView) (plan : LinkPlan) (sections : List OutSection) (layout : Layout) (owner : List ℕ) (made : Built) → IsPlanOf options modules plan → AreGrouped options plan.pieces.items sections → ArePlaced plan.pieces.items sections layout → is_permitted (base_rule options) layout.image options.base ≡ true → IsReady modules plan.pieces.items plan.fixes.items sections layout owner
-    → fields_range_fault modules (rows_of sections) layout options.base ≡ None
-    → made.image.items ≡ image_file (layout_plan (headers_of options (entry_rva layout.pieces.items plan.entry)) sections layout (at_each_base (linked_contents modules (rows_of sections) layout options.base))) → made.sections ≡ length sections → IsBuilt options modules made
-unfolding written_plan
-built options modules plan sections layout owner made planned grouped placed permitted are in_range is count =
-    let headers = headers_of options (entry_rva layout.pieces.items plan.entry) in
-    let pieces = plan.pieces.items in
-    let rows = rows_of sections in
-    let own = linked_contents modules rows layout options.base in
-    let one : at_each_base own ≡ linked_contents modules rows layout = fun_ext (λ base. contents_stay options modules plan rows layout options.base base planned) in
-    let image = layout_plan headers sections layout (linked_contents modules rows layout) in
-    let same : layout_plan headers sections layout (at_each_base own) ≡ image = ap (layout_plan headers sections layout) one in
-    let total = total_is modules pieces plan.fixes.items sections layout owner are in
-    let plain = have_room pieces sections (has_its_bytes pieces sections layout are.laid planned.bodies) in
-    let room : HaveRoom pieces sections own = subst (HaveRoom pieces sections) (mixed_all modules rows layout options.base (length pieces) (omega (arith, total))) (mixed_room modules rows layout options.base pieces sections (length pieces) planned.contents_are total are.laid.within plain) in
-    let written : MeansPlan (layout_plan headers sections layout (at_each_base own)) (image_file (layout_plan headers sections layout (at_each_base own))) =
-    file_means_plan (layout_plan headers sections layout (at_each_base own))
-    (written_loadable headers pieces sections layout (at_each_base own) are.laid room (λ base other k. refl) refl permitted
-    (unrelocated headers sections layout own refl)) in
-    let file : made.image.items ≡ image_file image = is ∙ ap image_file same in
-    record {
-      image = image;
-      is_image = record {
-        sections = sections;
-        grouped = grouped_modules options modules pieces sections planned.pieces_are grouped;
-        layout = layout;
-        placed = placed_modules modules pieces sections layout planned.pieces_are placed;
-        permitted = permitted;
-        in_range = in_range;
-        is = ap (λ (place : Option EntryPlace). layout_plan (headers_of options (entry_rva layout.pieces.items place)) sections layout (linked_contents modules rows layout)) planned.entry_is;
-      };
-      file = file;
-      means = subst (λ (p : ImagePlan). MeansPlan p made.image.items) same (subst (MeansPlan (layout_plan headers sections layout (at_each_base own))) (sym is) written);
-      count = count ∙ sym (plan_rows headers sections layout (linked_contents modules rows layout) are.laid.section_for_each);
-    }
-
--- a value that does not fit
-pub bad_range : (options : LinkOptions) (modules : List ModuleView) (pieces : List Piece) (sections : List OutSection) (layout : Layout) (fault : Fault) → map bare pieces ≡ plan_pieces modules → AreGrouped options pieces sections → ArePlaced pieces sections layout → is_permitted (base_rule options) layout.image options.base ≡ true → fields_range_fault modules (rows_of sections) layout options.base ≡ Some fault → IsBuildFault options modules fault
-bad_range options modules pieces sections layout fault are grouped placed permitted is =
-    inr (inr (inr (inr (record {
-      sections = sections;
-      grouped = grouped_modules options modules pieces sections are grouped;
-      layout = layout;
-      placed = placed_modules modules pieces sections layout are placed;
-      permitted = permitted;
-      is = is;
-    }))))

@@ -1,5 +1,5 @@
 -- The section of a piece that stands in one, and the places that fields mean.
-use Rattle.std.proofs.Common.{◌≡◌, ℕ, zero, suc, ◌<◌, Bool, true, false, ◌||◌, eqb, List, [], ◌∷◌, length, filter, get_or, Option, Some, None, unwrap_or, refl, sym, ap, subst, ◌∙◌, inr, eq-eqb, eqb-true, arith}
+use Rattle.std.proofs.Common.{◌≡◌, ℕ, zero, suc, ◌<◌, Bool, true, false, ◌||◌, eqb, List, [], ◌∷◌, length, filter, get_or, Option, Some, None, unwrap_or, refl, sym, ap, subst, ◌∙◌, inr, eq-eqb, eqb-true, length-append, ◌++◌, arith}
 use Rattle.std.specs.List.{Contains, list_any}
 use Rattle.std.proofs.lemmas.Bool.{false≢true}
 use Rattle.std.proofs.lemmas.List.{length-map}
@@ -105,9 +105,19 @@ owner_read rows count k lt = get_or-map-range_with_len (section_of rows) 0 count
 
 -- ---- what fields mean
 
-module _ (modules : List ModuleView) (pieces : List Piece) (fixups : List (List Fix)) (sections : List OutSection) (layout : Layout) (owner : List ℕ) (ready : IsReady modules pieces fixups sections layout owner) where
+module _ (modules : List ModuleView) (pieces : List Piece) (fixups : List (List Fix)) (sections : List OutSection) (layout : Layout) (owner : List ℕ) (tables : List (List ℕ)) (ready : IsReady modules pieces fixups sections layout owner tables) where
   pub pieces_count : length pieces ≡ length (link_pieces modules)
   pieces_count = sym (length-map pieces bare) ∙ ap (λ (ps : List Piece). length ps) ready.pieces_are ∙ plan_count modules
+
+  -- there is an RVA and an owner for each piece
+  pub rva_there : (k : ℕ) → k < length pieces → k < length layout.pieces.items
+  rva_there k lt = omega (arith, lt, ready.laid.rva_for_each, length-append pieces ready.rest)
+
+  pub owner_at_piece : (k : ℕ) → k < length pieces → get_or owner k 0 ≡ section_of (rows_of sections) k
+  owner_at_piece k lt = ap (λ (os : List ℕ). get_or os k 0) ready.owner_is ∙ owner_read (rows_of sections) (length layout.pieces.items) k (rva_there k lt)
+
+  pub length_owner : length owner ≡ length layout.pieces.items
+  length_owner = ap length ready.owner_is ∙ length-owners (rows_of sections) (length layout.pieces.items)
 
   -- a piece that a field means has a place
   entry_of : (t : Target) → Stands modules t → HasEntry layout owner t
@@ -116,9 +126,9 @@ module _ (modules : List ModuleView) (pieces : List Piece) (fixups : List (List 
       let named : (get_or pieces piece no_piece).named ≡ true =
       ap (λ (p : Piece). p.named) (sym (get_or-map bare pieces piece no_piece) ∙ ap (λ (ps : List Piece). get_or ps piece no_piece) ready.pieces_are ∙ planned_at modules piece stand.0) ∙ stand.1 in
       let at = owner_at sections piece (ready.stands piece within (inr named)) in
-      let owned : get_or owner piece 0 ≡ section_of (rows_of sections) piece = ap (λ (os : List ℕ). get_or os piece 0) ready.owner_is ∙ owner_read (rows_of sections) (length pieces) piece within in
-      let len : length owner ≡ length pieces = ap length ready.owner_is ∙ length-owners (rows_of sections) (length pieces) in
-      (omega (arith, within, ready.laid.rva_for_each), omega (arith, within, len), omega (arith, owned, at.there, ready.laid.section_for_each))
+      let there = rva_there piece within in
+      let owned = owner_at_piece piece within in
+      (there, omega (arith, there, length_owner), omega (arith, owned, at.there, ready.laid.section_for_each))
   entry_of (target.Absolute value) stand = tt
   entry_of target.ImageBase stand = tt
 

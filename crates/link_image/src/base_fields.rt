@@ -1,6 +1,6 @@
 //! The fields that hold addresses, of all pieces that stand in sections.
 
-ghost use Rattle.std.specs.Prelude.{◌≡◌, ◌+◌, ◌<◌, ◌^◌, ◌++◌, length, slice_index, slice_index_or, IfOk, OnOk};
+ghost use Rattle.std.specs.Prelude.{◌≡◌, ◌+◌, ◌<◌, ◌^◌, ◌++◌, ◌∷◌, [], length, slice_index, slice_index_or, IfOk, OnOk};
 ghost use Rattle.std.specs.List.{All, list_any};
 ghost use Rattle.address_layout.specs.Layout.{all_pieces};
 ghost use Rattle.relocate.specs.PatchedBytes.{is_based};
@@ -18,13 +18,13 @@ use std::alloc::Global;
 pub(crate) fn hold_address(fixes: &[Fixups]) -> bool
     ensures { result ≡ list_any (λ fixups. list_any is_based fixups) fixes.now }
 {
-    fixes.iter().any(holds_address)
+    fixes.iter().any(|fixups| holds_address(fixups))
 }
 
 fn holds_address(fixups: &Fixups) -> bool
     ensures { result ≡ list_any is_based fixups.now }
 {
-    fixups.fixes().iter().any(is_based)
+    fixups.fixes().iter().any(|fix| is_based(fix))
 }
 
 /// The fields that hold addresses, section by section and piece by piece. `rvas` and `fixes` have the RVA and the fields of
@@ -72,10 +72,20 @@ fn push_fields(fields: &mut Vec<BaseField>, rva: u32, fixes: &[Fix]) -> Result<(
     ensures { OnOk result (fields.new.items ≡ fields.old.items ++ fields_of rva fixes.now) }
 {
     for fix in fixes {
-        if is_based(fix) {
-            fields.push(base_field(rva, fix))?;
-        }
+        push_field(fields, rva, fix)?;
     }
+    Ok(())
+}
+
+/// Appends that of a relocation, where it holds an address.
+fn push_field(fields: &mut Vec<BaseField>, rva: u32, fix: &Fix) -> Result<(), Memory>
+    requires { rva + fix.now.at < 2 ^ 32 }
+    ensures { OnOk result (fields.new.items ≡ fields.old.items ++ fields_of rva (fix.now ∷ [])) }
+{
+    if !is_based(fix) {
+        return Ok(());
+    }
+    fields.push(base_field(rva, fix))?;
     Ok(())
 }
 

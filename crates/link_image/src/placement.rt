@@ -78,10 +78,10 @@ fn append_table<'a>(
     table: Vec<u8>,
 ) -> Result<Placement<'a>, Refusal<'a>>
     requires plan { IsPlanOf (options_said options.now) plan.now.modules.items plan.now }
-    requires grouped { AreGrouped (options_said options.now) plan.now.pieces.items sections.entry.items }
-    requires placed { ArePlaced plan.now.pieces.items sections.entry.items true layout.entry }
+    requires grouped { AreGrouped (options_said options.now) plan.now.pieces.items sections.items }
+    requires placed { ArePlaced plan.now.pieces.items sections.items true layout }
     requires relocated { is_relocated (options_said options.now) plan.now.modules.items ≡ true }
-    requires table { IsTable plan.now.modules.items layout.entry.pieces.items table.entry.items }
+    requires table { IsTable plan.now.modules.items layout.pieces.items table.items }
     ensures placed { IfOk result (IsPlaced (options_said options.now) plan.now) }
     ensures refused { IfErr result (RefusesBuild (options_said options.now) plan.now.modules.items) }
 {

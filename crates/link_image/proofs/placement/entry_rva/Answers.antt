@@ -1,29 +1,26 @@
 use Rattle.std.proofs.Common.{◌≡◌, ◌<◌, length, get_or, sym, ◌∙◌, arith}
 use Rattle.std.proofs.lemmas.List.{get_or_default}
-use Rattle.link_words.specs.Outcome.{options_said}
-use Rattle.link_image.proofs.SectionLemmas.{entry_fits}
-use Rattle.link_image.proofs.sections.entry_rva.Goals as goal
+use Rattle.link_image.proofs.placement.entry_rva.Goals as goal
 
 pub index-requires : goal.index-requires
 index-requires c =
     let stand = c.requires.plan.stands c.in-Some.place c.in-Some.is in
-    omega (arith, stand.within, c.requires.placed.layout_of.standing.rva_for_each)
+    omega (arith, stand.within, c.requires.placed.room)
 
 pub rva_in-requires : goal.rva_in-requires
 rva_in-requires c =
-    let layout = c.args.layout.now in
+    let layout = c.args.placement.now.layout in
     let place = c.in-Some.place in
     let stand = c.requires.plan.stands place c.in-Some.is in
-    let within : place.piece < length layout.pieces.items = omega (arith, stand.within, c.requires.placed.layout_of.standing.rva_for_each) in
+    let within : place.piece < length layout.pieces.items = omega (arith, stand.within, c.requires.placed.room) in
     let read : get_or layout.pieces.items place.piece 0 ≡ c.index.result.now = get_or_default layout.pieces.items place.piece 0 c.index.result.now within ∙ sym c.index.ensures in
-    let fits = entry_fits (options_said c.args.options.now) c.args.plan.now.pieces.items c.args.sections.now layout place c.requires.grouped c.requires.placed stand in
-    rw (← read) fits
+    rw (← read) (c.requires.placed.fits place stand)
 
 pub returns-in-Some : goal.returns-in-Some
 returns-in-Some c =
-    let layout = c.args.layout.now in
+    let layout = c.args.placement.now.layout in
     let place = c.in-Some.place in
     let stand = c.requires.plan.stands place c.in-Some.is in
-    let within : place.piece < length layout.pieces.items = omega (arith, stand.within, c.requires.placed.layout_of.standing.rva_for_each) in
+    let within : place.piece < length layout.pieces.items = omega (arith, stand.within, c.requires.placed.room) in
     let read : get_or layout.pieces.items place.piece 0 ≡ c.index.result.now = get_or_default layout.pieces.items place.piece 0 c.index.result.now within ∙ sym c.index.ensures in
     rw (c.in-Some.is, read) c.rva_in.ensures

@@ -1,5 +1,5 @@
 use Rattle.std.proofs.Common.{arith}
-use Rattle.link_image.proofs.sections.rva_in.Goals as goal
+use Rattle.link_image.proofs.placement.rva_in.Goals as goal
 
 pub overflow_add-result : goal.overflow_add-result
 overflow_add-result c =

@@ -1,4 +1,4 @@
-use Rattle.std.proofs.Common.{List, false, sym, subst}
+use Rattle.std.proofs.Common.{List, sym, subst}
 use Rattle.section_group.specs.declared.piece.Piece.{Piece}
 use Rattle.address_layout.specs.declared.layout.LayoutError.TheVariants as bad
 use Rattle.address_layout.specs.Layout.{StandOnce, IsPlaceRefusal}
@@ -13,12 +13,12 @@ place-requires-clause-standing c =
 
 pub returns-in-Err-TooManySections-clause-refused : goal.returns-in-Err-TooManySections-clause-refused
 returns-in-Err-TooManySections-clause-refused c =
-    too_many (options_said c.args.options.now) c.args.plan.now.modules.items c.args.plan.now.pieces.items c.args.sections.now c.in-Err-TooManySections.count c.requires.plan.pieces_are c.requires.grouped
-    (subst (λ (ps : List Piece). IsPlaceRefusal ps c.args.sections.now false (bad.TooManySections c.in-Err-TooManySections.count)) c.deref.ensures.value
-    (subst (IsPlaceRefusal c.deref.result.now c.args.sections.now false) c.in-Err-TooManySections.field-0-is c.in-Err-TooManySections.ensures.refused))
+    too_many (options_said c.args.options.now) c.args.plan.now.modules.items c.args.plan.now.pieces.items c.args.sections.now c.args.reloc c.in-Err-TooManySections.count c.requires.plan.pieces_are c.requires.grouped c.requires.reloc
+    (subst (λ (ps : List Piece). IsPlaceRefusal ps c.args.sections.now c.args.reloc (bad.TooManySections c.in-Err-TooManySections.count)) c.deref.ensures.value
+    (subst (IsPlaceRefusal c.deref.result.now c.args.sections.now c.args.reloc) c.in-Err-TooManySections.field-0-is c.in-Err-TooManySections.ensures.refused))
 
 pub returns-in-Err-ImageTooLarge-clause-refused : goal.returns-in-Err-ImageTooLarge-clause-refused
 returns-in-Err-ImageTooLarge-clause-refused c =
-    too_large (options_said c.args.options.now) c.args.plan.now.modules.items c.args.plan.now.pieces.items c.args.sections.now c.in-Err-ImageTooLarge.size c.requires.plan.pieces_are c.requires.grouped
-    (subst (λ (ps : List Piece). IsPlaceRefusal ps c.args.sections.now false (bad.ImageTooLarge c.in-Err-ImageTooLarge.size)) c.deref.ensures.value
-    (subst (IsPlaceRefusal c.deref.result.now c.args.sections.now false) c.in-Err-ImageTooLarge.field-0-is c.in-Err-ImageTooLarge.ensures.refused))
+    too_large (options_said c.args.options.now) c.args.plan.now.modules.items c.args.plan.now.pieces.items c.args.sections.now c.args.reloc c.in-Err-ImageTooLarge.size c.requires.plan.pieces_are c.requires.grouped c.requires.reloc
+    (subst (λ (ps : List Piece). IsPlaceRefusal ps c.args.sections.now c.args.reloc (bad.ImageTooLarge c.in-Err-ImageTooLarge.size)) c.deref.ensures.value
+    (subst (IsPlaceRefusal c.deref.result.now c.args.sections.now c.args.reloc) c.in-Err-ImageTooLarge.field-0-is c.in-Err-ImageTooLarge.ensures.refused))

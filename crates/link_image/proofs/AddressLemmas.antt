@@ -1,0 +1,72 @@
+-- Whether some field of a link holds an address, by the judged fields of its pieces.
+use Rattle.std.proofs.Common.{◌≡◌, ℕ, zero, suc, ◌+◌, ◌<◌, Bool, true, false, ◌||◌, List, [], ◌∷◌, length, get_or, refl, sym, ap, ◌∙◌, inl, inr, arith}
+use Rattle.std.specs.List.{All, list_any, range_with_len}
+use Rattle.std.proofs.lemmas.Bool.{false≢true}
+use Rattle.std.proofs.lemmas.List.Folds.{list_any_at}
+use Rattle.relocate.specs.declared.fix.Fix.{Fix}
+use Rattle.relocate.specs.Field.{field_width, has_field, no_fix, fix_at}
+use Rattle.relocate.specs.Judged.{AreTheFields}
+use Rattle.relocate.specs.PatchedBytes.{is_based}
+use Rattle.relocate.proofs.CallerLemmas.{based_width, field_among, among_fields}
+use Rattle.module_view.specs.Module.{ModuleView}
+use Rattle.link_pieces.specs.Pieces.{link_pieces}
+use Rattle.link_plan.specs.Fixes.{piece_fixes, HaveFields}
+use Rattle.link_image.specs.BaseFields.{piece_holds_address, holds_address}
+
+-- two tests are one where each follows from the other
+one_bool : (a b : Bool) → (a ≡ true → b ≡ true) → (b ≡ true → a ≡ true) → a ≡ b
+one_bool true true there back = refl
+one_bool true false there back = sym (there refl)
+one_bool false true there back = back refl
+one_bool false false there back = refl
+
+-- where a test passes
+pub any_place : {X : Type 0} (test : X → Bool) (xs : List X) (d : X) → list_any test xs ≡ true → (k : ℕ) × (k < length xs) × (test (get_or xs k d) ≡ true)
+any_place test [] d e = absurd (false≢true e)
+any_place test (x ∷ xs) d e = go (test x) refl e
+  where
+    go : (b : Bool) → test x ≡ b → b || list_any test xs ≡ true → (k : ℕ) × (k < length (x ∷ xs)) × (test (get_or (x ∷ xs) k d) ≡ true)
+    go true here e = (0, omega arith, here)
+    go false here e = let later = any_place test xs d e in (suc later.0, omega (arith, later.1), later.2)
+
+-- a field that holds an address is a field
+pub based_field : (fix : Fix) → is_based fix ≡ true → has_field fix ≡ true
+based_field fix based = by (based_width fix based)
+  where
+    by : ((fix.kind ≡ 1) × (field_width fix.kind ≡ 8)) ⊎ ((fix.kind ≡ 2) × (field_width fix.kind ≡ 4)) → has_field fix ≡ true
+    by (inl wide) = rw wide.1 refl
+    by (inr narrow) = rw narrow.1 refl
+
+-- the judged fields of a piece hold an address where its relocations do
+same_piece : (fixes fixups : List Fix) → AreTheFields fixes fixups → list_any is_based fixups ≡ list_any is_based fixes
+same_piece fixes fixups fields = one_bool (list_any is_based fixups) (list_any is_based fixes) there back
+  where
+    there : list_any is_based fixups ≡ true → list_any is_based fixes ≡ true
+    there e =
+        let at = any_place is_based fixups no_fix e in
+        let among = (field_among fixes fixups at.0 fields at.1).1 in
+        list_any_at is_based fixes among.0 no_fix among.1 (ap is_based among.2 ∙ at.2)
+
+    back : list_any is_based fixes ≡ true → list_any is_based fixups ≡ true
+    back e =
+        let at = any_place is_based fixes no_fix e in
+        among_fields (λ fix. is_based fix ≡ true → list_any is_based fixups ≡ true) fixes fixups at.0 fields
+        (λ k d lt based. list_any_at is_based fixups k d lt based) at.1 (based_field (fix_at fixes at.0) at.2) at.2
+
+any_from : {X : Type 0} (test : X → Bool) (at : ℕ → Bool) (xs : List X) (d : X) (start : ℕ) → ((k : ℕ) → k < length xs → test (get_or xs k d) ≡ at (start + k)) → list_any test xs ≡ list_any at (range_with_len start (length xs))
+any_from test at [] d start same = refl
+any_from test at (x ∷ xs) d start same =
+    ap (λ (b : Bool). b || list_any test xs) (same 0 (omega arith) ∙ ap at (zero_more start))
+    ∙ ap (λ (b : Bool). at start || b) (any_from test at xs d (start + 1) (λ k lt. same (suc k) (omega arith) ∙ ap at (one_more start k)))
+  where
+    zero_more : (n : ℕ) → n + 0 ≡ n
+    zero_more n = omega arith
+
+    one_more : (n k : ℕ) → n + suc k ≡ n + 1 + k
+    one_more n k = omega arith
+
+pub held_addresses : (modules : List ModuleView) (fixups : List (List Fix)) (count : ℕ) → count ≡ length (link_pieces modules) → HaveFields modules count fixups → list_any (λ fixes. list_any is_based fixes) fixups ≡ holds_address modules
+unfolding holds_address
+held_addresses modules fixups count same fields =
+    any_from (λ fixes. list_any is_based fixes) (piece_holds_address modules) fixups [] 0 (λ k lt. same_piece (piece_fixes modules k) (get_or fixups k []) (fields.fields k (omega (arith, lt, fields.for_each))))
+    ∙ ap (λ (n : ℕ). list_any (piece_holds_address modules) (range_with_len 0 n)) (fields.for_each ∙ same)
