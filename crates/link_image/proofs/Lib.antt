@@ -4,3 +4,5 @@ pub mod MixedLemmas
 pub mod StandsLemmas
 pub mod FieldLemmas
 pub mod PlaceLemmas
+pub mod AscendLemmas
+pub mod BaseFieldLemmas
