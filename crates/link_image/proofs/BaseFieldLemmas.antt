@@ -1,21 +1,19 @@
 -- The fields that hold addresses, as they are listed, are all of a link, ascend and share no byte.
-use Rattle.std.proofs.Common.{◌≡◌, ℕ, zero, suc, ◌+◌, ◌^◌, ◌<◌, ◌≤◌, Bool, true, false, cond, eqb, nat_lt, List, [], ◌∷◌, ◌++◌, length, get_or, map, filter, flat_map, refl, sym, ap, ◌∙◌, subst, inl, inr, arith, length-append}
+use Rattle.std.proofs.Common.{◌≡◌, ℕ, zero, suc, ◌+◌, ◌^◌, ◌<◌, ◌≤◌, Bool, true, false, cond, nat_lt, List, [], ◌∷◌, ◌++◌, length, get_or, map, filter, flat_map, refl, sym, ap, ◌∙◌, subst, inl, inr, arith}
 use Rattle.std.specs.List.{All, Contains}
-use Rattle.std.proofs.lemmas.Bool.{cases_lt, true≢false}
 use Rattle.std.proofs.lemmas.List.Concat.{flat_map-append}
-use Rattle.std.proofs.lemmas.List.Elements.{All-nil, All-cons, All-head, All-tail, All-append, All-map, All-filter, All-from_get_or, All-contains, filter_passes, Contains-get_or, Contains-append_left, Contains-append_right}
+use Rattle.std.proofs.lemmas.List.Elements.{All-nil, All-append, All-map, All-filter, All-from_get_or, All-contains, filter_passes, Contains-get_or, Contains-append_left, Contains-append_right}
 use Rattle.std.proofs.lemmas.List.Sorted.{All-permutation}
 use Rattle.section_group.specs.declared.piece.Piece.{Piece}
 use Rattle.section_group.specs.declared.piece.OutSection.{OutSection}
 use Rattle.section_group.specs.SectionOrder.{no_piece}
 use Rattle.address_layout.specs.declared.layout.Layout.{Layout}
 use Rattle.address_layout.specs.Layout.{all_pieces, placed_at, StandOnce, HoldsArrangement}
-use Rattle.address_layout.specs.Places.{row_at, piece_in, end_before, file_before, IsPlacedSection}
-use Rattle.address_layout.proofs.CallerLemmas.{places_ascend, piece_end_inside, all_ends_inside, StandsAt, stands_at, piece_stands}
+use Rattle.address_layout.specs.Places.{row_at, piece_in, end_before}
+use Rattle.address_layout.proofs.CallerLemmas.{places_ascend, piece_end_inside, all_ends_inside, stands_at, piece_stands}
 use Rattle.base_reloc.specs.declared.field.BaseField.{BaseField}
 use Rattle.relocate.specs.declared.fix.Fix.{Fix}
-use Rattle.relocate.specs.Field.{field_width, field_end, has_field, no_fix, fix_at}
-use Rattle.relocate.specs.Judged.{ArePatchable, AreTheFields}
+use Rattle.relocate.specs.Field.{field_end, has_field, no_fix, fix_at}
 use Rattle.relocate.specs.PatchedBytes.{is_based}
 use Rattle.relocate.proofs.CallerLemmas.{ends_within, based_width, among_fields}
 use Rattle.module_view.specs.Module.{ModuleView}
@@ -78,13 +76,13 @@ has_its_field fix based =
 -- ---- the fields of a link
 
 module _ (modules : List ModuleView) (pieces : List Piece) (fixups : List (List Fix)) (sections : List OutSection) (reloc : Bool) (layout : Layout)
-  (count : length pieces ≡ length (link_pieces modules))
-  (fields : HaveFields modules (length pieces) fixups)
-  (sizes : (k : ℕ) → k < length pieces → length (contents_at modules k) ≤ (get_or pieces k no_piece).size)
-  (standing : HoldsArrangement pieces sections reloc layout)
-  (once : StandOnce pieces sections)
-  (stands : (k : ℕ) → k < length pieces → 0 < (get_or pieces k no_piece).size → Contains (all_pieces sections) k)
-  (few : layout.image ≤ 2 ^ 31) where
+    (count : length pieces ≡ length (link_pieces modules))
+    (fields : HaveFields modules (length pieces) fixups)
+    (sizes : (k : ℕ) → k < length pieces → length (contents_at modules k) ≤ (get_or pieces k no_piece).size)
+    (standing : HoldsArrangement pieces sections reloc layout)
+    (once : StandOnce pieces sections)
+    (stands : (k : ℕ) → k < length pieces → 0 < (get_or pieces k no_piece).size → Contains (all_pieces sections) k)
+    (few : layout.image ≤ 2 ^ 31) where
   -- ---- a piece
 
   -- each field ends inside its piece
