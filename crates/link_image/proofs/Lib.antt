@@ -5,3 +5,5 @@ pub mod StandsLemmas
 pub mod FieldLemmas
 pub mod PlaceLemmas
 pub mod AddressLemmas
+pub mod AscendLemmas
+pub mod BaseFieldLemmas
