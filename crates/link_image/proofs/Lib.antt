@@ -4,3 +4,4 @@ pub mod MixedLemmas
 pub mod StandsLemmas
 pub mod FieldLemmas
 pub mod PlaceLemmas
+pub mod MoveLemmas
