@@ -7,3 +7,4 @@ pub mod PlaceLemmas
 pub mod AddressLemmas
 pub mod AscendLemmas
 pub mod BaseFieldLemmas
+pub mod MoveLemmas

@@ -1,0 +1,325 @@
+-- The contents of the pieces of a link at two bases: the fields that hold addresses move with the base, and no other byte
+-- depends on it.
+use Rattle.std.proofs.Common.{◌≡◌, ℕ, ◌+◌, ◌-◌, ◌*◌, ◌%◌, ◌^◌, ◌<◌, ◌≤◌, Bool, true, false, cond, List, [], ◌++◌, length, map, get_or, slice_index, eqb, inl, inr, refl, sym, ap, ◌∙◌, subst, lt-ltb, IsTrue, unwrap_or, option_copied, arith}
+use Rattle.std.specs.List.{All, list_any, range_with_len}
+use Rattle.std.proofs.Math.ListN.{get_or-map}
+use Rattle.std.proofs.lemmas.Bool.{cases_lt, false≢true}
+use Rattle.std.proofs.lemmas.List.{length-map, length-append, map-append, get_or_append_left, get_or-append_right, ext_get_or}
+use Rattle.std.proofs.lemmas.List.Elements.{All-from_get_or}
+use Rattle.std.proofs.lemmas.List.Folds.{list_any_at}
+use Rattle.std.proofs.lemmas.List.FromFn.{get_or-range_with_len, length-range_with_len, get_or-map-range_with_len, length-map-range_with_len}
+use Rattle.link_base.specs.Bytes.{number_at, number_bytes}
+use Rattle.section_group.specs.declared.piece.Piece.{Piece}
+use Rattle.section_group.specs.declared.piece.OutSection.{OutSection}
+use Rattle.section_group.specs.BarePieces.{bare}
+use Rattle.section_group.specs.SectionOrder.{no_piece}
+use Rattle.section_group.specs.PieceContents.{piece_contents, HasItsBytes}
+use Rattle.section_group.specs.Uniqueness.{SectionRow, rows_of}
+use Rattle.address_layout.specs.declared.layout.Layout.{Layout}
+use Rattle.address_layout.specs.Layout.{all_pieces}
+use Rattle.base_reloc.specs.declared.field.BaseField.{BaseField}
+use Rattle.base_reloc.specs.Blocks.{width_of}
+use Rattle.base_reloc.specs.Raising.{IsOutside, IsOutsideAll}
+use Rattle.pe_loader.specs.LoadedImage.{base_delta}
+use Rattle.relocate.specs.declared.fix.Fix.{Fix}
+use Rattle.relocate.specs.Field.{field_width, field_end, has_field, no_fix, fix_at}
+use Rattle.relocate.specs.Judged.{AreTheFields, ArePatchable}
+use Rattle.relocate.specs.Value.{IsOutside as IsOutsideFix}
+use Rattle.relocate.specs.PatchedBytes.{is_based, HaveNoBased}
+use Rattle.relocate.proofs.OrderLemmas.{IsAmong}
+use Rattle.relocate.proofs.CallerLemmas.{length_patched, bytes_stay, fields_suited, bytes_moved, byte_stays, ends_within, based_width, field_among, among_fields}
+use Rattle.image_writer.specs.WrittenImage.{HaveRoom, HasContents}
+use Rattle.image_writer.specs.MovedContents.{HaveOneLength, IsMoved, AreMoved}
+use Rattle.image_writer.specs.PieceInFile.{piece_at}
+use Rattle.image_writer.proofs.CallerLemmas.{have_room}
+use Rattle.module_view.specs.Module.{ModuleView}
+use Rattle.link_pieces.specs.Pieces.{link_pieces, link_contents}
+use Rattle.link_plan.specs.Fixes.{piece_fixes}
+use Rattle.link_plan.proofs.CallerLemmas.{plan_count}
+use Rattle.link_image.specs.BaseFields.{piece_holds_address, holds_address, base_field, IsBaseField, AreBaseFields}
+use Rattle.link_image.specs.LinkedBytes.{section_of, owners_in, contents_at, linked_bytes, linked_contents, image_contents}
+use Rattle.link_image.specs.Steps.{HoldTables, IsReady}
+use Rattle.link_image.proofs.StandsLemmas.{OwnerAt, owner_at}
+
+-- ---- the contents of a piece and a table
+
+module _ (modules : List ModuleView) (rows : List SectionRow) (layout : Layout) (base : ℕ) where
+  abbrev total : ℕ
+  total = length (link_pieces modules)
+
+  abbrev linked : List (List ℕ)
+  linked = linked_contents modules rows layout base
+
+  linked_read : (k : ℕ) → k < total → get_or linked k [] ≡ linked_bytes modules rows layout base k
+  unfolding linked_contents
+  linked_read k lt = get_or-map-range_with_len (linked_bytes modules rows layout base) 0 total k k [] lt (omega arith)
+
+  length_linked : length linked ≡ total
+  unfolding linked_contents
+  length_linked = length-map-range_with_len (linked_bytes modules rows layout base) 0 total
+
+  piece_read : (tables : List (List ℕ)) (k : ℕ) → k < total → get_or (image_contents modules rows layout tables base) k [] ≡ linked_bytes modules rows layout base k
+  piece_read tables k lt = get_or_append_left linked tables [] k (omega (arith, lt, length_linked)) ∙ linked_read k lt
+
+  table_read : (tables : List (List ℕ)) (k : ℕ) → total ≤ k → get_or (image_contents modules rows layout tables base) k [] ≡ get_or tables (k - total) []
+  table_read tables k le = get_or-append_right linked tables total k [] length_linked le
+
+  length_piece : (k : ℕ) → length (linked_bytes modules rows layout base k) ≡ length (contents_at modules k)
+  length_piece k = length_patched base (get_or layout.pieces.items k 0) layout (owners_in rows layout) (piece_fixes modules k) (contents_at modules k)
+
+-- ---- room depends on lengths alone
+
+pub room_by_length : (pieces : List Piece) (sections : List OutSection) (old new : List (List ℕ)) → All (λ k. length (get_or new k []) ≡ length (get_or old k [])) (all_pieces sections) → HaveRoom pieces sections old → HaveRoom pieces sections new
+room_by_length pieces sections old new same room = λ i d lt.
+    let k = get_or (all_pieces sections) i d in
+    let len : length (get_or new k []) ≡ length (get_or old k []) = same i d lt in
+    let was = room i d lt in
+    (let fits = was.0 in omega (arith, fits, len), λ some. was.1 (omega (arith, some, len)))
+
+-- ---- pieces that have their bytes, with tables after them
+
+module _ (tables : List (List ℕ)) (rest : List Piece) (holds : HoldTables tables rest) where
+  table_has_bytes : (j : ℕ) → j < length rest → HasItsBytes rest j
+  table_has_bytes j lt init =
+      sym (ap length (get_or-map piece_contents rest j no_piece))
+      ∙ ap (λ (cs : List (List ℕ)). length (get_or cs j [])) holds.contents
+      ∙ sym (holds.sizes j lt)
+
+  both_have_bytes : (pieces : List Piece) → ((k : ℕ) → k < length pieces → HasItsBytes pieces k) → (k : ℕ) → k < length (pieces ++ rest) → HasItsBytes (pieces ++ rest) k
+  both_have_bytes pieces bodies k within =
+      elim (cases_lt k (length pieces)) [
+        | inl lt ↦ subst (λ (piece : Piece). IsTrue piece.init → length (piece_contents piece) ≡ piece.size) (sym (get_or_append_left pieces rest no_piece k lt)) (bodies k lt)
+        | inr le ↦
+            let n = length-append pieces rest in
+            subst (λ (piece : Piece). IsTrue piece.init → length (piece_contents piece) ≡ piece.size) (sym (get_or-append_right pieces rest (length pieces) k no_piece refl le)) (table_has_bytes (k - length pieces) (omega (arith, within, n, le)))
+      ]
+
+-- ---- a test that nothing passes
+
+not_any : {A : Type 0} (test : A → Bool) (xs : List A) (i : ℕ) (d : A) → list_any test xs ≡ false → i < length xs → test (get_or xs i d) ≡ false
+not_any test xs i d none lt = by (test (get_or xs i d)) refl
+  where
+    by : (b : Bool) → test (get_or xs i d) ≡ b → b ≡ false
+    by false e = refl
+    by true e = absurd (false≢true (sym none ∙ list_any_at test xs i d lt e))
+
+-- ---- a field that holds an address
+
+-- the bytes of a number and a delta stand in new bytes where the number stands in old ones
+abbrev AreRaised : List ℕ → List ℕ → ℕ → ℕ → ℕ → Type 0
+AreRaised old new delta at width =
+    (t : ℕ) → t < width → slice_index new (at + t) ≡ slice_index (number_bytes width ((number_at width old at + delta) % 2 ^ (8 * width))) t
+
+-- a field that holds an address ends inside the old bytes, and is raised
+abbrev RaisesFix : List ℕ → List ℕ → ℕ → Fix → Type 0
+RaisesFix old new delta fix =
+    is_based fix ≡ true → (field_end fix ≤ length old) × AreRaised old new delta fix.at (field_width fix.kind)
+
+based_some : (fix : Fix) → is_based fix ≡ true → 0 < field_width fix.kind
+based_some fix based =
+    elim (based_width fix based) [
+      | inl wide ↦ let w = wide.1 in omega (arith, w)
+      | inr narrow ↦ let w = narrow.1 in omega (arith, w)
+    ]
+
+based_has_field : (fix : Fix) → is_based fix ≡ true → has_field fix ≡ true
+based_has_field fix based = lt-ltb 0 (field_width fix.kind) (based_some fix based)
+
+width_is : (rva : ℕ) (fix : Fix) → is_based fix ≡ true → width_of (base_field rva fix) ≡ field_width fix.kind
+width_is rva fix based =
+    elim (based_width fix based) [
+      | inl wide ↦ ap (λ (kind : ℕ). cond (eqb kind 1) 8 4) wide.0 ∙ sym wide.1
+      | inr narrow ↦ ap (λ (kind : ℕ). cond (eqb kind 1) 8 4) narrow.0 ∙ sym narrow.1
+    ]
+
+outside_fix : (rva t : ℕ) (fix : Fix) → is_based fix ≡ true → IsOutside (rva + t) (base_field rva fix) → IsOutsideFix t fix
+outside_fix rva t fix based (inl before) = inl (omega (arith, before))
+outside_fix rva t fix based (inr behind) = inr (let w = width_is rva fix based in omega (arith, behind, w))
+
+-- ---- what is ready
+
+module _ (modules : List ModuleView) (pieces : List Piece) (fixups : List (List Fix)) (sections : List OutSection) (layout : Layout) (owner : List ℕ) (tables : List (List ℕ)) (ready : IsReady modules pieces fixups sections layout owner tables) where
+  abbrev rows : List SectionRow
+  rows = rows_of sections
+
+  abbrev count : ℕ
+  count = length (link_pieces modules)
+
+  abbrev contents : ℕ → List (List ℕ)
+  contents base = image_contents modules rows layout tables base
+
+  abbrev bytes_of : ℕ → ℕ → List ℕ
+  bytes_of base k = linked_bytes modules rows layout base k
+
+  count_is : length pieces ≡ count
+  count_is = sym (length-map pieces bare) ∙ ap (λ (ps : List Piece). length ps) ready.pieces_are ∙ plan_count modules
+
+  length_at : (base k : ℕ) → k < count → length (get_or (contents base) k []) ≡ length (contents_at modules k)
+  length_at base k lt = ap length (piece_read modules rows layout base tables k lt) ∙ length_piece modules rows layout base k
+
+  -- each piece and each table has one length
+  pub one_length : HaveOneLength contents
+  one_length base other k =
+      elim (cases_lt k count) [
+        | inl lt ↦ length_at base k lt ∙ sym (length_at other k lt)
+        | inr le ↦ ap length (table_read modules rows layout base tables k le) ∙ sym (ap length (table_read modules rows layout other tables k le))
+      ]
+
+  -- ---- room
+
+  held_are : map piece_contents (pieces ++ ready.rest) ≡ link_contents modules ++ tables
+  held_are =
+      map-append piece_contents pieces ready.rest
+      ∙ ap (λ (cs : List (List ℕ)). cs ++ map piece_contents ready.rest) ready.contents_are
+      ∙ ap (λ (cs : List (List ℕ)). link_contents modules ++ cs) ready.holds.contents
+
+  contents_count : length (link_contents modules) ≡ count
+  contents_count = sym (ap (λ (cs : List (List ℕ)). length cs) ready.contents_are) ∙ length-map pieces piece_contents ∙ count_is
+
+  length_held : (base k : ℕ) → length (get_or (contents base) k []) ≡ length (get_or (map piece_contents (pieces ++ ready.rest)) k [])
+  length_held base k =
+      elim (cases_lt k count) [
+        | inl lt ↦ length_at base k lt ∙ sym (ap length (get_or_append_left (link_contents modules) tables [] k (omega (arith, lt, contents_count))))
+        | inr le ↦ ap length (table_read modules rows layout base tables k le) ∙ sym (ap length (get_or-append_right (link_contents modules) tables count k [] contents_count le))
+      ]
+      ∙ ap (λ (cs : List (List ℕ)). length (get_or cs k [])) (sym held_are)
+
+  have_contents : HasContents (pieces ++ ready.rest) sections
+  have_contents = λ i d lt. both_have_bytes tables ready.rest ready.holds pieces ready.bodies (get_or (all_pieces sections) i d) (ready.laid.within i d lt)
+
+  -- the contents have their room at each base
+  pub contents_room : (base : ℕ) → HaveRoom (pieces ++ ready.rest) sections (contents base)
+  contents_room base =
+      room_by_length (pieces ++ ready.rest) sections (map piece_contents (pieces ++ ready.rest)) (contents base) (λ i d lt. length_held base (get_or (all_pieces sections) i d)) (have_room (pieces ++ ready.rest) sections have_contents)
+
+  -- ---- no field holds an address
+
+  holds_none : holds_address modules ≡ false → (k : ℕ) → k < count → piece_holds_address modules k ≡ false
+  unfolding holds_address
+  holds_none none k lt =
+      let n = length-range_with_len 0 count in
+      let at : get_or (range_with_len 0 count) k 0 ≡ k = get_or-range_with_len 0 count k 0 lt ∙ omega arith in
+      ap (piece_holds_address modules) (sym at) ∙ not_any (piece_holds_address modules) (range_with_len 0 count) k 0 none (omega (arith, lt, n))
+
+  none_based : holds_address modules ≡ false → (k : ℕ) → k < count → HaveNoBased (piece_fixes modules k)
+  none_based none k lt = λ i d within some. not_any is_based (piece_fixes modules k) i d (holds_none none k lt) within
+
+  are_fields : (k : ℕ) → k < count → AreTheFields (piece_fixes modules k) (get_or fixups k [])
+  are_fields k lt = ready.fields.fields k (omega (arith, lt, count_is))
+
+  are_patchable : (k : ℕ) → k < count → ArePatchable (length (contents_at modules k)) (get_or fixups k [])
+  are_patchable k lt = ready.fields.patchable k (omega (arith, lt, count_is))
+
+  piece_stays : holds_address modules ≡ false → (base other k : ℕ) → k < count → bytes_of base k ≡ bytes_of other k
+  piece_stays none base other k lt =
+      bytes_stay false false base other (get_or layout.pieces.items k 0) layout (owners_in rows layout) (piece_fixes modules k) (contents_at modules k)
+      (fields_suited (piece_fixes modules k) (get_or fixups k []) (length (contents_at modules k)) (are_fields k lt) (are_patchable k lt))
+      (none_based none k lt)
+
+  linked_stay : holds_address modules ≡ false → (base other : ℕ) → linked_contents modules rows layout base ≡ linked_contents modules rows layout other
+  linked_stay none base other =
+      ext_get_or [] (linked_contents modules rows layout base) (linked_contents modules rows layout other) (length_linked modules rows layout base ∙ sym (length_linked modules rows layout other)) (λ k lt.
+      let within : k < count = omega (arith, lt, length_linked modules rows layout base) in
+      linked_read modules rows layout base k within ∙ piece_stays none base other k within ∙ sym (linked_read modules rows layout other k within))
+
+  -- so the contents are the same at each base
+  pub contents_stay : holds_address modules ≡ false → (base other : ℕ) → contents base ≡ contents other
+  contents_stay none base other = ap (λ (cs : List (List ℕ)). cs ++ tables) (linked_stay none base other)
+
+  -- ---- fields that hold addresses
+
+  read_at : (base k place : ℕ) → place ≡ k → k < count → get_or (contents base) place [] ≡ bytes_of base k
+  read_at base k place is lt = ap (λ (j : ℕ). get_or (contents base) j []) is ∙ piece_read modules rows layout base tables k lt
+
+  -- a piece with a field has bytes, so it stands in a section
+  stands_at : (k : ℕ) → k < count → 0 < length (contents_at modules k) → OwnerAt sections k
+  stands_at k lt some =
+      let within : k < length pieces = omega (arith, lt, count_is) in
+      owner_at sections k (ready.stands k within (inl (sized (get_or pieces k no_piece) (held k) (ready.bodies k within))))
+    where
+      held : (k : ℕ) → piece_contents (get_or pieces k no_piece) ≡ contents_at modules k
+      held k = sym (get_or-map piece_contents pieces k no_piece) ∙ ap (λ (cs : List (List ℕ)). get_or cs k []) ready.contents_are
+
+      sized : (piece : Piece) → piece_contents piece ≡ contents_at modules k → (IsTrue piece.init → length (piece_contents piece) ≡ piece.size) → 0 < piece.size
+      sized piece is has = by piece.init refl
+        where
+          by : (b : Bool) → piece.init ≡ b → 0 < piece.size
+          by true init = let n = has init in let m = ap (λ (bs : List ℕ). length bs) is in omega (arith, n, m, some)
+          by false none = absurd (let m = ap (λ (bs : List ℕ). length bs) (sym (ap (λ (b : Bool). cond b (unwrap_or (option_copied piece.body) []) []) none) ∙ is) in omega (arith, m, some))
+
+  module _ (own base : ℕ) (low : own < 2 ^ 64) where
+    abbrev delta : ℕ
+    delta = base_delta own base
+
+    -- each judged field of a piece is raised, so each field of its relocations is
+    judged_raised : (k : ℕ) → k < count → All (RaisesFix (bytes_of own k) (bytes_of base k) delta) (get_or fixups k [])
+    judged_raised k lt =
+        All-from_get_or (RaisesFix (bytes_of own k) (bytes_of base k) delta) (get_or fixups k []) no_fix (λ i within based. (
+          let end = ends_within (length (contents_at modules k)) (get_or fixups k []) i (are_patchable k lt) within in omega (arith, end, length_piece modules rows layout own k),
+          bytes_moved own base (get_or layout.pieces.items k 0) layout (owners_in rows layout) (piece_fixes modules k) (get_or fixups k []) (contents_at modules k) (are_fields k lt) (are_patchable k lt) low i within based,
+        ))
+
+    fix_raised : (k i : ℕ) → k < count → i < length (piece_fixes modules k) → RaisesFix (bytes_of own k) (bytes_of base k) delta (fix_at (piece_fixes modules k) i)
+    fix_raised k i lt within based =
+        among_fields (RaisesFix (bytes_of own k) (bytes_of base k) delta) (piece_fixes modules k) (get_or fixups k []) i (are_fields k lt) (judged_raised k lt) within (based_has_field (fix_at (piece_fixes modules k) i) based) based
+
+    field_moved : (field : BaseField) → IsBaseField modules layout.pieces.items field → IsMoved sections layout (contents own) (contents base) delta field
+    field_moved field here =
+        let k = here.piece in
+        let fix : Fix = fix_at (piece_fixes modules k) here.index in
+        let raised = fix_raised k here.index here.there here.within here.based in
+        let some : 0 < field_width fix.kind = based_some fix here.based in
+        let end = raised.0 in
+        let at : OwnerAt sections k = stands_at k here.there (omega (arith, some, end, length_piece modules rows layout own k)) in
+        let place = piece_at sections (section_of rows k) at.number in
+        let was = read_at own k place at.is here.there in
+        let is = read_at base k place at.is here.there in
+        let width : width_of field ≡ field_width fix.kind = ap width_of here.is ∙ width_is (get_or layout.pieces.items k 0) fix here.based in
+        record {
+          section = section_of rows k;
+          number = at.number;
+          at = fix.at;
+          there = at.there;
+          below = at.within;
+          is = ap (λ (f : BaseField). f.rva) here.is ∙ ap (λ (j : ℕ). get_or layout.pieces.items j 0 + fix.at) (sym at.is);
+          inside = let len = ap (λ (bs : List ℕ). length bs) was in omega (arith, width, len, end);
+          raised = subst (AreRaised (get_or (contents own) place []) (get_or (contents base) place []) delta fix.at) (sym width)
+              (subst (λ (old : List ℕ). AreRaised old (get_or (contents base) place []) delta fix.at (field_width fix.kind)) (sym was)
+              (subst (λ (new : List ℕ). AreRaised (bytes_of own k) new delta fix.at (field_width fix.kind)) (sym is) raised.1));
+        }
+
+    module _ (fields : List BaseField) (are : AreBaseFields modules layout.pieces.items fields) where
+      -- a byte outside all fields is in no judged field that holds an address
+      outside_judged : (k t : ℕ) → k < count → IsOutsideAll (get_or layout.pieces.items k 0 + t) fields → (i : ℕ) → i < length (get_or fixups k []) → is_based (fix_at (get_or fixups k []) i) ≡ true → IsOutsideFix t (fix_at (get_or fixups k []) i)
+      unfolding IsAmong
+      outside_judged k t lt outside i within based =
+          let rva = get_or layout.pieces.items k 0 in
+          let fix : Fix = fix_at (get_or fixups k []) i in
+          let among = (field_among (piece_fixes modules k) (get_or fixups k []) i (are_fields k lt) within).1 in
+          let field : BaseField = base_field rva fix in
+          let listed = are.all field (record {
+            piece = k;
+            index = among.0;
+            there = lt;
+            within = among.1;
+            based = ap is_based among.2 ∙ based;
+            is = ap (base_field rva) (sym among.2);
+          }) in
+          outside_fix rva t fix based (subst (IsOutside (rva + t)) listed.2 (outside listed.0 field listed.1))
+
+      others_stay : (k t : ℕ) → IsOutsideAll (get_or layout.pieces.items k 0 + t) fields → slice_index (get_or (contents base) k []) t ≡ slice_index (get_or (contents own) k []) t
+      others_stay k t outside =
+          elim (cases_lt k count) [
+            | inl lt ↦
+                ap (λ (bs : List ℕ). slice_index bs t) (piece_read modules rows layout base tables k lt)
+                ∙ byte_stays own base (get_or layout.pieces.items k 0) layout (owners_in rows layout) (piece_fixes modules k) (get_or fixups k []) (contents_at modules k) (are_fields k lt) (are_patchable k lt) t (outside_judged k t lt outside)
+                ∙ sym (ap (λ (bs : List ℕ). slice_index bs t) (piece_read modules rows layout own tables k lt))
+            | inr le ↦ ap (λ (bs : List ℕ). slice_index bs t) (table_read modules rows layout base tables k le ∙ sym (table_read modules rows layout own tables k le))
+          ]
+
+  -- the fields that hold addresses are moved, and no other byte is
+  pub contents_moved : (own base : ℕ) (fields : List BaseField) → own < 2 ^ 64 → AreBaseFields modules layout.pieces.items fields → AreMoved sections layout (contents own) (contents base) (base_delta own base) fields
+  contents_moved own base fields low are = record {
+    each = λ n d lt. field_moved own base low (get_or fields n d) (are.listed n d lt);
+    stays = λ k t outside lt. others_stay own base low fields are k t outside;
+  }
