@@ -1,5 +1,5 @@
 -- Whether some field of a link holds an address, by the judged fields of its pieces.
-use Rattle.std.proofs.Common.{◌≡◌, ℕ, zero, suc, ◌+◌, ◌<◌, Bool, true, false, ◌||◌, List, [], ◌∷◌, length, get_or, refl, sym, ap, ◌∙◌, inl, inr, arith}
+use Rattle.std.proofs.Common.{◌≡◌, ℕ, zero, suc, ◌+◌, ◌<◌, ◌⊎◌, Bool, true, false, ◌||◌, List, [], ◌∷◌, length, get_or, refl, sym, ap, ◌∙◌, inl, inr, arith}
 use Rattle.std.specs.List.{All, list_any, range_with_len}
 use Rattle.std.proofs.lemmas.Bool.{false≢true}
 use Rattle.std.proofs.lemmas.List.Folds.{list_any_at}
@@ -7,6 +7,7 @@ use Rattle.relocate.specs.declared.fix.Fix.{Fix}
 use Rattle.relocate.specs.Field.{field_width, has_field, no_fix, fix_at}
 use Rattle.relocate.specs.Judged.{AreTheFields}
 use Rattle.relocate.specs.PatchedBytes.{is_based}
+use Rattle.relocate.proofs.OrderLemmas.{IsAmong}
 use Rattle.relocate.proofs.CallerLemmas.{based_width, field_among, among_fields}
 use Rattle.module_view.specs.Module.{ModuleView}
 use Rattle.link_pieces.specs.Pieces.{link_pieces}
@@ -21,13 +22,18 @@ one_bool false true there back = back refl
 one_bool false false there back = refl
 
 -- where a test passes
-pub any_place : {X : Type 0} (test : X → Bool) (xs : List X) (d : X) → list_any test xs ≡ true → (k : ℕ) × (k < length xs) × (test (get_or xs k d) ≡ true)
+PlaceOf : {X : Type 0} → (X → Bool) → List X → X → Type 0
+PlaceOf test xs d = (k : ℕ) × (k < length xs) × (test (get_or xs k d) ≡ true)
+
+one_before : {X : Type 0} (test : X → Bool) (x : X) (xs : List X) (d : X) (b : Bool) → test x ≡ b → (b ≡ false → PlaceOf test xs d) → PlaceOf test (x ∷ xs) d
+unfolding PlaceOf
+one_before test x xs d true here later = (0, omega arith, here)
+one_before test x xs d false here later = let place = later refl in (suc place.0, omega (arith, place.1), place.2)
+
+any_place : {X : Type 0} (test : X → Bool) (xs : List X) (d : X) → list_any test xs ≡ true → PlaceOf test xs d
 any_place test [] d e = absurd (false≢true e)
-any_place test (x ∷ xs) d e = go (test x) refl e
-  where
-    go : (b : Bool) → test x ≡ b → b || list_any test xs ≡ true → (k : ℕ) × (k < length (x ∷ xs)) × (test (get_or (x ∷ xs) k d) ≡ true)
-    go true here e = (0, omega arith, here)
-    go false here e = let later = any_place test xs d e in (suc later.0, omega (arith, later.1), later.2)
+any_place test (x ∷ xs) d e =
+    one_before test x xs d (test x) refl (λ apart. any_place test xs d (sym (ap (λ (b : Bool). b || list_any test xs) apart) ∙ e))
 
 -- a field that holds an address is a field
 pub based_field : (fix : Fix) → is_based fix ≡ true → has_field fix ≡ true
@@ -39,6 +45,7 @@ based_field fix based = by (based_width fix based)
 
 -- the judged fields of a piece hold an address where its relocations do
 same_piece : (fixes fixups : List Fix) → AreTheFields fixes fixups → list_any is_based fixups ≡ list_any is_based fixes
+unfolding IsAmong PlaceOf
 same_piece fixes fixups fields = one_bool (list_any is_based fixups) (list_any is_based fixes) there back
   where
     there : list_any is_based fixups ≡ true → list_any is_based fixes ≡ true
@@ -68,5 +75,8 @@ any_from test at (x ∷ xs) d start same =
 pub held_addresses : (modules : List ModuleView) (fixups : List (List Fix)) (count : ℕ) → count ≡ length (link_pieces modules) → HaveFields modules count fixups → list_any (λ fixes. list_any is_based fixes) fixups ≡ holds_address modules
 unfolding holds_address
 held_addresses modules fixups count same fields =
-    any_from (λ fixes. list_any is_based fixes) (piece_holds_address modules) fixups [] 0 (λ k lt. same_piece (piece_fixes modules k) (get_or fixups k []) (fields.fields k (omega (arith, lt, fields.for_each))))
+    any_from (λ fixes. list_any is_based fixes) (piece_holds_address modules) fixups [] 0 (λ k lt. same_piece (piece_fixes modules k) (get_or fixups k []) (fields.fields k (omega (arith, lt, fields.for_each))) ∙ ap (piece_holds_address modules) (none_more k))
     ∙ ap (λ (n : ℕ). list_any (piece_holds_address modules) (range_with_len 0 n)) (fields.for_each ∙ same)
+  where
+    none_more : (k : ℕ) → k ≡ 0 + k
+    none_more k = omega arith

@@ -1,5 +1,5 @@
 -- The fields of a piece, patched in the file of the image.
-use Rattle.std.proofs.Common.{◌≡◌, ℕ, ◌+◌, ◌-◌, ◌<◌, ◌≤◌, Bool, true, false, List, [], ◌∷◌, ◌++◌, length, map, get_or, Some, None, option_map, refl, sym, ap, subst, ◌∙◌, inl, inr, arith}
+use Rattle.std.proofs.Common.{◌≡◌, ℕ, zero, suc, eqb, ◌+◌, ◌-◌, ◌<◌, ◌≤◌, Bool, true, false, List, [], ◌∷◌, ◌++◌, length, map, get_or, Some, None, option_map, refl, sym, ap, subst, ◌∙◌, inl, inr, arith}
 use Rattle.std.specs.List.{All}
 use Rattle.std.proofs.lemmas.Bool.{cases_lt, false≢true}
 use Rattle.std.proofs.lemmas.List.{get_or_default, get_or_past, get_or_append_left, get_or-append_right}
@@ -37,8 +37,9 @@ use Rattle.link_image.specs.Steps.{IsReady, RefusesRange, mixed_contents, file_o
 use Rattle.link_image.proofs.MixedLemmas.{mixed_front, patched_at, unpatched_at, tables_differ, mixed_same, mixed_room}
 use Rattle.link_image.proofs.StandsLemmas.{OwnerAt, owner_at, pieces_count, rva_there, owner_at_piece, length_owner}
 
-pub above_zero : (n : ℕ) → (n ≡ 0 → ⊥) → 0 < n
-above_zero n apart = omega (arith, apart)
+pub above_zero : (n : ℕ) → eqb n 0 ≡ false → 0 < n
+above_zero zero none = absurd (false≢true (sym none))
+above_zero (suc n) some = omega arith
 
 module _ (modules : List ModuleView) (pieces : List Piece) (fixups : List (List Fix)) (sections : List OutSection) (layout : Layout) (owner : List ℕ) (tables : List (List ℕ)) (ready : IsReady modules pieces fixups sections layout owner tables) where
   -- ---- a piece
@@ -246,6 +247,13 @@ module _ (modules : List ModuleView) (pieces : List Piece) (fixups : List (List 
           fields = subst (AreTheFields (piece_fixes modules k)) (sym is) (ready.fields.fields k lt);
           patchable = subst (ArePatchable (length (contents_at modules k))) (sym is) (ready.fields.patchable k lt);
         }
+
+    -- a piece with fields, as it was read
+    pub with_fields : (k : ℕ) (piece : Piece) (fields : List Fix) → k < length pieces → piece ≡ get_or pieces k piece → HasFields k fields → 0 < length fields → IsHere k piece
+    with_fields k piece fields lt read has some =
+        let is : piece ≡ get_or pieces k no_piece = read ∙ get_or_default pieces k piece no_piece lt in
+        let both = initialised k lt (some_bytes k fields has.patchable some) in
+        piece_here k piece lt read (ap (λ (p : Piece). p.init) is ∙ both.0) (omega (arith, both.1, ap (λ (p : Piece). p.size) is))
 
     -- what patching them in the file gives
     pub file_patched : (k place rva base : ℕ) (piece : Piece) (fields : List Fix) (before after : List ℕ) → k < length pieces → IsHere k piece → HasFields k fields → before ≡ mixed_file modules headers sections layout tables k → place ≡ piece_place layout (get_or owner k 0) k → rva ≡ get_or layout.pieces.items k 0 → base ≡ headers.base

@@ -8,3 +8,7 @@ pub mod AddressLemmas
 pub mod AscendLemmas
 pub mod BaseFieldLemmas
 pub mod MoveLemmas
+pub mod ListedLemmas
+pub mod FileLemmas
+pub mod MeansLemmas
+pub mod PlanLemmas

@@ -54,7 +54,7 @@ module _ (modules : List ModuleView) (rows : List SectionRow) (layout : Layout) 
   unfolding linked_contents
   linked_read k lt = get_or-map-range_with_len (linked_bytes modules rows layout base) 0 total k k [] lt (omega arith)
 
-  length_linked : length linked ≡ total
+  pub length_linked : length linked ≡ total
   unfolding linked_contents
   length_linked = length-map-range_with_len (linked_bytes modules rows layout base) 0 total
 

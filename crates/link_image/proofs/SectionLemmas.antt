@@ -121,10 +121,10 @@ pub bad_range : (options : LinkOptions) (modules : List ModuleView) (rows : List
 bad_range options modules rows layout tables fault placement permitted is =
     inr (inr (inr (inr (record { rows = rows; layout = layout; tables = tables; placement = placement; permitted = permitted; is = is }))))
 
-used_there : (options : LinkOptions) (pieces : List Piece) (k : ℕ) → k < length pieces → is_used (link_input options pieces) k ≡ true
+pub used_there : (options : LinkOptions) (pieces : List Piece) (k : ℕ) → k < length pieces → is_used (link_input options pieces) k ≡ true
 used_there options pieces k lt = and_from _ _ (lt-ltb k (length pieces) lt) (get_or-replicate (length pieces) k true false lt)
 
-needs_there : (input : Input) (k : ℕ) → (0 < (get_or input.pieces k no_piece).size) ⊎ ((get_or input.pieces k no_piece).named ≡ true) → needs_place input k ≡ true
+pub needs_there : (input : Input) (k : ℕ) → (0 < (get_or input.pieces k no_piece).size) ⊎ ((get_or input.pieces k no_piece).named ≡ true) → needs_place input k ≡ true
 needs_there input k (inl some) = or_left _ _ (lt-ltb 0 (get_or input.pieces k no_piece).size some)
 needs_there input k (inr named) = or_right _ _ named
 

@@ -42,8 +42,8 @@ pub fn build<'a>(
     check_own_base(plan, options, &placement)?;
     let entry = entry_rva(plan, options, &placement);
     let headers = headers_of(options, entry, table_directory(&placement));
-    let owner = owners_of(alloc, &placement.sections, placement.layout.pieces.len())?;
     let mut image = write_file(alloc, &headers, &placement, &plan.pieces)?;
+    let owner = owners_of(alloc, &placement.sections, placement.layout.pieces.len())?;
     patch_pieces(&mut image, plan, &headers, &placement, &owner)?;
     Ok(Built {
         image,

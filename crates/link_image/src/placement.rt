@@ -87,9 +87,7 @@ fn append_table<'a>(
 {
     let mut sections = sections;
     let mut layout = layout;
-    let Ok(len) = u32::try_from(table.len()) else {
-        return Err(Refusal::Memory);
-    };
+    let len = table_len(&table)?;
     match append_reloc(alloc, &mut layout, len) {
         Ok(()) => {}
         Err(LayoutError::ImageTooLarge(size)) => {
@@ -103,6 +101,17 @@ fn append_table<'a>(
         layout,
         table: Some(table),
     })
+}
+
+/// The length of a table, as a number of 32 bits. A table that is as long as that would not fit into an image.
+fn table_len(table: &[u8]) -> Result<u32, Memory>
+    ensures len { IfOk result (λ len. len ≡ length table.now) }
+    ensures small { OnOk result (length table.now < 2 ^ 32) }
+{
+    match u32::try_from(table.len()) {
+        Ok(len) => Ok(len),
+        Err(_) => Err(Memory),
+    }
 }
 
 /// Appends the section of base relocations, whose piece has an index.

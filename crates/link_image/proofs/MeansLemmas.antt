@@ -1,0 +1,234 @@
+-- The file of a plan that is placed and patched loads as planned at every permitted base.
+use Rattle.std.proofs.Common.{◌≡◌, ℕ, zero, suc, ◌+◌, ◌-◌, ◌%◌, ◌^◌, ◌<◌, ◌≤◌, Bool, true, false, cond, ◌&&◌, ◌||◌, not, eqb, leb, List, [], ◌∷◌, ◌++◌, length, get_or, map, replicate, slice_set, slice_get, Option, Some, None, refl, sym, ap, ◌∙◌, subst, inl, inr, length-append, arith}
+use Rattle.std.specs.List.{flat_map}
+use Rattle.std.proofs.Math.Seq.{get_or-append_seam}
+use Rattle.std.proofs.lemmas.Bool.{and_parts, leb-true, eqb-true, false≢true}
+use Rattle.std.proofs.lemmas.List.{length-map, get_or_append_left, get_or-append_right}
+use Rattle.section_group.specs.declared.piece.Piece.{Piece}
+use Rattle.section_group.specs.declared.piece.OutSection.{OutSection}
+use Rattle.section_group.specs.Uniqueness.{SectionRow as OutRow, row_of, rows_of}
+use Rattle.address_layout.specs.declared.base.BaseRule.{BaseRule}
+use Rattle.address_layout.specs.declared.layout.Placed.{Placed}
+use Rattle.address_layout.specs.declared.layout.Layout.{Layout}
+use Rattle.address_layout.specs.Growth.{grown_size}
+use Rattle.address_layout.specs.PermittedBase.{is_permitted, address_limit}
+use Rattle.address_layout.specs.Places.{row_at}
+use Rattle.base_reloc.specs.declared.field.BaseField.{BaseField}
+use Rattle.base_reloc.specs.PageBlocks.{blocks_of}
+use Rattle.image_writer.specs.declared.headers.Headers.{Headers}
+use Rattle.image_writer.specs.ExpectedImage.{PlacedBytes, ImagePlan, MeansPlan, own_bytes, plan_headers, raw_bytes, permits, image_file}
+use Rattle.image_writer.specs.PieceInFile.{piece_at}
+use Rattle.image_writer.specs.WrittenImage.{section_rows, written_plan, layout_plan, at_each_base, IsLaidOut}
+use Rattle.image_writer.specs.RawData.{all_bytes}
+use Rattle.image_writer.specs.MovedContents.{Stay, Move}
+use Rattle.image_writer.proofs.PlanBytes.{written_bytes}
+use Rattle.image_writer.proofs.PieceLemmas.{pieces_of}
+use Rattle.image_writer.proofs.PieceInFileLemmas.{pieces_link}
+use Rattle.image_writer.proofs.TableLemmas.{length-section_rows}
+use Rattle.image_writer.proofs.CallerLemmas.{stays_means, moves_means}
+use Rattle.relocate.specs.Field.{fix_at}
+use Rattle.module_view.specs.Module.{ModuleView}
+use Rattle.link_pieces.specs.Pieces.{link_pieces}
+use Rattle.link_words.specs.Outcome.{LinkOptions}
+use Rattle.link_plan.specs.declared.entry.EntryPlace.{EntryPlace}
+use Rattle.link_plan.specs.declared.plan.LinkPlan.{LinkPlan}
+use Rattle.link_plan.specs.Fixes.{piece_fixes, plan_pieces}
+use Rattle.link_plan.specs.Plan.{IsPlanOf}
+use Rattle.link_plan.proofs.CallerLemmas.{plan_count}
+use Rattle.link_image.specs.declared.make.Built.{Built}
+use Rattle.link_image.specs.declared.placement.Placement.{Placement}
+use Rattle.link_image.specs.BaseFields.{holds_address, is_relocated, base_field, IsBaseField, AreBaseFields}
+use Rattle.link_image.specs.ImageHeaders.{headers_of}
+use Rattle.link_image.specs.LinkedBytes.{linked_contents, image_contents, fields_range_fault}
+use Rattle.link_image.specs.LinkedImage.{base_rule, entry_rva, table_row, table_directory, HasTable, IsWhole, IsPlacement, IsBuilt}
+use Rattle.link_image.specs.Steps.{tables_of, file_of, IsPlaced, IsReady}
+use Rattle.link_image.proofs.FieldLemmas.{total_is}
+use Rattle.link_image.proofs.MoveLemmas.{one_length, contents_room, contents_stay, contents_moved, length_linked}
+
+-- ---- a file is of the contents at its own base
+
+same_file : (headers : Headers) (sections : List OutSection) (layout : Layout) (first second : ℕ → List (List ℕ)) → first headers.base ≡ second headers.base → image_file (layout_plan headers sections layout first) ≡ image_file (layout_plan headers sections layout second)
+unfolding image_file written_plan
+same_file headers sections layout first second same =
+    let rows = section_rows (rows_of sections) layout.sections.items in
+    let front = plan_headers (layout_plan headers sections layout first) in
+    let bytes = written_bytes headers (rows_of sections) layout.sections.items layout.pieces.items layout.image in
+    ap (λ (ps : List PlacedBytes). front ++ flat_map (raw_bytes ps) rows)
+    (bytes first headers.base ∙ ap (λ (cs : List (List ℕ)). all_bytes layout.pieces.items cs (rows_of sections)) same ∙ sym (bytes second headers.base))
+
+-- ---- permitted bases
+
+limit_small : (large : Bool) → address_limit large ≤ 2 ^ 47
+limit_small true = omega arith
+limit_small false = omega arith
+
+low_base : (rule : BaseRule) (image base : ℕ) → is_permitted rule image base ≡ true → base < 2 ^ 64
+low_base rule image base allowed =
+    let parts = and_parts (eqb (base % 65536) 0) (leb (base + image) (address_limit rule.large) && (not rule.fixed || eqb base rule.base)) allowed in
+    let ends = leb-true (base + image) (address_limit rule.large) (and_parts (leb (base + image) (address_limit rule.large)) (not rule.fixed || eqb base rule.base) parts.1).0 in
+    omega (arith, ends, limit_small rule.large)
+
+own_base : (rule : BaseRule) (image base : ℕ) → rule.fixed ≡ true → is_permitted rule image base ≡ true → base ≡ rule.base
+own_base rule image base fixed allowed =
+    let parts = and_parts (eqb (base % 65536) 0) (leb (base + image) (address_limit rule.large) && (not rule.fixed || eqb base rule.base)) allowed in
+    let last = (and_parts (leb (base + image) (address_limit rule.large)) (not rule.fixed || eqb base rule.base) parts.1).1 in
+    eqb-true base rule.base (sym (ap (λ (b : Bool). not b || eqb base rule.base) fixed) ∙ last)
+
+-- a section is at least as long as its bytes
+grown : (len : ℕ) → len ≤ grown_size len
+grown len = go (eqb len 0) refl
+  where
+    go : (b : Bool) → eqb len 0 ≡ b → len ≤ cond b 1 len
+    go true none = omega (arith, eqb-true len 0 none)
+    go false some = omega arith
+
+-- ---- fields by RVAs that agree
+
+fields_agree : (modules : List ModuleView) (rvas other : List ℕ) (fields : List BaseField) → ((k : ℕ) → k < length (link_pieces modules) → get_or rvas k 0 ≡ get_or other k 0) → AreBaseFields modules rvas fields → AreBaseFields modules other fields
+fields_agree modules rvas other fields same are = record {
+  ascending = are.ascending;
+  apart = are.apart;
+  listed = λ n d lt. moved rvas other same (get_or fields n d) (are.listed n d lt);
+  all = λ field is. are.all field (moved other rvas (λ k lt. sym (same k lt)) field is);
+}
+  where
+    moved : (xs ys : List ℕ) → ((k : ℕ) → k < length (link_pieces modules) → get_or xs k 0 ≡ get_or ys k 0) → (field : BaseField) → IsBaseField modules xs field → IsBaseField modules ys field
+    moved xs ys same field is = record {
+      piece = is.piece;
+      index = is.index;
+      there = is.there;
+      within = is.within;
+      based = is.based;
+      is = is.is ∙ ap (λ (rva : ℕ). base_field rva (fix_at (piece_fixes modules is.piece) is.index)) (same is.piece is.there);
+    }
+
+-- ---- the image of a plan
+
+module _ (options : LinkOptions) (plan : LinkPlan) (placement : Placement) (owner : List ℕ) (planned : IsPlanOf options plan.modules.items plan) (placed : IsPlaced options plan placement)
+    (ready : IsReady plan.modules.items plan.pieces.items plan.fixes.items placement.sections.items placement.layout owner (tables_of placement.table)) where
+  abbrev modules : List ModuleView
+  modules = plan.modules.items
+
+  abbrev sections : List OutSection
+  sections = placement.sections.items
+
+  abbrev layout : Layout
+  layout = placement.layout
+
+  abbrev tables : List (List ℕ)
+  tables = tables_of placement.table
+
+  abbrev headers : Headers
+  headers = headers_of options (entry_rva placement.layout.pieces.items plan.entry) (table_directory placement.layout (tables_of placement.table))
+
+  abbrev contents : ℕ → List (List ℕ)
+  contents base = image_contents plan.modules.items (rows_of placement.sections.items) placement.layout (tables_of placement.table) base
+
+  abbrev image : ImagePlan
+  image = layout_plan headers placement.sections.items placement.layout contents
+
+  permits_are : (base : ℕ) → permits image base ≡ is_permitted (base_rule options) placement.layout.image base
+  unfolding written_plan
+  permits_are base = refl
+
+  whole : List Piece
+  whole = plan.pieces.items ++ ready.rest
+
+  total : length plan.pieces.items ≡ length (link_pieces plan.modules.items)
+  total = total_is plan.modules.items plan.pieces.items plan.fixes.items placement.sections.items placement.layout owner (tables_of placement.table) ready
+
+  -- without a table
+  stays : is_relocated options plan.modules.items ≡ false → tables ≡ [] → Stay headers sections layout contents
+  stays alone none = record {
+    directory = ap (λ (ts : List (List ℕ)). slice_get (slice_set (replicate 16 (0, 0)) 5 (table_directory layout ts)) 5) none;
+    same = λ base allowed. by options.fixed refl base (sym (permits_are base) ∙ allowed);
+  }
+    where
+      by : (b : Bool) → options.fixed ≡ b → (base : ℕ) → is_permitted (base_rule options) placement.layout.image base ≡ true → contents base ≡ contents options.base
+      by true fixed base allowed = ap contents (own_base (base_rule options) placement.layout.image base fixed allowed)
+      by false moves base allowed =
+          contents_stay plan.modules.items plan.pieces.items plan.fixes.items placement.sections.items placement.layout owner (tables_of placement.table) ready
+          (sym (ap (λ (b : Bool). not b && holds_address plan.modules.items) moves) ∙ alone) base options.base
+
+  -- with one
+  moves : (piece_rows : List OutRow) (before : Layout) → length before.pieces.items ≡ length plan.pieces.items → is_permitted (base_rule options) placement.layout.image options.base ≡ true → (table : HasTable plan.modules.items piece_rows before (rows_of placement.sections.items) placement.layout (tables_of placement.table)) → Move headers sections layout contents table.fields
+  moves piece_rows before count permitted table = record {
+    ascending = table.based.ascending;
+    apart = table.based.apart;
+    moved = λ base allowed. contents_moved plan.modules.items plan.pieces.items plan.fixes.items placement.sections.items placement.layout owner (tables_of placement.table) ready options.base base table.fields (low_base (base_rule options) placement.layout.image options.base permitted) based;
+    section = length piece_rows;
+    number = 0;
+    there = omega (arith, ap length table.rows_are, length-append piece_rows (table_row k ∷ []), length-map placement.sections.items row_of);
+    below = subst (λ (ks : List ℕ). 0 < length ks) (sym row) (omega arith);
+    table = ap (λ (i : ℕ). get_or (contents options.base) i []) index ∙ last_contents;
+    directory = ap (λ (ts : List (List ℕ)). slice_get (slice_set (replicate 16 (0, 0)) 5 (table_directory layout ts)) 5) table.tables_are ∙ ap (λ (i : ℕ). Some (get_or layout.pieces.items i 0, length (blocks_of table.fields))) (ends ∙ sym index);
+    inside = omega (arith, ap (λ (i : ℕ). get_or layout.pieces.items i 0) index, last_rva, table.added.size, table.added.image.above, grown (length (blocks_of table.fields)));
+  }
+    where
+      k : ℕ
+      k = length before.pieces.items
+
+      row : (row_at placement.sections.items (length piece_rows)).1 ≡ length before.pieces.items ∷ []
+      row =
+          sym (pieces_link placement.sections.items (length piece_rows))
+          ∙ ap (λ (rows : List OutRow). pieces_of rows (length piece_rows)) table.rows_are
+          ∙ ap (λ (r : OutRow). r.pieces) (get_or-append_seam piece_rows (table_row (length before.pieces.items)) [] (record { name = []; flags = 0; pieces = [] }))
+
+      index : piece_at placement.sections.items (length piece_rows) 0 ≡ length before.pieces.items
+      index = ap (λ (ks : List ℕ). get_or ks 0 0) row
+
+      last_contents : get_or (contents options.base) (length before.pieces.items) [] ≡ blocks_of table.fields
+      last_contents =
+          let len = length_linked plan.modules.items (rows_of placement.sections.items) placement.layout options.base in
+          get_or-append_right (linked_contents plan.modules.items (rows_of placement.sections.items) placement.layout options.base) (tables_of placement.table) (length before.pieces.items) (length before.pieces.items) [] (omega (arith, len, count, total)) (omega arith)
+          ∙ ap (λ (i : ℕ). get_or (tables_of placement.table) i []) (nothing (length before.pieces.items))
+          ∙ ap (λ (ts : List (List ℕ)). get_or ts 0 []) table.tables_are
+        where
+          nothing : (n : ℕ) → n - n ≡ 0
+          nothing n = omega arith
+
+      ends : length placement.layout.pieces.items - 1 ≡ length before.pieces.items
+      ends = omega (arith, ap length table.added.pieces, length-append before.pieces.items (table.added.placed.rva ∷ []))
+
+      last_rva : get_or placement.layout.pieces.items (length before.pieces.items) 0 ≡ table.added.placed.rva
+      last_rva = ap (λ (rvas : List ℕ). get_or rvas (length before.pieces.items) 0) table.added.pieces ∙ get_or-append_seam before.pieces.items table.added.placed.rva [] 0
+
+      based : AreBaseFields plan.modules.items placement.layout.pieces.items table.fields
+      based =
+          fields_agree plan.modules.items before.pieces.items placement.layout.pieces.items table.fields (λ i lt. sym (ap (λ (rvas : List ℕ). get_or rvas i 0) table.added.pieces ∙ get_or_append_left before.pieces.items (table.added.placed.rva ∷ []) 0 i (omega (arith, lt, count, total)))) table.based
+
+  means : is_permitted (base_rule options) placement.layout.image options.base ≡ true → MeansPlan image (image_file image)
+  means permitted = by (is_relocated options plan.modules.items) refl placed.means.whole
+    where
+      before_count : length placed.means.before.pieces.items ≡ length plan.pieces.items
+      before_count = placed.means.placed.layout_of.standing.rva_for_each ∙ plan_count plan.modules.items ∙ sym total
+
+      by : (b : Bool) → is_relocated options plan.modules.items ≡ b → IsWhole b plan.modules.items (rows_of placed.means.sections) placed.means.before (rows_of placement.sections.items) placement.layout (tables_of placement.table) → MeansPlan image (image_file image)
+      by true relocated table =
+          moves_means headers (plan.pieces.items ++ ready.rest) placement.sections.items placement.layout contents table.fields ready.laid (contents_room plan.modules.items plan.pieces.items plan.fixes.items placement.sections.items placement.layout owner (tables_of placement.table) ready) (one_length plan.modules.items plan.pieces.items plan.fixes.items placement.sections.items placement.layout owner (tables_of placement.table) ready) refl (permits_are options.base ∙ permitted)
+          (moves (rows_of placed.means.sections) placed.means.before before_count permitted table)
+      by false alone same =
+          stays_means headers (plan.pieces.items ++ ready.rest) placement.sections.items placement.layout contents ready.laid (contents_room plan.modules.items plan.pieces.items plan.fixes.items placement.sections.items placement.layout owner (tables_of placement.table) ready options.base) (one_length plan.modules.items plan.pieces.items plan.fixes.items placement.sections.items placement.layout owner (tables_of placement.table) ready) refl (permits_are options.base ∙ permitted)
+          (stays alone same.2)
+
+  -- what is written of the plan means it
+  pub built : (made : Built) → is_permitted (base_rule options) placement.layout.image options.base ≡ true → fields_range_fault plan.modules.items (rows_of placement.sections.items) placement.layout options.base ≡ None
+      → made.image.items ≡ file_of headers placement.sections.items placement.layout (linked_contents plan.modules.items (rows_of placement.sections.items) placement.layout options.base) (tables_of placement.table) → made.sections ≡ length placement.sections.items → IsBuilt options plan.modules.items made
+  unfolding written_plan
+  built made permitted in_range is count =
+      let file : made.image.items ≡ image_file image = is ∙ same_file headers placement.sections.items placement.layout (at_each_base (contents options.base)) contents refl in
+      record {
+        image = image;
+        is_image = record {
+          rows = rows_of placement.sections.items;
+          layout = placement.layout;
+          tables = tables_of placement.table;
+          placement = placed.means;
+          permitted = permitted;
+          in_range = in_range;
+          is = ap (λ (place : Option EntryPlace). layout_plan (headers_of options (entry_rva placement.layout.pieces.items place) (table_directory placement.layout (tables_of placement.table))) placement.sections.items placement.layout contents) planned.entry_is;
+        };
+        file = file;
+        means = subst (MeansPlan image) (sym file) (means permitted);
+        count = count ∙ sym (length-section_rows (plan.pieces.items ++ ready.rest) placement.sections.items placement.layout ready.laid);
+      }
