@@ -1,11 +1,11 @@
 -- The memory that is made section by section is the one of the definitions, since sections ascend and share no byte.
-use Rattle.std.proofs.Common.{◌≡◌, ℕ, zero, suc, ◌+◌, ◌-◌, ◌<◌, ◌≤◌, Bool, true, false, cond, ◌&&◌, nat_le, nat_lt, leb, ltb, min, List, [], ◌∷◌, ◌++◌, length, take, drop, replicate, slice_index, Option, Some, None, refl, sym, ap, ◌∙◌, inl, inr, lt-ltb, le-leb, add-one, length-append, arith}
+use Rattle.std.proofs.Common.{◌≡◌, ℕ, zero, suc, ◌+◌, ◌-◌, ◌<◌, ◌≤◌, true, false, nat_lt, leb, ltb, List, ◌++◌, length, drop, replicate, slice_index, refl, sym, ap, ◌∙◌, inl, inr, lt-ltb, le-leb, add-one, length-append, arith}
 use Rattle.std.proofs.lemmas.Bool.{and_from, and_left, and_right, cases_lt, cond-true, cond-false, le-ltb, lt-leb}
 use Rattle.std.proofs.lemmas.Grind.{same_number_lists}
 use Rattle.std.proofs.lemmas.List.{get_or_append_left, get_or-append_right, get_or-take, get_or-drop, get_or-replicate, length-replicate}
-use Rattle.link_base.specs.Bytes.{bytes_at, first_below}
+use Rattle.link_base.specs.Bytes.{bytes_at}
 use Rattle.link_base.proofs.CallerLemmas.{first_below-found, first_below-all_fail}
-use Rattle.pe_loader.specs.LoadedImage.{section_count, size_of_image, headers_size, virtual_size, virtual_address, section_floor, raw_size, raw_offset, copied_len, is_copied_into, section_byte, copied_byte, copied}
+use Rattle.pe_loader.specs.LoadedImage.{section_count, size_of_image, headers_size, virtual_address, section_floor, raw_offset, copied_len, is_copied_into, section_byte, copied_byte, copied}
 use Rattle.pe_loader.specs.Copying.{copied_end, IsCopiedBefore}
 use Rattle.pe_loader.proofs.ImageTests.{Passes, headers_lie, section_lies, floors_rise, sections_part, copied_reads, length-copied}
 

@@ -1,11 +1,11 @@
 -- The fault of a file from those of its parts, and what a file without one has.
-use Rattle.std.proofs.Common.{◌≡◌, ℕ, zero, suc, ◌+◌, ◌<◌, ◌≤◌, Bool, true, false, cond, ◌&&◌, ◌||◌, ◌==◌, nat_le, nat_lt, leb, ltb, List, [], ◌∷◌, length, take, drop, Option, Some, None, refl, sym, ap, ◌∙◌, add-one, arith}
+use Rattle.std.proofs.Common.{◌≡◌, ℕ, zero, suc, ◌+◌, ◌<◌, ◌≤◌, Bool, true, false, cond, leb, ltb, List, [], ◌∷◌, length, take, drop, Option, Some, None, refl, ap, ◌∙◌, add-one, arith}
 use Rattle.std.specs.Option.{option_or}
 use Rattle.std.proofs.lemmas.Bool.{and_parts, leb-true}
 use Rattle.link_base.specs.declared.kinds.image.ImageKind.{ImageKind}
 use Rattle.link_base.specs.declared.kinds.image.ImageKind.TheVariants as bad
-use Rattle.link_base.proofs.CallerLemmas.{all_below-each, all_below-fails, all_below-more}
-use Rattle.pe_loader.specs.LoadedImage.{section_count, size_of_image, headers_size, section_at, virtual_size, virtual_address, section_floor, is_section_placed, is_section_in_file, has_headers, has_size, has_sections, has_raw_bytes, has_blocks, first_failed, image_tests, header_fault, file_fault, image_fault}
+use Rattle.link_base.proofs.CallerLemmas.{all_below-each, all_below-fails}
+use Rattle.pe_loader.specs.LoadedImage.{section_count, size_of_image, section_at, virtual_size, virtual_address, section_floor, is_section_placed, is_section_in_file, has_headers, has_size, has_sections, has_raw_bytes, has_blocks, first_failed, image_tests, header_fault, file_fault, image_fault}
 use Rattle.pe_loader.proofs.ImageTests.{Passes, nth_passes, headers_there}
 
 -- ---- the tests in two parts

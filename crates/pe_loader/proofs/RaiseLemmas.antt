@@ -1,8 +1,7 @@
 -- The fields that a table in a made memory lists are those of the definitions, and the fault of its blocks is the image's.
-use Rattle.std.proofs.Common.{◌≡◌, ℕ, ◌+◌, ◌-◌, ◌^◌, ◌%◌, ◌<◌, ◌≤◌, Bool, true, false, cond, ◌&&◌, ◌||◌, ◌==◌, nat_le, leb, eqb, List, [], ◌∷◌, length, take, drop, Option, Some, None, Result, Ok, Err, IsOk, refl, sym, ap, ◌∙◌, le-leb, arith}
-use Rattle.std.proofs.lemmas.Bool.{and_left, and_right, and_from, eq-eqb, ne_eqb, lt-leb, cond-true, cond-false, false≢true}
+use Rattle.std.proofs.Common.{◌≡◌, ℕ, ◌+◌, ◌-◌, ◌^◌, ◌%◌, ◌<◌, ◌≤◌, Bool, true, false, cond, ◌&&◌, ◌||◌, ◌==◌, nat_le, leb, List, length, Some, None, Ok, Err, refl, sym, ap, ◌∙◌, le-leb, arith}
+use Rattle.std.proofs.lemmas.Bool.{and_left, eq-eqb, ne_eqb, lt-leb, false≢true}
 use Rattle.link_base.specs.Bytes.{bytes_at}
-use Rattle.link_base.specs.declared.kinds.image.ImageKind.{ImageKind}
 use Rattle.link_base.specs.declared.kinds.image.ImageKind.TheVariants as bad
 use Rattle.base_reloc.specs.declared.loading.BadBlocks.{BadBlocks}
 use Rattle.base_reloc.specs.Blocks.{Walk, Fields, MalformedAt, IsAnswer, blocks_at, walk_of, walked_fields, raised_all}

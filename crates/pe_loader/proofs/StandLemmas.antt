@@ -1,5 +1,5 @@
 -- An image without a fault stands at a base that it permits.
-use Rattle.std.proofs.Common.{◌≡◌, ℕ, Bool, true, cond, ◌&&◌, List, Option, Some, None, is_none, refl, sym, ap, ◌∙◌}
+use Rattle.std.proofs.Common.{◌≡◌, ℕ, Bool, true, cond, ◌&&◌, List, Option, Some, None, is_none, sym, ap, ◌∙◌}
 use Rattle.link_base.specs.declared.kinds.image.ImageKind.{ImageKind}
 use Rattle.address_layout.specs.declared.base.BaseRule.{BaseRule}
 use Rattle.address_layout.specs.PermittedBase.{is_permitted}

@@ -107,7 +107,17 @@ fn each_kind_has_its_field(rt: HostRuntime) -> Result<(), Fail> {
         let refused = Loaded::load(rt.alloc(), &bad, 0x1_4000_0000).err();
         assert_eq!(rt; refused, Some(ShowError::BadImage(*kind)), "at {at}");
     }
-    let cut = Loaded::load(rt.alloc(), &file()[..63], 0x1_4000_0000).err();
+    Ok(())
+}
+
+#[test]
+fn a_cut_file_has_no_headers(rt: HostRuntime) -> Result<(), Fail> {
+    let mut bytes = [0; 63];
+    // `MZ`, and the place of the signature.
+    bytes[0] = 0x4d;
+    bytes[1] = 0x5a;
+    bytes[60] = 0x40;
+    let cut = Loaded::load(rt.alloc(), &bytes, 0x1_4000_0000).err();
     assert_eq!(rt; cut, Some(ShowError::BadImage(ImageKind::Dos)));
     Ok(())
 }
@@ -127,6 +137,19 @@ fn an_image_stands_at_another_base(rt: HostRuntime) -> Result<(), Fail> {
     assert_eq!(rt; image.section(0), None);
     assert_eq!(rt; image.section(1), Some((0x1000, 0x20)));
     assert_eq!(rt; image.section(2), None);
+    Ok(())
+}
+
+#[test]
+fn a_field_in_the_headers_leaves_the_directories(rt: HostRuntime) -> Result<(), Fail> {
+    let mut hostile = file();
+    // The field is the directory of base relocations itself, at RVA 0xf0.
+    hostile[513] = 0;
+    hostile[520] = 0xf0;
+    let image = Loaded::load(rt.alloc(), &hostile, 0x1_5000_0000)?;
+    let raised = [0, 0x10, 0, 0x10, 0x0c, 0, 0, 0];
+    assert_eq!(rt; image.bytes(0xf0, 8), Ok(raised.as_slice()));
+    assert_eq!(rt; image.directory(5), (0x1000, 12));
     Ok(())
 }
 

@@ -1,4 +1,4 @@
-use Rattle.std.proofs.Common.{◌≡◌, ◌+◌, ◌-◌, ◌≤◌, ◌++◌, ℕ, List, length, replicate, ap, ◌∙◌, arith}
+use Rattle.std.proofs.Common.{◌≡◌, ◌-◌, ◌≤◌, ◌++◌, ℕ, List, length, replicate, ap, ◌∙◌, arith}
 use Rattle.link_base.specs.Bytes.{bytes_at}
 use Rattle.pe_loader.specs.LoadedImage.{section_count}
 use Rattle.pe_loader.proofs.ImageTests.{headers_lie}

@@ -1,4 +1,4 @@
-use Rattle.std.proofs.Common.{◌≡◌, ◌+◌, ◌-◌, ◌++◌, ℕ, length, replicate, ap, ◌∙◌, arith}
+use Rattle.std.proofs.Common.{◌-◌, ◌++◌, ℕ, length, replicate, ap, ◌∙◌, arith}
 use Rattle.pe_loader.proofs.FaultLemmas.{file_passes, file_raw}
 use Rattle.pe_loader.proofs.CopyLemmas.{end_below, section_appended}
 use Rattle.pe_loader.proofs.copying.copy_section.Goals as goal

@@ -1,6 +1,3 @@
-use Rattle.std.proofs.Common.{◌≡◌, ◌+◌, ◌++◌, ℕ, List, [], ◌∷◌, sym, ap, ◌∙◌, arith}
-use Rattle.std.proofs.lemmas.List.FromFn.{map-range_with_len_more}
-use Rattle.pe_loader.specs.Extents.{section_extent}
 use Rattle.pe_loader.proofs.ExtentLemmas.{sections_grow}
 use Rattle.pe_loader.proofs.directories.sections.Goals as goal
 

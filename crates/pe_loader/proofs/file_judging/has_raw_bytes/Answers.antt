@@ -1,4 +1,4 @@
-use Rattle.std.proofs.Common.{◌≡◌, ◌<◌, ◌+◌, ℕ, true, refl, sym, ap, ◌∙◌, arith}
+use Rattle.std.proofs.Common.{◌≡◌, ◌<◌, ℕ, refl, sym, ap, ◌∙◌, arith}
 use Rattle.link_base.specs.Bytes.{all_below}
 use Rattle.link_base.proofs.CallerLemmas.{all_below-more}
 use Rattle.pe_loader.specs.LoadedImage.{section_count, is_section_in_file, has_raw_bytes}
