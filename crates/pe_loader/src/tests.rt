@@ -69,41 +69,37 @@ fn file() -> [u8; 1024] {
     image
 }
 
-/// A change of one byte of a file, and what its headers are then, and it as a whole.
-const REFUSED: [(usize, u8, Option<ImageKind>, ImageKind); 18] = [
-    (0, 0, Some(ImageKind::Dos), ImageKind::Dos),
-    (64, 0, Some(ImageKind::Signature), ImageKind::Signature),
-    (62, 1, Some(ImageKind::Signature), ImageKind::Signature),
-    (68, 0, Some(ImageKind::Machine), ImageKind::Machine),
-    (
-        84,
-        0,
-        Some(ImageKind::OptionalSize),
-        ImageKind::OptionalSize,
-    ),
-    (88, 0, Some(ImageKind::Magic), ImageKind::Magic),
-    (121, 0, Some(ImageKind::Alignment), ImageKind::Alignment),
-    (196, 0, Some(ImageKind::Directories), ImageKind::Directories),
-    (145, 0, Some(ImageKind::ImageSize), ImageKind::ImageSize),
-    (147, 0x20, Some(ImageKind::ImageSize), ImageKind::ImageSize),
-    (149, 0, Some(ImageKind::Headers), ImageKind::Headers),
-    (341, 0x11, None, ImageKind::Sections),
-    (341, 0, None, ImageKind::Sections),
-    (337, 0x10, None, ImageKind::Sections),
-    (348, 1, None, ImageKind::Raw),
-    (242, 1, None, ImageKind::Blocks),
-    (244, 0x0b, None, ImageKind::Blocks),
-    (521, 0x40, None, ImageKind::Blocks),
+/// A change of one byte of the file, whether its headers alone show it, and what is wrong then.
+const REFUSED: [(usize, u8, bool, ImageKind); 18] = [
+    (0, 0, true, ImageKind::Dos),
+    (64, 0, true, ImageKind::Signature),
+    (62, 1, true, ImageKind::Signature),
+    (68, 0, true, ImageKind::Machine),
+    (84, 0, true, ImageKind::OptionalSize),
+    (88, 0, true, ImageKind::Magic),
+    (121, 0, true, ImageKind::Alignment),
+    (196, 0, true, ImageKind::Directories),
+    (145, 0, true, ImageKind::ImageSize),
+    (147, 0x20, true, ImageKind::ImageSize),
+    (149, 0, true, ImageKind::Headers),
+    (341, 0x11, false, ImageKind::Sections),
+    (341, 0, false, ImageKind::Sections),
+    (337, 0x10, false, ImageKind::Sections),
+    (348, 1, false, ImageKind::Raw),
+    (242, 1, false, ImageKind::Blocks),
+    (244, 0x0b, false, ImageKind::Blocks),
+    (521, 0x40, false, ImageKind::Blocks),
 ];
 
 #[test]
 fn each_kind_has_its_field(rt: HostRuntime) -> Result<(), Fail> {
     assert_eq!(rt; header_fault(&file()), None);
-    for (at, byte, headers, kind) in &REFUSED {
+    for (at, byte, in_headers, kind) in &REFUSED {
         let mut bad = file();
         assert!(rt; *at < 1024);
         bad[*at] = *byte;
-        assert_eq!(rt; header_fault(&bad), *headers, "at {at}");
+        let headers = if *in_headers { Some(*kind) } else { None };
+        assert_eq!(rt; header_fault(&bad), headers, "at {at}");
         let refused = Loaded::load(rt.alloc(), &bad, 0x1_4000_0000).err();
         assert_eq!(rt; refused, Some(ShowError::BadImage(*kind)), "at {at}");
     }
