@@ -22,7 +22,7 @@ pub record Passes (image : List ℕ) : Type 0 where
   pub headers : has_headers image ≡ true
   pub sections : has_sections image ≡ true
 
-nth_passes : (tests : List (ImageKind × Bool)) (k : ℕ) (test : ImageKind × Bool) → first_failed tests ≡ None → slice_get tests k ≡ Some test → test.1 ≡ true
+pub nth_passes : (tests : List (ImageKind × Bool)) (k : ℕ) (test : ImageKind × Bool) → first_failed tests ≡ None → slice_get tests k ≡ Some test → test.1 ≡ true
 nth_passes [] k test fine e = absurd cc
 nth_passes ((kind, passes) ∷ tests) zero test fine e =
     let same : (kind, passes) ≡ test = cc in subst (λ (t : ImageKind × Bool). t.1 ≡ true) same (none_failed kind passes tests fine).0
@@ -42,12 +42,15 @@ pub record HeadersLie (image : List ℕ) : Type 0 where
   pub in_file : headers_size image ≤ length image
   pub in_image : headers_size image ≤ size_of_image image
 
-pub headers_lie : (image : List ℕ) → Passes image → HeadersLie image
+pub headers_there : (image : List ℕ) → has_headers image ≡ true → HeadersLie image
 unfolding has_headers
-headers_lie image passes =
-    let parts = and_parts (leb (section_at image (section_count image)) (headers_size image)) _ passes.headers in
+headers_there image there =
+    let parts = and_parts (leb (section_at image (section_count image)) (headers_size image)) _ there in
     let more = and_parts (leb (headers_size image) (length image)) (leb (headers_size image) (size_of_image image)) parts.1 in
     record { table = leb-true _ _ parts.0; in_file = leb-true _ _ more.0; in_image = leb-true _ _ more.1 }
+
+pub headers_lie : (image : List ℕ) → Passes image → HeadersLie image
+headers_lie image passes = headers_there image passes.headers
 
 -- ---- the sections ascend
 

@@ -1,1 +1,4 @@
 pub mod LoadedImage
+pub mod Extents
+pub mod Copying
+pub mod Loading

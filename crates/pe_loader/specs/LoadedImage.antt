@@ -1,5 +1,7 @@
--- An image as it stands in memory (PE Format; which loaders refuse what, and when, is own): its refusals, in
--- their order, and the memory at a base.
+-- An image as it stands in memory (PE Format; which loaders refuse what, and when, is own). In this order: where the
+-- headers stand and what their fields are; the twelve tests, each a Bool, and the kind of the first that fails; the memory
+-- as copied from the file, byte by byte; the fields that base relocations raise; the memory at a base; and which files have
+-- no byte that loading leaves out.
 use Rattle.std.specs.Prelude.{◌≡◌, ◌≤◌, ℕ, zero, suc, ◌+◌, ◌-◌, ◌*◌, ◌%◌, ◌^◌, Bool, true, false, ◌&&◌, ◌||◌, ◌==◌, nat_le, nat_lt, min, if◌then◌else◌, List, [], ◌∷◌, length, map, take, drop, slice_index, Option, Some, None, is_none}
 use Rattle.std.specs.List.{range_with_len}
 use Rattle.link_base.specs.Bytes.{u16_at, u32_at, u64_at, has_bytes, bytes_at, has_flag, all_below, first_below}
@@ -194,6 +196,10 @@ header_fault image = first_failed (take 9 (image_tests image))
 
 unfoldable pub optional_fault : List ℕ → Option ImageKind
 optional_fault image = first_failed (take 5 (drop 4 (image_tests image)))
+
+-- what is wrong before the blocks of base relocations are read, by the first eleven
+unfoldable pub file_fault : List ℕ → Option ImageKind
+file_fault image = first_failed (take 11 (image_tests image))
 
 unfoldable pub image_fault : List ℕ → Option ImageKind
 image_fault image = first_failed (image_tests image)

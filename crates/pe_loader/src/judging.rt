@@ -5,15 +5,15 @@ ghost use Rattle.link_base.specs.Bytes.{has_bytes};
 ghost use Rattle.link_base.specs.PeFormat.{SIZEOF_OPTIONAL_HEADER};
 ghost use Rattle.pe_loader.specs.LoadedImage.{dos_header_size, optional_at, has_dos_header, has_signature, has_machine, has_optional_header, has_magic, has_alignments, has_directories, has_size, has_headers, header_fault, optional_fault};
 
-use crate::headers::{headers_size, optional_at, section_headers_end, signature_at, size_of_image};
+use crate::headers::{
+    DOS_HEADER_SIZE, SIGNATURE_SIZE, file_header_at, headers_size, optional_at,
+    section_headers_end, signature_at, size_of_image,
+};
 use link_base::pe_format::{
     DOS_SIGNATURE, FILE_ALIGNMENT, FILE_MACHINE_AMD64, NT_OPTIONAL_HDR64_MAGIC, NT_SIGNATURE,
     NUMBEROF_DIRECTORY_ENTRIES, PAGE_SIZE, SIZEOF_OPTIONAL_HEADER,
 };
 use link_base::{IMAGE_LIMIT, ImageKind, u16_in, u32_in};
-
-/// The length of the DOS header.
-const DOS_HEADER_SIZE: usize = 64;
 
 /// What is wrong with the headers of an image, by the first of these tests that fails: they begin with a DOS header that
 /// points to a PE signature, the machine is x86-64, the optional header is that of PE32+ and lies in the file, the
@@ -85,7 +85,7 @@ fn has_signature(image: &[u8]) -> bool
     ensures { result ≡ has_signature image.now }
 {
     let at = signature_at(image);
-    fits(image, at, 4) && u32_in(image, at) == NT_SIGNATURE
+    fits(image, at, SIGNATURE_SIZE) && u32_in(image, at) == NT_SIGNATURE
 }
 
 #[tactic(auto, unfolding(crate::specs::LoadedImage::has_machine))]
@@ -93,7 +93,7 @@ fn has_machine(image: &[u8]) -> bool
     requires { dos_header_size ≤ length image.now }
     ensures { result ≡ has_machine image.now }
 {
-    let at = signature_at(image) + 4;
+    let at = file_header_at(image);
     fits(image, at, 2) && u16_in(image, at) == FILE_MACHINE_AMD64
 }
 
@@ -105,7 +105,7 @@ fn has_optional_header(image: &[u8]) -> bool
 {
     let at = optional_at(image);
     fits(image, at, SIZEOF_OPTIONAL_HEADER as usize)
-        && u32::from(u16_in(image, signature_at(image) + 4 + 16)) == SIZEOF_OPTIONAL_HEADER
+        && u32::from(u16_in(image, file_header_at(image) + 16)) == SIZEOF_OPTIONAL_HEADER
 }
 
 #[tactic(auto, unfolding(crate::specs::LoadedImage::has_magic))]

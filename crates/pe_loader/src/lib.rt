@@ -1,17 +1,26 @@
-//! Images as a loader sees them: which file is an image, what of its headers decides how it loads, and the memory at a base.
-//! It takes the bytes of a file; its definitions say why a file is no image, at which bases it loads, and what then
-//! stands in memory, with base relocations applied.
-//! Its contracts promise that the headers are refused by the first of their tests that fails, and that an image of no byte
-//! besides those that it loads is settled by its memory.
+//! Images as a loader sees them: which file is an image, and the image as it stands in memory at a base.
+//! It takes the bytes of a file and a base; it gives the memory with base relocations applied, and the directories and
+//! sections of the headers, to what shows images.
+//! Its contracts promise that a file is refused by the first of the tests that fails, that each byte of the memory is that
+//! of the definitions, and that an image of no byte besides those that it loads is settled by its memory.
 //! Imports are not bound, and pages are not protected.
 #![tactic(auto)]
 
+mod copying;
+mod directories;
+mod error;
+mod file_judging;
 mod headers;
 mod judging;
 mod laws;
+mod loaded;
+mod raising;
+mod section_header;
 
+pub use error::{LengthRange, ShowError};
 pub use judging::header_fault;
-pub use laws::one_file_loads_a_memory;
+pub use laws::{loaded_images_are_shared, one_file_loads_a_memory};
+pub use loaded::Loaded;
 
 #[cfg(test)]
 mod tests;
