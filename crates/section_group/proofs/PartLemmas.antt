@@ -1,48 +1,85 @@
 -- What the parts of a piece's name say of the input.
-use Rattle.std.proofs.Common.{◌≡◌, ℕ, ◌<◌, Bool, true, false, ◌&&◌, ltb, lt-ltb, IsTrue, List, length, map, get_or, take, ◌-◌, refl, sym, ap, subst, ◌∙◌, arith}
-use Rattle.std.proofs.lemmas.Bool.{ltb-true, false≢true}
-use Rattle.std.proofs.lemmas.List.{get_or_default, get_or-take, length-map, length-take-le}
-use Rattle.std.proofs.Math.ListN.{get_or-map}
+use Rattle.std.proofs.Common.{◌≡◌, ℕ, ◌+◌, ◌-◌, ◌<◌, ◌≤◌, Bool, true, false, ◌&&◌, ◌||◌, not, ltb, lt-ltb, IsTrue, List, [], ◌∷◌, ◌++◌, length, length-append, get_or, refl, sym, ap, subst, ◌∙◌, inl, inr, codes, bit_and, if◌then◌else◌, Option, Some, None, unwrap_or, arith}
+use Rattle.std.proofs.lemmas.Bool.{ltb-true, false≢true, cases_lt}
+use Rattle.std.proofs.lemmas.List.{get_or_default}
+use Rattle.std.proofs.Math.ListN.{get_or-append}
+use Rattle.std.proofs.Math.Seq.{get_or-append_seam}
 use Rattle.section_group.specs.declared.piece.Piece.{Piece}
 use Rattle.section_group.specs.declared.cut.Cut.{Cut}
-use Rattle.section_group.specs.Merging.{final_name}
-use Rattle.section_group.specs.SectionOrder.{Input, input_from, no_piece, piece_at, is_used, base_name, suffix}
-use Rattle.section_group.specs.Steps.{cut_of, no_cut, cut_at, AreCuts}
+use Rattle.section_group.specs.Merging.{same_name, final_name}
+use Rattle.section_group.specs.SectionOrder.{Input, input_from, no_piece, piece_at, is_used, base_name, suffix, section_name}
+use Rattle.section_group.specs.Steps.{name_cut, piece_cut, no_cut, AreNumbered, AreCuts}
+use Rattle.section_group.specs.Placement.{first_owner, follows_owner, section_attributes}
+use Rattle.section_group.specs.Gathering.{home_of, AreNumbers, IsNumberOf, GoesWithItsLike}
+use Rattle.section_group.specs.declared.homes.Home.{Home}
+use Rattle.link_base.specs.PeFormat.{SCN_MEM_ATTRIBUTES}
 
-abbrev named_cut : (List ℕ → List ℕ) → List ℕ → Cut
-named_cut lead name =
-    record { base = base_name name; suffix = suffix name; section = lead (base_name name) }
+-- a name's cut, by the name of its section
+abbrev cut_to : List ℕ → List ℕ → Cut
+cut_to name section = record {
+  base = base_name name;
+  suffix = suffix name;
+  section = section;
+  merged = not (same_name (base_name name) section);
+  follows_owner = not (same_name (base_name name) section) || same_name section (codes ".pdata");
+}
 
-cut_is : (lead : List ℕ → List ℕ) (pieces : List Piece) (k : ℕ) → k < length pieces → get_or (map (cut_of lead) pieces) k no_cut ≡ cut_of lead (get_or pieces k no_piece)
-cut_is lead pieces k lt =
-    let in' : k < length (map (cut_of lead) pieces) = omega (arith, length-map pieces (cut_of lead)) in
-    get_or_default (map (cut_of lead) pieces) k no_cut (cut_of lead no_piece) in' ∙ get_or-map (cut_of lead) pieces k no_piece
+-- one more piece, whose cut is among those so far or the last of them
+pub numbered_more : (lead : List ℕ → List ℕ) (pieces : List Piece) (i : ℕ) (cuts more : List Cut) (numbers : List ℕ) (number : ℕ) → AreNumbered lead pieces i cuts numbers → ((k : ℕ) → k < length cuts → get_or more k no_cut ≡ get_or cuts k no_cut) → length cuts ≤ length more → length more ≤ i + 1 → number < length more → get_or more number no_cut ≡ name_cut lead (get_or pieces i no_piece).name → AreNumbered lead pieces (i + 1) more (numbers ++ number ∷ [])
+numbered_more lead pieces i cuts more numbers number are stay grows few within is = record {
+  same_length = length-append numbers (number ∷ []) ∙ ap (λ (n : ℕ). n + 1) are.same_length;
+  few = few;
+  within = λ k lt. elim (cases_lt k i) [
+    | inl below ↦ subst (λ (n : ℕ). n < length more) (sym (early k below)) (omega (arith, are.within k below, grows))
+    | inr above ↦ subst (λ (n : ℕ). n < length more) (sym (late k lt above)) within
+  ];
+  each = λ k lt. elim (cases_lt k i) [
+    | inl below ↦ ap (λ (n : ℕ). get_or more n no_cut) (early k below) ∙ stay (get_or numbers k 0) (are.within k below) ∙ are.each k below
+    | inr above ↦
+        ap (λ (n : ℕ). get_or more n no_cut) (late k lt above) ∙ is
+        ∙ ap (λ (n : ℕ). name_cut lead (get_or pieces n no_piece).name) (here k lt above)
+  ];
+}
+  where
+    early : (k : ℕ) → k < i → get_or (numbers ++ number ∷ []) k 0 ≡ get_or numbers k 0
+    early k below = get_or-append numbers (number ∷ []) 0 k (omega (arith, are.same_length))
+
+    here : (k : ℕ) → k < i + 1 → i ≤ k → i ≡ k
+    here k lt above = omega arith
+
+    late : (k : ℕ) → k < i + 1 → i ≤ k → get_or (numbers ++ number ∷ []) k 0 ≡ number
+    late k lt above =
+        let at : k ≡ length numbers = omega (arith, are.same_length) in
+        ap (λ (n : ℕ). get_or (numbers ++ number ∷ []) n 0) at ∙ get_or-append_seam numbers number [] 0
 
 -- a piece that has the name of the one before it has its cut
-pub cut_again : (lead : List ℕ → List ℕ) (pieces : List Piece) (cuts : List Cut) (k : ℕ) (cut : Cut) (piece before : Piece) → k < length pieces → 0 < k → cuts ≡ map (cut_of lead) (take k pieces) → cut ≡ get_or cuts (k - 1) cut → (get_or pieces k piece).name ≡ (get_or pieces (k - 1) before).name → cut ≡ cut_of lead (get_or pieces k no_piece)
-cut_again lead pieces cuts k cut piece before lt above are is same =
-    let in' : k - 1 < length (take k pieces) = omega (arith, length-take-le k pieces (omega (arith, lt)), above) in
-    let within : k - 1 < length cuts = subst (λ (cs : List Cut). k - 1 < length cs) (sym are) (omega (arith, in', length-map (take k pieces) (cut_of lead))) in
-    is ∙ get_or_default cuts (k - 1) cut no_cut within
-    ∙ ap (λ (cs : List Cut). get_or cs (k - 1) no_cut) are ∙ cut_is lead (take k pieces) (k - 1) in'
-    ∙ ap (cut_of lead) (get_or-take k pieces (k - 1) no_piece (omega (arith, above)) ∙ get_or_default pieces (k - 1) no_piece before (omega (arith, lt)))
-    ∙ ap (named_cut lead) (sym same)
-    ∙ ap (cut_of lead) (get_or_default pieces k piece no_piece lt)
+pub numbered_again : (lead : List ℕ → List ℕ) (pieces : List Piece) (i : ℕ) (cuts : List Cut) (numbers : List ℕ) (piece before : Piece) → AreNumbered lead pieces i cuts numbers → i < length pieces → 0 < i → (get_or pieces i piece).name ≡ (get_or pieces (i - 1) before).name → AreNumbered lead pieces (i + 1) cuts (numbers ++ get_or numbers (i - 1) 0 ∷ [])
+numbered_again lead pieces i cuts numbers piece before are lt above same =
+    let here : (get_or pieces (i - 1) no_piece).name ≡ (get_or pieces i no_piece).name =
+    ap (λ (p : Piece). p.name) (get_or_default pieces (i - 1) no_piece before (omega (arith, lt))) ∙ sym same
+    ∙ ap (λ (p : Piece). p.name) (get_or_default pieces i piece no_piece lt) in
+    numbered_more lead pieces i cuts cuts numbers (get_or numbers (i - 1) 0) are (λ k in'. refl) (omega arith) (omega (arith, are.few)) (are.within (i - 1) (omega (arith, above)))
+    (are.each (i - 1) (omega (arith, above)) ∙ ap (name_cut lead) here)
 
-pub cuts_are : (pieces : List Piece) (used : List Bool) (merges : List (List ℕ × List ℕ)) (lead : List ℕ → List ℕ) (cuts : List Cut) → cuts ≡ map (cut_of lead) pieces → ((name : List ℕ) → lead name ≡ final_name merges name) → AreCuts (input_from pieces used merges) cuts
-cuts_are pieces used merges lead cuts is leads =
-    let at = λ (k : ℕ) (lt : k < length pieces). ap (λ (cs : List Cut). get_or cs k no_cut) is ∙ cut_is lead pieces k lt in
-    record {
-      same_length = ap length is ∙ length-map pieces (cut_of lead);
-      base = λ k lt. ap (λ (c : Cut). c.base) (at k lt);
-      suffix = λ k lt. ap (λ (c : Cut). c.suffix) (at k lt);
-      section = λ k lt. ap (λ (c : Cut). c.section) (at k lt) ∙ leads (base_name (get_or pieces k no_piece).name);
-    }
+-- a piece of another name has a cut of its own
+pub numbered_new : (lead : List ℕ → List ℕ) (pieces : List Piece) (i : ℕ) (cuts : List Cut) (numbers : List ℕ) (piece : Piece) (cut : Cut) → AreNumbered lead pieces i cuts numbers → i < length pieces → cut ≡ name_cut lead (get_or pieces i piece).name → AreNumbered lead pieces (i + 1) (cuts ++ cut ∷ []) (numbers ++ length cuts ∷ [])
+numbered_new lead pieces i cuts numbers piece cut are lt is =
+    let longer = length-append cuts (cut ∷ []) in
+    numbered_more lead pieces i cuts (cuts ++ cut ∷ []) numbers (length cuts) are (λ k in'. get_or-append cuts (cut ∷ []) no_cut k in') (omega (arith, longer)) (omega (arith, longer, are.few)) (omega (arith, longer))
+    (get_or-append_seam cuts cut [] no_cut ∙ is ∙ ap (λ (p : Piece). name_cut lead p.name) (get_or_default pieces i piece no_piece lt))
+
+pub cuts_are : (pieces : List Piece) (used : List Bool) (merges : List (List ℕ × List ℕ)) (lead : List ℕ → List ℕ) (cuts : List Cut) (numbers : List ℕ) → AreNumbered lead pieces (length pieces) cuts numbers → ((name : List ℕ) → lead name ≡ final_name merges name) → AreCuts (input_from pieces used merges) cuts numbers
+cuts_are pieces used merges lead cuts numbers are leads = record {
+  same_length = are.same_length;
+  few = are.few;
+  within = are.within;
+  each = λ k lt. are.each k lt ∙ led (get_or pieces k no_piece).name;
+}
+  where
+    led : (name : List ℕ) → name_cut lead name ≡ name_cut (final_name merges) name
+    led name = ap (cut_to name) (leads (base_name name))
 
 -- ---- what is read at an index
-
-pub cut_read : (input : Input) (cuts : List Cut) (k : ℕ) (cut : Cut) → AreCuts input cuts → k < length input.pieces → cut ≡ get_or cuts k cut → cut ≡ cut_at cuts k
-cut_read input cuts k cut are lt is = is ∙ get_or_default cuts k cut no_cut (omega (arith, are.same_length))
 
 pub piece_read : (input : Input) (k : ℕ) (piece : Piece) → k < length input.pieces → piece ≡ get_or input.pieces k piece → piece ≡ piece_at input k
 piece_read input k piece lt is = is ∙ get_or_default input.pieces k piece no_piece lt
@@ -56,3 +93,31 @@ used_within input k used = go (ltb k (length input.pieces)) refl used
 
 pub used_at : (input : Input) (k : ℕ) → k < length input.pieces → is_used input k ≡ get_or input.used k false
 used_at input k lt = ap (λ (b : Bool). b && get_or input.used k false) (lt-ltb k (length input.pieces) lt)
+
+-- pieces whose cuts and attributes are the same go to one section
+pub one_home : (input : Input) (j k : ℕ) → piece_cut input j ≡ piece_cut input k → bit_and (piece_at input j).flags SCN_MEM_ATTRIBUTES ≡ bit_and (piece_at input k).flags SCN_MEM_ATTRIBUTES → home_of input k ≡ home_of input j
+unfolding section_attributes
+one_home input j k cut flags =
+    ap (λ (c : Cut). homed c.section (decided c.follows_owner (first_owner input c.section) k)) (sym cut)
+    ∙ ap (homed (section_name input j)) (sym (level (follows_owner input j) (first_owner input (section_name input j))))
+  where
+    homed : List ℕ → ℕ → Home
+    homed name attributes = record { name = name; attributes = attributes }
+
+    decided : Bool → Option ℕ → ℕ → ℕ
+    decided follows owner n =
+        bit_and (piece_at input (if follows then unwrap_or owner n else n)).flags SCN_MEM_ATTRIBUTES
+
+    level : (follows : Bool) (owner : Option ℕ) → decided follows owner j ≡ decided follows owner k
+    level true (Some f) = refl
+    level true None = flags
+    level false owner = flags
+
+-- a piece that goes with the one before it has its number
+pub number_again : (input : Input) (homes : List Home) (i : ℕ) (numbers : List (Option ℕ)) (number : Option ℕ) → AreNumbers input homes i numbers → GoesWithItsLike input i → IsTrue (is_used input i) → number ≡ get_or numbers (i - 1) None → IsNumberOf input homes i number
+number_again input homes i numbers number are alike used is =
+    go number (subst (IsNumberOf input homes (i - 1)) (sym is) (are.each (i - 1) (omega (arith, alike.0))))
+  where
+    go : (o : Option ℕ) → IsNumberOf input homes (i - 1) o → IsNumberOf input homes i o
+    go None unused = absurd (false≢true (sym unused ∙ alike.1))
+    go (Some n) there = (used, there.1 ∙ ap (λ (home : Home). Some home) (sym alike.2))

@@ -1,23 +1,33 @@
 -- What the steps of grouping say of one another.
-use Rattle.std.specs.Prelude.{◌≡◌, ℕ, ◌<◌, List, [], length, slice_index_or}
+use Rattle.std.specs.Prelude.{◌≡◌, ℕ, ◌<◌, ◌≤◌, Bool, false, ◌||◌, not, List, [], length, slice_index, slice_index_or, codes}
 use Rattle.section_group.specs.declared.piece.Piece.{Piece}
 use Rattle.section_group.specs.declared.cut.Cut.{Cut}
-use Rattle.section_group.specs.SectionOrder.{Input, piece_at, base_name, suffix, section_name}
+use Rattle.section_group.specs.Merging.{same_name, final_name}
+use Rattle.section_group.specs.SectionOrder.{Input, no_piece, piece_at, base_name, suffix}
 
--- a piece's name, cut, and where its base name leads
-abbrev pub cut_of : (List ℕ → List ℕ) → Piece → Cut
-cut_of lead piece =
-    record { base = base_name piece.name; suffix = suffix piece.name; section = lead (base_name piece.name) }
+-- a name, cut, where its base name leads, and what follows of that
+abbrev pub name_cut : (List ℕ → List ℕ) → List ℕ → Cut
+name_cut lead name = record {
+  base = base_name name;
+  suffix = suffix name;
+  section = lead (base_name name);
+  merged = not (same_name (base_name name) (lead (base_name name)));
+  follows_owner = not (same_name (base_name name) (lead (base_name name))) || same_name (lead (base_name name)) (codes ".pdata");
+}
+
+abbrev pub piece_cut : Input → ℕ → Cut
+piece_cut input k = name_cut (final_name input.merges) (piece_at input k).name
 
 abbrev pub no_cut : Cut
-no_cut = record { base = []; suffix = []; section = [] }
+no_cut = record { base = []; suffix = []; section = []; merged = false; follows_owner = false }
 
-abbrev pub cut_at : List Cut → ℕ → Cut
-cut_at cuts k = slice_index_or cuts k no_cut
+-- the numbers are those of the cuts of the first pieces' names
+pub record AreNumbered (lead : List ℕ → List ℕ) (pieces : List Piece) (count : ℕ) (cuts : List Cut) (numbers : List ℕ) : Type 0 where
+  pub same_length : length numbers ≡ count
+  pub few : length cuts ≤ count
+  pub within : (k : ℕ) → k < count → slice_index numbers k < length cuts
+  pub each : (k : ℕ) → k < count → slice_index_or cuts (slice_index numbers k) no_cut ≡ name_cut lead (slice_index_or pieces k no_piece).name
 
--- the cuts are those of the pieces
-pub record AreCuts (input : Input) (cuts : List Cut) : Type 0 where
-  pub same_length : length cuts ≡ length input.pieces
-  pub base : (k : ℕ) → k < length input.pieces → (cut_at cuts k).base ≡ base_name (piece_at input k).name
-  pub suffix : (k : ℕ) → k < length input.pieces → (cut_at cuts k).suffix ≡ suffix (piece_at input k).name
-  pub section : (k : ℕ) → k < length input.pieces → (cut_at cuts k).section ≡ section_name input k
+-- the numbers are those of the cuts of all pieces' names
+abbrev pub AreCuts : Input → List Cut → List ℕ → Type 0
+AreCuts input cuts numbers = AreNumbered (final_name input.merges) input.pieces (length input.pieces) cuts numbers

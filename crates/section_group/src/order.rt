@@ -1,4 +1,4 @@
-//! The order of the pieces inside a section: one sort of keys.
+//! The order of the pieces inside a section: one sort of keys, where they do not stand in order.
 
 ghost use Rattle.std.specs.Prelude.{◌≡◌, ◌<◌, ◌==◌, ℕ, IfOk, OnOk, IsTrue, IsPermutation, IsSorted, All, AllPairs, length, map};
 ghost use Rattle.std.specs.List.{IsDistinct};
@@ -8,6 +8,7 @@ ghost use Rattle.section_group.specs.Gathering.{input_of};
 ghost use Rattle.section_group.specs.Keys.{piece_key, key_cmp, IsWithin};
 
 use crate::key::PieceKey;
+use crate::owners::precedes;
 use crate::parts::Parts;
 use link_base::{Memory, Name};
 use std::alloc::Global;
@@ -18,6 +19,46 @@ pub(crate) fn order_pieces(
     parts: &Parts<'_, '_>,
     members: &[u32],
 ) -> Result<Vec<u32>, Memory>
+    requires within { All (IsWithin (length parts.now.pieces.now)) members.now }
+    requires distinct { IsDistinct (λ j k. j == k) members.now }
+    ensures permutation { IfOk result (λ ordered. IsPermutation members.now ordered.items) }
+    ensures ascending { IfOk result (λ ordered. AllPairs (λ j k. IsTrue (is_lt (inside_cmp (input_of parts.now) j k))) ordered.items) }
+{
+    if ascend(parts, members) {
+        return Ok(Vec::from_slice(alloc, members)?);
+    }
+    sort_pieces(alloc, parts, members)
+}
+
+/// Whether the pieces are seen to stand in order already: each shares its cut with the one before it, and comes behind it.
+fn ascend(parts: &Parts<'_, '_>, members: &[u32]) -> bool
+    requires { All (IsWithin (length parts.now.pieces.now)) members.now }
+    ensures { IsTrue result → AllPairs (λ j k. IsTrue (is_lt (inside_cmp (input_of parts.now) j k))) members.now }
+{
+    for at in 1..members.len() {
+        if !comes_behind(parts, members[at], members[at - 1]) {
+            return false;
+        }
+    }
+    true
+}
+
+/// Whether a piece shares its cut with another and comes behind it.
+fn comes_behind(parts: &Parts<'_, '_>, index: u32, other: u32) -> bool
+    requires index { index < length parts.now.pieces.now }
+    requires other { other < length parts.now.pieces.now }
+    ensures { IsTrue result → IsTrue (is_lt (inside_cmp (input_of parts.now) other index)) }
+{
+    let (index, other) = (index as usize, other as usize);
+    let (piece, before) = (&parts.pieces[index], &parts.pieces[other]);
+    if !parts.share_cut(other, index) || before.init != piece.init {
+        return false;
+    }
+    precedes(parts, other, index)
+}
+
+/// The pieces in order, by a sort of their keys.
+fn sort_pieces(alloc: Global, parts: &Parts<'_, '_>, members: &[u32]) -> Result<Vec<u32>, Memory>
     requires within { All (IsWithin (length parts.now.pieces.now)) members.now }
     requires distinct { IsDistinct (λ j k. j == k) members.now }
     ensures permutation { IfOk result (λ ordered. IsPermutation members.now ordered.items) }
@@ -60,12 +101,11 @@ fn key_of<'a>(parts: &Parts<'_, 'a>, index: u32) -> PieceKey<'a>
     ensures { result ≡ piece_key (input_of parts.now) index }
 {
     let piece = &parts.pieces[index as usize];
-    let cut = &parts.cuts[index as usize];
-    let merged = cut.base != cut.section;
+    let cut = parts.cut(index as usize);
     PieceKey {
         uninitialised: !piece.init,
-        merged,
-        merged_name: if merged {
+        merged: cut.merged,
+        merged_name: if cut.merged {
             cut.base.again()
         } else {
             Name::of(b"")

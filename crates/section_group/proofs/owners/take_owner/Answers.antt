@@ -4,7 +4,7 @@ use Rattle.section_group.specs.declared.cut.Cut.{Cut}
 use Rattle.section_group.specs.Merging.{same_name}
 use Rattle.section_group.specs.Gathering.{input_of}
 use Rattle.section_group.proofs.OwnerLemmas.{owner_taken, first_kept}
-use Rattle.section_group.proofs.PartLemmas.{cut_read, used_within}
+use Rattle.section_group.proofs.PartLemmas.{used_within}
 use Rattle.section_group.proofs.owners.take_owner.Goals as goal
 
 pub returns-then-follows_its_like : goal.returns-then-follows_its_like
@@ -15,7 +15,6 @@ pub returns-in_ok-insert : goal.returns-in_ok-insert
 returns-in_ok-insert c = λ name.
     let parts = c.args.parts.now in
     let input = input_of parts in
-    let within = used_within input c.args.index c.requires.used in
-    let base = c.again.ensures ∙ ap (λ (cut : Cut). cut.base) (cut_read input parts.cuts.items c.args.index c.index.result.now parts.cut within c.index.ensures) ∙ parts.cut.base c.args.index within in
+    let base = c.again.ensures ∙ ap (λ (cut : Cut). cut.base) c.cut.ensures in
     owner_taken input c.args.index name c.again.result (λ q. get same_name c.args.owners.now q) (get same_name c.insert.new.self name)
     base c.requires.used c.requires.so_far (c.in_ok-insert.ensures.updates.0 name) (sym c.is_first.ensures ∙ c.if-is_first.true)

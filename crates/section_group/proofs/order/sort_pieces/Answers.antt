@@ -9,7 +9,7 @@ use Rattle.section_group.specs.declared.key.PieceKey.{PieceKey}
 use Rattle.section_group.specs.SectionOrder.{inside_cmp}
 use Rattle.section_group.specs.Gathering.{input_of}
 use Rattle.section_group.proofs.KeyLemmas.{ordered_permutation, ordered_ascends}
-use Rattle.section_group.proofs.order.order_pieces.Goals as goal
+use Rattle.section_group.proofs.order.sort_pieces.Goals as goal
 
 abbrev Indexes : List PieceKey → Vec ℕ Global → Type 0
 Indexes keys v = v.items ≡ map (λ (key : PieceKey). key.index) keys
