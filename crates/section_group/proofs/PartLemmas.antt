@@ -1,14 +1,16 @@
 -- What the parts of a piece's name say of the input.
-use Rattle.std.proofs.Common.{◌≡◌, ℕ, ◌+◌, ◌-◌, ◌<◌, ◌≤◌, Bool, true, false, ◌&&◌, ◌||◌, not, ltb, lt-ltb, IsTrue, List, [], ◌∷◌, ◌++◌, length, length-append, get_or, refl, sym, ap, subst, ◌∙◌, inl, inr, codes, bit_and, if◌then◌else◌, Option, Some, None, unwrap_or, arith}
+use Rattle.std.proofs.Common.{◌≡◌, ℕ, ◌+◌, ◌-◌, ◌<◌, ◌≤◌, Bool, true, false, ◌&&◌, ◌||◌, not, ltb, lt-ltb, IsTrue, List, [], ◌∷◌, ◌++◌, length, length-append, map, get_or, refl, sym, ap, subst, ◌∙◌, inl, inr, codes, bit_and, if◌then◌else◌, Option, Some, None, unwrap_or, arith}
+use Rattle.std.specs.List.{slice_get}
 use Rattle.std.proofs.lemmas.Bool.{ltb-true, false≢true, cases_lt}
-use Rattle.std.proofs.lemmas.List.{get_or_default}
-use Rattle.std.proofs.Math.ListN.{get_or-append}
+use Rattle.std.proofs.lemmas.List.{get_or_default, length-map}
+use Rattle.std.proofs.lemmas.Option.{get_or_from_slice_get, slice_get_cases}
+use Rattle.std.proofs.Math.ListN.{get_or-append, get_or-map}
 use Rattle.std.proofs.Math.Seq.{get_or-append_seam}
 use Rattle.section_group.specs.declared.piece.Piece.{Piece}
 use Rattle.section_group.specs.declared.cut.Cut.{Cut}
 use Rattle.section_group.specs.Merging.{same_name, final_name}
 use Rattle.section_group.specs.SectionOrder.{Input, input_from, no_piece, piece_at, is_used, base_name, suffix, section_name}
-use Rattle.section_group.specs.Steps.{name_cut, piece_cut, no_cut, AreNumbered, AreCuts}
+use Rattle.section_group.specs.Steps.{name_cut, piece_cut, no_cut, NamesPieces, KeepsNames, AreNumbered, AreCuts}
 use Rattle.section_group.specs.Placement.{first_owner, follows_owner, section_attributes}
 use Rattle.section_group.specs.Gathering.{home_of, AreNumbers, IsNumberOf, GoesWithItsLike}
 use Rattle.section_group.specs.declared.homes.Home.{Home}
@@ -24,54 +26,62 @@ cut_to name section = record {
   follows_owner = not (same_name (base_name name) section) || same_name section (codes ".pdata");
 }
 
--- one more piece, whose cut is among those so far or the last of them
-pub numbered_more : (lead : List ℕ → List ℕ) (pieces : List Piece) (i : ℕ) (cuts more : List Cut) (numbers : List ℕ) (number : ℕ) → AreNumbered lead pieces i cuts numbers → ((k : ℕ) → k < length cuts → get_or more k no_cut ≡ get_or cuts k no_cut) → length cuts ≤ length more → length more ≤ i + 1 → number < length more → get_or more number no_cut ≡ name_cut lead (get_or pieces i no_piece).name → AreNumbered lead pieces (i + 1) more (numbers ++ number ∷ [])
-numbered_more lead pieces i cuts more numbers number are stay grows few within is = record {
+-- what is read of a list stands in it
+pub told_within : {X : Type 0} (xs : List X) (n : ℕ) (x : X) → slice_get xs n ≡ Some x → n < length xs
+told_within xs n x e =
+    elim (slice_get_cases xs n).1 [
+      | inl there ↦ there.1
+      | inr past ↦ absurd (not_some (sym past.1 ∙ e))
+    ]
+  where
+    not_some : None ≡ Some x → ⊥
+    not_some h = cc
+
+-- one more piece
+pub named_more : (pieces : List Piece) (i : ℕ) (names more : List (List ℕ)) (numbers : List ℕ) (number : ℕ) → NamesPieces pieces i names numbers → KeepsNames names more → length more ≤ i + 1 → slice_get more number ≡ Some (get_or pieces i no_piece).name → NamesPieces pieces (i + 1) more (numbers ++ number ∷ [])
+named_more pieces i names more numbers number are kept few is = record {
   same_length = length-append numbers (number ∷ []) ∙ ap (λ (n : ℕ). n + 1) are.same_length;
   few = few;
-  within = λ k lt. elim (cases_lt k i) [
-    | inl below ↦ subst (λ (n : ℕ). n < length more) (sym (early k below)) (omega (arith, are.within k below, grows))
-    | inr above ↦ subst (λ (n : ℕ). n < length more) (sym (late k lt above)) within
-  ];
   each = λ k lt. elim (cases_lt k i) [
-    | inl below ↦ ap (λ (n : ℕ). get_or more n no_cut) (early k below) ∙ stay (get_or numbers k 0) (are.within k below) ∙ are.each k below
+    | inl below ↦
+        ap (λ (n : ℕ). slice_get more n) (get_or-append numbers (number ∷ []) 0 k (omega (arith, are.same_length)))
+        ∙ kept (get_or numbers k 0) (get_or pieces k no_piece).name (are.each k below)
     | inr above ↦
-        ap (λ (n : ℕ). get_or more n no_cut) (late k lt above) ∙ is
-        ∙ ap (λ (n : ℕ). name_cut lead (get_or pieces n no_piece).name) (here k lt above)
+        let at : k ≡ length numbers = omega (arith, are.same_length) in
+        let here : i ≡ k = omega arith in
+        ap (λ (n : ℕ). slice_get more n) (ap (λ (n : ℕ). get_or (numbers ++ number ∷ []) n 0) at ∙ get_or-append_seam numbers number [] 0)
+        ∙ is ∙ ap (λ (n : ℕ). Some (get_or pieces n no_piece).name) here
   ];
 }
-  where
-    early : (k : ℕ) → k < i → get_or (numbers ++ number ∷ []) k 0 ≡ get_or numbers k 0
-    early k below = get_or-append numbers (number ∷ []) 0 k (omega (arith, are.same_length))
 
-    here : (k : ℕ) → k < i + 1 → i ≤ k → i ≡ k
-    here k lt above = omega arith
-
-    late : (k : ℕ) → k < i + 1 → i ≤ k → get_or (numbers ++ number ∷ []) k 0 ≡ number
-    late k lt above =
-        let at : k ≡ length numbers = omega (arith, are.same_length) in
-        ap (λ (n : ℕ). get_or (numbers ++ number ∷ []) n 0) at ∙ get_or-append_seam numbers number [] 0
-
--- a piece that has the name of the one before it has its cut
-pub numbered_again : (lead : List ℕ → List ℕ) (pieces : List Piece) (i : ℕ) (cuts : List Cut) (numbers : List ℕ) (piece before : Piece) → AreNumbered lead pieces i cuts numbers → i < length pieces → 0 < i → (get_or pieces i piece).name ≡ (get_or pieces (i - 1) before).name → AreNumbered lead pieces (i + 1) cuts (numbers ++ get_or numbers (i - 1) 0 ∷ [])
-numbered_again lead pieces i cuts numbers piece before are lt above same =
+-- a piece that has the name of the one before it has its number
+pub named_again : (pieces : List Piece) (i : ℕ) (names : List (List ℕ)) (numbers : List ℕ) (piece before : Piece) → NamesPieces pieces i names numbers → i < length pieces → 0 < i → (get_or pieces i piece).name ≡ (get_or pieces (i - 1) before).name → NamesPieces pieces (i + 1) names (numbers ++ get_or numbers (i - 1) 0 ∷ [])
+named_again pieces i names numbers piece before are lt above same =
     let here : (get_or pieces (i - 1) no_piece).name ≡ (get_or pieces i no_piece).name =
     ap (λ (p : Piece). p.name) (get_or_default pieces (i - 1) no_piece before (omega (arith, lt))) ∙ sym same
     ∙ ap (λ (p : Piece). p.name) (get_or_default pieces i piece no_piece lt) in
-    numbered_more lead pieces i cuts cuts numbers (get_or numbers (i - 1) 0) are (λ k in'. refl) (omega arith) (omega (arith, are.few)) (are.within (i - 1) (omega (arith, above)))
-    (are.each (i - 1) (omega (arith, above)) ∙ ap (name_cut lead) here)
+    named_more pieces i names names numbers (get_or numbers (i - 1) 0) are (λ n name e. e) (omega (arith, are.few))
+    (are.each (i - 1) (omega (arith, above)) ∙ ap (λ (name : List ℕ). Some name) here)
 
--- a piece of another name has a cut of its own
-pub numbered_new : (lead : List ℕ → List ℕ) (pieces : List Piece) (i : ℕ) (cuts : List Cut) (numbers : List ℕ) (piece : Piece) (cut : Cut) → AreNumbered lead pieces i cuts numbers → i < length pieces → cut ≡ name_cut lead (get_or pieces i piece).name → AreNumbered lead pieces (i + 1) (cuts ++ cut ∷ []) (numbers ++ length cuts ∷ [])
-numbered_new lead pieces i cuts numbers piece cut are lt is =
-    let longer = length-append cuts (cut ∷ []) in
-    numbered_more lead pieces i cuts (cuts ++ cut ∷ []) numbers (length cuts) are (λ k in'. get_or-append cuts (cut ∷ []) no_cut k in') (omega (arith, longer)) (omega (arith, longer, are.few)) (omega (arith, longer))
-    (get_or-append_seam cuts cut [] no_cut ∙ is ∙ ap (λ (p : Piece). name_cut lead p.name) (get_or_default pieces i piece no_piece lt))
+-- the numbers of names are those of their cuts
+pub numbered : (lead : List ℕ → List ℕ) (pieces : List Piece) (count : ℕ) (names : List (List ℕ)) (cuts : List Cut) (numbers : List ℕ) → NamesPieces pieces count names numbers → cuts ≡ map (name_cut lead) names → AreNumbered lead pieces count cuts numbers
+numbered lead pieces count names cuts numbers are is = record {
+  same_length = are.same_length;
+  within = λ k lt. subst (λ (cs : List Cut). get_or numbers k 0 < length cs) (sym is) (omega (arith, length-map names (name_cut lead), (there names _ _ (are.each k lt)).0));
+  each = λ k lt.
+      let at = there names _ _ (are.each k lt) in
+      let in' : get_or numbers k 0 < length (map (name_cut lead) names) = omega (arith, length-map names (name_cut lead), at.0) in
+      ap (λ (cs : List Cut). get_or cs (get_or numbers k 0) no_cut) is
+      ∙ get_or_default (map (name_cut lead) names) (get_or numbers k 0) no_cut (name_cut lead []) in'
+      ∙ get_or-map (name_cut lead) names (get_or numbers k 0) [] ∙ ap (name_cut lead) at.1;
+}
+  where
+    there : (names : List (List ℕ)) (n : ℕ) (name : List ℕ) → slice_get names n ≡ Some name → (n < length names) × (get_or names n [] ≡ name)
+    there names n name e = (told_within names n name e, get_or_from_slice_get names n name [] e)
 
 pub cuts_are : (pieces : List Piece) (used : List Bool) (merges : List (List ℕ × List ℕ)) (lead : List ℕ → List ℕ) (cuts : List Cut) (numbers : List ℕ) → AreNumbered lead pieces (length pieces) cuts numbers → ((name : List ℕ) → lead name ≡ final_name merges name) → AreCuts (input_from pieces used merges) cuts numbers
 cuts_are pieces used merges lead cuts numbers are leads = record {
   same_length = are.same_length;
-  few = are.few;
   within = are.within;
   each = λ k lt. are.each k lt ∙ led (get_or pieces k no_piece).name;
 }

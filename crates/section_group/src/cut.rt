@@ -1,12 +1,13 @@
-//! The names of all pieces, cut and led to their sections. Neighbours of one name share a cut.
+//! The names of all pieces, cut and led to their sections, each once.
 
-ghost use Rattle.std.specs.Prelude.{◌≡◌, ◌+◌, ◌<◌, ◌^◌, ◌++◌, ◌∷◌, [], IfOk, length};
+ghost use Rattle.std.specs.Prelude.{◌≡◌, ◌+◌, ◌<◌, ◌≤◌, ◌^◌, ◌++◌, ◌∷◌, [], IfOk, OnOk, Some, length, map, slice_get};
 ghost use Rattle.indexmap.specs.IndexMap.{keys};
 ghost use Rattle.section_group.specs.Chains.{led_by};
-ghost use Rattle.section_group.specs.Steps.{name_cut, AreNumbered};
+ghost use Rattle.section_group.specs.Steps.{name_cut, AreNumbered, NamesPieces, KeepsNames};
 
 use crate::piece::Piece;
 use crate::renames::Renames;
+use indexmap::IndexSet;
 use link_base::{Memory, Name};
 use std::alloc::Global;
 
@@ -32,17 +33,19 @@ pub(crate) fn cut_all<'a>(
     requires { length pieces.now < 2 ^ 32 }
     ensures { IfOk result (λ r. AreNumbered (led_by (keys renames.now.targets) renames.now.ends.items) pieces.now (length pieces.now) r.0.items r.1.items) }
 {
+    let mut names = IndexSet::new(alloc);
     let mut cuts = Vec::new(alloc);
     let mut numbers = Vec::with_capacity(alloc, pieces.len())?;
     for index in 0..pieces.len() {
-        let number = next_number(&mut cuts, &numbers, pieces, renames, index)?;
+        let number = piece_number(&mut names, &mut cuts, &numbers, pieces, renames, index)?;
         numbers.push(number)?;
     }
     Ok((cuts, numbers))
 }
 
-/// The number of a piece's cut: that of the piece before it, where their names are equal, and else that of a new one.
-fn next_number<'a>(
+/// The number of a piece's name, which is that of the piece before it where their names are equal: this spares a search.
+fn piece_number<'a>(
+    names: &mut IndexSet<Name<'a>>,
     cuts: &mut Vec<Cut<'a>>,
     numbers: &[u32],
     pieces: &[Piece<'a>],
@@ -51,15 +54,38 @@ fn next_number<'a>(
 ) -> Result<u32, Memory>
     requires few { length pieces.now < 2 ^ 32 }
     requires within { index < length pieces.now }
-    requires so_far { AreNumbered (led_by (keys renames.now.targets) renames.now.ends.items) pieces.now index cuts.old.items numbers.now }
-    ensures { IfOk result (λ number. AreNumbered (led_by (keys renames.now.targets) renames.now.ends.items) pieces.now (index + 1) cuts.new.items (numbers.now ++ number ∷ [])) }
+    requires so_far { NamesPieces pieces.now index names.old.keys numbers.now }
+    requires cuts { cuts.old.items ≡ map (name_cut (led_by (keys renames.now.targets) renames.now.ends.items)) names.old.keys }
+    ensures named { IfOk result (λ number. NamesPieces pieces.now (index + 1) names.new.keys (numbers.now ++ number ∷ [])) }
+    ensures cut { OnOk result (cuts.new.items ≡ map (name_cut (led_by (keys renames.now.targets) renames.now.ends.items)) names.new.keys) }
 {
     let name = &pieces[index].name;
     if index > 0 && *name == pieces[index - 1].name {
         return Ok(numbers[index - 1]);
     }
-    let number = cuts.len() as u32;
-    cuts.push(cut_name(name, renames))?;
+    let number = name_number(names, cuts, renames, name)?;
+    Ok(number as u32)
+}
+
+/// The number of a name, which gets a cut where it is new.
+fn name_number<'a>(
+    names: &mut IndexSet<Name<'a>>,
+    cuts: &mut Vec<Cut<'a>>,
+    renames: &Renames<'a>,
+    name: &Name<'a>,
+) -> Result<usize, Memory>
+    requires { cuts.old.items ≡ map (name_cut (led_by (keys renames.now.targets) renames.now.ends.items)) names.old.keys }
+    ensures named { IfOk result (λ number. slice_get names.new.keys number ≡ Some name.now) }
+    ensures cut { OnOk result (cuts.new.items ≡ map (name_cut (led_by (keys renames.now.targets) renames.now.ends.items)) names.new.keys) }
+    ensures kept { OnOk result (KeepsNames names.old.keys names.new.keys) }
+    ensures few { OnOk result (length names.new.keys ≤ length names.old.keys + 1) }
+    ensures within { IfOk result (λ number. number < length names.new.keys) }
+{
+    let (number, is_new) = names.insert_full(name.again())?;
+    if is_new {
+        cuts.push(cut_name(name, renames))?;
+        return Ok(number);
+    }
     Ok(number)
 }
 
