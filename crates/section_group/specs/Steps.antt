@@ -1,5 +1,5 @@
 -- What the steps of grouping say of one another.
-use Rattle.std.specs.Prelude.{◌≡◌, ℕ, ◌<◌, ◌≤◌, Bool, false, ◌||◌, not, List, [], length, slice_get, slice_index, slice_index_or, Some, codes}
+use Rattle.std.specs.Prelude.{◌≡◌, ℕ, ◌<◌, ◌≤◌, false, ◌||◌, not, List, [], length, slice_get, slice_index, slice_index_or, Some, codes}
 use Rattle.section_group.specs.declared.piece.Piece.{Piece}
 use Rattle.section_group.specs.declared.cut.Cut.{Cut}
 use Rattle.section_group.specs.Merging.{same_name, final_name}

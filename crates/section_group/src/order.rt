@@ -1,6 +1,6 @@
 //! The order of the pieces inside a section: one sort of keys, where they do not stand in order.
 
-ghost use Rattle.std.specs.Prelude.{◌≡◌, ◌<◌, ◌==◌, ℕ, IfOk, OnOk, IsTrue, IsPermutation, IsSorted, All, AllPairs, length, map};
+ghost use Rattle.std.specs.Prelude.{◌≡◌, ◌<◌, ◌==◌, ℕ, IfOk, IsTrue, IsPermutation, IsSorted, All, AllPairs, length, map};
 ghost use Rattle.std.specs.List.{IsDistinct};
 ghost use Rattle.std.specs.Ordering.{is_lt};
 ghost use Rattle.section_group.specs.SectionOrder.{inside_cmp};
@@ -65,7 +65,7 @@ fn sort_pieces(alloc: Global, parts: &Parts<'_, '_>, members: &[u32]) -> Result<
     ensures ascending { IfOk result (λ ordered. AllPairs (λ j k. IsTrue (is_lt (inside_cmp (input_of parts.now) j k))) ordered.items) }
 {
     let mut keys = keys_of(alloc, parts, members)?;
-    sort_keys(&mut keys)?;
+    sort_keys(&mut keys);
     indexes_of(alloc, &keys)
 }
 
@@ -117,10 +117,10 @@ fn key_of<'a>(parts: &Parts<'_, 'a>, index: u32) -> PieceKey<'a>
     }
 }
 
-fn sort_keys(keys: &mut Vec<PieceKey<'_>>) -> Result<(), Memory>
-    ensures permutation { OnOk result (IsPermutation keys.old.items keys.new.items) }
-    ensures sorted { OnOk result (IsSorted key_cmp keys.new.items) }
+/// Sorts keys in place. No two are level, since each has the index of its piece.
+fn sort_keys(keys: &mut Vec<PieceKey<'_>>)
+    ensures permutation { IsPermutation keys.old.items keys.new.items }
+    ensures sorted { IsSorted key_cmp keys.new.items }
 {
-    keys.sort()?;
-    Ok(())
+    keys.sort_unstable();
 }

@@ -1,4 +1,4 @@
-use Rattle.std.proofs.Common.{IsTrue, refl, ◌∙◌, ◌≡◌, rules}
+use Rattle.std.proofs.Common.{IsTrue, refl, ◌∙◌, rules}
 use Rattle.section_group.specs.SectionOrder.{is_used}
 use Rattle.section_group.specs.Gathering.{input_of}
 use Rattle.section_group.proofs.PartLemmas.{number_again, used_at}

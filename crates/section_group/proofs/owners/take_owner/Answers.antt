@@ -4,7 +4,6 @@ use Rattle.section_group.specs.declared.cut.Cut.{Cut}
 use Rattle.section_group.specs.Merging.{same_name}
 use Rattle.section_group.specs.Gathering.{input_of}
 use Rattle.section_group.proofs.OwnerLemmas.{owner_taken, first_kept}
-use Rattle.section_group.proofs.PartLemmas.{used_within}
 use Rattle.section_group.proofs.owners.take_owner.Goals as goal
 
 pub returns-then-follows_its_like : goal.returns-then-follows_its_like
