@@ -1,7 +1,9 @@
 -- What the parts of a piece's name say of the input.
-use Rattle.std.proofs.Common.{◌≡◌, ℕ, ◌+◌, ◌-◌, ◌<◌, ◌≤◌, Bool, true, false, ◌&&◌, ◌||◌, not, ltb, lt-ltb, IsTrue, List, [], ◌∷◌, ◌++◌, length, length-append, map, get_or, refl, sym, ap, subst, ◌∙◌, inl, inr, codes, bit_and, if◌then◌else◌, Option, Some, None, unwrap_or, arith}
-use Rattle.std.specs.List.{slice_get}
-use Rattle.std.proofs.lemmas.Bool.{ltb-true, false≢true, cases_lt}
+use Rattle.std.proofs.Common.{◌≡◌, ℕ, ◌+◌, ◌-◌, ◌<◌, ◌≤◌, Bool, true, false, ◌&&◌, ◌||◌, not, ltb, lt-ltb, IsTrue, List, [], ◌∷◌, ◌++◌, length, length-append, map, get_or, eqb, eq-eqb, refl, sym, ap, subst, ◌∙◌, inl, inr, codes, bit_and, if◌then◌else◌, Option, Some, None, unwrap_or, arith}
+use Rattle.std.specs.List.{slice_get, IsDistinct}
+use Rattle.std.proofs.lemmas.Map.Keys.{apart_from_distinct}
+use Rattle.section_group.proofs.ChainLemmas.{same_is, same_refl}
+use Rattle.std.proofs.lemmas.Bool.{ltb-true, false≢true, cases_lt, eqb-true}
 use Rattle.std.proofs.lemmas.List.{get_or_default, length-map}
 use Rattle.std.proofs.lemmas.Option.{get_or_from_slice_get, slice_get_cases}
 use Rattle.std.proofs.Math.ListN.{get_or-append, get_or-map}
@@ -38,10 +40,11 @@ told_within xs n x e =
     not_some h = cc
 
 -- one more piece
-pub named_more : (pieces : List Piece) (i : ℕ) (names more : List (List ℕ)) (numbers : List ℕ) (number : ℕ) → NamesPieces pieces i names numbers → KeepsNames names more → length more ≤ i + 1 → slice_get more number ≡ Some (get_or pieces i no_piece).name → NamesPieces pieces (i + 1) more (numbers ++ number ∷ [])
-named_more pieces i names more numbers number are kept few is = record {
+pub named_more : (pieces : List Piece) (i : ℕ) (names more : List (List ℕ)) (numbers : List ℕ) (number : ℕ) → NamesPieces pieces i names numbers → KeepsNames names more → length more ≤ i + 1 → IsDistinct same_name more → slice_get more number ≡ Some (get_or pieces i no_piece).name → NamesPieces pieces (i + 1) more (numbers ++ number ∷ [])
+named_more pieces i names more numbers number are kept few distinct is = record {
   same_length = length-append numbers (number ∷ []) ∙ ap (λ (n : ℕ). n + 1) are.same_length;
   few = few;
+  distinct = distinct;
   each = λ k lt. elim (cases_lt k i) [
     | inl below ↦
         ap (λ (n : ℕ). slice_get more n) (get_or-append numbers (number ∷ []) 0 k (omega (arith, are.same_length)))
@@ -60,8 +63,23 @@ named_again pieces i names numbers piece before are lt above same =
     let here : (get_or pieces (i - 1) no_piece).name ≡ (get_or pieces i no_piece).name =
     ap (λ (p : Piece). p.name) (get_or_default pieces (i - 1) no_piece before (omega (arith, lt))) ∙ sym same
     ∙ ap (λ (p : Piece). p.name) (get_or_default pieces i piece no_piece lt) in
-    named_more pieces i names names numbers (get_or numbers (i - 1) 0) are (λ n name e. e) (omega (arith, are.few))
+    named_more pieces i names names numbers (get_or numbers (i - 1) 0) are (λ n name e. e) (omega (arith, are.few)) are.distinct
     (are.each (i - 1) (omega (arith, above)) ∙ ap (λ (name : List ℕ). Some name) here)
+
+-- names that are told apart stand at one number only
+names_apart : (names : List (List ℕ)) (n m : ℕ) → IsDistinct same_name names → n < length names → m < length names → get_or names n [] ≡ get_or names m [] → n ≡ m
+names_apart names n m distinct in_n in_m same =
+    elim (cases_lt n m) [
+      | inl lt ↦ absurd (differ n m lt in_m same)
+      | inr le ↦ elim (cases_lt m n) [
+        | inl lt ↦ absurd (differ m n lt in_n (sym same))
+        | inr ge ↦ omega arith
+      ]
+    ]
+  where
+    differ : (i j : ℕ) → i < j → j < length names → get_or names i [] ≡ get_or names j [] → ⊥
+    differ i j lt in' e =
+        false≢true (sym (apart_from_distinct same_name names i j [] distinct lt in') ∙ ap (λ (name : List ℕ). same_name name (get_or names j [])) e ∙ same_refl (get_or names j []))
 
 -- the numbers of names are those of their cuts
 pub numbered : (lead : List ℕ → List ℕ) (pieces : List Piece) (count : ℕ) (names : List (List ℕ)) (cuts : List Cut) (numbers : List ℕ) → NamesPieces pieces count names numbers → cuts ≡ map (name_cut lead) names → AreNumbered lead pieces count cuts numbers
@@ -74,8 +92,25 @@ numbered lead pieces count names cuts numbers are is = record {
       ap (λ (cs : List Cut). get_or cs (get_or numbers k 0) no_cut) is
       ∙ get_or_default (map (name_cut lead) names) (get_or numbers k 0) no_cut (name_cut lead []) in'
       ∙ get_or-map (name_cut lead) names (get_or numbers k 0) [] ∙ ap (name_cut lead) at.1;
+  apart = λ j k lt_j lt_k.
+      let at_j = there names _ _ (are.each j lt_j) in
+      let at_k = there names _ _ (are.each k lt_k) in
+      both (get_or numbers j 0) (get_or numbers k 0) _ _ at_j at_k;
 }
   where
+    both : (n m : ℕ) (name other : List ℕ) → (n < length names) × (get_or names n [] ≡ name) → (m < length names) × (get_or names m [] ≡ other) → eqb n m ≡ same_name name other
+    both n m name other at_n at_m = go (eqb n m) (same_name name other) refl refl
+      where
+        go : (a b : Bool) → eqb n m ≡ a → same_name name other ≡ b → a ≡ b
+        go true true e f = refl
+        go false false e f = refl
+        go true false e f =
+            let one : name ≡ other = sym at_n.1 ∙ ap (λ (i : ℕ). get_or names i []) (eqb-true n m e) ∙ at_m.1 in
+            absurd (false≢true (sym f ∙ ap (λ (text : List ℕ). same_name text other) one ∙ same_refl other))
+        go false true e f =
+            let one : n ≡ m = names_apart names n m are.distinct at_n.0 at_m.0 (at_n.1 ∙ same_is name other f ∙ sym at_m.1) in
+            absurd (false≢true (sym e ∙ eq-eqb n m one))
+
     there : (names : List (List ℕ)) (n : ℕ) (name : List ℕ) → slice_get names n ≡ Some name → (n < length names) × (get_or names n [] ≡ name)
     there names n name e = (told_within names n name e, get_or_from_slice_get names n name [] e)
 
@@ -83,6 +118,7 @@ pub cuts_are : (pieces : List Piece) (used : List Bool) (merges : List (List ℕ
 cuts_are pieces used merges lead cuts numbers are leads = record {
   same_length = are.same_length;
   within = are.within;
+  apart = are.apart;
   each = λ k lt. are.each k lt ∙ led (get_or pieces k no_piece).name;
 }
   where

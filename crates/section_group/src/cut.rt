@@ -1,7 +1,9 @@
 //! The names of all pieces, cut and led to their sections, each once.
 
 ghost use Rattle.std.specs.Prelude.{◌≡◌, ◌+◌, ◌<◌, ◌≤◌, ◌^◌, ◌++◌, ◌∷◌, [], IfOk, OnOk, Some, length, map, slice_get};
+ghost use Rattle.std.specs.List.{IsDistinct};
 ghost use Rattle.indexmap.specs.IndexMap.{keys};
+ghost use Rattle.section_group.specs.Merging.{same_name};
 ghost use Rattle.section_group.specs.Chains.{led_by};
 ghost use Rattle.section_group.specs.Steps.{name_cut, AreNumbered, NamesPieces, KeepsNames};
 
@@ -78,6 +80,7 @@ fn name_number<'a>(
     ensures named { IfOk result (λ number. slice_get names.new.keys number ≡ Some name.now) }
     ensures cut { OnOk result (cuts.new.items ≡ map (name_cut (led_by (keys renames.now.targets) renames.now.ends.items)) names.new.keys) }
     ensures kept { OnOk result (KeepsNames names.old.keys names.new.keys) }
+    ensures distinct { OnOk result (IsDistinct same_name names.old.keys → IsDistinct same_name names.new.keys) }
     ensures few { OnOk result (length names.new.keys ≤ length names.old.keys + 1) }
     ensures within { IfOk result (λ number. number < length names.new.keys) }
 {

@@ -3,6 +3,7 @@
 ghost use Rattle.std.specs.Prelude.{◌≡◌, ℕ, ◌<◌, ◌^◌, IsTrue, length, slice_get, slice_index_or, Some, None, OnOk, IfOk, []};
 ghost use Rattle.std.specs.List.{IsDistinct};
 ghost use Rattle.section_group.specs.Sections.{same_home};
+ghost use Rattle.section_group.specs.Steps.{HasItsLike};
 ghost use Rattle.section_group.specs.Gathering.{input_of, home_of, AreOwners, AreNumbers, IsNumberOf, GoesWithItsLike, KeepsHomes, AreMembers};
 
 use crate::homes::Home;
@@ -58,12 +59,13 @@ fn piece_number<'a>(
     Ok(Some(number))
 }
 
-/// Whether the piece before it is used, shares its cut and has its attributes: then they go to one section.
+/// Whether the piece before it is used and has its name and its attributes: then they go to one section.
 fn goes_with_its_like(parts: &Parts<'_, '_>, index: usize) -> bool
     requires { index < length parts.now.pieces.now }
-    ensures { IsTrue result → GoesWithItsLike (input_of parts.now) index }
+    ensures goes { IsTrue result → GoesWithItsLike (input_of parts.now) index }
+    ensures found { HasItsLike (input_of parts.now) index → IsTrue result }
 {
-    if index == 0 || !parts.used[index - 1] || !parts.share_cut(index - 1, index) {
+    if index == 0 || !parts.used[index - 1] || !parts.share_name(index - 1, index) {
         return false;
     }
     let before = parts.pieces[index - 1].flags & SCN_MEM_ATTRIBUTES;

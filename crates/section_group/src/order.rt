@@ -1,10 +1,11 @@
 //! The order of the pieces inside a section: one sort of keys, where they do not stand in order.
 
-ghost use Rattle.std.specs.Prelude.{◌≡◌, ◌<◌, ◌==◌, ℕ, IfOk, IsTrue, IsPermutation, IsSorted, All, AllPairs, length, map};
+ghost use Rattle.std.specs.Prelude.{◌≡◌, ◌<◌, ◌-◌, ◌==◌, ℕ, IfOk, IsTrue, IsPermutation, IsSorted, All, AllPairs, length, map, slice_index};
 ghost use Rattle.std.specs.List.{IsDistinct};
 ghost use Rattle.std.specs.Ordering.{is_lt};
 ghost use Rattle.section_group.specs.SectionOrder.{inside_cmp};
 ghost use Rattle.section_group.specs.Gathering.{input_of};
+ghost use Rattle.section_group.specs.Steps.{ComesBehind};
 ghost use Rattle.section_group.specs.Keys.{piece_key, key_cmp, IsWithin};
 
 use crate::key::PieceKey;
@@ -30,10 +31,11 @@ pub(crate) fn order_pieces(
     sort_pieces(alloc, parts, members)
 }
 
-/// Whether the pieces are seen to stand in order already: each shares its cut with the one before it, and comes behind it.
+/// Whether each piece comes behind the one before it: then they stand in order already.
 fn ascend(parts: &Parts<'_, '_>, members: &[u32]) -> bool
     requires { All (IsWithin (length parts.now.pieces.now)) members.now }
-    ensures { IsTrue result → AllPairs (λ j k. IsTrue (is_lt (inside_cmp (input_of parts.now) j k))) members.now }
+    ensures ascending { IsTrue result → AllPairs (λ j k. IsTrue (is_lt (inside_cmp (input_of parts.now) j k))) members.now }
+    ensures found { ((at : ℕ) → 0 < at → at < length members.now → ComesBehind (input_of parts.now) (slice_index members.now at) (slice_index members.now (at - 1))) → IsTrue result }
 {
     for at in 1..members.len() {
         if !comes_behind(parts, members[at], members[at - 1]) {
@@ -43,15 +45,16 @@ fn ascend(parts: &Parts<'_, '_>, members: &[u32]) -> bool
     true
 }
 
-/// Whether a piece shares its cut with another and comes behind it.
+/// Whether a piece has the name of another, is initialised as it is, and comes behind it.
 fn comes_behind(parts: &Parts<'_, '_>, index: u32, other: u32) -> bool
     requires index { index < length parts.now.pieces.now }
     requires other { other < length parts.now.pieces.now }
-    ensures { IsTrue result → IsTrue (is_lt (inside_cmp (input_of parts.now) other index)) }
+    ensures behind { IsTrue result → IsTrue (is_lt (inside_cmp (input_of parts.now) other index)) }
+    ensures found { ComesBehind (input_of parts.now) index other → IsTrue result }
 {
     let (index, other) = (index as usize, other as usize);
     let (piece, before) = (&parts.pieces[index], &parts.pieces[other]);
-    if !parts.share_cut(other, index) || before.init != piece.init {
+    if !parts.share_name(other, index) || before.init != piece.init {
         return false;
     }
     precedes(parts, other, index)

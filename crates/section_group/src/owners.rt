@@ -7,6 +7,7 @@ ghost use Rattle.indexmap.specs.IndexMap.{get};
 ghost use Rattle.section_group.specs.SectionOrder.{is_used, place_cmp, base_name, piece_at};
 ghost use Rattle.section_group.specs.Placement.{section_attributes, deciding_piece};
 ghost use Rattle.section_group.specs.Merging.{same_name};
+ghost use Rattle.section_group.specs.Steps.{FollowsItsLike};
 ghost use Rattle.section_group.specs.Gathering.{input_of, AreOwners, IsFirstUpTo, FollowsAnOwner};
 
 use crate::parts::Parts;
@@ -62,15 +63,16 @@ fn take_owner<'a>(
     Ok(())
 }
 
-/// Whether the piece before it is used, shares its cut and comes before it: then it is not the first of its base name.
+/// Whether the piece before it is used, has its name and comes before it: then it is not the first of its base name.
 fn follows_its_like(parts: &Parts<'_, '_>, index: usize) -> bool
     requires { index < length parts.now.pieces.now }
-    ensures { IsTrue result → FollowsAnOwner (input_of parts.now) index }
+    ensures follows { IsTrue result → FollowsAnOwner (input_of parts.now) index }
+    ensures found { FollowsItsLike (input_of parts.now) index → IsTrue result }
 {
     if index == 0 || !parts.used[index - 1] {
         return false;
     }
-    if !parts.share_cut(index - 1, index) {
+    if !parts.share_name(index - 1, index) {
         return false;
     }
     precedes(parts, index - 1, index)

@@ -2,7 +2,7 @@
 
 ghost use Rattle.std.specs.Prelude.{◌≡◌, ◌≤◌, ◌^◌, ◌<◌, IsTrue, length, IfOk, OnOk, IfErr};
 ghost use Rattle.section_group.specs.Merging.{HasNoBadMerge, IsRefusal};
-ghost use Rattle.section_group.specs.Steps.{AreCuts, piece_cut};
+ghost use Rattle.section_group.specs.Steps.{AreCuts, piece_cut, share_name};
 ghost use Rattle.section_group.specs.SectionOrder.{input_from};
 
 use crate::bad_merge::resolve;
@@ -60,11 +60,12 @@ impl<'w, 'a> Parts<'w, 'a> {
         &self.cuts[self.numbers[index] as usize]
     }
 
-    /// Whether two pieces share a cut: then their names are cut alike.
-    pub(crate) fn share_cut(&self, index: usize, other: usize) -> bool
+    /// Whether two pieces have one name, and so one cut.
+    pub(crate) fn share_name(&self, index: usize, other: usize) -> bool
         requires index { index < length self.now.pieces.now }
         requires other { other < length self.now.pieces.now }
-        ensures { IsTrue result → piece_cut (input_from self.now.pieces.now self.now.used.now self.now.merges.now) index
+        ensures name { result ≡ share_name (input_from self.now.pieces.now self.now.used.now self.now.merges.now) index other }
+        ensures cut { IsTrue result → piece_cut (input_from self.now.pieces.now self.now.used.now self.now.merges.now) index
             ≡ piece_cut (input_from self.now.pieces.now self.now.used.now self.now.merges.now) other }
     {
         self.numbers[index] == self.numbers[other]

@@ -16,5 +16,5 @@ pub returns-clause-named : goal.returns-clause-named
 returns-clause-named c =
     let piece = c.index-pieces-index.result in
     let here = get_or_default c.args.pieces.now c.args.index piece no_piece c.requires.within in
-    named_more c.args.pieces.now c.args.index c.args.names.now.keys c.name_number.new.names.keys c.args.numbers.now c.in_ok-number.number c.requires.so_far c.in_ok-number.ensures.kept (omega (arith, c.in_ok-number.ensures.few, c.requires.so_far.few))
+    named_more c.args.pieces.now c.args.index c.args.names.now.keys c.name_number.new.names.keys c.args.numbers.now c.in_ok-number.number c.requires.so_far c.in_ok-number.ensures.kept (omega (arith, c.in_ok-number.ensures.few, c.requires.so_far.few)) (c.in_ok-number.ensures.distinct c.requires.so_far.distinct)
     (c.in_ok-number.ensures.named ∙ ap (λ (p : Piece). Some p.name) here)

@@ -8,4 +8,4 @@ pub returns-then-goes_with_its_like-clause-there : goal.returns-then-goes_with_i
 returns-then-goes_with_its_like-clause-there c =
     let input = input_of c.args.parts.now in
     let used : IsTrue (is_used input c.args.index) = used_at input c.args.index c.requires.within ∙ search rules in
-    number_again input c.args.homes.now.keys c.args.index c.args.numbers.now _ c.requires.so_far (c.goes_with_its_like.ensures c.if-goes_with_its_like.true) used refl
+    number_again input c.args.homes.now.keys c.args.index c.args.numbers.now _ c.requires.so_far (c.goes_with_its_like.ensures.goes c.if-goes_with_its_like.true) used refl
