@@ -1,22 +1,26 @@
 -- The keys of pieces order the pieces.
-use Rattle.std.proofs.Common.{◌≡◌, ◌≢◌, ℕ, ◌<◌, Bool, true, false, eqb, eq-eqb, IsTrue, List, [], ◌∷◌, length, get_or, map, refl, sym, ap, ◌∙◌, subst, arith, rules}
+use Rattle.std.proofs.Common.{◌≡◌, ◌≢◌, ℕ, ◌+◌, ◌-◌, ◌<◌, ◌≤◌, Bool, true, false, not, if◌then◌else◌, inl, inr, eqb, eq-eqb, IsTrue, List, [], ◌∷◌, length, get_or, map, refl, sym, ap, ◌∙◌, subst, arith, rules}
 use Rattle.std.specs.List.{All, AllPairs, IsDistinct}
 use Rattle.std.specs.List.Sorted.{IsSorted, IsPermutation}
-use Rattle.std.specs.Ordering.{is_lt, nat_cmp, bool_cmp}
-use Rattle.std.specs.Cmp.{IsTotalOrder}
+use Rattle.std.specs.Ordering.{is_lt, nat_cmp, bool_cmp, ordering_then}
+use Rattle.std.specs.Cmp.{IsTotalOrder, tied_itself}
 use Rattle.std.specs.Cmp.Lexicographic.{slice_cmp}
 use Rattle.std.specs.Cmp.Rules.{comparing}
+use Rattle.std.specs.declared.cmp.Ordering.{Ordering}
 use Rattle.std.specs.declared.cmp.Ordering.TheVariants.{Equal}
-use Rattle.std.proofs.lemmas.Bool.{false≢true, eqb-true}
-use Rattle.std.proofs.lemmas.List.{length-map}
+use Rattle.std.proofs.lemmas.Bool.{false≢true, eqb-true, cases_lt}
+use Rattle.std.proofs.lemmas.Cmp.{nat_list_cmp_total}
+use Rattle.std.proofs.lemmas.List.{length-map, get_or_default}
 use Rattle.std.proofs.lemmas.List.Elements.{All-map}
 use Rattle.std.proofs.lemmas.List.Sorted.{All-permutation, IsPermutation-map}
 use Rattle.std.proofs.lemmas.Map.Keys.{apart_from_distinct, IsDistinct-IsPermutation}
 use Rattle.std.proofs.Math.ListN.{get_or-map}
 use Rattle.section_group.specs.declared.key.PieceKey.{PieceKey}
-use Rattle.section_group.specs.SectionOrder.{Input, inside_cmp}
-use Rattle.section_group.specs.Keys.{piece_key, key_cmp}
-use Rattle.section_group.proofs.OrderLemmas.{ascends, then_level, level_numbers}
+use Rattle.section_group.specs.SectionOrder.{Input, piece_at, place_cmp, inside_cmp}
+use Rattle.section_group.specs.Keys.{piece_key, key_cmp, AscendUpTo}
+use Rattle.section_group.specs.declared.cut.Cut.{Cut}
+use Rattle.section_group.specs.Steps.{piece_cut}
+use Rattle.section_group.proofs.OrderLemmas.{ascends, before_trans, then_level, level_numbers}
 
 pub key_total : IsTotalOrder key_cmp
 key_total = search (comparing, rules) depth 12
@@ -92,3 +96,45 @@ ordered_ascends input members ordered keys sorted is_keys moved rises is_ordered
         let differ = apart_from_distinct eqb ordered i j d.index distinct_after lt in' in
         let read = λ (n : ℕ). ap (λ (xs : List ℕ). get_or xs n d.index) is_ordered ∙ get_or-map index sorted n d in
         false≢true (sym differ ∙ eq-eqb _ _ (read i ∙ level_keys (get_or sorted i d) (get_or sorted j d) level ∙ sym (read j)))
+
+-- ---- pieces that stand in order
+
+pub inside_total : (input : Input) → IsTotalOrder (inside_cmp input)
+inside_total input = search (comparing, rules) depth 12
+
+then_tied : (r s : Ordering) → r ≡ Equal → is_lt s ≡ true → is_lt (ordering_then r s) ≡ true
+then_tied r s tied less = ap (λ (t : Ordering). is_lt (ordering_then t s)) tied ∙ less
+
+tied_bools : (a b : Bool) → a ≡ b → bool_cmp a b ≡ Equal
+tied_bools true b e = ap (bool_cmp true) (sym e)
+tied_bools false b e = ap (bool_cmp false) (sym e)
+
+tied_names : (m n : List ℕ) → m ≡ n → slice_cmp nat_cmp m n ≡ Equal
+tied_names m n e = ap (slice_cmp nat_cmp m) (sym e) ∙ tied_itself nat_list_cmp_total m
+
+-- pieces of one cut, both initialised or neither, stand in the order of their places
+pub behind : (input : Input) (j k : ℕ) → piece_cut input j ≡ piece_cut input k → (piece_at input j).init ≡ (piece_at input k).init → is_lt (place_cmp input j k) ≡ true → IsTrue (is_lt (inside_cmp input j k))
+behind input j k cut init before =
+    then_tied _ _ (tied_bools _ _ (ap not init))
+    (then_tied _ _ (tied_bools _ _ (ap (λ (c : Cut). c.merged) cut))
+    (then_tied _ _ (tied_names _ _ (ap (λ (c : Cut). if c.merged then c.base else []) cut))
+    (then_tied _ _ (tied_names _ _ (ap (λ (c : Cut). c.suffix) cut)) before)))
+
+-- one more piece that comes behind the last so far comes behind them all
+pub ascend_more : (input : Input) (members : List ℕ) (n : ℕ) → AscendUpTo input members n → 0 < n → n < length members → IsTrue (is_lt (inside_cmp input (get_or members (n - 1) 0) (get_or members n 0))) → AscendUpTo input members (n + 1)
+ascend_more input members n so_far above within next = λ i j lt last. elim (cases_lt j n) [
+  | inl below ↦ so_far i j lt below
+  | inr late ↦
+      let here : n ≡ j = omega arith in
+      subst (λ (m : ℕ). IsTrue (is_lt (inside_cmp input (get_or members i 0) (get_or members m 0)))) here (elim (cases_lt i (n - 1)) [
+        | inl early ↦ before_trans (inside_total input) _ _ _ (so_far i (n - 1) early (omega (arith, above))) next
+        | inr close ↦
+            let last : n - 1 ≡ i = omega arith in
+            subst (λ (m : ℕ). IsTrue (is_lt (inside_cmp input (get_or members m 0) (get_or members n 0)))) last next
+      ])
+]
+
+pub ascend_all : (input : Input) (members : List ℕ) (n : ℕ) → AscendUpTo input members n → length members ≤ n → AllPairs (λ j k. IsTrue (is_lt (inside_cmp input j k))) members
+ascend_all input members n so_far all = λ i j d lt within.
+    subst (λ (m : ℕ). IsTrue (is_lt (inside_cmp input m (get_or members j d)))) (get_or_default members i 0 d (omega arith))
+    (subst (λ (m : ℕ). IsTrue (is_lt (inside_cmp input (get_or members i 0) m))) (get_or_default members j 0 d within) (so_far i j lt (omega arith)))

@@ -14,25 +14,15 @@ use Rattle.section_group.specs.Placement.{goes_to, section_attributes}
 use Rattle.section_group.specs.Gathering.{home_of, has_number, IsNumberOf, AreNumbers, members_of, AreMembers}
 use Rattle.section_group.specs.Sections.{Gathers, home_at, pieces_at, same_home}
 use Rattle.section_group.proofs.ChainLemmas.{same_is, same_refl}
-use Rattle.section_group.proofs.PartLemmas.{used_within}
+use Rattle.section_group.proofs.PartLemmas.{used_within, told_within}
 use Rattle.section_group.proofs.SectionLemmas.{pieces_read}
 use Rattle.link_base.proofs.RangeLemmas.{Passes, range_passes, range_has, range_distinct}
-
-there_within : (homes : List Home) (number : ℕ) (home : Home) → slice_get homes number ≡ Some home → number < length homes
-there_within homes number home e =
-    elim (slice_get_cases homes number).1 [
-      | inl there ↦ there.1
-      | inr past ↦ absurd (not_some (sym past.1 ∙ e))
-    ]
-  where
-    not_some : None ≡ Some home → ⊥
-    not_some h = cc
 
 -- the number of a piece is that of a section
 pub numbers_within : (input : Input) (homes : List Home) (count : ℕ) (numbers : List (Option ℕ)) → AreNumbers input homes count numbers → (k number : ℕ) → get_or numbers k None ≡ Some number → number < length homes
 numbers_within input homes count numbers are k number e =
     elim (cases_lt k count) [
-      | inl lt ↦ there_within homes number (home_of input k) (subst (IsNumberOf input homes k) e (are.each k lt)).1
+      | inl lt ↦ told_within homes number (home_of input k) (subst (IsNumberOf input homes k) e (are.each k lt)).1
       | inr past ↦ absurd (not_some (sym (get_or_past numbers k None (omega (arith, are.same_length))) ∙ e))
     ]
   where
@@ -116,7 +106,7 @@ gathers input homes numbers members numbered given distinct = record {
     back_by : (section k : ℕ) → section < length homes → home_of input k ≡ home_at homes section → is_used input k ≡ true → (o : Option ℕ) → get_or numbers k None ≡ o → IsNumberOf input homes k o → Contains (pieces_at members section) k
     back_by section k lt home used None e told = absurd (false≢true (sym told ∙ used))
     back_by section k lt home used (Some number) e told =
-        let same = homes_apart homes number section distinct (there_within homes number (home_of input k) told.1) lt (home_here number (home_of input k) told.1 ∙ home) in
+        let same = homes_apart homes number section distinct (told_within homes number (home_of input k) told.1) lt (home_here number (home_of input k) told.1 ∙ home) in
         listed section k lt (e ∙ ap Some same) (used_within input k used)
 
     back : (section k : ℕ) → section < length homes → goes_to input (home_at homes section).name (home_at homes section).attributes k ≡ true → Contains (pieces_at members section) k
@@ -130,5 +120,5 @@ gathers input homes numbers members numbered given distinct = record {
     complete : (k : ℕ) → is_used input k ≡ true → (o : Option ℕ) → get_or numbers k None ≡ o → IsNumberOf input homes k o → (section : ℕ) × (section < length homes) × Contains (pieces_at members section) k
     complete k used None e told = absurd (false≢true (sym told ∙ used))
     complete k used (Some number) e told =
-        let lt = there_within homes number (home_of input k) told.1 in
+        let lt = told_within homes number (home_of input k) told.1 in
         (number, lt, listed number k lt e (used_within input k used))

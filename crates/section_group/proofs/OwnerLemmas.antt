@@ -145,6 +145,17 @@ owner_taken input i name base old new is_base used first after earlier =
     go false e =
         first_extends input i name (old name) (first name) (and_false (is_used input i) (same_name (base_name (piece_at input i).name) name) (λ u. sym owns ∙ e))
 
+-- the map after a piece that does not come before the owner of its base name
+pub owner_stays : (input : Input) (i : ℕ) (name : List ℕ) (old : List ℕ → Option ℕ) → ((name : List ℕ) → IsFirstUpTo input i name (old name)) → option_map_or (λ first. is_lt (place_cmp input i first)) (old (base_name (piece_at input i).name)) true ≡ false → IsFirstUpTo input (i + 1) name (old name)
+owner_stays input i name old first later = go (same_name (base_name (piece_at input i).name) name) refl
+  where
+    go : (b : Bool) → same_name (base_name (piece_at input i).name) name ≡ b → IsFirstUpTo input (i + 1) name (old name)
+    go true e =
+        let here : base_name (piece_at input i).name ≡ name = same_is (base_name (piece_at input i).name) name e in
+        first_stays input i name (old name) (first name) (ap (λ (n : List ℕ). option_map_or (λ first. is_lt (place_cmp input i first)) (old n) true) (sym here) ∙ later)
+    go false e =
+        first_extends input i name (old name) (first name) (and_false (is_used input i) (same_name (base_name (piece_at input i).name) name) (λ used. e))
+
 pub owner_unused : (input : Input) (i : ℕ) (name : List ℕ) (o : Option ℕ) → is_used input i ≡ false → IsFirstUpTo input i name o → IsFirstUpTo input (i + 1) name o
 owner_unused input i name o unused first =
     first_extends input i name o first (and_false (is_used input i) (same_name (base_name (piece_at input i).name) name) (λ used. absurd (false≢true (sym unused ∙ used))))

@@ -9,6 +9,7 @@ use Rattle.std.proofs.lemmas.Bool.{false≢true, eqb-true, and_parts}
 use Rattle.std.proofs.lemmas.List.{get_or_default, length-map}
 use Rattle.std.proofs.lemmas.Option.{slice_get_cases}
 use Rattle.std.proofs.Math.ListN.{get_or-map}
+use Rattle.section_group.proofs.KeyLemmas.{inside_total}
 use Rattle.section_group.specs.declared.piece.OutSection.{OutSection}
 use Rattle.section_group.specs.Merging.{same_name}
 use Rattle.section_group.specs.SectionOrder.{Input, is_used, section_name, place_cmp, inside_cmp, rank_of, IsFirstPiece, ComesBefore}
@@ -63,9 +64,6 @@ module _ {X : Type 0} (B : X → X → Type 0) (asym : (x y : X) → B x y → B
           ]
 
 -- ---- sections
-
-inside_total : (input : Input) → IsTotalOrder (inside_cmp input)
-inside_total input = search (comparing, rules) depth 12
 
 -- a piece that two sections share shows that they are one
 shared : (input : Input) (s t : OutSection) (k : ℕ) → IsSection input s → IsSection input t → Contains s.pieces.items k → Contains t.pieces.items k → row_of s ≡ row_of t

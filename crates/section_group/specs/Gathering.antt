@@ -40,6 +40,10 @@ abbrev pub IsNumberOf : Input → List Home → ℕ → Option ℕ → Type 0
 IsNumberOf input homes k None = is_used input k ≡ false
 IsNumberOf input homes k (Some number) = IsTrue (is_used input k) × (slice_get homes number ≡ Some (home_of input k))
 
+-- the piece before is used and goes to the same section
+abbrev pub GoesWithItsLike : Input → ℕ → Type 0
+GoesWithItsLike input k = (0 < k) × IsTrue (is_used input (k - 1)) × (home_of input k ≡ home_of input (k - 1))
+
 -- the first pieces have the numbers of their sections
 pub record AreNumbers (input : Input) (homes : List Home) (count : ℕ) (numbers : List (Option ℕ)) : Type 0 where
   pub same_length : length numbers ≡ count

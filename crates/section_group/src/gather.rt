@@ -3,12 +3,14 @@
 ghost use Rattle.std.specs.Prelude.{◌≡◌, ℕ, ◌<◌, ◌^◌, IsTrue, length, slice_get, slice_index_or, Some, None, OnOk, IfOk, []};
 ghost use Rattle.std.specs.List.{IsDistinct};
 ghost use Rattle.section_group.specs.Sections.{same_home};
-ghost use Rattle.section_group.specs.Gathering.{input_of, home_of, AreOwners, AreNumbers, IsNumberOf, KeepsHomes, AreMembers};
+ghost use Rattle.section_group.specs.Steps.{HasItsLike};
+ghost use Rattle.section_group.specs.Gathering.{input_of, home_of, AreOwners, AreNumbers, IsNumberOf, GoesWithItsLike, KeepsHomes, AreMembers};
 
 use crate::homes::Home;
 use crate::owners::attributes;
 use crate::parts::Parts;
 use indexmap::{IndexMap, IndexSet};
+use link_base::pe_format::SCN_MEM_ATTRIBUTES;
 use link_base::{Memory, Name};
 use std::alloc::Global;
 
@@ -24,44 +26,58 @@ pub(crate) fn number_pieces<'a>(
 {
     let mut homes = IndexSet::new(alloc);
     let mut numbers = Vec::with_capacity(alloc, parts.pieces.len())?;
-    let mut last = 0;
     for index in 0..parts.pieces.len() {
-        let number = piece_number(&mut homes, parts, owners, index, last)?;
-        last = number.unwrap_or(last);
+        let number = piece_number(&mut homes, &numbers, parts, owners, index)?;
         numbers.push(number)?;
     }
     Ok((homes, numbers))
 }
 
-/// The number of a piece's section, where the piece is used. `last` is that of a piece before it.
+/// The number of a piece's section, where the piece is used: that of the piece before it, where the two are seen to go to
+/// one section, which spares a search.
 fn piece_number<'a>(
     homes: &mut IndexSet<Home<'a>>,
+    numbers: &[Option<usize>],
     parts: &Parts<'_, 'a>,
     owners: &IndexMap<Name<'a>, usize>,
     index: usize,
-    last: usize,
 ) -> Result<Option<usize>, Memory>
     requires within { index < length parts.now.pieces.now }
     requires owners { AreOwners (input_of parts.now) owners.now.entries }
+    requires so_far { AreNumbers (input_of parts.now) homes.old.keys index numbers.now }
     ensures there { IfOk result (IsNumberOf (input_of parts.now) homes.new.keys index) }
     ensures kept { OnOk result (KeepsHomes homes.old.keys homes.new.keys) }
     ensures distinct { OnOk result (IsDistinct same_home homes.old.keys → IsDistinct same_home homes.new.keys) }
 {
-    if parts.used[index] {
-        let number = home_number(homes, parts, owners, index, last)?;
-        return Ok(Some(number));
+    if !parts.used[index] {
+        return Ok(None);
     }
-    Ok(None)
+    if goes_with_its_like(parts, index) {
+        return Ok(numbers[index - 1]);
+    }
+    let number = home_number(homes, parts, owners, index)?;
+    Ok(Some(number))
 }
 
-/// The number of a used piece's section, which is a new one where the section has none. That of a piece before it,
-/// `last`, is tried first, which spares a search.
+/// Whether the piece before it is used and has its name and its attributes: then they go to one section.
+fn goes_with_its_like(parts: &Parts<'_, '_>, index: usize) -> bool
+    requires { index < length parts.now.pieces.now }
+    ensures goes { IsTrue result → GoesWithItsLike (input_of parts.now) index }
+    ensures found { HasItsLike (input_of parts.now) index → IsTrue result }
+{
+    if index == 0 || !parts.used[index - 1] || !parts.share_name(index - 1, index) {
+        return false;
+    }
+    let before = parts.pieces[index - 1].flags & SCN_MEM_ATTRIBUTES;
+    before == parts.pieces[index].flags & SCN_MEM_ATTRIBUTES
+}
+
+/// The number of a used piece's section, which is a new one where the section has none.
 fn home_number<'a>(
     homes: &mut IndexSet<Home<'a>>,
     parts: &Parts<'_, 'a>,
     owners: &IndexMap<Name<'a>, usize>,
     index: usize,
-    last: usize,
 ) -> Result<usize, Memory>
     requires within { index < length parts.now.pieces.now }
     requires owners { AreOwners (input_of parts.now) owners.now.entries }
@@ -70,24 +86,11 @@ fn home_number<'a>(
     ensures distinct { OnOk result (IsDistinct same_home homes.old.keys → IsDistinct same_home homes.new.keys) }
 {
     let home = Home {
-        name: parts.cuts[index].section.again(),
+        name: parts.cut(index).section.again(),
         attributes: attributes(parts, owners, index),
     };
-    if stands_at(homes, last, &home) {
-        return Ok(last);
-    }
     let (number, _) = homes.insert_full(home)?;
     Ok(number)
-}
-
-/// Whether the section of a number is this one.
-fn stands_at<'a>(homes: &IndexSet<Home<'a>>, number: usize, home: &Home<'a>) -> bool
-    ensures { IsTrue result → slice_get homes.now.keys number ≡ Some home.now }
-{
-    match homes.get_index(number) {
-        Some(other) => other == home,
-        None => false,
-    }
 }
 
 /// The pieces of each number, in their order.

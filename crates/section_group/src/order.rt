@@ -1,13 +1,15 @@
-//! The order of the pieces inside a section: one sort of keys.
+//! The order of the pieces inside a section: one sort of keys, where they do not stand in order.
 
-ghost use Rattle.std.specs.Prelude.{◌≡◌, ◌<◌, ◌==◌, ℕ, IfOk, OnOk, IsTrue, IsPermutation, IsSorted, All, AllPairs, length, map};
+ghost use Rattle.std.specs.Prelude.{◌≡◌, ◌<◌, ◌-◌, ◌==◌, ℕ, IfOk, IsTrue, IsPermutation, IsSorted, All, AllPairs, length, map, slice_index};
 ghost use Rattle.std.specs.List.{IsDistinct};
 ghost use Rattle.std.specs.Ordering.{is_lt};
 ghost use Rattle.section_group.specs.SectionOrder.{inside_cmp};
 ghost use Rattle.section_group.specs.Gathering.{input_of};
+ghost use Rattle.section_group.specs.Steps.{ComesBehind};
 ghost use Rattle.section_group.specs.Keys.{piece_key, key_cmp, IsWithin};
 
 use crate::key::PieceKey;
+use crate::owners::precedes;
 use crate::parts::Parts;
 use link_base::{Memory, Name};
 use std::alloc::Global;
@@ -23,8 +25,50 @@ pub(crate) fn order_pieces(
     ensures permutation { IfOk result (λ ordered. IsPermutation members.now ordered.items) }
     ensures ascending { IfOk result (λ ordered. AllPairs (λ j k. IsTrue (is_lt (inside_cmp (input_of parts.now) j k))) ordered.items) }
 {
+    if ascend(parts, members) {
+        return Ok(Vec::from_slice(alloc, members)?);
+    }
+    sort_pieces(alloc, parts, members)
+}
+
+/// Whether each piece comes behind the one before it: then they stand in order already.
+fn ascend(parts: &Parts<'_, '_>, members: &[u32]) -> bool
+    requires { All (IsWithin (length parts.now.pieces.now)) members.now }
+    ensures ascending { IsTrue result → AllPairs (λ j k. IsTrue (is_lt (inside_cmp (input_of parts.now) j k))) members.now }
+    ensures found { ((at : ℕ) → 0 < at → at < length members.now → ComesBehind (input_of parts.now) (slice_index members.now at) (slice_index members.now (at - 1))) → IsTrue result }
+{
+    for at in 1..members.len() {
+        if !comes_behind(parts, members[at], members[at - 1]) {
+            return false;
+        }
+    }
+    true
+}
+
+/// Whether a piece has the name of another, is initialised as it is, and comes behind it.
+fn comes_behind(parts: &Parts<'_, '_>, index: u32, other: u32) -> bool
+    requires index { index < length parts.now.pieces.now }
+    requires other { other < length parts.now.pieces.now }
+    ensures behind { IsTrue result → IsTrue (is_lt (inside_cmp (input_of parts.now) other index)) }
+    ensures found { ComesBehind (input_of parts.now) index other → IsTrue result }
+{
+    let (index, other) = (index as usize, other as usize);
+    let (piece, before) = (&parts.pieces[index], &parts.pieces[other]);
+    if !parts.share_name(other, index) || before.init != piece.init {
+        return false;
+    }
+    precedes(parts, other, index)
+}
+
+/// The pieces in order, by a sort of their keys.
+fn sort_pieces(alloc: Global, parts: &Parts<'_, '_>, members: &[u32]) -> Result<Vec<u32>, Memory>
+    requires within { All (IsWithin (length parts.now.pieces.now)) members.now }
+    requires distinct { IsDistinct (λ j k. j == k) members.now }
+    ensures permutation { IfOk result (λ ordered. IsPermutation members.now ordered.items) }
+    ensures ascending { IfOk result (λ ordered. AllPairs (λ j k. IsTrue (is_lt (inside_cmp (input_of parts.now) j k))) ordered.items) }
+{
     let mut keys = keys_of(alloc, parts, members)?;
-    sort_keys(&mut keys)?;
+    sort_keys(&mut keys);
     indexes_of(alloc, &keys)
 }
 
@@ -60,12 +104,11 @@ fn key_of<'a>(parts: &Parts<'_, 'a>, index: u32) -> PieceKey<'a>
     ensures { result ≡ piece_key (input_of parts.now) index }
 {
     let piece = &parts.pieces[index as usize];
-    let cut = &parts.cuts[index as usize];
-    let merged = cut.base != cut.section;
+    let cut = parts.cut(index as usize);
     PieceKey {
         uninitialised: !piece.init,
-        merged,
-        merged_name: if merged {
+        merged: cut.merged,
+        merged_name: if cut.merged {
             cut.base.again()
         } else {
             Name::of(b"")
@@ -77,10 +120,10 @@ fn key_of<'a>(parts: &Parts<'_, 'a>, index: u32) -> PieceKey<'a>
     }
 }
 
-fn sort_keys(keys: &mut Vec<PieceKey<'_>>) -> Result<(), Memory>
-    ensures permutation { OnOk result (IsPermutation keys.old.items keys.new.items) }
-    ensures sorted { OnOk result (IsSorted key_cmp keys.new.items) }
+/// Sorts keys in place. No two are level, since each has the index of its piece.
+fn sort_keys(keys: &mut Vec<PieceKey<'_>>)
+    ensures permutation { IsPermutation keys.old.items keys.new.items }
+    ensures sorted { IsSorted key_cmp keys.new.items }
 {
-    keys.sort()?;
-    Ok(())
+    keys.sort_unstable();
 }

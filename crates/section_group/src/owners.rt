@@ -7,6 +7,7 @@ ghost use Rattle.indexmap.specs.IndexMap.{get};
 ghost use Rattle.section_group.specs.SectionOrder.{is_used, place_cmp, base_name, piece_at};
 ghost use Rattle.section_group.specs.Placement.{section_attributes, deciding_piece};
 ghost use Rattle.section_group.specs.Merging.{same_name};
+ghost use Rattle.section_group.specs.Steps.{FollowsItsLike};
 ghost use Rattle.section_group.specs.Gathering.{input_of, AreOwners, IsFirstUpTo, FollowsAnOwner};
 
 use crate::parts::Parts;
@@ -55,22 +56,23 @@ fn take_owner<'a>(
     if follows_its_like(parts, index) {
         return Ok(());
     }
-    let base = &parts.cuts[index].base;
+    let base = &parts.cut(index).base;
     if is_first(owners, parts, index) {
         owners.insert(base.again(), index)?;
     }
     Ok(())
 }
 
-/// Whether the piece before it is used, has its base name and comes before it: then it is not the first of that name.
+/// Whether the piece before it is used, has its name and comes before it: then it is not the first of its base name.
 fn follows_its_like(parts: &Parts<'_, '_>, index: usize) -> bool
     requires { index < length parts.now.pieces.now }
-    ensures { IsTrue result → FollowsAnOwner (input_of parts.now) index }
+    ensures follows { IsTrue result → FollowsAnOwner (input_of parts.now) index }
+    ensures found { FollowsItsLike (input_of parts.now) index → IsTrue result }
 {
     if index == 0 || !parts.used[index - 1] {
         return false;
     }
-    if parts.cuts[index - 1].base != parts.cuts[index].base {
+    if !parts.share_name(index - 1, index) {
         return false;
     }
     precedes(parts, index - 1, index)
@@ -83,7 +85,7 @@ fn is_first<'a>(owners: &IndexMap<Name<'a>, usize>, parts: &Parts<'_, 'a>, index
     ensures { result ≡ option_map_or (λ first. is_lt (place_cmp (input_of parts.now) index first))
         (get same_name owners.now (base_name (piece_at (input_of parts.now) index).name)) true }
 {
-    match owners.get(&parts.cuts[index].base) {
+    match owners.get(&parts.cut(index).base) {
         Some(first) => precedes(parts, index, *first),
         None => true,
     }
@@ -115,8 +117,8 @@ fn deciding_piece<'a>(
     ensures piece { result ≡ deciding_piece (input_of parts.now) index }
     ensures within { result < length parts.now.pieces.now }
 {
-    let cut = &parts.cuts[index];
-    if cut.base == cut.section && cut.section != Name::of(b".pdata") {
+    let cut = parts.cut(index);
+    if !cut.follows_owner {
         return index;
     }
     match owners.get(&cut.section) {

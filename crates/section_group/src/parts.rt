@@ -1,8 +1,8 @@
 //! What is put into sections, with each piece's name cut.
 
-ghost use Rattle.std.specs.Prelude.{◌≡◌, ◌≤◌, ◌^◌, ◌<◌, length, IfOk, OnOk, IfErr};
+ghost use Rattle.std.specs.Prelude.{◌≡◌, ◌≤◌, ◌^◌, ◌<◌, IsTrue, length, IfOk, OnOk, IfErr};
 ghost use Rattle.section_group.specs.Merging.{HasNoBadMerge, IsRefusal};
-ghost use Rattle.section_group.specs.Steps.{AreCuts};
+ghost use Rattle.section_group.specs.Steps.{AreCuts, piece_cut, share_name};
 ghost use Rattle.section_group.specs.SectionOrder.{input_from};
 
 use crate::bad_merge::resolve;
@@ -17,10 +17,12 @@ pub(crate) struct Parts<'w, 'a> {
     pub pieces: &'w [Piece<'a>],
     pub used: &'w [bool],
     pub merges: &'w [(Name<'a>, Name<'a>)],
-    pub cuts: Vec<Cut<'a>>,
+    cuts: Vec<Cut<'a>>,
+    /// The number of each piece's cut.
+    numbers: Vec<u32>,
     ghost few: { length pieces.now < 2 ^ 32 },
     ghost all_told: { length pieces.now ≤ length used.now },
-    ghost cut: { AreCuts (input_from pieces.now used.now merges.now) cuts.items },
+    ghost cut: { AreCuts (input_from pieces.now used.now merges.now) cuts.items numbers.items },
 }
 
 impl<'w, 'a> Parts<'w, 'a> {
@@ -40,12 +42,32 @@ impl<'w, 'a> Parts<'w, 'a> {
         ensures merges { IfOk result (λ parts. parts.merges.now ≡ merges.now) }
     {
         let renames = resolve(alloc, merges)?;
-        let cuts = cut_all(alloc, pieces, &renames)?;
+        let (cuts, numbers) = cut_all(alloc, pieces, &renames)?;
         Ok(Parts {
             pieces,
             used,
             merges,
             cuts,
+            numbers,
         })
+    }
+
+    /// A piece's name, cut.
+    pub(crate) fn cut(&self, index: usize) -> &Cut<'a>
+        requires { index < length self.now.pieces.now }
+        ensures { result.now ≡ piece_cut (input_from self.now.pieces.now self.now.used.now self.now.merges.now) index }
+    {
+        &self.cuts[self.numbers[index] as usize]
+    }
+
+    /// Whether two pieces have one name, and so one cut.
+    pub(crate) fn share_name(&self, index: usize, other: usize) -> bool
+        requires index { index < length self.now.pieces.now }
+        requires other { other < length self.now.pieces.now }
+        ensures name { result ≡ share_name (input_from self.now.pieces.now self.now.used.now self.now.merges.now) index other }
+        ensures cut { IsTrue result → piece_cut (input_from self.now.pieces.now self.now.used.now self.now.merges.now) index
+            ≡ piece_cut (input_from self.now.pieces.now self.now.used.now self.now.merges.now) other }
+    {
+        self.numbers[index] == self.numbers[other]
     }
 }

@@ -1,6 +1,6 @@
 //! The sections in order, each with its pieces in order.
 
-ghost use Rattle.std.specs.Prelude.{◌≡◌, ◌<◌, ◌&&◌, ◌==◌, ℕ, List, true, length, IfOk, OnOk, IsPermutation, IsSorted, slice_index_or, slice_get, Some};
+ghost use Rattle.std.specs.Prelude.{◌≡◌, ◌<◌, ◌&&◌, ◌==◌, ℕ, List, true, length, IfOk, IsPermutation, IsSorted, slice_index_or, slice_get, Some};
 ghost use Rattle.std.specs.List.{All};
 ghost use Rattle.section_group.specs.SectionOrder.{rank_of};
 ghost use Rattle.section_group.specs.Gathering.{input_of};
@@ -73,7 +73,7 @@ fn order_sections<'a>(
             keys.push(section_key(parts, homes, members, section))?;
         }
     }
-    sort_keys(&mut keys)?;
+    sort_keys(&mut keys);
     Ok(keys)
 }
 
@@ -108,12 +108,12 @@ fn pieces_of(members: &[Vec<u32>], section: usize) -> &[u32]
     &members[section]
 }
 
-fn sort_keys(keys: &mut Vec<SectionKey>) -> Result<(), Memory>
-    ensures permutation { OnOk result (IsPermutation keys.old.items keys.new.items) }
-    ensures sorted { OnOk result (IsSorted section_cmp keys.new.items) }
+/// Sorts keys in place. No two are level, since each has the number of its section.
+fn sort_keys(keys: &mut Vec<SectionKey>)
+    ensures permutation { IsPermutation keys.old.items keys.new.items }
+    ensures sorted { IsSorted section_cmp keys.new.items }
 {
-    keys.sort()?;
-    Ok(())
+    keys.sort_unstable();
 }
 
 /// The rank of a section by its name.

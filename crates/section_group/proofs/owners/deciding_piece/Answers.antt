@@ -5,5 +5,5 @@ use Rattle.section_group.proofs.owners.deciding_piece.Goals as goal
 
 pub returns-in-Some-clause-within : goal.returns-in-Some-clause-within
 returns-in-Some-clause-within c =
-    let name = c.index-cut.result.now.section in
+    let name = c.cut-cut.result.now.section in
     owner_within (input_of c.args.parts.now) name c.in-Some.owner.now (sym (c.requires.owners name) ∙ sym c.in-Some.ensures.value)

@@ -43,4 +43,4 @@ pub returns : goal.returns
 returns c =
     let input = input_of c.args.parts.now in
     let all : length c.args.homes.now.keys ≤ c.loop-section.section = omega (arith, c.requires.same_length) in
-    keys_ordered input c.args.homes.now.keys c.args.members.now c.loop-section.section c.loop-section.keys.items c.sort_keys.new.keys.items c.loop-section.invariant all c.in_ok-sort_keys.ensures.permutation c.in_ok-sort_keys.ensures.sorted
+    keys_ordered input c.args.homes.now.keys c.args.members.now c.loop-section.section c.loop-section.keys.items c.sort_keys.new.keys.items c.loop-section.invariant all c.sort_keys.ensures.permutation c.sort_keys.ensures.sorted

@@ -9,5 +9,5 @@ invariant_of-result c =
     record {
       few = c.requires.few;
       all_told = c.requires.all_told;
-      cut = cuts_are c.args.pieces.now c.args.used.now c.args.merges.now (led_by (keys r.targets) r.ends.items) c.in_ok-cuts.cuts.items c.in_ok-cuts.ensures c.in_ok-renames.ensures.leads;
+      cut = cuts_are c.args.pieces.now c.args.used.now c.args.merges.now (led_by (keys r.targets) r.ends.items) c.in_ok-cuts.cuts.items c.in_ok-cuts.numbers.items c.in_ok-cuts.ensures c.in_ok-renames.ensures.leads;
     }
