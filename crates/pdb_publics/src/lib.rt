@@ -7,6 +7,7 @@
 
 mod finding;
 mod format;
+mod fronts;
 mod hash_part;
 mod hashing;
 mod keys;
