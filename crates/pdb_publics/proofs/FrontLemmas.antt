@@ -14,10 +14,11 @@ use Rattle.std.proofs.lemmas.List.Sorted.{IsPermutation-map, All-permutation}
 use Rattle.pdb_publics.specs.declared.fronts.Fronted.{Fronted}
 use Rattle.pdb_publics.specs.declared.rows.PublicRow.{PublicRow}
 use Rattle.pdb_publics.specs.declared.keys.HashKey.{HashKey}
-use Rattle.pdb_publics.specs.PublicOrder.{row_cmp, hash_cmp, hash_keys, in_order, by_name, by_hash}
-use Rattle.pdb_publics.specs.Fronts.{text_front, IsTextFront, IsRowFront, name_front, IsHashFront, fronted_cmp}
+use Rattle.pdb_publics.specs.declared.keys.PlaceKey.{PlaceKey}
+use Rattle.pdb_publics.specs.PublicOrder.{row_cmp, hash_cmp, place_cmp, hash_keys, place_keys, in_order, by_name, by_hash, by_place}
+use Rattle.pdb_publics.specs.Fronts.{text_front, IsTextFront, IsRowFront, name_front, IsHashFront, IsPlaceFront, fronted_cmp}
 use Rattle.pdb_publics.proofs.SortLemmas.{sorted_cons, sorted_first, sorted_tail, is_in_order}
-use Rattle.pdb_publics.proofs.KeyLemmas.{row_total, one_row, hash_total, one_hash_key}
+use Rattle.pdb_publics.proofs.KeyLemmas.{row_total, one_row, hash_total, one_hash_key, place_total, one_place_key}
 
 -- ---- the number of the first bytes of a text
 
@@ -181,6 +182,14 @@ less_hash_key a b m n left right lt =
       | inr (inr more) ↦ absurd (omega (arith, is, is', more, fits, fits', lt))
     ]
 
+pub less_place_key : (a b : PlaceKey) (m n : ℕ) → IsPlaceFront a m → IsPlaceFront b n → m < n → place_cmp a b ≡ Less
+less_place_key a b m n left right lt =
+    elim (cases_order a.section b.section) [
+      | inl same ↦ then_next (nat_cmp a.section b.section) _ (equal_number a.section b.section same) (then_less (nat_cmp a.offset b.offset) _ (less_number a.offset b.offset (omega (arith, left.is, right.is, same, lt))))
+      | inr (inl less) ↦ then_less (nat_cmp a.section b.section) _ (less_number a.section b.section less)
+      | inr (inr more) ↦ absurd (omega (arith, left.is, right.is, left.small, more, lt))
+    ]
+
 -- ---- items behind their numbers
 
 module _ {X : Type 0} (R : X → X → Ordering) (o : IsTotalOrder R) (F : X → ℕ → Type 0) (ascends : (a b : X) (m n : ℕ) → F a m → F b n → m < n → R a b ≡ Less) where
@@ -229,3 +238,9 @@ pub hash_keys_sorted : (rows : List PublicRow) (keys taken : List HashKey) (give
     → taken ≡ map (λ key. key.item.now) sorted → taken ≡ by_hash rows
 hash_keys_sorted rows keys taken given sorted made are each moved up is =
     items_in_order hash_cmp hash_total IsHashFront less_hash_key one_hash_key keys taken given sorted are each moved up is ∙ ap (in_order hash_cmp) made
+
+pub place_keys_sorted : (rows : List PublicRow) (keys taken : List PlaceKey) (given sorted : List (Fronted PlaceKey))
+    → keys ≡ place_keys 0 rows → map (λ key. key.item.now) given ≡ keys → All (λ key. IsPlaceFront key.item.now key.front) given → IsPermutation given sorted → IsSorted (fronted_cmp place_cmp) sorted
+    → taken ≡ map (λ key. key.item.now) sorted → taken ≡ by_place rows
+place_keys_sorted rows keys taken given sorted made are each moved up is =
+    items_in_order place_cmp place_total IsPlaceFront less_place_key one_place_key keys taken given sorted are each moved up is ∙ ap (in_order place_cmp) made

@@ -34,8 +34,9 @@ pub record IsHashFront (key : HashKey) (front : ℕ) : Type 0 where
   pub is : front ≡ 4294967296 * key.bucket + name_front key.len first
 
 -- the section and the offset
-abbrev pub IsPlaceFront : PlaceKey → ℕ → Type 0
-IsPlaceFront key front = front ≡ 4294967296 * key.section + key.offset
+pub record IsPlaceFront (key : PlaceKey) (front : ℕ) : Type 0 where
+  pub small : key.offset < 2 ^ 32
+  pub is : front ≡ 4294967296 * key.section + key.offset
 
 -- ---- items with their numbers, in order
 

@@ -1,16 +1,68 @@
 //! Numbers by which most publics are told apart, so that a sort compares and moves little: names and keys are compared
 //! where these numbers are equal.
 
-ghost use Rattle.std.specs.Prelude.{◌≡◌, ◌<◌, slice_index};
-ghost use Rattle.pdb_publics.specs.Fronts.{IsTextFront};
+ghost use Rattle.std.specs.Prelude.{◌≡◌, ◌<◌, slice_index, OnOk, IsPermutation, IsSorted};
+ghost use Rattle.std.specs.Ordering.{as_partial_cmp};
+ghost use Rattle.std.specs.Cmp.Rules.{comparing};
+ghost use Rattle.std.proofs.Common.{rules, refl};
+ghost use Rattle.pdb_publics.specs.Fronts.{IsTextFront, fronted_cmp};
 
-use link_base::Name;
+use link_base::{Memory, Name};
+use std::cmp::Ordering;
 
 /// An item behind a number that is below those of items which stand later, or equal to them.
-#[derive(PartialEq, Eq, PartialOrd, Ord, Drop)]
+#[derive(PartialEq, Eq, Drop)]
 pub(crate) struct Fronted<'r, T> {
     pub front: u64,
     pub item: &'r T,
+}
+
+impl<T: Ord> PartialOrd for Fronted<'_, T> {
+    ghost partial_cmp = { as_partial_cmp (fronted_cmp T.cmp) };
+
+    ghost laws = { Prim.search (comparing, rules) };
+
+    fn partial_cmp(&self, other: &Self) -> Option<Ordering> {
+        Some(self.cmp(other))
+    }
+}
+
+impl<T: Ord> Ord for Fronted<'_, T> {
+    ghost cmp = { fronted_cmp T.cmp };
+
+    ghost total = { Prim.search (comparing, rules) };
+
+    ghost matches_partial_cmp = { λ x y. refl };
+
+    ghost matches_eq = { Prim.search (comparing, rules) };
+
+    fn cmp(&self, other: &Self) -> Ordering {
+        if self.front < other.front {
+            return Ordering::Less;
+        }
+        if self.front > other.front {
+            return Ordering::Greater;
+        }
+        cmp_items(self.item, other.item)
+    }
+}
+
+/// The items in order, where their numbers ascend with them.
+pub(crate) fn sort_fronted<T: Ord>(keys: &mut Vec<Fronted<'_, T>>) -> Result<(), Memory>
+    ensures permutation { OnOk result (IsPermutation keys.old.items keys.new.items) }
+    ensures sorted { OnOk result (IsSorted (fronted_cmp T.cmp) keys.new.items) }
+{
+    keys.sort()?;
+    Ok(())
+}
+
+/// How two items compare. It stands apart, so that the test of the numbers before it is short.
+#[cold]
+#[inline(never)]
+fn cmp_items<T: Ord>(left: &T, right: &T) -> Ordering
+    ensures { result ≡ T.cmp left.now right.now }
+{
+    left.cmp(right)
 }
 
 /// The number of the first eight bytes of a name.

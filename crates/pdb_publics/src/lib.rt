@@ -12,6 +12,7 @@ mod hash_part;
 mod hashing;
 mod keys;
 mod laws;
+mod orders;
 mod range;
 mod record;
 mod rows;

@@ -6,7 +6,8 @@ ghost use Rattle.pdb_publics.specs.PublicStreams.{PUBLIC_NAME_LIMIT, STREAM_LIMI
 
 use crate::format::PUBLICS_HEADER_LEN;
 use crate::hash_part::push_hash_part;
-use crate::keys::{HashKey, PlaceKey, by_hash, by_name, by_place, lowered_names};
+use crate::keys::{HashKey, PlaceKey, lowered_names};
+use crate::orders::{by_hash, by_name, by_place};
 use crate::record::records;
 use crate::rows::{PublicRow, PublicStreams};
 use link_base::{LeNumber, Memory, push_fields};

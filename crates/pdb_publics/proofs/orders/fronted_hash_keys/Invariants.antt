@@ -1,7 +1,7 @@
 use Rattle.std.proofs.Common.{◌≡◌, take, map}
 use Rattle.std.specs.List.{All}
 use Rattle.pdb_publics.specs.Fronts.{IsHashFront}
-use Rattle.pdb_publics.proofs.keys.fronted_hash_keys.Given as goal
+use Rattle.pdb_publics.proofs.orders.fronted_hash_keys.Given as goal
 
 abbrev pub invariant-loop-key : goal.invariant-loop-key
 invariant-loop-key l = record {

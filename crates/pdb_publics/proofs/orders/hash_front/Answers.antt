@@ -1,9 +1,9 @@
 use Rattle.std.proofs.Common.{◌+◌, ◌*◌, ℕ, ap, arith}
-use Rattle.pdb_publics.proofs.keys.hash_front.Goals as goal
+use Rattle.pdb_publics.proofs.orders.hash_front.Goals as goal
 
 pub returns : goal.returns
 returns c = record {
   first = c.first_two.result;
   text = c.first_two.ensures.front;
-  is = omega (arith, c.from.ensures, c.text_front.ensures.number);
+  is = omega (arith, c.from.ensures, c.name_front.ensures.number);
 }

@@ -1,7 +1,7 @@
 use Rattle.std.proofs.Common.{◌≡◌, take, map}
 use Rattle.std.specs.List.{All}
 use Rattle.pdb_publics.specs.Fronts.{IsRowFront}
-use Rattle.pdb_publics.proofs.keys.fronted_rows.Given as goal
+use Rattle.pdb_publics.proofs.orders.fronted_rows.Given as goal
 
 abbrev pub invariant-loop-row : goal.invariant-loop-row
 invariant-loop-row l = record {
