@@ -5,6 +5,7 @@ ghost use Rattle.std.specs.List.{flat_map};
 ghost use Rattle.pdb_publics.specs.PublicOrder.{hash_keys, place_keys, extent, lowered};
 
 use crate::hashing::bucket;
+use crate::pushing::push_name;
 use crate::record::record_size;
 use crate::rows::PublicRow;
 use link_base::{Memory, Name};
@@ -57,7 +58,7 @@ fn joined_names(alloc: Global, rows: &[PublicRow<'_>]) -> Result<Vec<u8>, Memory
 {
     let mut names = Vec::new(alloc);
     for row in rows {
-        row.name.push_to(&mut names)?;
+        push_name(&mut names, &row.name)?;
     }
     Ok(names)
 }

@@ -13,6 +13,7 @@ mod hashing;
 mod keys;
 mod laws;
 mod orders;
+mod pushing;
 mod range;
 mod record;
 mod rows;
