@@ -32,9 +32,9 @@ unfolding text_front
 front_made n front byte text was is small = record {
   is = let more : text_front (n + 1) text ≡ 256 * text_front n text + get_or text n 0 = ap (λ (k : ℕ). text_front k text) (add-one n) in let before = was.is in omega (arith, more, before, is);
   bytes = λ k lt. elim (cases_lt k n) [
-      | inl below ↦ was.bytes k below
-      | inr above ↦ let same : n ≡ k = omega (arith, lt, above) in subst (λ (m : ℕ). get_or text m 0 < 256) same (omega (arith, is, small))
-    ];
+    | inl below ↦ was.bytes k below
+    | inr above ↦ let same : n ≡ k = omega (arith, lt, above) in subst (λ (m : ℕ). get_or text m 0 < 256) same (omega (arith, is, small))
+  ];
 }
 
 pub front_fits : (n front byte : ℕ) → front < 256 ^ n → n < 8 → byte < 256 → 256 * front + byte < 18446744073709551616
@@ -121,9 +121,9 @@ unfolding text_front
 two_bytes a b text first small second small' = record {
   is = omega (arith, first, second);
   bytes = λ k lt. elim (cases_lt k 1) [
-      | inl below ↦ let same : 0 ≡ k = omega (arith, below) in subst (λ (m : ℕ). get_or text m 0 < 256) same (omega (arith, first, small))
-      | inr above ↦ let same : 1 ≡ k = omega (arith, lt, above) in subst (λ (m : ℕ). get_or text m 0 < 256) same (omega (arith, second, small'))
-    ];
+    | inl below ↦ let same : 0 ≡ k = omega (arith, below) in subst (λ (m : ℕ). get_or text m 0 < 256) same (omega (arith, first, small))
+    | inr above ↦ let same : 1 ≡ k = omega (arith, lt, above) in subst (λ (m : ℕ). get_or text m 0 < 256) same (omega (arith, second, small'))
+  ];
 }
 
 two_are_small : (text : List ℕ) (first : ℕ) → IsTextFront 2 text first → first < 65536
