@@ -1,6 +1,6 @@
 -- Numbers by which most items of a list are told apart: where the number of one is below that of another, the one stands
 -- before the other. Own.
-use Rattle.std.specs.Prelude.{◌≡◌, ℕ, zero, suc, ◌+◌, ◌*◌, ◌<◌, ◌^◌, nat_lt, if◌then◌else◌, List, length, slice_index}
+use Rattle.std.specs.Prelude.{◌≡◌, ℕ, zero, suc, ◌+◌, ◌-◌, ◌*◌, ◌<◌, ◌^◌, nat_lt, if◌then◌else◌, List, slice_index}
 use Rattle.std.specs.Ordering.{nat_cmp, then_cmp, on}
 use Rattle.std.specs.declared.cmp.Ordering.{Ordering}
 use Rattle.pdb_publics.specs.declared.fronts.Fronted.{Fronted}
@@ -13,7 +13,7 @@ unfoldable pub text_front : ℕ → List ℕ → ℕ
 text_front zero text = 0
 text_front (suc n) text = 256 * text_front n text + slice_index text n
 
--- it is the number of so many bytes
+-- a number is that of so many bytes
 pub record IsTextFront (n : ℕ) (text : List ℕ) (front : ℕ) : Type 0 where
   pub is : front ≡ text_front n text
   pub bytes : (k : ℕ) → k < n → slice_index text k < 256
@@ -26,17 +26,17 @@ IsRowFront row front = IsTextFront 8 row.name front
 
 -- behind the bucket the length, and the first two bytes of the name; the greatest number where the length is too great
 abbrev pub name_front : ℕ → ℕ → ℕ
-name_front len first = if nat_lt len 65536 then 65536 * len + first else 4294967295
+name_front len first = if nat_lt len (2 ^ 16) then 2 ^ 16 * len + first else 2 ^ 32 - 1
 
 pub record IsHashFront (key : HashKey) (front : ℕ) : Type 0 where
   pub first : ℕ
   pub text : IsTextFront 2 key.lowered first
-  pub is : front ≡ 4294967296 * key.bucket + name_front key.len first
+  pub is : front ≡ 2 ^ 32 * key.bucket + name_front key.len first
 
--- the section and the offset
+-- behind the section the offset
 pub record IsPlaceFront (key : PlaceKey) (front : ℕ) : Type 0 where
   pub small : key.offset < 2 ^ 32
-  pub is : front ≡ 4294967296 * key.section + key.offset
+  pub is : front ≡ 2 ^ 32 * key.section + key.offset
 
 -- ---- items with their numbers, in order
 

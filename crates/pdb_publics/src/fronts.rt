@@ -1,7 +1,7 @@
 //! Numbers by which most publics are told apart, so that a sort compares and moves little: names and keys are compared
 //! where these numbers are equal.
 
-ghost use Rattle.std.specs.Prelude.{◌≡◌, ◌<◌, slice_index, OnOk, IsPermutation, IsSorted};
+ghost use Rattle.std.specs.Prelude.{◌≡◌, ◌<◌, ◌^◌, slice_index, OnOk, IsPermutation, IsSorted};
 ghost use Rattle.std.specs.Ordering.{as_partial_cmp};
 ghost use Rattle.std.specs.Cmp.Rules.{comparing};
 ghost use Rattle.std.proofs.Common.{rules, refl};
@@ -79,7 +79,7 @@ pub(crate) fn first_eight(name: &Name<'_>) -> u64
 /// The number of the first two bytes of a name.
 pub(crate) fn first_two(name: &Name<'_>) -> u64
     ensures front { IsTextFront 2 name.now result }
-    ensures small { result < 65536 }
+    ensures small { result < 2 ^ 16 }
 {
     256 * u64::from(byte_of(name, 0)) + u64::from(byte_of(name, 1))
 }

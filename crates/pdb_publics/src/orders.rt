@@ -105,7 +105,7 @@ fn hash_front(key: &HashKey<'_>) -> u64
 
 /// The length of a name and its first two bytes, and the greatest number where the length is too great.
 fn name_front(len: usize, first: u64) -> u64
-    requires { first < 65536 }
+    requires { first < 2 ^ 16 }
     ensures number { result ≡ name_front len first }
     ensures small { result < 2 ^ 32 }
 {

@@ -1,4 +1,4 @@
-use Rattle.std.proofs.Common.{◌≡◌, ◌<◌, ◌^◌}
+use Rattle.std.proofs.Common.{◌<◌, ◌^◌}
 use Rattle.pdb_publics.specs.Fronts.{IsTextFront}
 use Rattle.pdb_publics.proofs.fronts.first_eight.Given as goal
 

@@ -1,4 +1,4 @@
-use Rattle.std.proofs.Common.{◌+◌, ◌*◌, ℕ, ap, arith}
+use Rattle.std.proofs.Common.{arith}
 use Rattle.pdb_publics.proofs.orders.hash_front.Goals as goal
 
 pub returns : goal.returns
