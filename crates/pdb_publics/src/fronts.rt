@@ -1,13 +1,13 @@
 //! Numbers by which most publics are told apart, so that a sort compares and moves little: names and keys are compared
 //! where these numbers are equal.
 
-ghost use Rattle.std.specs.Prelude.{◌≡◌, ◌<◌, ◌^◌, slice_index, OnOk, IsPermutation, IsSorted};
+ghost use Rattle.std.specs.Prelude.{◌≡◌, ◌<◌, ◌^◌, slice_index, IsPermutation, IsSorted};
 ghost use Rattle.std.specs.Ordering.{as_partial_cmp};
 ghost use Rattle.std.specs.Cmp.Rules.{comparing};
 ghost use Rattle.std.proofs.Common.{rules, refl};
 ghost use Rattle.pdb_publics.specs.Fronts.{IsTextFront, fronted_cmp};
 
-use link_base::{Memory, Name};
+use link_base::Name;
 use std::cmp::Ordering;
 
 /// An item behind a number that is below those of items which stand later, or equal to them.
@@ -47,13 +47,13 @@ impl<T: Ord> Ord for Fronted<'_, T> {
     }
 }
 
-/// The items in order, where their numbers ascend with them.
-pub(crate) fn sort_fronted<T: Ord>(keys: &mut Vec<Fronted<'_, T>>) -> Result<(), Memory>
-    ensures permutation { OnOk result (IsPermutation keys.old.items keys.new.items) }
-    ensures sorted { OnOk result (IsSorted (fronted_cmp T.cmp) keys.new.items) }
+/// The items by their numbers, and those of one number by themselves. Items that tie may change places, which nobody sees
+/// where they are equal.
+pub(crate) fn sort_fronted<T: Ord>(keys: &mut Vec<Fronted<'_, T>>)
+    ensures permutation { IsPermutation keys.old.items keys.new.items }
+    ensures sorted { IsSorted (fronted_cmp T.cmp) keys.new.items }
 {
-    keys.sort()?;
-    Ok(())
+    keys.sort_unstable();
 }
 
 /// How two items compare. It stands apart, so that the test of the numbers before it is short.

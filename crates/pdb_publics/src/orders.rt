@@ -17,7 +17,6 @@ const LEN_LIMIT: usize = 0x1_0000;
 // ---- the order of the records
 
 /// The rows by their names.
-#[tactic(auto, using(crate::proofs::FrontLemmas::rows_sorted))]
 pub(crate) fn by_name<'a>(
     alloc: Global,
     rows: &[PublicRow<'a>],
@@ -25,7 +24,7 @@ pub(crate) fn by_name<'a>(
     ensures { IfOk result (λ sorted. sorted.items ≡ by_name rows.now) }
 {
     let mut fronted = fronted_rows(alloc, rows)?;
-    sort_fronted(&mut fronted)?;
+    sort_fronted(&mut fronted);
     rows_behind(alloc, &fronted)
 }
 
@@ -74,7 +73,7 @@ pub(crate) fn by_hash<'t>(
 {
     let keys = hash_keys(alloc, rows, names)?;
     let mut fronted = fronted_hash_keys(alloc, &keys)?;
-    sort_fronted(&mut fronted)?;
+    sort_fronted(&mut fronted);
     hash_keys_behind(alloc, &fronted)
 }
 
@@ -138,7 +137,7 @@ pub(crate) fn by_place(alloc: Global, rows: &[PublicRow<'_>]) -> Result<Vec<Plac
 {
     let keys = place_keys(alloc, rows)?;
     let mut fronted = fronted_place_keys(alloc, &keys)?;
-    sort_fronted(&mut fronted)?;
+    sort_fronted(&mut fronted);
     place_keys_behind(alloc, &fronted)
 }
 
