@@ -37,13 +37,11 @@ impl<T: Ord> Ord for Fronted<'_, T> {
     ghost matches_eq = { Prim.search (comparing, rules) };
 
     fn cmp(&self, other: &Self) -> Ordering {
-        if self.front < other.front {
-            return Ordering::Less;
+        // Only this test branches, and numbers are seldom equal.
+        if self.front == other.front {
+            return cmp_items(self.item, other.item);
         }
-        if self.front > other.front {
-            return Ordering::Greater;
-        }
-        cmp_items(self.item, other.item)
+        self.front.cmp(&other.front)
     }
 }
 
