@@ -1,6 +1,7 @@
 pub mod HashLemmas
 pub mod SortLemmas
 pub mod KeyLemmas
+pub mod FrontLemmas
 pub mod PartLemmas
 pub mod ReadLemmas
 pub mod RangeLemmas

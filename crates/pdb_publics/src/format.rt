@@ -9,6 +9,18 @@ pub(crate) const RECORDS_STREAM: u32 = 7;
 /// The bytes of the stream of publics before the hash part.
 pub(crate) const PUBLICS_HEADER_LEN: usize = 28;
 
+/// Where the stream of publics holds the bytes of its hash part.
+pub(crate) const HASH_LEN_AT: usize = 0;
+
+/// Where it holds the bytes of its address map.
+pub(crate) const MAP_LEN_AT: usize = 4;
+
+/// Where its hash part, behind the header, holds the bytes of the records.
+pub(crate) const RECORDS_LEN_AT: usize = 36;
+
+/// Where the hash part holds the bytes of the bitmap and of the words of buckets.
+pub(crate) const TABLES_LEN_AT: usize = 40;
+
 /// The bytes of a hash part before its records.
 pub(crate) const HASH_HEADER_LEN: usize = 16;
 

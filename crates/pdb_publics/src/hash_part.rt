@@ -9,7 +9,7 @@ use crate::format::{
     BITMAP_LEN, BUCKET_COUNT, COUNTED_RECORD_LEN, HASH_RECORD_LEN, HASH_SIGNATURE, HASH_VERSION,
 };
 use crate::keys::HashKey;
-use crate::record::push_zeros;
+use crate::pushing::{push_u32, push_zeros};
 use link_base::{LeNumber, Memory, push_fields};
 use std::alloc::Global;
 
@@ -47,10 +47,8 @@ fn push_hash_records(out: &mut Vec<u8>, keys: &[HashKey<'_>]) -> Result<(), Memo
     ensures { OnOk result (out.new.items ≡ out.old.items ++ hash_records keys.now) }
 {
     for key in keys {
-        push_fields(
-            out,
-            &[LeNumber::U32(key.record_offset + 1), LeNumber::U32(1)],
-        )?;
+        push_u32(out, key.record_offset + 1)?;
+        push_u32(out, 1)?;
     }
     Ok(())
 }

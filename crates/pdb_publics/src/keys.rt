@@ -1,10 +1,11 @@
-//! Publics in the orders of the streams: one sort of keys for each.
+//! The keys of the orders of the streams, for rows whose records stand one behind the other.
 
-ghost use Rattle.std.specs.Prelude.{◌≡◌, ◌<◌, ◌≤◌, ◌^◌, map, length, IfOk, OnOk, IsPermutation, IsSorted};
+ghost use Rattle.std.specs.Prelude.{◌≡◌, ◌≤◌, ◌^◌, IfOk};
 ghost use Rattle.std.specs.List.{flat_map};
-ghost use Rattle.pdb_publics.specs.PublicOrder.{row_cmp, hash_cmp, place_cmp, hash_keys, place_keys, by_name, by_hash, by_place, extent, lowered};
+ghost use Rattle.pdb_publics.specs.PublicOrder.{hash_keys, place_keys, extent, lowered};
 
 use crate::hashing::bucket;
+use crate::pushing::push_name;
 use crate::record::record_size;
 use crate::rows::PublicRow;
 use link_base::{Memory, Name};
@@ -20,43 +21,26 @@ pub(crate) struct HashKey<'a> {
     pub record_offset: u32,
 }
 
+impl<'a> HashKey<'a> {
+    /// An equal key.
+    pub(crate) fn again(&self) -> HashKey<'a>
+        ensures { result ≡ self.now }
+    {
+        HashKey {
+            bucket: self.bucket,
+            len: self.len,
+            lowered: self.lowered.again(),
+            record_offset: self.record_offset,
+        }
+    }
+}
+
 /// The keys of the order of an address map: the section, the offset in it, and the offset of the record.
-#[derive(PartialEq, Eq, PartialOrd, Ord, Drop)]
+#[derive(Clone, Copy, PartialEq, Eq, PartialOrd, Ord)]
 pub(crate) struct PlaceKey {
     pub section: u16,
     pub offset: u32,
     pub record_offset: u32,
-}
-
-/// The rows by their names.
-#[tactic(auto, using(crate::proofs::KeyLemmas::rows_in_order))]
-pub(crate) fn by_name<'a>(
-    alloc: Global,
-    rows: &[PublicRow<'a>],
-) -> Result<Vec<PublicRow<'a>>, Memory>
-    ensures { IfOk result (λ sorted. sorted.items ≡ by_name rows.now) }
-{
-    let mut sorted = copied_rows(alloc, rows)?;
-    sort_rows(&mut sorted)?;
-    Ok(sorted)
-}
-
-fn copied_rows<'a>(alloc: Global, rows: &[PublicRow<'a>]) -> Result<Vec<PublicRow<'a>>, Memory>
-    ensures { IfOk result (λ copies. copies.items ≡ rows.now) }
-{
-    let mut copies = Vec::with_capacity(alloc, rows.len())?;
-    for row in rows {
-        copies.push(row.again())?;
-    }
-    Ok(copies)
-}
-
-fn sort_rows(rows: &mut Vec<PublicRow<'_>>) -> Result<(), Memory>
-    ensures permutation { OnOk result (IsPermutation rows.old.items rows.new.items) }
-    ensures sorted { OnOk result (IsSorted row_cmp rows.new.items) }
-{
-    rows.sort()?;
-    Ok(())
 }
 
 /// The names of the rows with small letters for capitals, one behind the other.
@@ -74,29 +58,13 @@ fn joined_names(alloc: Global, rows: &[PublicRow<'_>]) -> Result<Vec<u8>, Memory
 {
     let mut names = Vec::new(alloc);
     for row in rows {
-        row.name.push_to(&mut names)?;
+        push_name(&mut names, &row.name)?;
     }
     Ok(names)
 }
 
-/// The keys of the order of the hash part, in this order.
-#[tactic(auto, using(crate::proofs::KeyLemmas::hash_keys_in_order))]
-pub(crate) fn by_hash<'t>(
-    alloc: Global,
-    rows: &[PublicRow<'_>],
-    names: &'t [u8],
-) -> Result<Vec<HashKey<'t>>, Memory>
-    requires small { extent rows.now ≤ 2 ^ 30 }
-    requires lowered { names.now ≡ flat_map (λ row. lowered row.name) rows.now }
-    ensures { IfOk result (λ keys. keys.items ≡ by_hash rows.now) }
-{
-    let mut keys = hash_keys(alloc, rows, names)?;
-    sort_hash_keys(&mut keys)?;
-    Ok(keys)
-}
-
 /// The keys of rows whose records stand one behind the other.
-fn hash_keys<'t>(
+pub(crate) fn hash_keys<'t>(
     alloc: Global,
     rows: &[PublicRow<'_>],
     names: &'t [u8],
@@ -123,27 +91,8 @@ fn hash_keys<'t>(
     Ok(keys)
 }
 
-fn sort_hash_keys(keys: &mut Vec<HashKey<'_>>) -> Result<(), Memory>
-    ensures permutation { OnOk result (IsPermutation keys.old.items keys.new.items) }
-    ensures sorted { OnOk result (IsSorted hash_cmp keys.new.items) }
-{
-    keys.sort()?;
-    Ok(())
-}
-
-/// The keys of the order of the address map, in this order.
-#[tactic(auto, using(crate::proofs::KeyLemmas::place_keys_in_order))]
-pub(crate) fn by_place(alloc: Global, rows: &[PublicRow<'_>]) -> Result<Vec<PlaceKey>, Memory>
-    requires { extent rows.now ≤ 2 ^ 30 }
-    ensures { IfOk result (λ keys. keys.items ≡ by_place rows.now) }
-{
-    let mut keys = place_keys(alloc, rows)?;
-    sort_place_keys(&mut keys)?;
-    Ok(keys)
-}
-
 /// The keys of rows whose records stand one behind the other.
-fn place_keys(alloc: Global, rows: &[PublicRow<'_>]) -> Result<Vec<PlaceKey>, Memory>
+pub(crate) fn place_keys(alloc: Global, rows: &[PublicRow<'_>]) -> Result<Vec<PlaceKey>, Memory>
     requires { extent rows.now ≤ 2 ^ 30 }
     ensures { IfOk result (λ keys. keys.items ≡ place_keys 0 rows.now) }
 {
@@ -158,12 +107,4 @@ fn place_keys(alloc: Global, rows: &[PublicRow<'_>]) -> Result<Vec<PlaceKey>, Me
         record += record_size(row.name.len()) as u32;
     }
     Ok(keys)
-}
-
-fn sort_place_keys(keys: &mut Vec<PlaceKey>) -> Result<(), Memory>
-    ensures permutation { OnOk result (IsPermutation keys.old.items keys.new.items) }
-    ensures sorted { OnOk result (IsSorted place_cmp keys.new.items) }
-{
-    keys.sort()?;
-    Ok(())
 }

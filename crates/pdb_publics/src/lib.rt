@@ -7,10 +7,13 @@
 
 mod finding;
 mod format;
+mod fronts;
 mod hash_part;
 mod hashing;
 mod keys;
 mod laws;
+mod orders;
+mod pushing;
 mod range;
 mod record;
 mod rows;

@@ -1,17 +1,18 @@
 //! The hash part of the stream of publics as it is read: which buckets have records, and which records are those of a bucket.
 
 ghost use Rattle.std.specs.Prelude.{◌≡◌, ◌<◌, ◌≤◌, ◌+◌, ◌*◌, ◌^◌, IsTrue, IfSome, true, false, MatchOption};
+ghost use Rattle.link_base.specs.Bytes.{u32_at};
 ghost use Rattle.pdb_publics.specs.Lookup.{stream_bytes_of, hash_len, map_len, records_len, tables_len, fills, has_parts, is_set, has_bucket, passing, word_number, word, is_word, first_record, has_next, end_record, has_end, has_range, IsRange, hash_entry};
 
 use crate::format::{
-    BITMAP_BITS, BITMAP_LEN, COUNTED_RECORD_LEN, HASH_HEADER_LEN, HASH_RECORD_LEN,
-    PUBLICS_HEADER_LEN, PUBLICS_STREAM,
+    BITMAP_BITS, BITMAP_LEN, COUNTED_RECORD_LEN, HASH_HEADER_LEN, HASH_LEN_AT, HASH_RECORD_LEN,
+    MAP_LEN_AT, PUBLICS_HEADER_LEN, PUBLICS_STREAM, RECORDS_LEN_AT, TABLES_LEN_AT,
 };
 use crate::stream::{byte_in, has_bytes, u32_in};
 use pdb_msf::Msf;
 
 /// Whether the parts lie in the stream.
-#[tactic(auto, unfolding(crate::specs::Lookup::has_parts))]
+#[tactic(auto, unfolding(crate::specs::Lookup::has_parts, crate::specs::Lookup::hash_len, crate::specs::Lookup::map_len))]
 pub(crate) fn has_parts(msf: &Msf<'_>) -> bool
     ensures parts { result ≡ has_parts (stream_bytes_of msf.now 6) }
     ensures small { IsTrue result → 44 + records_len (stream_bytes_of msf.now 6) + tables_len (stream_bytes_of msf.now 6) < 2 ^ 32 }
@@ -20,11 +21,11 @@ pub(crate) fn has_parts(msf: &Msf<'_>) -> bool
     if !has_bytes(msf, PUBLICS_STREAM, PUBLICS_HEADER_LEN) {
         return false;
     }
-    let hash_len = hash_len(msf);
+    let hash_len = len_at(msf, HASH_LEN_AT);
     if !has_bytes(
         msf,
         PUBLICS_STREAM,
-        PUBLICS_HEADER_LEN + hash_len + map_len(msf),
+        PUBLICS_HEADER_LEN + hash_len + len_at(msf, MAP_LEN_AT),
     ) {
         return false;
     }
@@ -32,59 +33,33 @@ pub(crate) fn has_parts(msf: &Msf<'_>) -> bool
 }
 
 /// Whether the records, the bitmap and the words lie in a hash part of so many bytes.
-#[tactic(auto, unfolding(crate::specs::Lookup::fills))]
+#[tactic(auto, unfolding(crate::specs::Lookup::fills, crate::specs::Lookup::records_len, crate::specs::Lookup::tables_len))]
 fn fills(msf: &Msf<'_>, len: usize) -> bool
     requires { len ≡ hash_len (stream_bytes_of msf.now 6) }
     ensures fills { result ≡ fills (stream_bytes_of msf.now 6) }
     ensures inside { IsTrue result → 16 + records_len (stream_bytes_of msf.now 6) + tables_len (stream_bytes_of msf.now 6) ≤ len }
     ensures bitmap { IsTrue result → 516 ≤ tables_len (stream_bytes_of msf.now 6) }
 {
-    let tables = tables_len(msf);
-    HASH_HEADER_LEN + records_len(msf) + tables <= len && BITMAP_LEN <= tables
+    let tables = len_at(msf, TABLES_LEN_AT);
+    HASH_HEADER_LEN + len_at(msf, RECORDS_LEN_AT) + tables <= len && BITMAP_LEN <= tables
 }
 
-/// The bytes of the hash part.
-#[tactic(auto, unfolding(crate::specs::Lookup::hash_len))]
-fn hash_len(msf: &Msf<'_>) -> usize
-    ensures len { result ≡ hash_len (stream_bytes_of msf.now 6) }
+/// A length that the stream of publics holds at an offset.
+fn len_at(msf: &Msf<'_>, at: usize) -> usize
+    requires { at + 4 ≤ 2 ^ 32 }
+    ensures len { result ≡ u32_at (stream_bytes_of msf.now 6) at }
     ensures small { result < 2 ^ 32 }
 {
-    u32_in(msf, PUBLICS_STREAM, 0) as usize
-}
-
-/// The bytes of the address map.
-#[tactic(auto, unfolding(crate::specs::Lookup::map_len))]
-fn map_len(msf: &Msf<'_>) -> usize
-    ensures len { result ≡ map_len (stream_bytes_of msf.now 6) }
-    ensures small { result < 2 ^ 32 }
-{
-    u32_in(msf, PUBLICS_STREAM, 4) as usize
-}
-
-/// The bytes of the hash part's records.
-#[tactic(auto, unfolding(crate::specs::Lookup::records_len))]
-fn records_len(msf: &Msf<'_>) -> usize
-    ensures len { result ≡ records_len (stream_bytes_of msf.now 6) }
-    ensures small { result < 2 ^ 32 }
-{
-    u32_in(msf, PUBLICS_STREAM, 36) as usize
-}
-
-/// The bytes of the bitmap and of the words of buckets.
-#[tactic(auto, unfolding(crate::specs::Lookup::tables_len))]
-fn tables_len(msf: &Msf<'_>) -> usize
-    ensures len { result ≡ tables_len (stream_bytes_of msf.now 6) }
-    ensures small { result < 2 ^ 32 }
-{
-    u32_in(msf, PUBLICS_STREAM, 40) as usize
+    u32_in(msf, PUBLICS_STREAM, at) as usize
 }
 
 /// Where the bitmap begins.
+#[tactic(auto, unfolding(crate::specs::Lookup::records_len))]
 fn bitmap_at(msf: &Msf<'_>) -> usize
     ensures at { result ≡ 44 + records_len (stream_bytes_of msf.now 6) }
     ensures small { result < 2 ^ 33 }
 {
-    PUBLICS_HEADER_LEN + HASH_HEADER_LEN + records_len(msf)
+    PUBLICS_HEADER_LEN + HASH_HEADER_LEN + len_at(msf, RECORDS_LEN_AT)
 }
 
 /// Whether the bucket's bit is set.
@@ -151,14 +126,14 @@ fn word(msf: &Msf<'_>, number: usize) -> usize
 }
 
 /// Whether a word is there and counts records.
-#[tactic(auto, unfolding(crate::specs::Lookup::is_word))]
+#[tactic(auto, unfolding(crate::specs::Lookup::is_word, crate::specs::Lookup::tables_len))]
 fn is_word(msf: &Msf<'_>, number: usize) -> bool
     requires small { 44 + records_len (stream_bytes_of msf.now 6) + tables_len (stream_bytes_of msf.now 6) < 2 ^ 32 }
     requires number { number < 2 ^ 32 }
     ensures word { result ≡ is_word (stream_bytes_of msf.now 6) number }
     ensures there { IsTrue result → 516 + 4 * number + 4 ≤ tables_len (stream_bytes_of msf.now 6) }
 {
-    if BITMAP_LEN + 4 * number + 4 > tables_len(msf) {
+    if BITMAP_LEN + 4 * number + 4 > len_at(msf, TABLES_LEN_AT) {
         return false;
     }
     word(msf, number) % COUNTED_RECORD_LEN == 0
@@ -185,7 +160,7 @@ pub(crate) fn bucket_range(msf: &Msf<'_>, bucket: usize) -> Option<(usize, usize
     if first > end {
         return None;
     }
-    if HASH_RECORD_LEN * end > records_len(msf) {
+    if HASH_RECORD_LEN * end > len_at(msf, RECORDS_LEN_AT) {
         return None;
     }
     Some((first, end))
@@ -202,7 +177,7 @@ fn end_record(msf: &Msf<'_>, number: usize) -> Option<usize>
         (λ end. (has_end (stream_bytes_of msf.now 6) number ≡ true) × (end ≡ end_record (stream_bytes_of msf.now 6) number)) }
 {
     if number + 1 >= set_below(msf, BITMAP_BITS) {
-        return Some(records_len(msf) / HASH_RECORD_LEN);
+        return Some(len_at(msf, RECORDS_LEN_AT) / HASH_RECORD_LEN);
     }
     if !is_word(msf, number + 1) {
         return None;

@@ -1,12 +1,13 @@
 //! The records of public symbols (LLVM, "CodeView Symbol Records").
 
-ghost use Rattle.std.specs.Prelude.{◌≡◌, ◌<◌, ◌≤◌, ◌^◌, ◌++◌, length, replicate, IfOk, OnOk, All};
+ghost use Rattle.std.specs.Prelude.{◌≡◌, ◌<◌, ◌≤◌, ◌^◌, ◌++◌, length, IfOk, OnOk, All};
 ghost use Rattle.pdb_publics.specs.PublicOrder.{record_size};
 ghost use Rattle.pdb_publics.specs.PublicStreams.{PUBLIC_NAME_LIMIT, flags_of, record_of, records_of};
 
 use crate::format::{PUBLIC_FUNCTION, RECORD_HEADER_LEN, S_PUB32};
+use crate::pushing::{push_name, push_u16, push_u32, push_zeros};
 use crate::rows::PublicRow;
-use link_base::{LeNumber, Memory, push_fields};
+use link_base::Memory;
 use std::alloc::Global;
 
 /// The size of the record of a name of so many bytes: its fields, the name and a NUL, and zeros to a multiple of four.
@@ -36,17 +37,12 @@ fn push_record(out: &mut Vec<u8>, row: &PublicRow<'_>) -> Result<(), Memory>
 {
     let len = row.name.len();
     let size = record_size(len);
-    push_fields(
-        out,
-        &[
-            LeNumber::U16((size - 2) as u16),
-            LeNumber::U16(S_PUB32),
-            LeNumber::U32(flags_of(row.function)),
-            LeNumber::U32(row.offset),
-            LeNumber::U16(row.section),
-        ],
-    )?;
-    row.name.push_to(out)?;
+    push_u16(out, (size - 2) as u16)?;
+    push_u16(out, S_PUB32)?;
+    push_u32(out, flags_of(row.function))?;
+    push_u32(out, row.offset)?;
+    push_u16(out, row.section)?;
+    push_name(out, &row.name)?;
     push_zeros(out, size - RECORD_HEADER_LEN - len)
 }
 
@@ -54,12 +50,4 @@ fn flags_of(function: bool) -> u32
     ensures { result ≡ flags_of function }
 {
     if function { PUBLIC_FUNCTION } else { 0 }
-}
-
-pub(crate) fn push_zeros(out: &mut Vec<u8>, count: usize) -> Result<(), Memory>
-    ensures { OnOk result (out.new.items ≡ out.old.items ++ replicate count 0) }
-{
-    let len = out.len().checked_add(count).ok_or(Memory)?;
-    out.resize(len, 0)?;
-    Ok(())
 }

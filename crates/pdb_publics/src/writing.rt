@@ -6,7 +6,9 @@ ghost use Rattle.pdb_publics.specs.PublicStreams.{PUBLIC_NAME_LIMIT, STREAM_LIMI
 
 use crate::format::PUBLICS_HEADER_LEN;
 use crate::hash_part::push_hash_part;
-use crate::keys::{HashKey, PlaceKey, by_hash, by_name, by_place, lowered_names};
+use crate::keys::{HashKey, PlaceKey, lowered_names};
+use crate::orders::{by_hash, by_name, by_place};
+use crate::pushing::push_u32;
 use crate::record::records;
 use crate::rows::{PublicRow, PublicStreams};
 use link_base::{LeNumber, Memory, push_fields};
@@ -86,7 +88,7 @@ fn push_address_map(out: &mut Vec<u8>, placed: &[PlaceKey]) -> Result<(), Memory
     ensures { OnOk result (out.new.items ≡ out.old.items ++ address_map placed.now) }
 {
     for key in placed {
-        push_fields(out, &[LeNumber::U32(key.record_offset)])?;
+        push_u32(out, key.record_offset)?;
     }
     Ok(())
 }
