@@ -12,3 +12,4 @@ pub mod ListedLemmas
 pub mod FileLemmas
 pub mod MeansLemmas
 pub mod PlanLemmas
+pub mod OnePlacement
