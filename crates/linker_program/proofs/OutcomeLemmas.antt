@@ -1,23 +1,25 @@
 -- Words and files have one outcome.
-use Rattle.std.proofs.Common.{◌≡◌, ℕ, ◌+◌, Bool, true, false, List, length, Option, Some, None, Result, Ok, Err, refl, sym, ap, ◌∙◌, inl, inr, arith}
+use Rattle.std.proofs.Common.{◌≡◌, ℕ, ◌+◌, ◌-◌, ◌≤◌, ◌⊎◌, Bool, true, false, cond, List, [], ◌∷◌, ◌++◌, length, get_or, subst, Option, Some, None, Result, Ok, Err, refl, sym, ap, ◌∙◌, inl, inr, arith}
 use Rattle.std.proofs.lemmas.Bool.{cases_lt, false≢true}
 use Rattle.std.proofs.lemmas.List.{length-map}
 use Rattle.link_base.specs.declared.fault.Fault.{Fault}
 use Rattle.link_base.specs.declared.fault.Fault.TheVariants as faults
 use Rattle.link_files.specs.Store.{Store}
+use Rattle.link_base.specs.Limits.{SECTION_LIMIT, IMAGE_LIMIT}
 use Rattle.section_group.specs.declared.piece.Piece.{Piece}
 use Rattle.section_group.specs.declared.piece.OutSection.{OutSection}
 use Rattle.section_group.specs.Merging.{IsFirstBadMerge, merge_at}
 use Rattle.section_group.specs.Uniqueness.{SectionRow, row_of, rows_of}
-use Rattle.section_group.proofs.Theorems.{one_grouping}
 use Rattle.address_layout.specs.declared.layout.Placed.{Placed}
 use Rattle.address_layout.specs.declared.layout.Layout.{Layout}
+use Rattle.address_layout.specs.declared.layout.LayoutError.TheVariants as bad
 use Rattle.address_layout.specs.PermittedBase.{is_permitted}
 use Rattle.address_layout.specs.Places.{section_count}
-use Rattle.address_layout.specs.Layout.{IsLayout, HasImageSize, placed_at}
-use Rattle.address_layout.specs.Growth.{SameLayout}
-use Rattle.address_layout.proofs.Theorems.{one_layout, one_image_size}
-use Rattle.address_layout.proofs.CallerLemmas.{layout_same_rows, size_same_rows}
+use Rattle.address_layout.specs.Growth.{HasGrownSize}
+use Rattle.address_layout.specs.Layout.{IsLayout, HasImageSize, IsPlaceRefusal, placed_at}
+use Rattle.address_layout.proofs.CallerLemmas.{one_image_size, size_same_rows}
+use Rattle.base_reloc.specs.declared.field.BaseField.{BaseField}
+use Rattle.base_reloc.specs.PageBlocks.{blocks_of}
 use Rattle.image_writer.specs.ExpectedImage.{ImagePlan}
 use Rattle.image_writer.specs.WrittenImage.{written_plan}
 use Rattle.module_view.specs.Module.{ModuleView}
@@ -25,11 +27,13 @@ use Rattle.link_plan.specs.Fixes.{plan_pieces}
 use Rattle.link_words.specs.Outcome.{LinkOptions, CommandSaid, Link, At, Show, Gen, Refused as RefusedWord}
 use Rattle.link_words.specs.Commands.{words_say}
 use Rattle.link_plan.specs.Entry.{entry_place}
+use Rattle.link_image.specs.BaseFields.{is_relocated}
 use Rattle.link_image.specs.ImageHeaders.{headers_of}
-use Rattle.link_image.specs.LinkedImage.{link_input, base_rule, entry_rva, AreGrouped, ArePlaced, IsImageOf}
-use Rattle.link_image.specs.LinkedBytes.{linked_contents, fields_range_fault}
-use Rattle.link_image.specs.BuildFaults.{IsBadMerge, HasTooManySections, IsTooLarge, HasBadBase, HasBadRange, IsBuildFault}
+use Rattle.link_image.specs.LinkedImage.{base_rule, entry_rva, table_directory, AreGrouped, ArePlaced, IsWhole, IsPlacement, IsImageOf}
+use Rattle.link_image.specs.LinkedBytes.{linked_contents, image_contents, fields_range_fault}
+use Rattle.link_image.specs.BuildFaults.{IsBadMerge, HasTooManySections, HasLargeTable, IsTooLarge, HasBadBase, HasBadRange, IsBuildFault}
 use Rattle.link_image.proofs.PlaceLemmas.{range_by_places, contents_by_places}
+use Rattle.link_image.proofs.OnePlacement.{same_rows, same_layout, same_fields, one_refused_size, one_grown_size, SamePlacement, one_placement}
 use Rattle.linker_program.specs.Loading.{reading_fault, read_files, joined}
 use Rattle.linker_program.specs.Unbuilt.{is_unbuilt_link}
 use Rattle.linker_program.specs.Outcome.{Plan, Outcome, Usage, Refused, Linked, inputs_fault, IsPlan, BuildOutcome, OutcomeAfter, InputsOutcome, LinkOutcome, AskedOutcome, CommandOutcome, WordsOutcome, HasOutcome}
@@ -56,154 +60,179 @@ no_bad_merge options pieces sections fault x grouped = grouped.merges x.named.pl
 
 -- ---- one layout
 
-same_rows : (options : LinkOptions) (pieces : List Piece) (xs ys : List OutSection) → AreGrouped options pieces xs → AreGrouped options pieces ys → rows_of xs ≡ rows_of ys
-same_rows options pieces xs ys x y = one_grouping (link_input options pieces) xs ys x.grouping y.grouping
+counts : (options : LinkOptions) (modules : List ModuleView) (reloc : Bool) (xs ys : List OutSection) → AreGrouped options (plan_pieces modules) xs → AreGrouped options (plan_pieces modules) ys → section_count xs reloc ≡ section_count ys reloc
+counts options modules reloc xs ys x y =
+    let rows = same_rows options modules xs ys x y in
+    ap (λ (n : ℕ). n + cond reloc 1 0) (sym (length-map xs row_of) ∙ ap length rows ∙ length-map ys row_of)
 
-same_count : (xs ys : List OutSection) → rows_of xs ≡ rows_of ys → section_count xs false ≡ section_count ys false
-same_count xs ys rows = ap (λ (n : ℕ). n + 0) (sym (length-map xs row_of) ∙ ap length rows ∙ length-map ys row_of)
-
--- grouped in two ways, there are as many sections
-counts : (options : LinkOptions) (pieces : List Piece) (xs ys : List OutSection) → AreGrouped options pieces xs → AreGrouped options pieces ys → section_count xs false ≡ section_count ys false
-counts options pieces xs ys x y = same_count xs ys (same_rows options pieces xs ys x y)
-
-has_size : (pieces : List Piece) (sections : List OutSection) (layout : Layout) → IsLayout pieces sections false layout → HasImageSize pieces sections false layout.image
-has_size pieces sections layout is =
+has_size : (pieces : List Piece) (sections : List OutSection) (reloc : Bool) (layout : Layout) → IsLayout pieces sections reloc layout → HasImageSize pieces sections reloc layout.image
+has_size pieces sections reloc layout is =
     record { headers = layout.headers; placed = placed_at layout.sections.items; place = is.standing.place; arranged = is.standing.arranged }
 
--- grouped in two ways, the image has one size
-sizes : (options : LinkOptions) (pieces : List Piece) (xs ys : List OutSection) (size other : ℕ) → AreGrouped options pieces xs → AreGrouped options pieces ys → HasImageSize pieces xs false size → HasImageSize pieces ys false other → size ≡ other
-sizes options pieces xs ys size other x y has has_other =
-    one_image_size pieces ys false size other (size_same_rows pieces xs ys false size (same_rows options pieces xs ys x y) has) has_other
+-- grouped in two ways, the image of the pieces has one size
+sizes : (options : LinkOptions) (modules : List ModuleView) (reloc : Bool) (xs ys : List OutSection) (size other : ℕ) → AreGrouped options (plan_pieces modules) xs → AreGrouped options (plan_pieces modules) ys → HasImageSize (plan_pieces modules) xs reloc size → HasImageSize (plan_pieces modules) ys reloc other → size ≡ other
+sizes options modules reloc xs ys size other x y has has_other =
+    one_image_size (plan_pieces modules) ys reloc size other (size_same_rows (plan_pieces modules) xs ys reloc size (same_rows options modules xs ys x y) has) has_other
+
+-- the pieces of a placement fit
+fits : (options : LinkOptions) (modules : List ModuleView) (sections : List OutSection) (size : ℕ) (rows : List SectionRow) (layout : Layout) (tables : List (List ℕ)) → AreGrouped options (plan_pieces modules) sections → HasImageSize (plan_pieces modules) sections (is_relocated options modules) size → IsPlacement options modules rows layout tables → size ≤ IMAGE_LIMIT
+fits options modules sections size rows layout tables grouped has y =
+    let same = sizes options modules (is_relocated options modules) sections y.sections size y.before.image grouped y.grouped has (has_size (plan_pieces modules) y.sections (is_relocated options modules) y.before y.placed.layout_of) in
+    omega (arith, same, y.placed.within)
 
 -- ---- one fault of what is built
 
 same_many : (options : LinkOptions) (modules : List ModuleView) (f g : Fault) → HasTooManySections options modules f → HasTooManySections options modules g → f ≡ g
 same_many options modules f g x y =
-    let count = counts options (plan_pieces modules) x.sections y.sections x.grouped y.grouped in
+    let count = counts options modules (is_relocated options modules) x.sections y.sections x.grouped y.grouped in
     x.is ∙ ap (λ (n : ℕ). faults.TooManySections n) (x.refused.0 ∙ count ∙ sym y.refused.0) ∙ sym y.is
+
+-- the pieces are too large, or fit before the table does not
+pieces_or_table : (options : LinkOptions) (modules : List ModuleView) (xs ys : List OutSection) (size other : ℕ) → AreGrouped options (plan_pieces modules) xs → AreGrouped options (plan_pieces modules) ys → IsPlaceRefusal (plan_pieces modules) xs (is_relocated options modules) (bad.ImageTooLarge size) → HasLargeTable options modules ys other → ⊥
+pieces_or_table options modules xs ys size other gx gy x y =
+    let has = subst (λ (r : Bool). HasImageSize (plan_pieces modules) xs r size) y.relocated x.1 in
+    let same = sizes options modules true xs ys size y.layout.image gx gy has (has_size (plan_pieces modules) ys true y.layout y.placed.layout_of) in
+    omega (arith, same, x.2, y.placed.within)
+
+-- two sizes that are refused
+same_size : (options : LinkOptions) (modules : List ModuleView) (xs ys : List OutSection) (size other : ℕ) → AreGrouped options (plan_pieces modules) xs → AreGrouped options (plan_pieces modules) ys
+    → IsPlaceRefusal (plan_pieces modules) xs (is_relocated options modules) (bad.ImageTooLarge size) ⊎ HasLargeTable options modules xs size
+    → IsPlaceRefusal (plan_pieces modules) ys (is_relocated options modules) (bad.ImageTooLarge other) ⊎ HasLargeTable options modules ys other → size ≡ other
+same_size options modules xs ys size other gx gy (inl x) (inl y) = sizes options modules (is_relocated options modules) xs ys size other gx gy x.1 y.1
+same_size options modules xs ys size other gx gy (inl x) (inr y) = absurd (pieces_or_table options modules xs ys size other gx gy x y)
+same_size options modules xs ys size other gx gy (inr x) (inl y) = absurd (pieces_or_table options modules ys xs other size gy gx y x)
+same_size options modules xs ys size other gx gy (inr x) (inr y) =
+    let same = same_layout options modules xs ys true x.layout y.layout gx gy x.placed y.placed in
+    let fields = same_fields options modules x.layout y.layout x.fields y.fields same x.based y.based in
+    one_refused_size x.layout y.layout (length (blocks_of y.fields)) size other same (subst (λ (fs : List BaseField). HasGrownSize x.layout (length (blocks_of fs)) size) fields x.refused.0) y.refused.0
 
 same_large : (options : LinkOptions) (modules : List ModuleView) (f g : Fault) → IsTooLarge options modules f → IsTooLarge options modules g → f ≡ g
 same_large options modules f g x y =
-    let size = sizes options (plan_pieces modules) x.sections y.sections x.size y.size x.grouped y.grouped x.refused.1 y.refused.1 in
-    x.is ∙ ap (λ (n : ℕ). faults.ImageTooLarge n) size ∙ sym y.is
+    x.is ∙ ap (λ (n : ℕ). faults.ImageTooLarge n) (same_size options modules x.sections y.sections x.size y.size x.grouped y.grouped x.refused y.refused) ∙ sym y.is
 
 many_or_large : (options : LinkOptions) (modules : List ModuleView) (f g : Fault) → HasTooManySections options modules f → IsTooLarge options modules g → ⊥
 many_or_large options modules f g x y =
-    let count = counts options (plan_pieces modules) x.sections y.sections x.grouped y.grouped in
-    omega (arith, x.refused.0, x.refused.1, count, y.refused.0)
+    let count = counts options modules (is_relocated options modules) x.sections y.sections x.grouped y.grouped in
+    by count y.refused
+  where
+    by : section_count x.sections (is_relocated options modules) ≡ section_count y.sections (is_relocated options modules) → IsPlaceRefusal (plan_pieces modules) y.sections (is_relocated options modules) (bad.ImageTooLarge y.size) ⊎ HasLargeTable options modules y.sections y.size → ⊥
+    by count (inl pieces) = omega (arith, x.refused.0, x.refused.1, count, pieces.0)
+    by count (inr table) = omega (arith, x.refused.0, x.refused.1, count, subst (λ (r : Bool). section_count y.sections r ≤ SECTION_LIMIT) (sym table.relocated) table.placed.few)
 
-many_or_base : (options : LinkOptions) (modules : List ModuleView) (f g : Fault) → HasTooManySections options modules f → HasBadBase options modules g → ⊥
-many_or_base options modules f g x y =
-    let count = counts options (plan_pieces modules) x.sections y.sections x.grouped y.grouped in
+many_or_placement : (options : LinkOptions) (modules : List ModuleView) (f : Fault) (rows : List SectionRow) (layout : Layout) (tables : List (List ℕ)) → HasTooManySections options modules f → IsPlacement options modules rows layout tables → ⊥
+many_or_placement options modules f rows layout tables x y =
+    let count = counts options modules (is_relocated options modules) x.sections y.sections x.grouped y.grouped in
     omega (arith, x.refused.0, x.refused.1, count, y.placed.few)
 
-large_or_base : (options : LinkOptions) (modules : List ModuleView) (f g : Fault) → IsTooLarge options modules f → HasBadBase options modules g → ⊥
-large_or_base options modules f g x y =
-    let pieces = plan_pieces modules in
-    let size = sizes options pieces x.sections y.sections x.size y.layout.image x.grouped y.grouped x.refused.1 (has_size pieces y.sections y.layout y.placed.layout_of) in
-    omega (arith, size, x.refused.2, y.placed.within)
+large_or_placement : (options : LinkOptions) (modules : List ModuleView) (f : Fault) (rows : List SectionRow) (layout : Layout) (tables : List (List ℕ)) → IsTooLarge options modules f → IsPlacement options modules rows layout tables → ⊥
+large_or_placement options modules f rows layout tables x y = by x.refused
+  where
+    table : (reloc : Bool) → reloc ≡ true → (large : HasLargeTable options modules x.sections x.size) → ArePlaced (plan_pieces modules) y.sections reloc y.before → IsWhole reloc modules (rows_of y.sections) y.before rows layout tables → ⊥
+    table false e large placed whole = false≢true e
+    table true e large placed whole =
+        let same = same_layout options modules x.sections y.sections true large.layout y.before x.grouped y.grouped large.placed placed in
+        let fields = same_fields options modules large.layout y.before large.fields whole.fields same large.based whole.based in
+        let size = one_grown_size large.layout y.before layout (length (blocks_of whole.fields)) x.size same (subst (λ (fs : List BaseField). HasGrownSize large.layout (length (blocks_of fs)) x.size) fields large.refused.0) whole.added in
+        omega (arith, size, large.refused.1, whole.within)
 
-many_or_range : (options : LinkOptions) (modules : List ModuleView) (f g : Fault) → HasTooManySections options modules f → HasBadRange options modules g → ⊥
-many_or_range options modules f g x y =
-    let count = counts options (plan_pieces modules) x.sections y.sections x.grouped y.grouped in
-    omega (arith, x.refused.0, x.refused.1, count, y.placed.few)
+    by : IsPlaceRefusal (plan_pieces modules) x.sections (is_relocated options modules) (bad.ImageTooLarge x.size) ⊎ HasLargeTable options modules x.sections x.size → ⊥
+    by (inl pieces) = omega (arith, fits options modules x.sections x.size rows layout tables x.grouped pieces.1 y, pieces.2)
+    by (inr large) = table (is_relocated options modules) large.relocated large y.placed y.whole
 
-large_or_range : (options : LinkOptions) (modules : List ModuleView) (f g : Fault) → IsTooLarge options modules f → HasBadRange options modules g → ⊥
-large_or_range options modules f g x y =
-    let pieces = plan_pieces modules in
-    let size = sizes options pieces x.sections y.sections x.size y.layout.image x.grouped y.grouped x.refused.1 (has_size pieces y.sections y.layout y.placed.layout_of) in
-    omega (arith, size, x.refused.2, y.placed.within)
+-- two placements say the same of the base and of each field
+same_permitted : (options : LinkOptions) (rows other_rows : List SectionRow) (layout other : Layout) (tables other_tables : List (List ℕ)) → SamePlacement rows other_rows layout other tables other_tables → is_permitted (base_rule options) layout.image options.base ≡ is_permitted (base_rule options) other.image options.base
+same_permitted options rows other_rows layout other tables other_tables same = ap (λ (n : ℕ). is_permitted (base_rule options) n options.base) (sym same.layouts.image)
+
+same_ranges : (options : LinkOptions) (modules : List ModuleView) (rows other_rows : List SectionRow) (layout other : Layout) (tables other_tables : List (List ℕ)) → SamePlacement rows other_rows layout other tables other_tables → fields_range_fault modules rows layout options.base ≡ fields_range_fault modules other_rows other options.base
+same_ranges options modules rows other_rows layout other tables other_tables same =
+    ap (λ (r : List SectionRow). fields_range_fault modules r layout options.base) same.rows_same
+    ∙ range_by_places modules other_rows layout other options.base (sym same.layouts.pieces) (sym same.layouts.sections)
 
 base_or_range : (options : LinkOptions) (modules : List ModuleView) (f g : Fault) → HasBadBase options modules f → HasBadRange options modules g → ⊥
 base_or_range options modules f g x y =
-    let pieces = plan_pieces modules in
-    let size = sizes options pieces x.sections y.sections x.layout.image y.layout.image x.grouped y.grouped (has_size pieces x.sections x.layout x.placed.layout_of) (has_size pieces y.sections y.layout y.placed.layout_of) in
-    let same : is_permitted (base_rule options) x.layout.image options.base ≡ is_permitted (base_rule options) y.layout.image options.base = ap (λ (n : ℕ). is_permitted (base_rule options) n options.base) size in
-    false≢true (sym x.refused ∙ same ∙ y.permitted)
-
--- two layouts of the same pieces say the same of each field
-places : (options : LinkOptions) (modules : List ModuleView) (xs ys : List OutSection) (a b : Layout) → AreGrouped options (plan_pieces modules) xs → AreGrouped options (plan_pieces modules) ys → ArePlaced (plan_pieces modules) xs a → ArePlaced (plan_pieces modules) ys b → SameLayout a b
-places options modules xs ys a b gx gy px py =
-    let pieces = plan_pieces modules in
-    one_layout pieces ys false a b (layout_same_rows pieces xs ys false a (same_rows options pieces xs ys gx gy) px.layout_of) py.layout_of
-
-same_ranges : (options : LinkOptions) (modules : List ModuleView) (xs ys : List OutSection) (a b : Layout) → AreGrouped options (plan_pieces modules) xs → AreGrouped options (plan_pieces modules) ys → ArePlaced (plan_pieces modules) xs a → ArePlaced (plan_pieces modules) ys b → fields_range_fault modules (rows_of xs) a options.base ≡ fields_range_fault modules (rows_of ys) b options.base
-same_ranges options modules xs ys a b gx gy px py =
-    let same = places options modules xs ys a b gx gy px py in
-    ap (λ (r : List SectionRow). fields_range_fault modules r a options.base) (same_rows options (plan_pieces modules) xs ys gx gy)
-    ∙ range_by_places modules (rows_of ys) a b options.base (sym same.pieces) (sym same.sections)
+    let same = one_placement options modules x.rows y.rows x.layout y.layout x.tables y.tables x.placement y.placement in
+    false≢true (sym x.refused ∙ same_permitted options x.rows y.rows x.layout y.layout x.tables y.tables same ∙ y.permitted)
 
 same_range : (options : LinkOptions) (modules : List ModuleView) (f g : Fault) → HasBadRange options modules f → HasBadRange options modules g → f ≡ g
 same_range options modules f g x y =
-    some_same (sym x.is ∙ same_ranges options modules x.sections y.sections x.layout y.layout x.grouped y.grouped x.placed y.placed ∙ y.is)
+    let same = one_placement options modules x.rows y.rows x.layout y.layout x.tables y.tables x.placement y.placement in
+    some_same (sym x.is ∙ same_ranges options modules x.rows y.rows x.layout y.layout x.tables y.tables same ∙ y.is)
   where
     some_same : Some f ≡ Some g → f ≡ g
     some_same e = cc
 
+-- no bad merge stands where the pieces are grouped
+merge_or : (options : LinkOptions) (modules : List ModuleView) (fault : Fault) (sections : List OutSection) → IsBadMerge options fault → AreGrouped options (plan_pieces modules) sections → ⊥
+merge_or options modules fault sections x grouped = no_bad_merge options (plan_pieces modules) sections fault x grouped
+
 same_fault : (options : LinkOptions) (modules : List ModuleView) (f g : Fault) → IsBuildFault options modules f → IsBuildFault options modules g → f ≡ g
 same_fault options modules f g (inl x) (inl y) = same_merge options f g x y
-same_fault options modules f g (inl x) (inr (inl y)) = absurd (no_bad_merge options (plan_pieces modules) y.sections f x y.grouped)
-same_fault options modules f g (inl x) (inr (inr (inl y))) = absurd (no_bad_merge options (plan_pieces modules) y.sections f x y.grouped)
-same_fault options modules f g (inl x) (inr (inr (inr (inl y)))) = absurd (no_bad_merge options (plan_pieces modules) y.sections f x y.grouped)
-same_fault options modules f g (inl x) (inr (inr (inr (inr y)))) = absurd (no_bad_merge options (plan_pieces modules) y.sections f x y.grouped)
-same_fault options modules f g (inr (inl x)) (inl y) = absurd (no_bad_merge options (plan_pieces modules) x.sections g y x.grouped)
+same_fault options modules f g (inl x) (inr (inl y)) = absurd (merge_or options modules f y.sections x y.grouped)
+same_fault options modules f g (inl x) (inr (inr (inl y))) = absurd (merge_or options modules f y.sections x y.grouped)
+same_fault options modules f g (inl x) (inr (inr (inr (inl y)))) = absurd (merge_or options modules f y.placement.sections x y.placement.grouped)
+same_fault options modules f g (inl x) (inr (inr (inr (inr y)))) = absurd (merge_or options modules f y.placement.sections x y.placement.grouped)
+same_fault options modules f g (inr (inl x)) (inl y) = absurd (merge_or options modules g x.sections y x.grouped)
 same_fault options modules f g (inr (inl x)) (inr (inl y)) = same_many options modules f g x y
 same_fault options modules f g (inr (inl x)) (inr (inr (inl y))) = absurd (many_or_large options modules f g x y)
-same_fault options modules f g (inr (inl x)) (inr (inr (inr (inl y)))) = absurd (many_or_base options modules f g x y)
-same_fault options modules f g (inr (inl x)) (inr (inr (inr (inr y)))) = absurd (many_or_range options modules f g x y)
-same_fault options modules f g (inr (inr (inl x))) (inl y) = absurd (no_bad_merge options (plan_pieces modules) x.sections g y x.grouped)
+same_fault options modules f g (inr (inl x)) (inr (inr (inr (inl y)))) = absurd (many_or_placement options modules f y.rows y.layout y.tables x y.placement)
+same_fault options modules f g (inr (inl x)) (inr (inr (inr (inr y)))) = absurd (many_or_placement options modules f y.rows y.layout y.tables x y.placement)
+same_fault options modules f g (inr (inr (inl x))) (inl y) = absurd (merge_or options modules g x.sections y x.grouped)
 same_fault options modules f g (inr (inr (inl x))) (inr (inl y)) = absurd (many_or_large options modules g f y x)
 same_fault options modules f g (inr (inr (inl x))) (inr (inr (inl y))) = same_large options modules f g x y
-same_fault options modules f g (inr (inr (inl x))) (inr (inr (inr (inl y)))) = absurd (large_or_base options modules f g x y)
-same_fault options modules f g (inr (inr (inl x))) (inr (inr (inr (inr y)))) = absurd (large_or_range options modules f g x y)
-same_fault options modules f g (inr (inr (inr (inl x)))) (inl y) = absurd (no_bad_merge options (plan_pieces modules) x.sections g y x.grouped)
-same_fault options modules f g (inr (inr (inr (inl x)))) (inr (inl y)) = absurd (many_or_base options modules g f y x)
-same_fault options modules f g (inr (inr (inr (inl x)))) (inr (inr (inl y))) = absurd (large_or_base options modules g f y x)
+same_fault options modules f g (inr (inr (inl x))) (inr (inr (inr (inl y)))) = absurd (large_or_placement options modules f y.rows y.layout y.tables x y.placement)
+same_fault options modules f g (inr (inr (inl x))) (inr (inr (inr (inr y)))) = absurd (large_or_placement options modules f y.rows y.layout y.tables x y.placement)
+same_fault options modules f g (inr (inr (inr (inl x)))) (inl y) = absurd (merge_or options modules g x.placement.sections y x.placement.grouped)
+same_fault options modules f g (inr (inr (inr (inl x)))) (inr (inl y)) = absurd (many_or_placement options modules g x.rows x.layout x.tables y x.placement)
+same_fault options modules f g (inr (inr (inr (inl x)))) (inr (inr (inl y))) = absurd (large_or_placement options modules g x.rows x.layout x.tables y x.placement)
 same_fault options modules f g (inr (inr (inr (inl x)))) (inr (inr (inr (inl y)))) = x.is ∙ sym y.is
 same_fault options modules f g (inr (inr (inr (inl x)))) (inr (inr (inr (inr y)))) = absurd (base_or_range options modules f g x y)
-same_fault options modules f g (inr (inr (inr (inr x)))) (inl y) = absurd (no_bad_merge options (plan_pieces modules) x.sections g y x.grouped)
-same_fault options modules f g (inr (inr (inr (inr x)))) (inr (inl y)) = absurd (many_or_range options modules g f y x)
-same_fault options modules f g (inr (inr (inr (inr x)))) (inr (inr (inl y))) = absurd (large_or_range options modules g f y x)
+same_fault options modules f g (inr (inr (inr (inr x)))) (inl y) = absurd (merge_or options modules g x.placement.sections y x.placement.grouped)
+same_fault options modules f g (inr (inr (inr (inr x)))) (inr (inl y)) = absurd (many_or_placement options modules g x.rows x.layout x.tables y x.placement)
+same_fault options modules f g (inr (inr (inr (inr x)))) (inr (inr (inl y))) = absurd (large_or_placement options modules g x.rows x.layout x.tables y x.placement)
 same_fault options modules f g (inr (inr (inr (inr x)))) (inr (inr (inr (inl y)))) = absurd (base_or_range options modules g f y x)
 same_fault options modules f g (inr (inr (inr (inr x)))) (inr (inr (inr (inr y)))) = same_range options modules f g x y
 
 -- modules have a fault, or an image
 fault_or_image : (options : LinkOptions) (modules : List ModuleView) (f : Fault) (image : ImagePlan) → IsBuildFault options modules f → IsImageOf options modules image → ⊥
-fault_or_image options modules f image (inl x) y = no_bad_merge options (plan_pieces modules) y.sections f x y.grouped
-fault_or_image options modules f image (inr (inl x)) y =
-    let count = counts options (plan_pieces modules) x.sections y.sections x.grouped y.grouped in
-    omega (arith, x.refused.0, x.refused.1, count, y.placed.few)
-fault_or_image options modules f image (inr (inr (inl x))) y =
-    let pieces = plan_pieces modules in
-    let size = sizes options pieces x.sections y.sections x.size y.layout.image x.grouped y.grouped x.refused.1 (has_size pieces y.sections y.layout y.placed.layout_of) in
-    omega (arith, size, x.refused.2, y.placed.within)
+fault_or_image options modules f image (inl x) y = merge_or options modules f y.placement.sections x y.placement.grouped
+fault_or_image options modules f image (inr (inl x)) y = many_or_placement options modules f y.rows y.layout y.tables x y.placement
+fault_or_image options modules f image (inr (inr (inl x))) y = large_or_placement options modules f y.rows y.layout y.tables x y.placement
 fault_or_image options modules f image (inr (inr (inr (inl x)))) y =
-    let pieces = plan_pieces modules in
-    let size = sizes options pieces x.sections y.sections x.layout.image y.layout.image x.grouped y.grouped (has_size pieces x.sections x.layout x.placed.layout_of) (has_size pieces y.sections y.layout y.placed.layout_of) in
-    let same : is_permitted (base_rule options) x.layout.image options.base ≡ is_permitted (base_rule options) y.layout.image options.base = ap (λ (n : ℕ). is_permitted (base_rule options) n options.base) size in
-    false≢true (sym x.refused ∙ same ∙ y.permitted)
+    let same = one_placement options modules x.rows y.rows x.layout y.layout x.tables y.tables x.placement y.placement in
+    false≢true (sym x.refused ∙ same_permitted options x.rows y.rows x.layout y.layout x.tables y.tables same ∙ y.permitted)
 fault_or_image options modules f image (inr (inr (inr (inr x)))) y =
-    absurd (none_some (sym y.in_range ∙ same_ranges options modules y.sections x.sections y.layout x.layout y.grouped x.grouped y.placed x.placed ∙ x.is))
+    let same = one_placement options modules y.rows x.rows y.layout x.layout y.tables x.tables y.placement x.placement in
+    absurd (none_some (sym y.in_range ∙ same_ranges options modules y.rows x.rows y.layout x.layout y.tables x.tables same ∙ x.is))
   where
     none_some : None ≡ Some f → ⊥
     none_some e = cc
 
 -- ---- the plan
 
+-- where the table is, by the RVAs of the pieces
+abbrev directory_at : List ℕ → List (List ℕ) → ℕ × ℕ
+directory_at rvas [] = (0, 0)
+directory_at rvas (table ∷ tables) = (get_or rvas (length rvas - 1) 0, length table)
+
+directory_is : (layout : Layout) (tables : List (List ℕ)) → table_directory layout tables ≡ directory_at layout.pieces.items tables
+directory_is layout [] = refl
+directory_is layout (table ∷ tables) = refl
+
 same_image : (options : LinkOptions) (modules : List ModuleView) (a b : ImagePlan) → IsImageOf options modules a → IsImageOf options modules b → a ≡ b
 same_image options modules a b x y =
-    let pieces = plan_pieces modules in
     let place = entry_place modules options.entry_name in
-    let rows = same_rows options pieces x.sections y.sections x.grouped y.grouped in
-    let same = places options modules x.sections y.sections x.layout y.layout x.grouped y.grouped x.placed y.placed in
-    let contents : linked_contents modules (rows_of x.sections) x.layout ≡ linked_contents modules (rows_of y.sections) y.layout =
-    ap (λ (r : List SectionRow). linked_contents modules r x.layout) rows ∙ contents_by_places modules (rows_of y.sections) x.layout y.layout (sym same.pieces) (sym same.sections) in
+    let same = one_placement options modules x.rows y.rows x.layout y.layout x.tables y.tables x.placement y.placement in
+    let linked : linked_contents modules x.rows x.layout ≡ linked_contents modules y.rows y.layout =
+    ap (λ (r : List SectionRow). linked_contents modules r x.layout) same.rows_same ∙ contents_by_places modules y.rows x.layout y.layout (sym same.layouts.pieces) (sym same.layouts.sections) in
     x.is
-    ∙ ap (λ (cs : ℕ → List (List ℕ)). written_plan (headers_of options (entry_rva x.layout.pieces.items place)) (rows_of x.sections) x.layout.sections.items x.layout.pieces.items x.layout.image cs) contents
-    ∙ ap (λ (r : List SectionRow). written_plan (headers_of options (entry_rva x.layout.pieces.items place)) r x.layout.sections.items x.layout.pieces.items x.layout.image (linked_contents modules (rows_of y.sections) y.layout)) rows
-    ∙ ap (λ (p : List Placed). written_plan (headers_of options (entry_rva x.layout.pieces.items place)) (rows_of y.sections) p x.layout.pieces.items x.layout.image (linked_contents modules (rows_of y.sections) y.layout)) (sym same.sections)
-    ∙ ap (λ (r : List ℕ). written_plan (headers_of options (entry_rva r place)) (rows_of y.sections) y.layout.sections.items r x.layout.image (linked_contents modules (rows_of y.sections) y.layout)) (sym same.pieces)
-    ∙ ap (λ (n : ℕ). written_plan (headers_of options (entry_rva y.layout.pieces.items place)) (rows_of y.sections) y.layout.sections.items y.layout.pieces.items n (linked_contents modules (rows_of y.sections) y.layout)) (sym same.image)
+    ∙ ap (λ (d : ℕ × ℕ). written_plan (headers_of options (entry_rva x.layout.pieces.items place) d) x.rows x.layout.sections.items x.layout.pieces.items x.layout.image (image_contents modules x.rows x.layout x.tables)) (directory_is x.layout x.tables)
+    ∙ ap (λ (cs : ℕ → List (List ℕ)). written_plan (headers_of options (entry_rva x.layout.pieces.items place) (directory_at x.layout.pieces.items x.tables)) x.rows x.layout.sections.items x.layout.pieces.items x.layout.image (λ base. cs base ++ x.tables)) linked
+    ∙ ap (λ (ts : List (List ℕ)). written_plan (headers_of options (entry_rva x.layout.pieces.items place) (directory_at x.layout.pieces.items ts)) x.rows x.layout.sections.items x.layout.pieces.items x.layout.image (image_contents modules y.rows y.layout ts)) same.tables_same
+    ∙ ap (λ (r : List SectionRow). written_plan (headers_of options (entry_rva x.layout.pieces.items place) (directory_at x.layout.pieces.items y.tables)) r x.layout.sections.items x.layout.pieces.items x.layout.image (image_contents modules y.rows y.layout y.tables)) same.rows_same
+    ∙ ap (λ (p : List Placed). written_plan (headers_of options (entry_rva x.layout.pieces.items place) (directory_at x.layout.pieces.items y.tables)) y.rows p x.layout.pieces.items x.layout.image (image_contents modules y.rows y.layout y.tables)) (sym same.layouts.sections)
+    ∙ ap (λ (r : List ℕ). written_plan (headers_of options (entry_rva r place) (directory_at r y.tables)) y.rows y.layout.sections.items r x.layout.image (image_contents modules y.rows y.layout y.tables)) (sym same.layouts.pieces)
+    ∙ ap (λ (n : ℕ). written_plan (headers_of options (entry_rva y.layout.pieces.items place) (directory_at y.layout.pieces.items y.tables)) y.rows y.layout.sections.items y.layout.pieces.items n (image_contents modules y.rows y.layout y.tables)) (sym same.layouts.image)
+    ∙ sym (ap (λ (d : ℕ × ℕ). written_plan (headers_of options (entry_rva y.layout.pieces.items place) d) y.rows y.layout.sections.items y.layout.pieces.items y.layout.image (image_contents modules y.rows y.layout y.tables)) (directory_is y.layout y.tables))
     ∙ sym y.is
 
 plan_from : LinkOptions → List ModuleView → ImagePlan → Plan
