@@ -1,5 +1,5 @@
 -- The bytes of fields that are raised, and that they settle a memory.
-use Rattle.std.proofs.Common.{◌≡◌, ℕ, zero, suc, ◌+◌, ◌-◌, ◌*◌, ◌%◌, ◌^◌, ◌<◌, ◌≤◌, false, List, [], ◌∷◌, ◌++◌, length, take, drop, slice_index, get_or, refl, sym, ap, ◌∙◌, inl, inr, arith, subst}
+use Rattle.std.proofs.Common.{◌≡◌, ℕ, zero, suc, ◌+◌, ◌-◌, ◌*◌, ◌%◌, ◌^◌, ◌<◌, ◌≤◌, false, List, [], ◌∷◌, ◌++◌, length, take, drop, slice_index, get_or, sym, ap, ◌∙◌, inl, inr, arith, subst}
 use Rattle.std.proofs.lemmas.Grind.{same_number_lists}
 use Rattle.std.proofs.lemmas.List.{get_or_append_left, get_or-drop, drop_at, length-take-le}
 use Rattle.link_base.specs.Bytes.{number_at, number_bytes}
@@ -9,7 +9,7 @@ use Rattle.base_reloc.specs.declared.field.BaseField.{BaseField}
 use Rattle.base_reloc.specs.Blocks.{width_of, raised, raised_all}
 use Rattle.base_reloc.specs.PageBlocks.{LieWithin}
 use Rattle.base_reloc.specs.Raising.{IsOutsideAll, ShareNoByte, HoldRaisedBytes}
-use Rattle.base_reloc.proofs.RaisedLemmas.{length-raised, raised_outside, length_raised_all, raised_elsewhere, inside_more, outside_first, outside_second}
+use Rattle.base_reloc.proofs.RaisedLemmas.{raised_outside, length_raised_all, raised_elsewhere, inside_more, outside_first, outside_second}
 use Rattle.base_reloc.proofs.SettledLemmas.{OfOne, of_one}
 
 -- ---- one field

@@ -1,27 +1,24 @@
 -- The plan of what is laid out loads, and so does its file.
-use Rattle.std.proofs.Common.{◌≡◌, ℕ, ◌<◌, ◌≤◌, true, IsTrue, List, [], ◌∷◌, length, get_or, map, slice_get, Some, refl, sym, ap, ◌∙◌, subst, arith}
-use Rattle.std.specs.List.{All, flat_map, range_with_len}
+use Rattle.std.proofs.Common.{◌≡◌, ℕ, ◌<◌, ◌≤◌, true, IsTrue, List, [], ◌∷◌, length, get_or, map, sym, ap, ◌∙◌, subst, arith}
+use Rattle.std.specs.List.{All, flat_map}
 use Rattle.std.proofs.lemmas.List.Elements.{All-get_or, All-nil, All-cons, All-append}
-use Rattle.link_base.specs.PeFormat.{DIRECTORY_ENTRY_BASERELOC}
 use Rattle.section_group.specs.declared.piece.Piece.{Piece}
 use Rattle.section_group.specs.declared.piece.OutSection.{OutSection}
 use Rattle.section_group.specs.SectionOrder.{no_piece}
 use Rattle.section_group.specs.Uniqueness.{SectionRow as OutRow, rows_of}
 use Rattle.address_layout.specs.declared.layout.Layout.{Layout}
 use Rattle.address_layout.specs.Layout.{all_pieces}
-use Rattle.base_reloc.specs.PageBlocks.{blocks_of, pages_of}
 use Rattle.image_writer.specs.declared.headers.Headers.{Headers}
 use Rattle.image_writer.specs.HeaderTable.{size_of_headers}
-use Rattle.image_writer.specs.ExpectedImage.{PlacedBytes, ImagePlan, MeansPlan, plan_bytes, permits, expected_byte, expected_image, image_file}
+use Rattle.image_writer.specs.ExpectedImage.{PlacedBytes, permits}
 use Rattle.image_writer.specs.LoadablePlan.{HasOneLength, IsRelocatable, IsWritable, IsLoadable, AreRowsPlaced, AreInRows}
 use Rattle.section_group.specs.PieceContents.{piece_contents}
 use Rattle.image_writer.specs.MovedContents.{HaveOneLength}
-use Rattle.image_writer.specs.WrittenImage.{placed_piece, section_pieces, section_rows, written_plan, at_each_base, layout_plan, HaveRoom, IsLaidOut, HasContents}
+use Rattle.image_writer.specs.WrittenImage.{placed_piece, section_pieces, section_rows, written_plan, layout_plan, HaveRoom, IsLaidOut, HasContents}
 use Rattle.image_writer.proofs.PlanBytes.{written_bytes}
 use Rattle.image_writer.proofs.ChainLemmas.{start_inside, rows_placed, pieces_in_rows}
-use Rattle.image_writer.proofs.LaidOutLemmas.{have_room, laid_out_written}
+use Rattle.image_writer.proofs.LaidOutLemmas.{laid_out_written}
 use Rattle.image_writer.proofs.TableLemmas.{length-section_rows}
-use Rattle.image_writer.proofs.ImageTheorems.{file_means_plan}
 
 -- ---- contents
 

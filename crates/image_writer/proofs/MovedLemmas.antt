@@ -1,6 +1,6 @@
 -- The memory of a layout at another base is its own with the fields raised that hold addresses, where each of these lies in a
 -- piece and no other byte of a piece depends on the base.
-use Rattle.std.proofs.Common.{◌≡◌, ℕ, ◌+◌, ◌*◌, ◌%◌, ◌^◌, ◌<◌, ◌≤◌, Bool, true, false, cond, List, [], length, get_or, slice_index, drop, sym, ap, ◌∙◌, subst, inl, inr, arith, ◌⊎◌}
+use Rattle.std.proofs.Common.{◌≡◌, ℕ, ◌+◌, ◌*◌, ◌%◌, ◌^◌, ◌<◌, Bool, true, false, cond, List, [], length, get_or, slice_index, drop, sym, ap, ◌∙◌, subst, arith}
 use Rattle.std.proofs.lemmas.List.{get_or-drop}
 use Rattle.link_base.specs.Bytes.{bytes_at, number_at, number_bytes}
 use Rattle.link_base.proofs.CallerLemmas.{number_at-drop}
@@ -12,7 +12,7 @@ use Rattle.address_layout.specs.Places.{row_at}
 use Rattle.base_reloc.specs.declared.field.BaseField.{BaseField}
 use Rattle.base_reloc.specs.Blocks.{width_of, raised_all}
 use Rattle.base_reloc.specs.PageBlocks.{LieWithin}
-use Rattle.base_reloc.specs.Raising.{IsOutside, IsOutsideAll, ShareNoByte, HoldRaisedBytes}
+use Rattle.base_reloc.specs.Raising.{IsOutsideAll, ShareNoByte, HoldRaisedBytes}
 use Rattle.base_reloc.proofs.CallerLemmas.{raised_by_bytes}
 use Rattle.image_writer.specs.declared.headers.Headers.{Headers}
 use Rattle.image_writer.specs.ExpectedImage.{expected_image}
@@ -20,7 +20,7 @@ use Rattle.image_writer.specs.WrittenImage.{layout_plan, HaveRoom, IsLaidOut}
 use Rattle.image_writer.specs.MovedContents.{AreMoved}
 use Rattle.image_writer.specs.PieceInFile.{piece_at}
 use Rattle.image_writer.proofs.PatchLemmas.{bytes_are}
-use Rattle.image_writer.proofs.MemoryLemmas.{Agree, length_memory, IsInMemory, piece_inside_memory, piece_in_memory, same_in_memory}
+use Rattle.image_writer.proofs.MemoryLemmas.{length_memory, piece_inside_memory, piece_in_memory, same_in_memory}
 
 module _ (headers : Headers) (pieces : List Piece) (sections : List OutSection) (layout : Layout) (contents : ℕ → List (List ℕ)) (out : IsLaidOut pieces sections layout) where
   abbrev memory : ℕ → List ℕ

@@ -1,5 +1,5 @@
 -- A layout has a file that loads as planned, where its contents stay at each permitted base, or move and their fields are listed.
-use Rattle.std.proofs.Common.{◌≡◌, ℕ, ◌<◌, ◌≤◌, true, List, [], ◌∷◌, length, get_or, map, refl, sym, ap, ◌∙◌, subst, arith}
+use Rattle.std.proofs.Common.{◌≡◌, ℕ, true, List, [], ◌∷◌, length, get_or, map, refl, sym, ap, ◌∙◌, subst, arith}
 use Rattle.std.specs.List.{range_with_len}
 use Rattle.std.proofs.lemmas.List.Elements.{All-nil}
 use Rattle.link_base.specs.Bytes.{bytes_at}
@@ -8,7 +8,7 @@ use Rattle.section_group.specs.declared.piece.OutSection.{OutSection}
 use Rattle.section_group.specs.Uniqueness.{rows_of}
 use Rattle.address_layout.specs.declared.layout.Layout.{Layout}
 use Rattle.base_reloc.specs.declared.field.BaseField.{BaseField}
-use Rattle.base_reloc.specs.PageBlocks.{blocks_of, pages_of, LieWithin}
+use Rattle.base_reloc.specs.PageBlocks.{blocks_of, pages_of}
 use Rattle.pe_loader.specs.LoadedImage.{base_delta}
 use Rattle.image_writer.specs.declared.headers.Headers.{Headers}
 use Rattle.image_writer.specs.ExpectedImage.{ImagePlan, MeansPlan, plan_bytes, permits, expected_byte, expected_image, image_file}

@@ -1,21 +1,15 @@
 -- What callers may cite of a module that opens: that its object is well formed, and where its definitions stand.
-use Rattle.std.proofs.Common.{◌≡◌, ◌≢◌, ℕ, suc, ◌+◌, ◌-◌, ◌≤◌, ℤ, pos, negsuc, Bool, true, false, cond, ◌||◌, eqb, List, [], ◌∷◌, filter, Option, Some, None, refl, sym, ap, subst, ◌∙◌, arith}
+use Rattle.std.proofs.Common.{◌≡◌, ℕ, suc, ◌≤◌, ℤ, pos, negsuc, Bool, true, false, cond, ◌||◌, eqb, List, [], ◌∷◌, filter, Option, Some, None, refl, sym, ap, subst, ◌∙◌, arith}
 use Rattle.std.specs.Prelude.{option_map}
 use Rattle.std.specs.Option.{option_or}
 use Rattle.std.specs.Cmp.Derive.{both_true}
 use Rattle.std.specs.Int.Signed.{lt_z}
-use Rattle.std.specs.List.{All, list_any, range_with_len}
-use Rattle.std.proofs.lemmas.Bool.{eqb-true, eqb-false, eq-eqb, ltb-true, and_parts}
+use Rattle.std.specs.List.{All, list_any}
+use Rattle.std.proofs.lemmas.Bool.{eqb-true, eq-eqb, ltb-true, and_parts}
 use Rattle.std.proofs.lemmas.List.Elements.{All-nil, All-cons, All-map, All-weaker}
-use Rattle.std.proofs.lemmas.List.FromFn.{length-range_with_len, get_or-range_with_len}
-use Rattle.link_base.specs.Bytes.{has_flag}
-use Rattle.link_base.specs.PeFormat.{SCN_LNK_COMDAT, REL_AMD64_ADDR64, REL_AMD64_ADDR32}
 use Rattle.link_base.specs.Refusals.{first_standing}
-use Rattle.link_base.specs.declared.kinds.form.Kind.{Kind}
-use Rattle.link_base.specs.declared.kinds.form.Kind.TheVariants as form
-use Rattle.link_base.proofs.TestLemmas.{or_left, or_right}
 use Rattle.coff_records.specs.SymbolRecord.{SymbolView, value_in, class_in, section_number_in, section_of_number}
-use Rattle.coff_records.specs.ObjectFile.{SymbolEntry, section_total, raw_size_of, flags_of, relocations_of, symbol_at, symbol_entry, symbols_of, symbol_entries, starts_symbol}
+use Rattle.coff_records.specs.ObjectFile.{SymbolEntry, section_total, raw_size_of, symbol_at, symbol_entry, symbols_of, symbol_entries, starts_symbol}
 use Rattle.coff_object.specs.ObjectFaults.{object_fault, is_in_section}
 use Rattle.coff_object.specs.declared.error.ObjError.{ObjError}
 use Rattle.coff_object.proofs.CallerLemmas.{symbol_section_inside, symbol_value_inside}
@@ -23,9 +17,8 @@ use Rattle.module_view.specs.declared.definition.Definition.{Definition}
 use Rattle.module_view.specs.declared.definition.Place.{Place}
 use Rattle.module_view.specs.declared.definition.Place.TheVariants as place
 use Rattle.module_view.specs.declared.error.ModuleError.TheVariants as error
-use Rattle.module_view.specs.Module.{ModuleView}
 use Rattle.module_view.specs.SymbolLists.{is_absolute, is_definition, place_in_section, place_of, defines, definition_of, definitions_of}
-use Rattle.module_view.specs.Opening.{opening_error, form_error, object_error, content_error, unsupported, has_linker_section, has_long_section_name, has_long_symbol_name, IsOpened}
+use Rattle.module_view.specs.Opening.{opening_error, form_error, object_error, content_error}
 
 -- ---- what does not stand
 
