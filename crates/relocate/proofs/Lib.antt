@@ -10,6 +10,7 @@ pub mod PatchedLemmas
 pub mod OrderLemmas
 pub mod BaseLemmas
 pub mod MovedLemmas
+pub mod NumberLemmas
 pub mod CallerLemmas
 mod WorkedFields
 mod TestLemmas
