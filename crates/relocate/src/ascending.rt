@@ -9,9 +9,9 @@ ghost use Rattle.relocate.specs.Judged.{ArePatchable, size_of};
 use crate::error::FieldError;
 use crate::fix::Fix;
 use crate::judge::fault_of;
-use crate::place::field_end;
+use crate::place::{field_end, has_field};
 use link_base::pe_format::REL_AMD64_ABSOLUTE;
-use std::alloc::Global;
+use std::alloc::{AllocError, Global};
 
 /// The fields of relocations, or nothing where one begins before the end of an earlier one.
 pub(crate) fn ascending_fields(
@@ -26,10 +26,11 @@ pub(crate) fn ascending_fields(
     ensures patchable { IfOk result (λ fields. IfSome fields (λ list. ArePatchable (size_of body_len) list.items)) }
     ensures refused { IfErr result (RefusesFor (field_fault body_len large pdata fixes.now)) }
 {
-    let mut fields = Vec::with_capacity(alloc, fixes.len())?;
+    let mut all = true;
     let mut end = 0;
     for fix in fixes {
         if fix.kind == REL_AMD64_ABSOLUTE {
+            all = false;
             continue;
         }
         if u64::from(fix.at) < end {
@@ -38,8 +39,23 @@ pub(crate) fn ascending_fields(
         if let Some(error) = fault_of(body_len, large, pdata, fix, false) {
             return Err(error);
         }
-        fields.push(*fix)?;
         end = field_end(fix);
     }
-    Ok(Some(fields))
+    if all {
+        return Ok(Some(Vec::from_slice(alloc, fixes)?));
+    }
+    Ok(Some(with_fields(alloc, fixes)?))
+}
+
+/// The relocations that have a field.
+fn with_fields(alloc: Global, fixes: &[Fix]) -> Result<Vec<Fix>, AllocError>
+    ensures { IfOk result (λ fields. fields.items ≡ filter has_field fixes.now) }
+{
+    let mut fields = Vec::new(alloc);
+    for fix in fixes {
+        if has_field(fix) {
+            fields.push(*fix)?;
+        }
+    }
+    Ok(fields)
 }
