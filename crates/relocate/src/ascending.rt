@@ -13,7 +13,8 @@ use crate::place::{field_end, has_field};
 use link_base::pe_format::REL_AMD64_ABSOLUTE;
 use std::alloc::{AllocError, Global};
 
-/// The fields of relocations, or nothing where one begins before the end of an earlier one.
+/// The fields of relocations, or nothing where one begins before the end of an earlier one. They are copied at once where
+/// each relocation has a field.
 pub(crate) fn ascending_fields(
     alloc: Global,
     body_len: Option<usize>,
@@ -26,11 +27,11 @@ pub(crate) fn ascending_fields(
     ensures patchable { IfOk result (λ fields. IfSome fields (λ list. ArePatchable (size_of body_len) list.items)) }
     ensures refused { IfErr result (RefusesFor (field_fault body_len large pdata fixes.now)) }
 {
-    let mut all = true;
+    let mut all_have_fields = true;
     let mut end = 0;
     for fix in fixes {
         if fix.kind == REL_AMD64_ABSOLUTE {
-            all = false;
+            all_have_fields = false;
             continue;
         }
         if u64::from(fix.at) < end {
@@ -41,7 +42,7 @@ pub(crate) fn ascending_fields(
         }
         end = field_end(fix);
     }
-    if all {
+    if all_have_fields {
         return Ok(Some(Vec::from_slice(alloc, fixes)?));
     }
     Ok(Some(with_fields(alloc, fixes)?))

@@ -23,10 +23,10 @@ returns-in-Some-clause-refused c =
     let above : c.loop-fix.end ≤ (fix_at c.args.fixes.now c.loop-fix.fix-index).at = omega (arith, c.from.ensures, c.if-from-end.false) in
     ascend_refused _ _ _ _ _ _ _ _ c.loop-fix-test.true (sym c.in-Some.ensures) above c.loop-fix.invariant
 
-pub returns-then-all-clause-patchable : goal.returns-then-all-clause-patchable
-returns-then-all-clause-patchable c =
+pub returns-then-all_have_fields-clause-patchable : goal.returns-then-all_have_fields-clause-patchable
+returns-then-all_have_fields-clause-patchable c =
     let all = all_ascend _ _ _ _ _ _ _ c.loop-fix-test.false c.loop-fix.auto.fix-index-end c.loop-fix.invariant in
-    let same = c.in_ok-from_slice.ensures.items ∙ all.whole c.if-all.true in
+    let same = c.in_ok-from_slice.ensures.items ∙ all.whole c.if-all_have_fields.true in
     patchable_ascending _ _ _ _ _ all.none same (subst AreApart (sym same) all.apart)
 
 pub returns-clause-patchable : goal.returns-clause-patchable

@@ -2,4 +2,4 @@ use Rattle.relocate.proofs.JudgeLemmas.{AscendTo}
 use Rattle.relocate.proofs.ascending.ascending_fields.Given as goal
 
 abbrev pub invariant-loop-fix : goal.invariant-loop-fix
-invariant-loop-fix l = AscendTo l.body_len l.large l.pdata l.fixes l.fix-index l.all l.end
+invariant-loop-fix l = AscendTo l.body_len l.large l.pdata l.fixes l.fix-index l.all_have_fields l.end
