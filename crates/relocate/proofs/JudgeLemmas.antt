@@ -17,6 +17,7 @@ use Rattle.relocate.specs.declared.error.FieldError.TheVariants.{Reloc, Target, 
 use Rattle.relocate.specs.Field.{field_width, field_end, has_field, ranges_meet, no_fix, fix_at}
 use Rattle.relocate.specs.FieldFaults.{place_faults, target_faults, overlaps_earlier, fault_of, fault_at, field_fault, RefusesFor}
 use Rattle.relocate.specs.Judged.{AreApart}
+use Rattle.relocate.specs.Taken.{Descend}
 
 -- the first k relocations have no fault, and these are their fields
 pub record JudgedTo (body_len : Option ℕ) (large pdata : Bool) (fixes : List Fix) (k : ℕ) (fields : List Fix) : Type 0 where
@@ -168,13 +169,26 @@ end_field fixes k fields end below above =
 
 -- ---- the first k relocations ascend and have no fault
 
+-- it ends where the field of one of the first k relocations ends
+pub record EndsThere (fixes : List Fix) (k : ℕ) (end : ℕ) : Type 0 where
+  pub place : ℕ
+  pub there : place < k
+  pub field : has_field (fix_at fixes place) ≡ true
+  pub is : field_end (fix_at fixes place) ≡ end
+
+later_end : (fixes : List Fix) (k end : ℕ) → (0 < end → EndsThere fixes k end) → 0 < end → EndsThere fixes (k + 1) end
+later_end fixes k end ends some =
+    let here = ends some in
+    record { place = here.place; there = let lt = here.there in omega arith; field = here.field; is = here.is }
+
 pub record AscendTo (body_len : Option ℕ) (large pdata : Bool) (fixes : List Fix) (k : ℕ) (all : Bool) (end : ℕ) : Type 0 where
   pub judged : JudgedTo body_len large pdata fixes k (filter has_field (take k fixes))
   pub below : EndBelow fixes k (filter has_field (take k fixes)) end
   pub whole : all ≡ true → filter has_field (take k fixes) ≡ take k fixes
+  pub ends : 0 < end → EndsThere fixes k end
 
 pub ascend_starts : (body_len : Option ℕ) (large pdata : Bool) (fixes : List Fix) → AscendTo body_len large pdata fixes 0 true 0
-ascend_starts body_len large pdata fixes = record { judged = starts body_len large pdata fixes; below = end_starts fixes; whole = λ e. refl }
+ascend_starts body_len large pdata fixes = record { judged = starts body_len large pdata fixes; below = end_starts fixes; whole = λ e. refl; ends = λ some. absurd (omega arith) }
 
 pub ascend_absolute : (body_len : Option ℕ) (large pdata : Bool) (fixes : List Fix) (k : ℕ) (all : Bool) (end : ℕ) → k < length fixes → (fix_at fixes k).kind ≡ 0 → AscendTo body_len large pdata fixes k all end → AscendTo body_len large pdata fixes (k + 1) false end
 ascend_absolute body_len large pdata fixes k all end lt absolute so_far =
@@ -183,6 +197,7 @@ ascend_absolute body_len large pdata fixes k all end lt absolute so_far =
       judged = record { none = step.none; fields_are = refl };
       below = subst (λ (fields : List Fix). EndBelow fixes (k + 1) fields end) step.fields_are (end_absolute fixes k (filter has_field (take k fixes)) end so_far.below absolute);
       whole = λ e. absurd cc;
+      ends = later_end fixes k end so_far.ends;
     }
 
 pub ascend_field : (body_len : Option ℕ) (large pdata : Bool) (fixes : List Fix) (k : ℕ) (all : Bool) (end : ℕ) → k < length fixes → (fix_at fixes k).kind ≢ 0 → fault_of body_len large pdata (fix_at fixes k) false ≡ None → end ≤ (fix_at fixes k).at → AscendTo body_len large pdata fixes k all end
@@ -195,6 +210,7 @@ ascend_field body_len large pdata fixes k all end lt some none above so_far =
       judged = record { none = step.none; fields_are = refl };
       below = subst (λ (fields : List Fix). EndBelow fixes (k + 1) fields (field_end (fix_at fixes k))) step.fields_are (end_field fixes k (filter has_field (take k fixes)) end so_far.below above);
       whole = λ e. sym step.fields_are ∙ ap (λ (fields : List Fix). fields ++ fix_at fixes k ∷ []) (so_far.whole e) ∙ sym (take_more fixes k no_fix lt);
+      ends = λ w. record { place = k; there = omega arith; field = lt-ltb _ _ (has_width body_len (fix_at fixes k) (passes body_len large pdata (fix_at fixes k) false none some).place some); is = refl };
     }
 
 pub ascend_refused : (body_len : Option ℕ) (large pdata : Bool) (fixes : List Fix) (k : ℕ) (all : Bool) (end : ℕ) (error : FieldError) → k < length fixes → fault_of body_len large pdata (fix_at fixes k) false ≡ Some error → end ≤ (fix_at fixes k).at → AscendTo body_len large pdata fixes k all end
@@ -202,6 +218,11 @@ pub ascend_refused : (body_len : Option ℕ) (large pdata : Bool) (fixes : List 
 ascend_refused body_len large pdata fixes k all end error lt some above so_far =
     let apart = apart_above fixes k (filter has_field (take k fixes)) end so_far.below above in
     refused_at body_len large pdata fixes k (filter has_field (take k fixes)) error lt so_far.judged (ap (fault_of body_len large pdata (fix_at fixes k)) apart ∙ some)
+
+pub ascend_ends : (body_len : Option ℕ) (large pdata : Bool) (fixes : List Fix) (k : ℕ) (all : Bool) (end : ℕ) → k < length fixes → (fix_at fixes k).at < end → AscendTo body_len large pdata fixes k all end → Descend fixes
+ascend_ends body_len large pdata fixes k all end lt below so_far =
+    let ends = so_far.ends (omega arith) in
+    record { earlier = ends.place; later = k; order = ends.there; there = lt; field = ends.field; before = let is = ends.is in omega arith }
 
 -- all ascend
 pub record Ascend (body_len : Option ℕ) (large pdata : Bool) (fixes : List Fix) (all : Bool) : Type 0 where

@@ -1,10 +1,11 @@
 //! The fields of relocations that ascend by their places, as compilers write them.
 
-ghost use Rattle.std.specs.Prelude.{◌≡◌, None, IfOk, IfErr, IfSome};
+ghost use Rattle.std.specs.Prelude.{◌≡◌, None, IfOk, IfErr, IfSome, IfNone};
 ghost use Rattle.std.specs.List.{filter};
 ghost use Rattle.relocate.specs.Field.{has_field};
 ghost use Rattle.relocate.specs.FieldFaults.{field_fault, RefusesFor};
 ghost use Rattle.relocate.specs.Judged.{ArePatchable, size_of};
+ghost use Rattle.relocate.specs.Taken.{Descend};
 
 use crate::error::FieldError;
 use crate::fix::Fix;
@@ -25,6 +26,7 @@ pub(crate) fn ascending_fields(
     ensures accepted { IfOk result (λ fields. IfSome fields (λ _. field_fault body_len large pdata fixes.now ≡ None)) }
     ensures fields { IfOk result (λ fields. IfSome fields (λ list. list.items ≡ filter has_field fixes.now)) }
     ensures patchable { IfOk result (λ fields. IfSome fields (λ list. ArePatchable (size_of body_len) list.items)) }
+    ensures descend { IfOk result (λ fields. IfNone fields (Descend fixes.now)) }
     ensures refused { IfErr result (RefusesFor (field_fault body_len large pdata fixes.now)) }
 {
     let mut all_have_fields = true;

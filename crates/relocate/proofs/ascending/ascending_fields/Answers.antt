@@ -1,7 +1,7 @@
-use Rattle.std.proofs.Common.{◌≤◌, sym, ◌∙◌, subst, arith}
+use Rattle.std.proofs.Common.{◌<◌, ◌≤◌, sym, ◌∙◌, subst, arith}
 use Rattle.relocate.specs.Field.{fix_at}
 use Rattle.relocate.specs.Judged.{AreApart}
-use Rattle.relocate.proofs.JudgeLemmas.{ascend_starts, ascend_absolute, ascend_field, ascend_refused, all_ascend}
+use Rattle.relocate.proofs.JudgeLemmas.{ascend_starts, ascend_absolute, ascend_field, ascend_refused, ascend_ends, all_ascend}
 use Rattle.relocate.proofs.PatchableLemmas.{patchable_ascending}
 use Rattle.relocate.proofs.ascending.ascending_fields.Goals as goal
 
@@ -33,3 +33,8 @@ pub returns-clause-patchable : goal.returns-clause-patchable
 returns-clause-patchable c =
     let all = all_ascend _ _ _ _ _ _ _ c.loop-fix-test.false c.loop-fix.auto.fix-index-end c.loop-fix.invariant in
     patchable_ascending _ _ _ _ _ all.none c.in_ok-with_fields.ensures (subst AreApart (sym c.in_ok-with_fields.ensures) all.apart)
+
+pub returns-then-from-end-clause-descend : goal.returns-then-from-end-clause-descend
+returns-then-from-end-clause-descend c =
+    let below : (fix_at c.args.fixes.now c.loop-fix.fix-index).at < c.loop-fix.end = omega (arith, c.from.ensures, c.if-from-end.true) in
+    ascend_ends _ _ _ _ _ _ _ c.loop-fix-test.true below c.loop-fix.invariant
