@@ -36,7 +36,7 @@ mapped_none : {A B : Type 0} (f : A → B) (x : Option A) → option_map f x ≡
 mapped_none f None e = refl
 mapped_none f (Some x) e = absurd cc
 
-suited : (large pdata : Bool) (fix : Fix) → IsSuited large pdata fix → (own_fault fix.target ≡ None) × (nat_le 3 fix.kind && is_absolute fix.target ≡ false)
+pub suited : (large pdata : Bool) (fix : Fix) → IsSuited large pdata fix → (own_fault fix.target ≡ None) × (nat_le 3 fix.kind && is_absolute fix.target ≡ false)
 unfolding target_faults
 suited large pdata fix h =
     let own = or_none (option_map (error.Target fix.index) (own_fault fix.target)) _ h.1 in
@@ -121,7 +121,7 @@ same_value kind first second e f g = rw (g, e, f) refl
 
 -- ---- sums
 
-relative_sum : (a b p q n : ℕ) (old : ℤ) → a + q ≡ b + p → (pos a +ℤ old) -ℤ (pos p +ℤ pos n) ≡ (pos b +ℤ old) -ℤ (pos q +ℤ pos n)
+pub relative_sum : (a b p q n : ℕ) (old : ℤ) → a + q ≡ b + p → (pos a +ℤ old) -ℤ (pos p +ℤ pos n) ≡ (pos b +ℤ old) -ℤ (pos q +ℤ pos n)
 relative_sum a b p q n old e = omega (arith, ints)
 
 moved_sum : (a b p q : ℕ) (old : ℤ) → a + q ≡ b + p → pos b +ℤ old ≡ (pos a +ℤ old) +ℤ (pos q -ℤ pos p)
@@ -130,7 +130,7 @@ moved_sum a b p q old e = omega (arith, ints)
 -- ---- the value of a field
 
 module _ (large pdata : Bool) (base other rva : ℕ) (layout : Layout) (owner bytes : List ℕ) (fix : Fix) where
-  from_behind : has_field fix ≡ true → IsSuited large pdata fix → fix.kind ≢ 1 → fix.kind ≢ 2 → address_of base layout (meant fix.target) + other ≡ address_of other layout (meant fix.target) + base
+  pub from_behind : has_field fix ≡ true → IsSuited large pdata fix → fix.kind ≢ 1 → fix.kind ≢ 2 → address_of base layout (meant fix.target) + other ≡ address_of other layout (meant fix.target) + base
   from_behind some suits a b =
       let whole = with_field fix some in
       let facts = suited large pdata fix suits in

@@ -1,10 +1,10 @@
 -- Relocations judged one after the other, in the order of their indexes.
-use Rattle.std.proofs.Common.{◌≡◌, ◌≢◌, ℕ, ◌+◌, ◌-◌, ◌<◌, ◌≤◌, length, List, [], ◌∷◌, ◌++◌, take, Option, Some, None, Bool, true, false, cond, refl, sym, ap, ◌∙◌, eqb, le-ltb, lt-ltb, inl, inr, append-nil, arith, nat_le, nat_lt}
+use Rattle.std.proofs.Common.{◌≡◌, ◌≢◌, ℕ, ◌+◌, ◌-◌, ◌<◌, ◌≤◌, length, List, [], ◌∷◌, ◌++◌, take, Option, Some, None, Bool, true, false, cond, refl, sym, ap, ◌∙◌, eqb, le-ltb, lt-ltb, inl, inr, append-nil, arith, nat_le, nat_lt, subst}
 use Rattle.std.proofs.lemmas.Bool.{cases_lt}
 use Rattle.std.proofs.lemmas.Bool.Decides.{nat_tests}
 use Rattle.std.proofs.lemmas.List.Elements.{filter_more, All-push, All-weaker, All-nil}
 use Rattle.std.proofs.lemmas.List.Quantifiers.{all_pairs_push}
-use Rattle.std.proofs.lemmas.List.{take_all}
+use Rattle.std.proofs.lemmas.List.{take_all, take_more}
 use Rattle.std.specs.List.{All, filter}
 use Rattle.std.specs.Option.{option_or, is_some}
 use Rattle.link_base.specs.Refusals.{shown, first_standing, first_refusal_below}
@@ -17,6 +17,7 @@ use Rattle.relocate.specs.declared.error.FieldError.TheVariants.{Reloc, Target, 
 use Rattle.relocate.specs.Field.{field_width, field_end, has_field, ranges_meet, no_fix, fix_at}
 use Rattle.relocate.specs.FieldFaults.{place_faults, target_faults, overlaps_earlier, fault_of, fault_at, field_fault, RefusesFor}
 use Rattle.relocate.specs.Judged.{AreApart}
+use Rattle.relocate.specs.Taken.{Descend}
 
 -- the first k relocations have no fault, and these are their fields
 pub record JudgedTo (body_len : Option ℕ) (large pdata : Bool) (fixes : List Fix) (k : ℕ) (fields : List Fix) : Type 0 where
@@ -164,4 +165,76 @@ end_field fixes k fields end below above =
       ];
       of_fields = All-push (λ field. field_end field ≤ field_end (fix_at fixes k)) fields (fix_at fixes k) (All-weaker _ _ (weaker end (field_end (fix_at fixes k)) (omega arith)) fields below.of_fields) (omega arith);
       apart = all_pairs_push (λ first second. field_end first ≤ second.at) fields (fix_at fixes k) below.apart (λ i d lt. let ends = below.of_fields i d lt in omega arith);
+    }
+
+-- ---- the first k relocations ascend and have no fault
+
+-- it ends where the field of one of the first k relocations ends
+pub record EndsThere (fixes : List Fix) (k : ℕ) (end : ℕ) : Type 0 where
+  pub place : ℕ
+  pub there : place < k
+  pub field : has_field (fix_at fixes place) ≡ true
+  pub is : field_end (fix_at fixes place) ≡ end
+
+later_end : (fixes : List Fix) (k end : ℕ) → (0 < end → EndsThere fixes k end) → 0 < end → EndsThere fixes (k + 1) end
+later_end fixes k end ends some =
+    let here = ends some in
+    record { place = here.place; there = let lt = here.there in omega arith; field = here.field; is = here.is }
+
+pub record AscendTo (body_len : Option ℕ) (large pdata : Bool) (fixes : List Fix) (k : ℕ) (all : Bool) (end : ℕ) : Type 0 where
+  pub judged : JudgedTo body_len large pdata fixes k (filter has_field (take k fixes))
+  pub below : EndBelow fixes k (filter has_field (take k fixes)) end
+  pub whole : all ≡ true → filter has_field (take k fixes) ≡ take k fixes
+  pub ends : 0 < end → EndsThere fixes k end
+
+pub ascend_starts : (body_len : Option ℕ) (large pdata : Bool) (fixes : List Fix) → AscendTo body_len large pdata fixes 0 true 0
+ascend_starts body_len large pdata fixes = record { judged = starts body_len large pdata fixes; below = end_starts fixes; whole = λ e. refl; ends = λ some. absurd (omega arith) }
+
+pub ascend_absolute : (body_len : Option ℕ) (large pdata : Bool) (fixes : List Fix) (k : ℕ) (all : Bool) (end : ℕ) → k < length fixes → (fix_at fixes k).kind ≡ 0 → AscendTo body_len large pdata fixes k all end → AscendTo body_len large pdata fixes (k + 1) false end
+ascend_absolute body_len large pdata fixes k all end lt absolute so_far =
+    let step = step_absolute body_len large pdata fixes k (filter has_field (take k fixes)) lt absolute so_far.judged in
+    record {
+      judged = record { none = step.none; fields_are = refl };
+      below = subst (λ (fields : List Fix). EndBelow fixes (k + 1) fields end) step.fields_are (end_absolute fixes k (filter has_field (take k fixes)) end so_far.below absolute);
+      whole = λ e. absurd cc;
+      ends = later_end fixes k end so_far.ends;
+    }
+
+pub ascend_field : (body_len : Option ℕ) (large pdata : Bool) (fixes : List Fix) (k : ℕ) (all : Bool) (end : ℕ) → k < length fixes → (fix_at fixes k).kind ≢ 0 → fault_of body_len large pdata (fix_at fixes k) false ≡ None → end ≤ (fix_at fixes k).at → AscendTo body_len large pdata fixes k all end
+    → AscendTo body_len large pdata fixes (k + 1) all (field_end (fix_at fixes k))
+ascend_field body_len large pdata fixes k all end lt some none above so_far =
+    let apart = apart_above fixes k (filter has_field (take k fixes)) end so_far.below above in
+    let here : fault_at body_len large pdata fixes k ≡ None = ap (fault_of body_len large pdata (fix_at fixes k)) apart ∙ none in
+    let step = step_field body_len large pdata fixes k (filter has_field (take k fixes)) lt some here so_far.judged in
+    record {
+      judged = record { none = step.none; fields_are = refl };
+      below = subst (λ (fields : List Fix). EndBelow fixes (k + 1) fields (field_end (fix_at fixes k))) step.fields_are (end_field fixes k (filter has_field (take k fixes)) end so_far.below above);
+      whole = λ e. sym step.fields_are ∙ ap (λ (fields : List Fix). fields ++ fix_at fixes k ∷ []) (so_far.whole e) ∙ sym (take_more fixes k no_fix lt);
+      ends = λ w. record { place = k; there = omega arith; field = lt-ltb _ _ (has_width body_len (fix_at fixes k) (passes body_len large pdata (fix_at fixes k) false none some).place some); is = refl };
+    }
+
+pub ascend_refused : (body_len : Option ℕ) (large pdata : Bool) (fixes : List Fix) (k : ℕ) (all : Bool) (end : ℕ) (error : FieldError) → k < length fixes → fault_of body_len large pdata (fix_at fixes k) false ≡ Some error → end ≤ (fix_at fixes k).at → AscendTo body_len large pdata fixes k all end
+    → RefusesFor (field_fault body_len large pdata fixes) error
+ascend_refused body_len large pdata fixes k all end error lt some above so_far =
+    let apart = apart_above fixes k (filter has_field (take k fixes)) end so_far.below above in
+    refused_at body_len large pdata fixes k (filter has_field (take k fixes)) error lt so_far.judged (ap (fault_of body_len large pdata (fix_at fixes k)) apart ∙ some)
+
+pub ascend_ends : (body_len : Option ℕ) (large pdata : Bool) (fixes : List Fix) (k : ℕ) (all : Bool) (end : ℕ) → k < length fixes → (fix_at fixes k).at < end → AscendTo body_len large pdata fixes k all end → Descend fixes
+ascend_ends body_len large pdata fixes k all end lt below so_far =
+    let ends = so_far.ends (omega arith) in
+    record { earlier = ends.place; later = k; order = ends.there; there = lt; field = ends.field; before = let is = ends.is in omega arith }
+
+-- all ascend
+pub record Ascend (body_len : Option ℕ) (large pdata : Bool) (fixes : List Fix) (all : Bool) : Type 0 where
+  pub none : field_fault body_len large pdata fixes ≡ None
+  pub apart : AreApart (filter has_field fixes)
+  pub whole : all ≡ true → fixes ≡ filter has_field fixes
+
+pub all_ascend : (body_len : Option ℕ) (large pdata : Bool) (fixes : List Fix) (k : ℕ) (all : Bool) (end : ℕ) → length fixes ≤ k → k ≤ length fixes → AscendTo body_len large pdata fixes k all end → Ascend body_len large pdata fixes all
+all_ascend body_len large pdata fixes k all end high low so_far =
+    let judged = done body_len large pdata fixes k (filter has_field (take k fixes)) high low so_far.judged in
+    record {
+      none = judged.0;
+      apart = subst AreApart judged.1 so_far.below.apart;
+      whole = λ e. sym (take_all k fixes high) ∙ sym (so_far.whole e) ∙ judged.1;
     }

@@ -11,6 +11,7 @@ pub mod OrderLemmas
 pub mod BaseLemmas
 pub mod MovedLemmas
 pub mod MovedBytes
+pub mod NumberLemmas
 pub mod CallerLemmas
 mod WorkedFields
 mod TestLemmas

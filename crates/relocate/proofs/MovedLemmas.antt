@@ -19,7 +19,7 @@ use Rattle.relocate.specs.Value.{value_of, held, IsOutside}
 use Rattle.relocate.specs.Written.{written_over}
 use Rattle.relocate.specs.PatchedBytes.{covers, byte_by, patched_byte, patched_bytes, is_based, IsSuited}
 use Rattle.relocate.proofs.FindLemmas.{PassesOnce, found_in, none_found}
-use Rattle.relocate.proofs.WriteLemmas.{width_addr64, written_inside, written_there, held_fits}
+use Rattle.relocate.proofs.WriteLemmas.{width_addr64, width_addr32, written_inside, written_there, held_fits}
 use Rattle.relocate.proofs.PatchLemmas.{within_at}
 use Rattle.relocate.proofs.PatchedLemmas.{covers_is, is_covered}
 use Rattle.relocate.proofs.OrderLemmas.{covered_once, bytes_in_any_order}
@@ -30,10 +30,6 @@ use Rattle.relocate.proofs.BaseLemmas.{patchable_suits, based_by, value_stays, v
 -- it ends inside the bytes
 pub ends_within : (len : ℕ) (fixups : List Fix) (k : ℕ) → ArePatchable len fixups → k < length fixups → field_end (fix_at fixups k) ≤ len
 ends_within len fixups k patchable lt = within_at len (fix_at fixups k) (patchable.each k no_fix lt)
-
-width_addr32 : (kind : ℕ) → kind ≡ 2 → field_width kind ≡ 4
-unfolding field_width
-width_addr32 kind e = rw e refl
 
 -- a field that holds an address is one of eight bytes or of four
 pub based_width : (fix : Fix) → is_based fix ≡ true → ((fix.kind ≡ 1) × (field_width fix.kind ≡ 8)) ⊎ ((fix.kind ≡ 2) × (field_width fix.kind ≡ 4))

@@ -24,6 +24,18 @@ pub width_addr64 : (kind : ℕ) → kind ≡ 1 → field_width kind ≡ 8
 unfolding field_width
 width_addr64 kind e = rw e refl
 
+pub width_addr32 : (kind : ℕ) → kind ≡ 2 → field_width kind ≡ 4
+unfolding field_width
+width_addr32 kind e = rw e refl
+
+pub width_addr32nb : (kind : ℕ) → kind ≡ 3 → field_width kind ≡ 4
+unfolding field_width
+width_addr32nb kind e = rw e refl
+
+pub width_secrel : (kind : ℕ) → kind ≡ 11 → field_width kind ≡ 4
+unfolding field_width
+width_secrel kind e = rw e refl
+
 four : (a b : Bool) (n : ℕ) → n ≡ cond a 0 (cond b 4 0) → 0 < n → n ≡ 4
 four true b n e some = absurd (omega arith)
 four false true n e some = e
@@ -36,12 +48,15 @@ width_other kind some section addr64 =
     let b = ne_eqb kind 1 addr64 in
     four (eqb kind 0) (nat_le kind 11) (field_width kind) (rw (a, b) refl) some
 
+pub width_rel32 : (kind : ℕ) → 0 < field_width kind → 4 ≤ kind → kind ≤ 9 → field_width kind ≡ 4
+width_rel32 kind some low high = width_other kind some (λ e. omega arith) (λ e. omega arith)
+
 -- ---- a number in its field
 
-pub written : (bytes front rest new : List ℕ) (fix : Fix) (width number : ℕ) (value : ℤ) → field_width fix.kind ≡ width → front ≡ take fix.at bytes → rest ≡ drop fix.at bytes → number ≡ held width value → new ≡ little_bytes width number ++ drop width rest → front ++ new ≡ written_over bytes fix (held (field_width fix.kind) value)
+pub written : (bytes front rest new : List ℕ) (fix : Fix) (width number : ℕ) → field_width fix.kind ≡ width → front ≡ take fix.at bytes → rest ≡ drop fix.at bytes → new ≡ little_bytes width number ++ drop width rest → front ++ new ≡ written_over bytes fix number
 unfolding number_bytes
-written bytes front rest new fix width number value w f r v n =
-    rw (f, n, r, v, w) (ap (λ (xs : List ℕ). take fix.at bytes ++ (little_bytes width (held width value) ++ xs)) (drop-drop width fix.at bytes))
+written bytes front rest new fix width number w f r n =
+    rw (f, n, r, w) (ap (λ (xs : List ℕ). take fix.at bytes ++ (little_bytes width number ++ xs)) (drop-drop width fix.at bytes))
 
 put_inside : (at i : ℕ) (new bytes : List ℕ) → at + length new ≤ length bytes → at ≤ i → i < at + length new → slice_index (put_over at new bytes) i ≡ slice_index new (i - at)
 put_inside at i new bytes le low high =

@@ -1,19 +1,21 @@
 //! The fields of relocations that ascend by their places, as compilers write them.
 
-ghost use Rattle.std.specs.Prelude.{◌≡◌, None, IfOk, IfErr, IfSome};
+ghost use Rattle.std.specs.Prelude.{◌≡◌, None, IfOk, IfErr, IfSome, IfNone};
 ghost use Rattle.std.specs.List.{filter};
 ghost use Rattle.relocate.specs.Field.{has_field};
 ghost use Rattle.relocate.specs.FieldFaults.{field_fault, RefusesFor};
 ghost use Rattle.relocate.specs.Judged.{ArePatchable, size_of};
+ghost use Rattle.relocate.specs.Taken.{Descend};
 
 use crate::error::FieldError;
 use crate::fix::Fix;
 use crate::judge::fault_of;
-use crate::place::field_end;
+use crate::place::{field_end, has_field};
 use link_base::pe_format::REL_AMD64_ABSOLUTE;
-use std::alloc::Global;
+use std::alloc::{AllocError, Global};
 
-/// The fields of relocations, or nothing where one begins before the end of an earlier one.
+/// The fields of relocations, or nothing where one begins before the end of an earlier one. They are copied at once where
+/// each relocation has a field.
 pub(crate) fn ascending_fields(
     alloc: Global,
     body_len: Option<usize>,
@@ -24,12 +26,14 @@ pub(crate) fn ascending_fields(
     ensures accepted { IfOk result (λ fields. IfSome fields (λ _. field_fault body_len large pdata fixes.now ≡ None)) }
     ensures fields { IfOk result (λ fields. IfSome fields (λ list. list.items ≡ filter has_field fixes.now)) }
     ensures patchable { IfOk result (λ fields. IfSome fields (λ list. ArePatchable (size_of body_len) list.items)) }
+    ensures descend { IfOk result (λ fields. IfNone fields (Descend fixes.now)) }
     ensures refused { IfErr result (RefusesFor (field_fault body_len large pdata fixes.now)) }
 {
-    let mut fields = Vec::with_capacity(alloc, fixes.len())?;
+    let mut all_have_fields = true;
     let mut end = 0;
     for fix in fixes {
         if fix.kind == REL_AMD64_ABSOLUTE {
+            all_have_fields = false;
             continue;
         }
         if u64::from(fix.at) < end {
@@ -38,8 +42,23 @@ pub(crate) fn ascending_fields(
         if let Some(error) = fault_of(body_len, large, pdata, fix, false) {
             return Err(error);
         }
-        fields.push(*fix)?;
         end = field_end(fix);
     }
-    Ok(Some(fields))
+    if all_have_fields {
+        return Ok(Some(Vec::from_slice(alloc, fixes)?));
+    }
+    Ok(Some(with_fields(alloc, fixes)?))
+}
+
+/// The relocations that have a field.
+fn with_fields(alloc: Global, fixes: &[Fix]) -> Result<Vec<Fix>, AllocError>
+    ensures { IfOk result (λ fields. fields.items ≡ filter has_field fixes.now) }
+{
+    let mut fields = Vec::new(alloc);
+    for fix in fixes {
+        if has_field(fix) {
+            fields.push(*fix)?;
+        }
+    }
+    Ok(fields)
 }

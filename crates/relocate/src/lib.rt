@@ -14,6 +14,7 @@ mod fix;
 mod fixups;
 mod judge;
 mod laws;
+mod number;
 mod parts;
 mod patching;
 mod place;

@@ -2,7 +2,7 @@
 
 ghost use Rattle.std.specs.Prelude.{◌≡◌, ◌≤◌, ◌<◌, ◌^◌};
 ghost use Rattle.link_base.specs.Refusals.{first_standing};
-ghost use Rattle.relocate.specs.Field.{field_width, field_end};
+ghost use Rattle.relocate.specs.Field.{field_width, field_end, has_field};
 ghost use Rattle.relocate.specs.FieldFaults.{leaves_body, place_faults};
 
 use crate::error::FieldError;
@@ -29,6 +29,12 @@ pub(crate) fn field_width(kind: u16) -> u32
     } else {
         0
     }
+}
+
+pub(crate) fn has_field(fix: &Fix) -> bool
+    ensures { result ≡ has_field fix.now }
+{
+    field_width(fix.kind) > 0
 }
 
 /// The offset behind a relocation's field.

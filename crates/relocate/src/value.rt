@@ -1,7 +1,7 @@
 //! The value of a field, by its type.
 
 ghost use Rattle.std.specs.Prelude.{◌≡◌};
-ghost use Rattle.relocate.specs.Value.{AreSmall, field_value, lies_in, value_fits};
+ghost use Rattle.relocate.specs.Value.{AreSmall, field_value};
 
 use link_base::pe_format::{
     REL_AMD64_ADDR32, REL_AMD64_ADDR32NB, REL_AMD64_ADDR64, REL_AMD64_REL32, REL_AMD64_SECREL,
@@ -39,33 +39,5 @@ pub(crate) fn field_value(kind: u16, parts: &Parts) -> i128
     } else {
         let behind = 4 + kind.saturating_sub(REL_AMD64_REL32) as i128;
         parts.address + parts.old - (parts.place + behind)
-    }
-}
-
-fn lies_in(low: i128, end: i128, value: i128) -> bool
-    ensures { result ≡ lies_in low end value }
-{
-    low <= value && value < end
-}
-
-/// Whether the value of a field of a type lies in its range.
-#[tactic(auto, unfolding(crate::specs::Value::value_fits))]
-pub(crate) fn value_fits(kind: u16, parts: &Parts, value: i128) -> bool
-    requires small { AreSmall parts.now }
-    requires value { value ≡ field_value kind parts.now }
-    ensures { result ≡ value_fits kind parts.now }
-{
-    if kind == REL_AMD64_ADDR64 {
-        true
-    } else if kind == REL_AMD64_ADDR32 {
-        lies_in(0, 0x8000_0000, parts.rva + parts.old)
-    } else if kind == REL_AMD64_ADDR32NB {
-        lies_in(0, 0x1_0000_0000, value)
-    } else if kind == REL_AMD64_SECTION {
-        lies_in(0, 0x1_0000, value)
-    } else if kind == REL_AMD64_SECREL {
-        lies_in(0, 0x1_0000_0000, value)
-    } else {
-        lies_in(-0x8000_0000, 0x8000_0000, value)
     }
 }

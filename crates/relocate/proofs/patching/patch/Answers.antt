@@ -1,15 +1,13 @@
-use Rattle.std.proofs.Common.{length, arith, subst, ◌<◌, ◌≤◌}
-use Rattle.relocate.specs.Field.{no_fix, fix_at}
-use Rattle.relocate.proofs.PatchLemmas.{PatchedTo, within_at, step, all_in_range, all_patched}
+use Rattle.std.proofs.Common.{length, subst, ◌<◌, ◌≤◌}
+use Rattle.relocate.specs.Field.{no_fix}
+use Rattle.relocate.proofs.PatchLemmas.{PatchedTo, step, all_in_range, all_patched}
 use Rattle.relocate.proofs.PatchedLemmas.{all_written}
 use Rattle.relocate.proofs.patching.patch.Goals as goal
 
-pub patch_field-outside-requires-clause-within : goal.patch_field-outside-requires-clause-within
-patch_field-outside-requires-clause-within c =
-    let len = c.loop-fix.invariant.len in
+pub patch_field-outside-requires-clause-patchable : goal.patch_field-outside-requires-clause-patchable
+patch_field-outside-requires-clause-patchable c =
     let lt : c.loop-fix.fix-index < length c.args.fixups.now = rw c.fixes-fix-items.ensures at c.loop-fix-test.true in
-    let end = within_at (length c.args.part.now) (fix_at c.args.fixups.now c.loop-fix.fix-index) (c.requires.patchable.each c.loop-fix.fix-index no_fix lt) in
-    rw c.fixes-fix-items.ensures (omega arith)
+    rw (c.fixes-fix-items.ensures, c.loop-fix.invariant.len) (c.requires.patchable.each c.loop-fix.fix-index no_fix lt)
 
 pub loop-fix-preserved : goal.loop-fix-preserved
 loop-fix-preserved c =
