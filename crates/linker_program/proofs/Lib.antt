@@ -4,3 +4,4 @@ pub mod StepLemmas
 pub mod RunLemmas
 pub mod OpeningLemmas
 mod WorkedLink
+pub mod ShownLemmas

@@ -36,7 +36,8 @@ use Rattle.link_image.proofs.PlaceLemmas.{range_by_places, contents_by_places}
 use Rattle.link_image.proofs.OnePlacement.{same_rows, same_layout, same_fields, one_refused_size, one_grown_size, SamePlacement, one_placement}
 use Rattle.linker_program.specs.Loading.{reading_fault, read_files, joined}
 use Rattle.linker_program.specs.Unbuilt.{is_unbuilt_link}
-use Rattle.linker_program.specs.Outcome.{Plan, Outcome, Usage, Refused, Linked, inputs_fault, IsPlan, BuildOutcome, OutcomeAfter, InputsOutcome, LinkOutcome, AskedOutcome, CommandOutcome, WordsOutcome, HasOutcome}
+use Rattle.linker_program.specs.Ending.{Plan, Outcome, Usage, Refused, Linked, Shown}
+use Rattle.linker_program.specs.Outcome.{inputs_fault, IsPlan, BuildOutcome, OutcomeAfter, InputsOutcome, LinkOutcome, AskedOutcome, CommandOutcome, WordsOutcome, HasOutcome}
 
 -- ---- the bad merge
 
@@ -260,6 +261,9 @@ same_built options modules (Usage index kind) b x y = absurd x
 same_built options modules (Refused f) (Usage index kind) x y = absurd y
 same_built options modules (Refused f) (Refused g) x y = ap (λ (h : Fault). Refused h) (same_fault options modules f g x y)
 same_built options modules (Refused f) (Linked q) x y = absurd (fault_or_image options modules f q.image x y.image_is)
+same_built options modules (Refused f) (Shown line) x y = absurd y
+same_built options modules (Shown line) b x y = absurd x
+same_built options modules (Linked p) (Shown line) x y = absurd y
 same_built options modules (Linked p) (Usage index kind) x y = absurd y
 same_built options modules (Linked p) (Refused g) x y = absurd (fault_or_image options modules g p.image y x.image_is)
 same_built options modules (Linked p) (Linked q) x y = ap (λ (r : Plan). Linked r) (same_plan options modules p q x y)

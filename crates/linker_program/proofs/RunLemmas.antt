@@ -4,7 +4,8 @@ use Rattle.link_files.specs.Store.{Store}
 use Rattle.link_files.specs.Outside.{FilesView, SinkView}
 use Rattle.linker_program.specs.declared.status.Status.{Status}
 use Rattle.linker_program.specs.declared.status.Status.TheVariants as status
-use Rattle.linker_program.specs.Outcome.{Outcome, Usage, Refused, Linked, HasOutcome}
+use Rattle.linker_program.specs.Ending.{Outcome, Usage, Refused, Linked, Shown}
+use Rattle.linker_program.specs.Outcome.{HasOutcome}
 use Rattle.linker_program.specs.LinkRun.{status_code, RanWith, Ran, outcome_code, IsQuiet, IsOwed}
 use Rattle.linker_program.proofs.OutcomeLemmas.{one_outcome}
 
@@ -12,8 +13,10 @@ code_of_status : (words : List (List ℕ)) (before after : FilesView) (shown sho
     → before.store ≡ Some store → IsQuiet before after shown shown_after → HasOutcome words store outcome
     → RanWith words before after shown shown_after answer → (status_code answer ≡ outcome_code outcome) ⊎ (status_code answer ≡ 3)
 code_of_status words before after shown shown_after store outcome status.Done told quiet has ran =
-    let plan = ran.1.found.0 in
-    inl (ap outcome_code (one_outcome words store (Linked plan) outcome (ran.1.found.1.1.made.outcome.told store told) has))
+    elim ran.1.found [
+      | inl linked ↦ inl (ap outcome_code (one_outcome words store (Linked linked.0) outcome (linked.1.1.made.outcome.told store told) has))
+      | inr shown ↦ inl (ap outcome_code (one_outcome words store (Shown ran.0) outcome (shown.outcome.told store told) has))
+    ]
 code_of_status words before after shown shown_after store outcome status.Refused told quiet has ran =
     let fault = ran.1.found.0 in
     inl (ap outcome_code (one_outcome words store (Refused fault) outcome (ran.1.found.1.outcome.told store told) has))

@@ -30,7 +30,8 @@ use Rattle.linker_program.specs.declared.linked.Linked.{Linked as LinkedBytes}
 use Rattle.linker_program.specs.declared.status.Status.{Status}
 use Rattle.linker_program.specs.declared.status.Status.TheVariants as status
 use Rattle.linker_program.specs.Loading.{opening_fault, joined}
-use Rattle.linker_program.specs.Outcome.{Outcome, Usage, Refused, Linked, Plan, inputs_fault, IsPlan, LinkOutcome, unbuilt, CommandOutcome, HasOutcome}
+use Rattle.linker_program.specs.Ending.{Outcome, Usage, Refused, Linked, Plan}
+use Rattle.linker_program.specs.Outcome.{inputs_fault, IsPlan, LinkOutcome, unbuilt, CommandOutcome, HasOutcome}
 use Rattle.linker_program.specs.Unbuilt.{is_unbuilt_link}
 use Rattle.linker_program.specs.RunLines.{read_failure_line, write_failure_line}
 use Rattle.linker_program.specs.LinkRun.{outputs_of, Expects, IsMade, LinkAnswers, LeftByMemory, asked_inputs, Answers}
@@ -268,7 +269,7 @@ linked options files modules built made opened are planned is image sections cou
 
 -- an answer of the link that the words ask for
 link_answers : (words inputs : List (List ℕ)) (before after : FilesView) (answer : Status) (line : List ℕ) → asked_inputs (words_say words) ≡ inputs → LinkAnswers (HasOutcome words) inputs before after answer line → Answers words before after answer line
-link_answers words inputs before after status.Done line asked h = h
+link_answers words inputs before after status.Done line asked h = inl h
 link_answers words inputs before after status.Refused line asked h = h
 link_answers words inputs before after status.ReadFailed line asked h =
     subst (λ (names : List (List ℕ)). LinkAnswers (HasOutcome words) names before after status.ReadFailed line) (sym asked) h
@@ -318,8 +319,9 @@ on_linked (Err error) words before after options said built h =
 
 -- what an answer left, where memory ran out before its line was printed
 pub left_by_answer : (words : List (List ℕ)) (before after : FilesView) (answer : Status) (line : List ℕ) → Answers words before after answer line → LeftByMemory (HasOutcome words) before after
-left_by_answer words before after status.Done line h =
+left_by_answer words before after status.Done line (inl h) =
     inr (h.0, (h.1.0, record { made = h.1.1.made; count = length (outputs_of h.0 h.1.0); files = inl h.1.1.files }))
+left_by_answer words before after status.Done line (inr shown) = nothing_written (HasOutcome words) before after shown.files
 left_by_answer words before after status.Refused line h = nothing_written (HasOutcome words) before after h.1.files
 left_by_answer words before after status.Usage line h = nothing_written (HasOutcome words) before after h.1.1.files
 left_by_answer words before after status.ReadFailed line h = inl (record { store = h.1.files.store; writes = h.1.files.writes })

@@ -6,3 +6,5 @@ pub mod LinkRun
 pub mod ReadingSteps
 pub mod Steps
 pub mod WriteSteps
+pub mod Ending
+pub mod Shown

@@ -10,12 +10,13 @@ use Rattle.link_files.specs.Outside.{FilesView, SinkView, AreUntouched, ReadFail
 use Rattle.link_files.specs.Outputs.{NamedBytes, output_at, FirstWritten, NextTorn}
 use Rattle.image_writer.specs.ExpectedImage.{MeansPlan}
 use Rattle.link_words.specs.Outcome.{Refused as RefusedWord}
-use Rattle.link_words.specs.Outcome.{CommandSaid, Link}
+use Rattle.link_words.specs.Outcome.{CommandSaid, Link, At}
 use Rattle.link_words.specs.Commands.{words_say}
 use Rattle.linker_program.specs.declared.status.Status.{Status}
 use Rattle.linker_program.specs.declared.status.Status.TheVariants as status
 use Rattle.linker_program.specs.Loading.{bytes_in, read_fault_at}
-use Rattle.linker_program.specs.Outcome.{Outcome, Usage, Refused, Linked, Plan, HasOutcome}
+use Rattle.linker_program.specs.Ending.{Outcome, Usage, Refused, Linked, Shown, Plan}
+use Rattle.linker_program.specs.Outcome.{HasOutcome}
 use Rattle.linker_program.specs.RunLines.{usage_line, summary_line, read_failure_line, write_failure_line}
 
 abbrev pub status_code : Status → ℕ
@@ -78,6 +79,16 @@ LinkAnswers has inputs before after status.Usage line = ⊥
 LinkAnswers has inputs before after status.OutOfMemory line = ⊥
 LinkAnswers has inputs before after status.PutFailed line = ⊥
 
+-- what was asked for is shown; every file is as it was
+pub record LineShown (has : Store → Outcome → Type 0) (before after : FilesView) (line : List ℕ) : Type 0 where
+  pub outcome : Expects has before (Shown line)
+  pub files : AreUntouched before after
+
+-- an answer of a command that reads these files, with its line
+abbrev pub RunAnswers : (Store → Outcome → Type 0) → List (List ℕ) → FilesView → FilesView → Status → List ℕ → Type 0
+RunAnswers has inputs before after status.Done line = LinkAnswers has inputs before after status.Done line ⊎ LineShown has before after line
+RunAnswers has inputs before after answer line = LinkAnswers has inputs before after answer line
+
 -- ---- what the files hold where memory ran out
 
 -- nothing was written
@@ -97,9 +108,10 @@ LeftByMemory has before after =
 
 -- ---- the words
 
--- the inputs that the words ask for
+-- the files that the words ask to read
 abbrev pub asked_inputs : Result CommandSaid RefusedWord → List (List ℕ)
 asked_inputs (Ok (Link options)) = options.inputs
+asked_inputs (Ok (At image base rva len)) = image ∷ []
 asked_inputs other = []
 
 -- the words are refused, or ask for what is not built
@@ -110,7 +122,7 @@ pub record WordsRefused (words : List (List ℕ)) (before after : FilesView) (in
 
 abbrev pub Answers : List (List ℕ) → FilesView → FilesView → Status → List ℕ → Type 0
 Answers words before after status.Usage line = (index : ℕ) × ((kind : List ℕ) × WordsRefused words before after index kind line)
-Answers words before after answer line = LinkAnswers (HasOutcome words) (asked_inputs (words_say words)) before after answer line
+Answers words before after answer line = RunAnswers (HasOutcome words) (asked_inputs (words_say words)) before after answer line
 
 -- ---- the whole run
 
@@ -145,6 +157,7 @@ pub record Ran (words : List (List ℕ)) (before after : FilesView) (shown shown
 
 abbrev pub outcome_code : Outcome → ℕ
 outcome_code (Linked plan) = 0
+outcome_code (Shown line) = 0
 outcome_code (Refused fault) = 1
 outcome_code (Usage index kind) = 2
 

@@ -4,31 +4,18 @@ use Rattle.std.specs.Prelude.{◌≡◌, ℕ, List, Option, Some, None, Result, 
 use Rattle.std.specs.Option.{option_or}
 use Rattle.link_base.specs.declared.fault.Fault.{Fault}
 use Rattle.link_files.specs.Store.{Store}
-use Rattle.image_writer.specs.ExpectedImage.{ImagePlan}
 use Rattle.module_view.specs.Module.{ModuleView}
 use Rattle.link_words.specs.Outcome.{Refused as RefusedWord}
-use Rattle.link_words.specs.Outcome.{LinkOptions, CommandSaid, Link}
+use Rattle.link_words.specs.Outcome.{LinkOptions, CommandSaid, Link, At}
 use Rattle.link_words.specs.Commands.{words_say}
 use Rattle.link_words.specs.UsageWord.{usage_word}
 use Rattle.link_plan.specs.PlanFaults.{plan_fault}
 use Rattle.link_image.specs.LinkedImage.{IsImageOf}
 use Rattle.link_image.specs.BuildFaults.{IsBuildFault}
+use Rattle.linker_program.specs.Ending.{Plan, Outcome, Usage, Refused, Linked, Shown}
+use Rattle.linker_program.specs.Shown.{AtOutcome}
 use Rattle.linker_program.specs.Loading.{reading_fault, read_files, opening_fault, joined}
 use Rattle.linker_program.specs.Unbuilt.{is_unbuilt_link}
-
--- what is linked, and of what it is made: the options, and the modules in the order of joining
-pub record Plan : Type 0 where
-  pub options : LinkOptions
-  pub modules : List ModuleView
-  pub image : ImagePlan
-
-pub data Outcome : Type 0 where
-  -- the words are refused: the index of the word and the kind of the refusal
-  Usage : ℕ → List ℕ → Outcome
-  -- the input is refused
-  Refused : Fault → Outcome
-  -- the link is done
-  Linked : Plan → Outcome
 
 -- ---- inputs that were read
 
@@ -48,6 +35,7 @@ abbrev pub BuildOutcome : LinkOptions → List ModuleView → Outcome → Type 0
 BuildOutcome options modules (Usage index kind) = ⊥
 BuildOutcome options modules (Refused fault) = IsBuildFault options modules fault
 BuildOutcome options modules (Linked plan) = IsPlan options modules plan
+BuildOutcome options modules (Shown line) = ⊥
 
 -- a fault that stands is the outcome
 abbrev pub OutcomeAfter : Option Fault → (Outcome → Type 0) → Outcome → Type 0
@@ -74,9 +62,10 @@ abbrev pub AskedOutcome : Bool → LinkOptions → Store → Outcome → Type 0
 AskedOutcome true options store outcome = outcome ≡ unbuilt
 AskedOutcome false options store outcome = LinkOutcome options store outcome
 
--- the other commands are not built yet
+-- the commands but for `link` and `at` are not built yet
 abbrev pub CommandOutcome : CommandSaid → Store → Outcome → Type 0
 CommandOutcome (Link options) store outcome = AskedOutcome (is_unbuilt_link options) options store outcome
+CommandOutcome (At image base rva len) store outcome = AtOutcome image base rva len store outcome
 CommandOutcome other store outcome = outcome ≡ unbuilt
 
 abbrev pub WordsOutcome : Result CommandSaid RefusedWord → Store → Outcome → Type 0

@@ -13,7 +13,8 @@ use Rattle.linker_program.specs.declared.answer.Answer.{Answer}
 use Rattle.linker_program.specs.declared.linked.Linked.{Linked as LinkedBytes}
 use Rattle.linker_program.specs.declared.status.Status.{Status}
 use Rattle.linker_program.specs.declared.status.Status.TheVariants as status
-use Rattle.linker_program.specs.Outcome.{Outcome, Refused, Linked, Plan, InputsOutcome}
+use Rattle.linker_program.specs.Ending.{Outcome, Usage, Refused, Linked, Shown, Plan}
+use Rattle.linker_program.specs.Outcome.{InputsOutcome}
 use Rattle.linker_program.specs.RunLines.{usage_line, read_failure_line, write_failure_line}
 use Rattle.linker_program.specs.LinkRun.{NothingWritten}
 
@@ -33,6 +34,13 @@ pub record RefusesWords (answer : Answer) (index : ℕ) (kind : List ℕ) : Type
 pub record TellsReadFailure (answer : Answer) (name : List ℕ) : Type 0 where
   pub status : answer.status ≡ status.ReadFailed
   pub line : answer.line.items ≡ read_failure_line name
+
+-- an answer that says an outcome of a command that shows something
+abbrev pub Says : Answer → Outcome → Type 0
+Says answer (Shown line) = (answer.status ≡ status.Done) × (answer.line.items ≡ line)
+Says answer (Refused fault) = Refuses answer fault
+Says answer (Usage index kind) = ⊥
+Says answer (Linked plan) = ⊥
 
 -- ---- a link of inputs that were read
 

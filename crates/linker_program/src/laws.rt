@@ -2,7 +2,8 @@
 
 ghost use Rattle.std.specs.Prelude.{◌≡◌, ℕ, List};
 ghost use Rattle.link_files.specs.Store.{Store};
-ghost use Rattle.linker_program.specs.Outcome.{Outcome, HasOutcome};
+ghost use Rattle.linker_program.specs.Ending.{Outcome};
+ghost use Rattle.linker_program.specs.Outcome.{HasOutcome};
 
 /// Words and files have one outcome.
 pub fn one_outcome()

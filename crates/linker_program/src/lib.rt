@@ -12,6 +12,7 @@ mod linked;
 mod linker;
 mod opening;
 mod reading;
+mod show;
 mod status;
 mod unbuilt;
 mod write;

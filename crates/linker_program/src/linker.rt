@@ -7,6 +7,7 @@ ghost use Rattle.linker_program.specs.LinkRun.{Answers, LeftByMemory, Ran, IsOwe
 
 use crate::answer::{Answer, words_refused};
 use crate::link::link;
+use crate::show::show_at;
 use crate::status::Status;
 use crate::unbuilt::is_unbuilt_link;
 use link_base::Memory;
@@ -79,7 +80,14 @@ fn answer<F: Files>(alloc: Global, files: &mut F, words: &[String]) -> Result<An
             }
             link(alloc, files, &options)
         }
-        Ok(Command::At { .. }) => words_refused(alloc, 0, b"NotBuilt"),
+        Ok(
+            Command::At {
+                image,
+                base,
+                rva,
+                length,
+            },
+        ) => show_at(alloc, files, image, base, rva, length),
         Ok(Command::Show { .. }) => words_refused(alloc, 0, b"NotBuilt"),
         Ok(Command::Gen { .. }) => words_refused(alloc, 0, b"NotBuilt"),
         Err(WordsError::Usage { index, kind }) => words_refused(alloc, index, usage_word(kind)),

@@ -64,7 +64,7 @@ fn read_one<'w, F: Files>(
 }
 
 /// The fault of an input that is not there.
-fn not_found(input: &str) -> Fault<'_>
+pub(crate) fn not_found(input: &str) -> Fault<'_>
     ensures { result ≡ Fault.NotFound input.now None }
 {
     Fault::NotFound {
@@ -74,7 +74,7 @@ fn not_found(input: &str) -> Fault<'_>
 }
 
 /// The fault of an input that has too many bytes.
-fn too_large(input: &str) -> Fault<'_>
+pub(crate) fn too_large(input: &str) -> Fault<'_>
     ensures { result ≡ Fault.FileTooLarge input.now None }
 {
     Fault::FileTooLarge {

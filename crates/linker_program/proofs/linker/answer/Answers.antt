@@ -3,6 +3,7 @@ use Rattle.link_files.specs.Outside.{files_of}
 use Rattle.link_words.specs.Outcome.{CommandSaid, Link, At, Show, Gen, options_said}
 use Rattle.link_words.specs.Commands.{words_say}
 use Rattle.linker_program.proofs.StepLemmas.{if_unbuilt, if_words_refused, if_linked, on_linked}
+use Rattle.linker_program.proofs.ShownLemmas.{if_at, on_at}
 use Rattle.linker_program.proofs.linker.answer.Goals as goal
 
 pub returns-then-is_unbuilt_link-clause-answered : goal.returns-then-is_unbuilt_link-clause-answered
@@ -36,11 +37,17 @@ returns-else-is_unbuilt_link-clause-memory g c =
 
 pub returns-in-Ok-At-clause-answered : goal.returns-in-Ok-At-clause-answered
 returns-in-Ok-At-clause-answered g c =
-    let files = files_of g.F.Files.store g.F.Files.read_faults g.F.Files.write_faults c.args.files.now in
+    let before = files_of g.F.Files.store g.F.Files.read_faults g.F.Files.write_faults c.args.files.now in
+    let after = files_of g.F.Files.store g.F.Files.read_faults g.F.Files.write_faults c.show_at.new.files in
     let words = map string_bytes c.args.words.now in
-    let command : CommandSaid = At c.in-Ok-At.field-0-0.now c.in-Ok-At.field-0-1 c.in-Ok-At.field-0-2 c.in-Ok-At.field-0-3 in
-    let said : words_say words ≡ Ok command = rw c.in-Ok-At.field-0-is at c.in-Ok-At.ensures in
-    if_unbuilt c.words_refused-in-Ok-At.result words files command said (λ store. refl) c.words_refused-in-Ok-At.ensures
+    let said : words_say words ≡ Ok (At c.in-Ok-At.image.now c.in-Ok-At.base c.in-Ok-At.rva c.in-Ok-At.length) = rw c.in-Ok-At.field-0-is at c.in-Ok-At.ensures in
+    if_at c.show_at.result words c.in-Ok-At.image.now c.in-Ok-At.base c.in-Ok-At.rva c.in-Ok-At.length before after said c.show_at.ensures.answered
+
+pub returns-in-Ok-At-clause-memory : goal.returns-in-Ok-At-clause-memory
+returns-in-Ok-At-clause-memory g c =
+    let before = files_of g.F.Files.store g.F.Files.read_faults g.F.Files.write_faults c.args.files.now in
+    let after = files_of g.F.Files.store g.F.Files.read_faults g.F.Files.write_faults c.show_at.new.files in
+    on_at c.show_at.result (map string_bytes c.args.words.now) before after c.show_at.ensures.memory
 
 pub returns-in-Ok-Show-clause-answered : goal.returns-in-Ok-Show-clause-answered
 returns-in-Ok-Show-clause-answered g c =
