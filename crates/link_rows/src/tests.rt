@@ -17,3 +17,4 @@ mod opening;
 mod options;
 mod records;
 mod refusals;
+mod shown;
