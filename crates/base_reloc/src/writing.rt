@@ -74,8 +74,17 @@ fn push_entries(table: &mut Vec<u8>, fields: &[BaseField]) -> Result<(), Memory>
     ensures { OnOk result (table.new.items ≡ table.old.items ++ flat_map (number_bytes 2) (map entry_word fields.now)) }
 {
     for field in fields {
-        push_fields(table, &[LeNumber::U16(entry_word(*field))])?;
+        push_entry(table, *field)?;
     }
+    Ok(())
+}
+
+/// Appends the entry of a field, as one slice of its two bytes.
+#[tactic(auto, unfolding(link_base::specs::Bytes::number_bytes))]
+fn push_entry(table: &mut Vec<u8>, field: BaseField) -> Result<(), Memory>
+    ensures { OnOk result (table.new.items ≡ table.old.items ++ number_bytes 2 (entry_word field)) }
+{
+    table.extend_from_slice(&entry_word(field).to_le_bytes())?;
     Ok(())
 }
 
