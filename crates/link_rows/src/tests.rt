@@ -1,5 +1,6 @@
 //! What the linker makes of its words and files.
 
+mod bases;
 mod big_objects;
 mod build_error;
 mod builder;

@@ -130,16 +130,8 @@ const SYMBOLS: [Symbol<'static>; 4] = [
 
 /// The code of `main`, the offset, the symbol and the type of its fields, and how they are refused.
 const REFUSED: [(&[u8], &[(u32, &str, u16)], &[u8]); 9] = [
-    (
-        CALL,
-        &[(1, "g", 1)],
-        b"fault 9 Unsupported a.obj NotBuilt\n",
-    ),
-    (
-        CALL,
-        &[(1, "g", 2)],
-        b"fault 9 Unsupported a.obj NotBuilt\n",
-    ),
+    (CALL, &[(1, "g", 1)], b"fault 16 BadReloc Field 0 1 0\n"),
+    (CALL, &[(1, "g", 2)], b"fault 15 BadTarget NeedsLow 0 1 0\n"),
     (CALL, &[(1, "g", 12)], b"fault 16 BadReloc Kind 0 1 0\n"),
     (CALL, &[(3, "g", 4)], b"fault 16 BadReloc Field 0 1 0\n"),
     (

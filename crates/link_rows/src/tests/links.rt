@@ -11,7 +11,7 @@ use std::test::Fail;
 pub(super) const OPTIONAL_HEADER: usize = 0x40 + 24;
 
 /// The place of the section table, behind an optional header of 240 bytes.
-const SECTION_TABLE: usize = OPTIONAL_HEADER + 240;
+pub(super) const SECTION_TABLE: usize = OPTIONAL_HEADER + 240;
 
 // The fields of a section header.
 pub(super) const VIRTUAL_SIZE: usize = 8;
@@ -35,7 +35,11 @@ pub(super) fn entry_and_size(image: &[u8]) -> Option<(u32, u32)> {
     Some((entry, size))
 }
 
-fn link_of(alloc: Global, files: &[NamedFile<'_>]) -> Result<Ended<NeverFails>, Fail> {
+fn link_of(
+    alloc: Global,
+    files: &[NamedFile<'_>],
+    options: &[&str],
+) -> Result<Ended<NeverFails>, Fail> {
     let mut words = Vec::new(alloc);
     words.push("link")?;
     for (name, _) in files {
@@ -43,6 +47,7 @@ fn link_of(alloc: Global, files: &[NamedFile<'_>]) -> Result<Ended<NeverFails>, 
     }
     words.push("/ENTRY:main")?;
     words.push("/OUT:a.exe")?;
+    words.extend_from_slice(options)?;
     Ok(run_without_failures(alloc, files, &words)?)
 }
 
@@ -53,7 +58,18 @@ pub(super) fn assert_refused(
     files: &[NamedFile<'_>],
     line: &[u8],
 ) -> Result<(), Fail> {
-    let ended = link_of(alloc, files)?;
+    assert_refused_with(rt, alloc, files, &[], line)
+}
+
+/// The same of a link with these options.
+pub(super) fn assert_refused_with(
+    rt: &impl Abort,
+    alloc: Global,
+    files: &[NamedFile<'_>],
+    options: &[&str],
+    line: &[u8],
+) -> Result<(), Fail> {
+    let ended = link_of(alloc, files, options)?;
     let line = String::from_utf8_lossy(alloc, line)?;
     let printed = String::from_utf8_lossy(alloc, ended.out.taken())?;
     assert_eq!(rt; printed, line);
@@ -69,7 +85,18 @@ pub(super) fn image_of(
     files: &[NamedFile<'_>],
     line: &[u8],
 ) -> Result<Vec<u8>, Fail> {
-    let ended = link_of(alloc, files)?;
+    image_with(rt, alloc, files, &[], line)
+}
+
+/// The same of a link with these options.
+pub(super) fn image_with(
+    rt: &impl Abort,
+    alloc: Global,
+    files: &[NamedFile<'_>],
+    options: &[&str],
+    line: &[u8],
+) -> Result<Vec<u8>, Fail> {
+    let ended = link_of(alloc, files, options)?;
     let line = String::from_utf8_lossy(alloc, line)?;
     let printed = String::from_utf8_lossy(alloc, ended.out.taken())?;
     assert_eq!(rt; printed, line);
