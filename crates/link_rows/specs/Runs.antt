@@ -28,12 +28,9 @@ files_failing numbers store = record { files = store; read_faults = 0; write_fau
 
 -- ---- what comes of it
 
--- the files as a run sees them, where no call fails, and where some may have failed
+-- the files as a run sees them, where no call fails
 abbrev pub unfailed : Store → FilesView
 unfailed store = record { store = Some store; read_faults = 0; write_faults = 0 }
-
-abbrev pub seen : MemState → FilesView
-seen files = record { store = Some files.files; read_faults = files.read_faults; write_faults = files.write_faults }
 
 -- what was printed
 abbrev pub shown : SinkState → SinkView

@@ -6,7 +6,7 @@
 
 mod world;
 
-pub use world::{Ended, NamedFile, run_with_failures, run_without_failures};
+pub use world::{Ended, NamedFile, run_over, run_without_failures, sink_failing, store_failing};
 
 #[cfg(test)]
 mod tests;

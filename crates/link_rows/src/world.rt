@@ -3,7 +3,7 @@
 ghost use Rattle.std.specs.Prelude.{◌≡◌, map, string_bytes, IfOk};
 ghost use Rattle.link_files.specs.MemSink.{fresh_sink};
 ghost use Rattle.link_files.specs.Outside.{files_of};
-ghost use Rattle.link_rows.specs.Runs.{texts, stored, files_failing, unfailed, seen, shown, silent, IsRun};
+ghost use Rattle.link_rows.specs.Runs.{texts, stored, files_failing, unfailed, shown, silent, IsRun};
 
 use link_base::Memory;
 use link_files::{Files, MemFiles, MemSink, NeverFails};
@@ -34,22 +34,6 @@ pub fn run_without_failures(
     run_over(alloc, store, out, words)
 }
 
-/// Runs the linker where the reads and writes with these numbers fail, counted together from 1, and the puts
-/// with those.
-pub fn run_with_failures(
-    alloc: Global,
-    files: &[NamedFile<'_>],
-    failing_calls: &[u64],
-    failing_puts: &[u64],
-    words: &[&str],
-) -> Result<Ended<MemFiles>, Memory>
-    ensures { IfOk result (λ ended. IsRun (texts words.now) (unfailed (stored files.now)) (seen ended.files) (shown ended.out) ended.status) }
-{
-    let store = store_failing(alloc, files, failing_calls)?;
-    let out = sink_failing(alloc, failing_puts)?;
-    run_over(alloc, store, out, words)
-}
-
 /// The files, of which no call fails.
 fn store_of(alloc: Global, files: &[NamedFile<'_>]) -> Result<NeverFails, Memory>
     ensures { IfOk result (λ store. store ≡ stored files.now) }
@@ -61,8 +45,8 @@ fn store_of(alloc: Global, files: &[NamedFile<'_>]) -> Result<NeverFails, Memory
     Ok(store)
 }
 
-/// The files, of which the calls with these numbers are to fail.
-fn store_failing(
+/// The files, of which the calls with these numbers are to fail: reads and writes are counted together, from 1.
+pub fn store_failing(
     alloc: Global,
     files: &[NamedFile<'_>],
     failing_calls: &[u64],
@@ -76,14 +60,15 @@ fn store_failing(
     Ok(store)
 }
 
-/// A sink of which the puts with these numbers are to fail.
-fn sink_failing(alloc: Global, failing_puts: &[u64]) -> Result<MemSink, Memory>
+/// A sink of which the puts with these numbers are to fail: they are counted from 1.
+pub fn sink_failing(alloc: Global, failing_puts: &[u64]) -> Result<MemSink, Memory>
     ensures { IfOk result (λ sink. sink ≡ fresh_sink failing_puts.now) }
 {
     Ok(MemSink::new(alloc, Vec::from_slice(alloc, failing_puts)?))
 }
 
-fn run_over<F: Files + Drop>(
+/// Runs the linker over files and a sink of which no call failed so far.
+pub fn run_over<F: Files + Drop>(
     alloc: Global,
     mut files: F,
     mut out: MemSink,

@@ -1,7 +1,7 @@
 //! A case of a table: words, the calls that fail, and what has to come of it.
 
 use super::objects::{FILES, PLAIN};
-use crate::{Ended, run_with_failures};
+use crate::{Ended, NamedFile, run_over, sink_failing, store_failing};
 use link_files::MemFiles;
 use std::alloc::Global;
 use std::process::Abort;
@@ -31,15 +31,27 @@ pub(super) fn refusal(words: &'static [&'static str], status: u8, printed: &'sta
     }
 }
 
+/// Runs the linker where the reads and writes with these numbers fail, and the puts with those.
+pub(super) fn run_with_failures(
+    alloc: Global,
+    files: &[NamedFile<'_>],
+    failing_calls: &[u64],
+    failing_puts: &[u64],
+    words: &[&str],
+) -> Result<Ended<MemFiles>, Fail> {
+    let store = store_failing(alloc, files, failing_calls)?;
+    let out = sink_failing(alloc, failing_puts)?;
+    Ok(run_over(alloc, store, out, words)?)
+}
+
 pub(super) fn run_case(alloc: Global, case: &Case) -> Result<Ended<MemFiles>, Fail> {
-    let ended = run_with_failures(
+    run_with_failures(
         alloc,
         &FILES,
         &[case.failing_call],
         &[case.failing_put],
         case.words,
-    )?;
-    Ok(ended)
+    )
 }
 
 /// Runs the case, and asserts its status, its line and all of its files.

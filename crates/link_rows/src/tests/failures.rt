@@ -1,10 +1,9 @@
 //! Reads, writes and puts that fail, one at a time and together.
 
-use super::case::{Case, assert_case, refusal, run_case};
+use super::case::{Case, assert_case, refusal, run_case, run_with_failures};
 use super::object::{Section, object_file};
 use super::objects::{PLAIN, WORDS};
 use super::one_object::{SUMMARY, image};
-use crate::run_with_failures;
 use std::alloc::Global;
 use std::test::Fail;
 

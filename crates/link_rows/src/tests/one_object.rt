@@ -1,9 +1,10 @@
 //! One small object and the image that is made of it.
 
+use super::case::run_with_failures;
 use super::links::entry_and_size;
 use super::object::{Section, Symbol, object_file};
 use super::objects::{FILES, PLAIN, WORDS};
-use crate::{run_with_failures, run_without_failures};
+use crate::run_without_failures;
 use link_files::{FileError, Files, MemFiles};
 use std::alloc::Global;
 use std::test::Fail;

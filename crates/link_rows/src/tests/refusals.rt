@@ -1,9 +1,8 @@
 //! Words and inputs that are refused, and names as a line shows them.
 
-use super::case::{assert_case, refusal};
+use super::case::{assert_case, refusal, run_with_failures};
 use super::object::Symbol;
 use super::objects::{PLAIN, plain_with};
-use crate::run_with_failures;
 use std::alloc::Global;
 use std::test::Fail;
 
