@@ -138,14 +138,20 @@ at_has words name base rva len store outcome said is = record { is = rw said is 
 
 at_answers : (words : List (List ℕ)) (name : List ℕ) (base rva len : ℕ) (before after : FilesView) (answer : Status) (line : List ℕ) → words_say words ≡ Ok (At name base rva len) → RunAnswers (AtOutcome name base rva len) (name ∷ []) before after answer line → Answers words before after answer line
 at_answers words name base rva len before after status.Done line said (inl linked) =
-    inl (linked.0, (linked.1.0, record {
-      made = record {
-        outcome = record { told = λ store told. at_has words name base rva len store (Linked linked.0) said (linked.1.1.made.outcome.told store told) };
-        means = linked.1.1.made.means;
-      };
-      files = linked.1.1.files;
-      says = linked.1.1.says;
-    }))
+    inl (
+      linked.0,
+      (
+        linked.1.0,
+        record {
+          made = record {
+            outcome = record { told = λ store told. at_has words name base rva len store (Linked linked.0) said (linked.1.1.made.outcome.told store told) };
+            means = linked.1.1.made.means;
+          };
+          files = linked.1.1.files;
+          says = linked.1.1.says;
+        },
+      ),
+    )
 at_answers words name base rva len before after status.Done line said (inr shown) =
     inr (record { outcome = record { told = λ store told. at_has words name base rva len store (Shown line) said (shown.outcome.told store told) }; files = shown.files })
 at_answers words name base rva len before after status.Refused line said h =
@@ -155,15 +161,23 @@ at_answers words name base rva len before after status.ReadFailed line said h =
   where
     asked : (words : List (List ℕ)) (name : List ℕ) (base rva len : ℕ) → words_say words ≡ Ok (At name base rva len) → asked_inputs (words_say words) ≡ name ∷ []
     asked words name base rva len said = rw said refl
-at_answers words name base rva len before after status.WriteFailed line said h =
-    (h.0, (h.1.0, (h.1.1.0, record {
-      made = record {
-        outcome = record { told = λ store told. at_has words name base rva len store (Linked h.0) said (h.1.1.1.made.outcome.told store told) };
-        means = h.1.1.1.made.means;
-      };
-      files = h.1.1.1.files;
-      says = h.1.1.1.says;
-    })))
+at_answers words name base rva len before after status.WriteFailed line said h = (
+  h.0,
+  (
+    h.1.0,
+    (
+      h.1.1.0,
+      record {
+        made = record {
+          outcome = record { told = λ store told. at_has words name base rva len store (Linked h.0) said (h.1.1.1.made.outcome.told store told) };
+          means = h.1.1.1.made.means;
+        };
+        files = h.1.1.1.files;
+        says = h.1.1.1.says;
+      },
+    ),
+  ),
+)
 at_answers words name base rva len before after status.Usage line said h = absurd h
 at_answers words name base rva len before after status.OutOfMemory line said h = absurd h
 at_answers words name base rva len before after status.PutFailed line said h = absurd h
