@@ -1,5 +1,5 @@
 -- What `at` shows, from what reading and loading promise.
-use Rattle.std.proofs.Common.{◌≡◌, ◌≢◌, ℕ, ◌+◌, ◌%◌, ◌^◌, ◌<◌, ◌≤◌, Bool, true, false, cond, ◌&&◌, ◌||◌, not, eqb, leb, List, [], ◌∷◌, length, Option, Some, None, Result, Ok, Err, refl, sym, ap, ◌∙◌, subst, inl, inr, arith, lt-ltb, le-ltb, nat_lt}
+use Rattle.std.proofs.Common.{◌≡◌, ℕ, ◌+◌, ◌%◌, ◌^◌, ◌<◌, ◌≤◌, Bool, true, false, cond, ◌&&◌, ◌||◌, not, eqb, leb, List, [], ◌∷◌, length, Option, Some, None, Result, Ok, Err, refl, sym, ap, ◌∙◌, subst, inl, arith, lt-ltb, le-ltb}
 use Rattle.std.specs.Prelude.{IfOk, OnErr, is_none}
 use Rattle.std.specs.Option.{ForSome}
 use Rattle.std.proofs.lemmas.Bool.{and_parts, leb-true, false≢true}
@@ -11,7 +11,7 @@ use Rattle.link_base.specs.Refusals.{first_refusal_below}
 use Rattle.link_base.specs.declared.memory.Memory.{Memory}
 use Rattle.link_files.specs.Store.{Store, file_of}
 use Rattle.link_files.specs.Outside.{FilesView, AreUntouched, ReadFailed}
-use Rattle.link_words.specs.Outcome.{CommandSaid, At}
+use Rattle.link_words.specs.Outcome.{At}
 use Rattle.link_words.specs.Commands.{words_say}
 use Rattle.address_layout.specs.PermittedBase.{is_permitted, address_limit}
 use Rattle.pe_loader.specs.LoadedImage.{image_fault, base_rule, size_of_image, loaded}
@@ -21,9 +21,9 @@ use Rattle.linker_program.specs.declared.status.Status.TheVariants as status
 use Rattle.linker_program.specs.Ending.{Outcome, Usage, Refused, Linked, Shown}
 use Rattle.linker_program.specs.Outcome.{HasOutcome}
 use Rattle.linker_program.specs.Shown.{IMAGE_FILE_LIMIT, shown_line, memory_shown, image_shown, file_shown, AtOutcome}
-use Rattle.linker_program.specs.LinkRun.{Expects, LineShown, LinkAnswers, RunAnswers, NothingWritten, LeftByMemory, asked_inputs, Answers}
+use Rattle.linker_program.specs.LinkRun.{Expects, ShowAnswers, NothingWritten, LeftByMemory, Answers}
 use Rattle.linker_program.specs.Steps.{Refuses, TellsReadFailure, Says}
-use Rattle.linker_program.proofs.StepLemmas.{untouched}
+use Rattle.linker_program.proofs.StepLemmas.{commanded}
 
 -- ---- loading
 
@@ -99,16 +99,16 @@ says_shown (Err error) outcome line is done says = tt
 expects : (name : List ℕ) (base rva len : ℕ) (before : FilesView) (outcome : Outcome) → ForSome before.store (λ store. outcome ≡ file_shown name base rva len (file_of store name)) → Expects (AtOutcome name base rva len) before outcome
 expects name base rva len before outcome told = record { told = told }
 
-answers_said : (name : List ℕ) (base rva len : ℕ) (before after : FilesView) (answer : Answer) (outcome : Outcome) → AreUntouched before after → Expects (AtOutcome name base rva len) before outcome → Says answer outcome → RunAnswers (AtOutcome name base rva len) (name ∷ []) before after answer.status answer.line.items
+answers_said : (name : List ℕ) (base rva len : ℕ) (before after : FilesView) (answer : Answer) (outcome : Outcome) → AreUntouched before after → Expects (AtOutcome name base rva len) before outcome → Says answer outcome → ShowAnswers (AtOutcome name base rva len) (name ∷ []) before after answer.status answer.line.items
 answers_said name base rva len before after answer (Shown line) kept has says =
-    subst (λ (s : Status). RunAnswers (AtOutcome name base rva len) (name ∷ []) before after s answer.line.items) (sym says.0)
-    (inr (record { outcome = subst (λ (l : List ℕ). Expects (AtOutcome name base rva len) before (Shown l)) (sym says.1) has; files = kept }))
+    subst (λ (s : Status). ShowAnswers (AtOutcome name base rva len) (name ∷ []) before after s answer.line.items) (sym says.0)
+    (record { outcome = subst (λ (l : List ℕ). Expects (AtOutcome name base rva len) before (Shown l)) (sym says.1) has; files = kept })
 answers_said name base rva len before after answer (Refused fault) kept has says =
-    subst (λ (s : Status). RunAnswers (AtOutcome name base rva len) (name ∷ []) before after s answer.line.items) (sym says.status) (fault, record { outcome = has; files = kept; says = says.line })
+    subst (λ (s : Status). ShowAnswers (AtOutcome name base rva len) (name ∷ []) before after s answer.line.items) (sym says.status) (fault, record { outcome = has; files = kept; says = says.line })
 answers_said name base rva len before after answer (Usage index kind) kept has says = absurd says
 answers_said name base rva len before after answer (Linked plan) kept has says = absurd says
 
-pub if_said : (r : Result Answer Memory) (name : List ℕ) (base rva len : ℕ) (before after : FilesView) (outcome : Outcome) → AreUntouched before after → ForSome before.store (λ store. outcome ≡ file_shown name base rva len (file_of store name)) → IfOk r (λ answer. Says answer outcome) → IfOk r (λ answer. RunAnswers (AtOutcome name base rva len) (name ∷ []) before after answer.status answer.line.items)
+pub if_said : (r : Result Answer Memory) (name : List ℕ) (base rva len : ℕ) (before after : FilesView) (outcome : Outcome) → AreUntouched before after → ForSome before.store (λ store. outcome ≡ file_shown name base rva len (file_of store name)) → IfOk r (λ answer. Says answer outcome) → IfOk r (λ answer. ShowAnswers (AtOutcome name base rva len) (name ∷ []) before after answer.status answer.line.items)
 if_said (Ok answer) name base rva len before after outcome kept told says = answers_said name base rva len before after answer outcome kept (expects name base rva len before outcome told) says
 if_said (Err error) name base rva len before after outcome kept told says = tt
 
@@ -124,10 +124,10 @@ file_larger name base rva len store image told large =
     ∙ ap (λ (b : Bool). cond b (Refused (faults.FileTooLarge name None)) (image_shown base rva len (image_fault image) (loaded image base))) (lt-ltb IMAGE_FILE_LIMIT (length image) large))
 
 -- a read that failed
-pub if_unread : (r : Result Answer Memory) (name : List ℕ) (base rva len : ℕ) (before after : FilesView) → ReadFailed before after → IfOk r (λ answer. TellsReadFailure answer name) → IfOk r (λ answer. RunAnswers (AtOutcome name base rva len) (name ∷ []) before after answer.status answer.line.items)
+pub if_unread : (r : Result Answer Memory) (name : List ℕ) (base rva len : ℕ) (before after : FilesView) → ReadFailed before after → IfOk r (λ answer. TellsReadFailure answer name) → IfOk r (λ answer. ShowAnswers (AtOutcome name base rva len) (name ∷ []) before after answer.status answer.line.items)
 unfolding first_refusal_below
 if_unread (Ok answer) name base rva len before after failed tells =
-    subst (λ (s : Status). RunAnswers (AtOutcome name base rva len) (name ∷ []) before after s answer.line.items) (sym tells.status)
+    subst (λ (s : Status). ShowAnswers (AtOutcome name base rva len) (name ∷ []) before after s answer.line.items) (sym tells.status)
     (0, record { within = omega arith; reached = λ store told. refl; files = failed; says = tells.line })
 if_unread (Err error) name base rva len before after failed tells = tt
 
@@ -136,53 +136,21 @@ if_unread (Err error) name base rva len before after failed tells = tt
 at_has : (words : List (List ℕ)) (name : List ℕ) (base rva len : ℕ) (store : Store) (outcome : Outcome) → words_say words ≡ Ok (At name base rva len) → AtOutcome name base rva len store outcome → HasOutcome words store outcome
 at_has words name base rva len store outcome said is = record { is = rw said is }
 
-at_answers : (words : List (List ℕ)) (name : List ℕ) (base rva len : ℕ) (before after : FilesView) (answer : Status) (line : List ℕ) → words_say words ≡ Ok (At name base rva len) → RunAnswers (AtOutcome name base rva len) (name ∷ []) before after answer line → Answers words before after answer line
-at_answers words name base rva len before after status.Done line said (inl linked) =
-    inl (
-      linked.0,
-      (
-        linked.1.0,
-        record {
-          made = record {
-            outcome = record { told = λ store told. at_has words name base rva len store (Linked linked.0) said (linked.1.1.made.outcome.told store told) };
-            means = linked.1.1.made.means;
-          };
-          files = linked.1.1.files;
-          says = linked.1.1.says;
-        },
-      ),
-    )
-at_answers words name base rva len before after status.Done line said (inr shown) =
-    inr (record { outcome = record { told = λ store told. at_has words name base rva len store (Shown line) said (shown.outcome.told store told) }; files = shown.files })
+at_answers : (words : List (List ℕ)) (name : List ℕ) (base rva len : ℕ) (before after : FilesView) (answer : Status) (line : List ℕ) → words_say words ≡ Ok (At name base rva len) → ShowAnswers (AtOutcome name base rva len) (name ∷ []) before after answer line → Answers words before after answer line
+at_answers words name base rva len before after status.Done line said h =
+    commanded words (At name base rva len) before after status.Done line said
+    (record { outcome = record { told = λ store told. at_has words name base rva len store (Shown line) said (h.outcome.told store told) }; files = h.files })
 at_answers words name base rva len before after status.Refused line said h =
+    commanded words (At name base rva len) before after status.Refused line said
     (h.0, record { outcome = record { told = λ store told. at_has words name base rva len store (Refused h.0) said (h.1.outcome.told store told) }; files = h.1.files; says = h.1.says })
 at_answers words name base rva len before after status.ReadFailed line said h =
-    subst (λ (names : List (List ℕ)). LinkAnswers (HasOutcome words) names before after status.ReadFailed line) (sym (asked words name base rva len said)) h
-  where
-    asked : (words : List (List ℕ)) (name : List ℕ) (base rva len : ℕ) → words_say words ≡ Ok (At name base rva len) → asked_inputs (words_say words) ≡ name ∷ []
-    asked words name base rva len said = rw said refl
-at_answers words name base rva len before after status.WriteFailed line said h = (
-  h.0,
-  (
-    h.1.0,
-    (
-      h.1.1.0,
-      record {
-        made = record {
-          outcome = record { told = λ store told. at_has words name base rva len store (Linked h.0) said (h.1.1.1.made.outcome.told store told) };
-          means = h.1.1.1.made.means;
-        };
-        files = h.1.1.1.files;
-        says = h.1.1.1.says;
-      },
-    ),
-  ),
-)
+    commanded words (At name base rva len) before after status.ReadFailed line said h
+at_answers words name base rva len before after status.WriteFailed line said h = absurd h
 at_answers words name base rva len before after status.Usage line said h = absurd h
 at_answers words name base rva len before after status.OutOfMemory line said h = absurd h
 at_answers words name base rva len before after status.PutFailed line said h = absurd h
 
-pub if_at : (r : Result Answer Memory) (words : List (List ℕ)) (name : List ℕ) (base rva len : ℕ) (before after : FilesView) → words_say words ≡ Ok (At name base rva len) → IfOk r (λ answer. RunAnswers (AtOutcome name base rva len) (name ∷ []) before after answer.status answer.line.items) → IfOk r (λ answer. Answers words before after answer.status answer.line.items)
+pub if_at : (r : Result Answer Memory) (words : List (List ℕ)) (name : List ℕ) (base rva len : ℕ) (before after : FilesView) → words_say words ≡ Ok (At name base rva len) → IfOk r (λ answer. ShowAnswers (AtOutcome name base rva len) (name ∷ []) before after answer.status answer.line.items) → IfOk r (λ answer. Answers words before after answer.status answer.line.items)
 if_at (Ok answer) words name base rva len before after said h = at_answers words name base rva len before after answer.status answer.line.items said h
 if_at (Err error) words name base rva len before after said h = tt
 

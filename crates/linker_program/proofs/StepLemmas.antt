@@ -1,5 +1,5 @@
 -- From what the steps of a run promise to what the run promises.
-use Rattle.std.proofs.Common.{◌≡◌, ℕ, ◌<◌, ◌≤◌, List, [], length, Option, Result, Ok, Err, refl, sym, ap, ◌∙◌, subst, arith, inl, inr}
+use Rattle.std.proofs.Common.{◌≡◌, ℕ, ◌<◌, ◌≤◌, List, [], ◌∷◌, length, Option, Result, Ok, Err, refl, sym, ap, ◌∙◌, subst, arith, inl, inr}
 use Rattle.std.specs.Prelude.{IfOk, OnErr, Some, None, false, codes}
 use Rattle.std.specs.Prelude.{Vec}
 use Rattle.std.specs.declared.alloc.Global.{Global}
@@ -16,7 +16,7 @@ use Rattle.link_files.specs.Store.{Store}
 use Rattle.link_files.specs.Outside.{FilesView, AreUntouched, ReadFailed}
 use Rattle.link_files.specs.Outputs.{output_at}
 use Rattle.module_view.specs.Module.{ModuleView}
-use Rattle.link_words.specs.Outcome.{LinkOptions, CommandSaid, Link, refuse}
+use Rattle.link_words.specs.Outcome.{LinkOptions, CommandSaid, Link, At, Show, Gen, Refused as RefusedWord, refuse}
 use Rattle.link_words.specs.SettingsView.{texts_of}
 use Rattle.link_words.specs.declared.errors.UsageKind.{UsageKind}
 use Rattle.link_words.specs.UsageWord.{usage_word}
@@ -34,7 +34,7 @@ use Rattle.linker_program.specs.Ending.{Outcome, Usage, Refused, Linked, Plan}
 use Rattle.linker_program.specs.Outcome.{inputs_fault, IsPlan, LinkOutcome, unbuilt, CommandOutcome, HasOutcome}
 use Rattle.linker_program.specs.Unbuilt.{is_unbuilt_link}
 use Rattle.linker_program.specs.RunLines.{read_failure_line, write_failure_line}
-use Rattle.linker_program.specs.LinkRun.{outputs_of, Expects, IsMade, LinkAnswers, LeftByMemory, asked_inputs, Answers}
+use Rattle.linker_program.specs.LinkRun.{outputs_of, Expects, IsMade, LinkAnswers, ShowAnswers, CommandAnswers, LeftByMemory, Answers}
 use Rattle.linker_program.specs.ReadingSteps.{GivesInputs, FaultsInputs, FailsInputs, file_bytes}
 use Rattle.linker_program.specs.Steps.{Refuses, RefusesWords, TellsReadFailure, InputsHave, IsLinked, RefusesInputs, AnswersWrite, LeftByWrites}
 use Rattle.linker_program.specs.WriteSteps.{linked_outputs, linked_summary}
@@ -267,16 +267,20 @@ linked options files modules built made opened are planned is image sections cou
 
 -- ---- the words
 
+-- an answer of the command that the words say
+pub commanded : (words : List (List ℕ)) (command : CommandSaid) (before after : FilesView) (answer : Status) (line : List ℕ) → words_say words ≡ Ok command → CommandAnswers (Ok command) (HasOutcome words) before after answer line → CommandAnswers (words_say words) (HasOutcome words) before after answer line
+commanded words command before after answer line said h =
+    subst (λ (r : Result CommandSaid RefusedWord). CommandAnswers r (HasOutcome words) before after answer line) (sym said) h
+
 -- an answer of the link that the words ask for
-link_answers : (words inputs : List (List ℕ)) (before after : FilesView) (answer : Status) (line : List ℕ) → asked_inputs (words_say words) ≡ inputs → LinkAnswers (HasOutcome words) inputs before after answer line → Answers words before after answer line
-link_answers words inputs before after status.Done line asked h = inl h
-link_answers words inputs before after status.Refused line asked h = h
-link_answers words inputs before after status.ReadFailed line asked h =
-    subst (λ (names : List (List ℕ)). LinkAnswers (HasOutcome words) names before after status.ReadFailed line) (sym asked) h
-link_answers words inputs before after status.WriteFailed line asked h = h
-link_answers words inputs before after status.Usage line asked h = absurd h
-link_answers words inputs before after status.OutOfMemory line asked h = absurd h
-link_answers words inputs before after status.PutFailed line asked h = absurd h
+link_answers : (words : List (List ℕ)) (options : LinkOptions) (before after : FilesView) (answer : Status) (line : List ℕ) → words_say words ≡ Ok (Link options) → LinkAnswers (HasOutcome words) options.inputs before after answer line → Answers words before after answer line
+link_answers words options before after status.Done line said h = commanded words (Link options) before after status.Done line said h
+link_answers words options before after status.Refused line said h = commanded words (Link options) before after status.Refused line said h
+link_answers words options before after status.ReadFailed line said h = commanded words (Link options) before after status.ReadFailed line said h
+link_answers words options before after status.WriteFailed line said h = commanded words (Link options) before after status.WriteFailed line said h
+link_answers words options before after status.Usage line said h = absurd h
+link_answers words options before after status.OutOfMemory line said h = absurd h
+link_answers words options before after status.PutFailed line said h = absurd h
 
 -- words that ask for what is not built
 unbuilt_outcome : (words : List (List ℕ)) (store : Store) (command : CommandSaid) → words_say words ≡ Ok command → CommandOutcome command store unbuilt → HasOutcome words store unbuilt
@@ -306,7 +310,7 @@ pub if_linked : (r : Result Answer Memory) (words : List (List ℕ)) (before aft
     → IfOk r (λ answer. LinkAnswers (LinkOutcome options) options.inputs before after answer.status answer.line.items)
     → IfOk r (λ answer. Answers words before after answer.status answer.line.items)
 if_linked (Ok answer) words before after options said built h =
-    link_answers words options.inputs before after answer.status answer.line.items (rw said refl)
+    link_answers words options before after answer.status answer.line.items said
     (answers_later (LinkOutcome options) (HasOutcome words) options.inputs before after answer.status answer.line.items (asked_follows words before options said built) h)
 if_linked (Err error) words before after options said built h = tt
 
@@ -318,14 +322,38 @@ on_linked (Err error) words before after options said built h =
     left_later (LinkOutcome options) (HasOutcome words) before after (asked_follows words before options said built) h
 
 -- what an answer left, where memory ran out before its line was printed
-pub left_by_answer : (words : List (List ℕ)) (before after : FilesView) (answer : Status) (line : List ℕ) → Answers words before after answer line → LeftByMemory (HasOutcome words) before after
-left_by_answer words before after status.Done line (inl h) =
+left_by_link : (has : Store → Outcome → Type 0) (inputs : List (List ℕ)) (before after : FilesView) (answer : Status) (line : List ℕ) → LinkAnswers has inputs before after answer line → LeftByMemory has before after
+left_by_link has inputs before after status.Done line h =
     inr (h.0, (h.1.0, record { made = h.1.1.made; count = length (outputs_of h.0 h.1.0); files = inl h.1.1.files }))
-left_by_answer words before after status.Done line (inr shown) = nothing_written (HasOutcome words) before after shown.files
-left_by_answer words before after status.Refused line h = nothing_written (HasOutcome words) before after h.1.files
-left_by_answer words before after status.Usage line h = nothing_written (HasOutcome words) before after h.1.1.files
-left_by_answer words before after status.ReadFailed line h = inl (record { store = h.1.files.store; writes = h.1.files.writes })
-left_by_answer words before after status.WriteFailed line h =
+left_by_link has inputs before after status.Refused line h = nothing_written has before after h.1.files
+left_by_link has inputs before after status.ReadFailed line h = inl (record { store = h.1.files.store; writes = h.1.files.writes })
+left_by_link has inputs before after status.WriteFailed line h =
     inr (h.0, (h.1.0, record { made = h.1.1.1.made; count = h.1.1.0; files = inr h.1.1.1.files }))
-left_by_answer words before after status.OutOfMemory line h = absurd h
-left_by_answer words before after status.PutFailed line h = absurd h
+left_by_link has inputs before after status.Usage line h = absurd h
+left_by_link has inputs before after status.OutOfMemory line h = absurd h
+left_by_link has inputs before after status.PutFailed line h = absurd h
+
+left_by_show : (has : Store → Outcome → Type 0) (inputs : List (List ℕ)) (before after : FilesView) (answer : Status) (line : List ℕ) → ShowAnswers has inputs before after answer line → LeftByMemory has before after
+left_by_show has inputs before after status.Done line h = nothing_written has before after h.files
+left_by_show has inputs before after status.Refused line h = nothing_written has before after h.1.files
+left_by_show has inputs before after status.ReadFailed line h = inl (record { store = h.1.files.store; writes = h.1.files.writes })
+left_by_show has inputs before after status.WriteFailed line h = absurd h
+left_by_show has inputs before after status.Usage line h = absurd h
+left_by_show has inputs before after status.OutOfMemory line h = absurd h
+left_by_show has inputs before after status.PutFailed line h = absurd h
+
+left_by_command : (said : Result CommandSaid RefusedWord) (has : Store → Outcome → Type 0) (before after : FilesView) (answer : Status) (line : List ℕ) → CommandAnswers said has before after answer line → LeftByMemory has before after
+left_by_command (Ok (Link options)) has before after answer line h = left_by_link has options.inputs before after answer line h
+left_by_command (Ok (At image base rva len)) has before after answer line h = left_by_show has (image ∷ []) before after answer line h
+left_by_command (Ok (Show image pdb base symbol len)) has before after answer line h = absurd h
+left_by_command (Ok (Gen n)) has before after answer line h = absurd h
+left_by_command (Err word) has before after answer line h = absurd h
+
+pub left_by_answer : (words : List (List ℕ)) (before after : FilesView) (answer : Status) (line : List ℕ) → Answers words before after answer line → LeftByMemory (HasOutcome words) before after
+left_by_answer words before after status.Usage line h = nothing_written (HasOutcome words) before after h.1.1.files
+left_by_answer words before after status.Done line h = left_by_command (words_say words) (HasOutcome words) before after status.Done line h
+left_by_answer words before after status.Refused line h = left_by_command (words_say words) (HasOutcome words) before after status.Refused line h
+left_by_answer words before after status.ReadFailed line h = left_by_command (words_say words) (HasOutcome words) before after status.ReadFailed line h
+left_by_answer words before after status.WriteFailed line h = left_by_command (words_say words) (HasOutcome words) before after status.WriteFailed line h
+left_by_answer words before after status.OutOfMemory line h = left_by_command (words_say words) (HasOutcome words) before after status.OutOfMemory line h
+left_by_answer words before after status.PutFailed line h = left_by_command (words_say words) (HasOutcome words) before after status.PutFailed line h

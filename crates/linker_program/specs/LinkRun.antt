@@ -84,10 +84,15 @@ pub record LineShown (has : Store → Outcome → Type 0) (before after : FilesV
   pub outcome : Expects has before (Shown line)
   pub files : AreUntouched before after
 
--- an answer of a command that reads these files, with its line
-abbrev pub RunAnswers : (Store → Outcome → Type 0) → List (List ℕ) → FilesView → FilesView → Status → List ℕ → Type 0
-RunAnswers has inputs before after status.Done line = LinkAnswers has inputs before after status.Done line ⊎ LineShown has before after line
-RunAnswers has inputs before after answer line = LinkAnswers has inputs before after answer line
+-- an answer of a command that shows something of these files, with its line
+abbrev pub ShowAnswers : (Store → Outcome → Type 0) → List (List ℕ) → FilesView → FilesView → Status → List ℕ → Type 0
+ShowAnswers has inputs before after status.Done line = LineShown has before after line
+ShowAnswers has inputs before after status.Refused line = (fault : Fault) × InputRefused has before after fault line
+ShowAnswers has inputs before after status.ReadFailed line = (index : ℕ) × InputUnread inputs before after index line
+ShowAnswers has inputs before after status.WriteFailed line = ⊥
+ShowAnswers has inputs before after status.Usage line = ⊥
+ShowAnswers has inputs before after status.OutOfMemory line = ⊥
+ShowAnswers has inputs before after status.PutFailed line = ⊥
 
 -- ---- what the files hold where memory ran out
 
@@ -108,11 +113,11 @@ LeftByMemory has before after =
 
 -- ---- the words
 
--- the files that the words ask to read
-abbrev pub asked_inputs : Result CommandSaid RefusedWord → List (List ℕ)
-asked_inputs (Ok (Link options)) = options.inputs
-asked_inputs (Ok (At image base rva len)) = image ∷ []
-asked_inputs other = []
+-- an answer of the command that the words say
+abbrev pub CommandAnswers : Result CommandSaid RefusedWord → (Store → Outcome → Type 0) → FilesView → FilesView → Status → List ℕ → Type 0
+CommandAnswers (Ok (Link options)) has before after answer line = LinkAnswers has options.inputs before after answer line
+CommandAnswers (Ok (At image base rva len)) has before after answer line = ShowAnswers has (image ∷ []) before after answer line
+CommandAnswers other has before after answer line = ⊥
 
 -- the words are refused, or ask for what is not built
 pub record WordsRefused (words : List (List ℕ)) (before after : FilesView) (index : ℕ) (kind line : List ℕ) : Type 0 where
@@ -122,7 +127,7 @@ pub record WordsRefused (words : List (List ℕ)) (before after : FilesView) (in
 
 abbrev pub Answers : List (List ℕ) → FilesView → FilesView → Status → List ℕ → Type 0
 Answers words before after status.Usage line = (index : ℕ) × ((kind : List ℕ) × WordsRefused words before after index kind line)
-Answers words before after answer line = RunAnswers (HasOutcome words) (asked_inputs (words_say words)) before after answer line
+Answers words before after answer line = CommandAnswers (words_say words) (HasOutcome words) before after answer line
 
 -- ---- the whole run
 

@@ -3,7 +3,7 @@
 ghost use Rattle.std.specs.Prelude.{◌≡◌, ◌∷◌, [], ◌<◌, ◌-◌, ◌^◌, IfOk, OnErr};
 ghost use Rattle.link_files.specs.Outside.{files_of};
 ghost use Rattle.pe_loader.specs.LoadedImage.{image_fault, loaded};
-ghost use Rattle.linker_program.specs.LinkRun.{RunAnswers, NothingWritten};
+ghost use Rattle.linker_program.specs.LinkRun.{ShowAnswers, NothingWritten};
 ghost use Rattle.linker_program.specs.Shown.{shown_line, image_shown, AtOutcome};
 ghost use Rattle.linker_program.specs.Steps.{Says};
 
@@ -30,7 +30,7 @@ pub(crate) fn show_at<F: Files>(
 ) -> Result<Answer, Memory>
     requires reads_below { F.read_faults files.old < 2 ^ 64 - 1 }
     requires writes_below { F.write_faults files.old < 2 ^ 64 - 1 }
-    ensures answered { IfOk result (λ answer. RunAnswers (AtOutcome image.now base rva length) (image.now ∷ [])
+    ensures answered { IfOk result (λ answer. ShowAnswers (AtOutcome image.now base rva length) (image.now ∷ [])
         (files_of F.store F.read_faults F.write_faults files.old)
         (files_of F.store F.read_faults F.write_faults files.new) answer.status answer.line.items) }
     ensures memory { OnErr result (NothingWritten

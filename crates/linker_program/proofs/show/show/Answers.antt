@@ -1,4 +1,4 @@
-use Rattle.std.proofs.Common.{◌≡◌, ◌+◌, ℕ, List, sym, ap, subst, ◌∙◌, arith}
+use Rattle.std.proofs.Common.{◌≡◌, ◌+◌, ℕ, List, subst, arith}
 use Rattle.std.specs.Prelude.{IfOk}
 use Rattle.link_base.specs.Bytes.{bytes_at}
 use Rattle.link_base.specs.declared.fault.Fault.TheVariants as faults

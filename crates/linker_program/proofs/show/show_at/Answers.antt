@@ -1,4 +1,4 @@
-use Rattle.std.proofs.Common.{List, ℕ, sym, subst, ◌∙◌}
+use Rattle.std.proofs.Common.{List, ℕ, subst, ◌∙◌}
 use Rattle.std.specs.Prelude.{IfOk}
 use Rattle.link_files.specs.Outside.{files_of, AreUntouched, ReadFailed}
 use Rattle.pe_loader.specs.LoadedImage.{image_fault, loaded}
