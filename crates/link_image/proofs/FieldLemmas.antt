@@ -1,5 +1,5 @@
 -- The fields of a piece, patched in the file of the image.
-use Rattle.std.proofs.Common.{◌≡◌, ℕ, zero, suc, eqb, ◌+◌, ◌-◌, ◌<◌, ◌≤◌, Bool, true, false, List, [], ◌∷◌, ◌++◌, length, map, get_or, Some, None, option_map, refl, sym, ap, subst, ◌∙◌, inl, inr, arith}
+use Rattle.std.proofs.Common.{◌≡◌, ℕ, zero, suc, eqb, ◌+◌, ◌-◌, ◌<◌, ◌≤◌, Bool, true, false, List, [], ◌∷◌, ◌++◌, length, get_or, Some, None, option_map, refl, sym, ap, subst, ◌∙◌, inl, inr, arith}
 use Rattle.std.specs.List.{All}
 use Rattle.std.proofs.lemmas.Bool.{cases_lt, false≢true}
 use Rattle.std.proofs.lemmas.List.{get_or_default, get_or_past, get_or_append_left, get_or-append_right}
@@ -15,8 +15,7 @@ use Rattle.section_group.specs.Uniqueness.{rows_of}
 use Rattle.address_layout.specs.declared.layout.Layout.{Layout}
 use Rattle.address_layout.specs.Layout.{all_pieces, placed_at}
 use Rattle.image_writer.specs.declared.headers.Headers.{Headers}
-use Rattle.image_writer.specs.ExpectedImage.{image_file}
-use Rattle.image_writer.specs.WrittenImage.{layout_plan, at_each_base, HaveRoom, HasContents}
+use Rattle.image_writer.specs.WrittenImage.{at_each_base, HaveRoom, HasContents}
 use Rattle.image_writer.specs.PieceInFile.{piece_place, patched, DiffersAt}
 use Rattle.image_writer.proofs.CallerLemmas.{have_room, IsInFile, piece_inside, piece_stands, patched_file}
 use Rattle.relocate.specs.declared.fix.Fix.{Fix}

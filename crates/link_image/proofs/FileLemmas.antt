@@ -1,20 +1,18 @@
 -- What is written of pieces and of the table after them.
-use Rattle.std.proofs.Common.{◌≡◌, ℕ, ◌-◌, ◌<◌, Bool, true, false, List, [], ◌∷◌, ◌++◌, length, map, get_or, refl, sym, ap, ◌∙◌, subst, inl, inr, arith}
-use Rattle.std.specs.List.{All}
+use Rattle.std.proofs.Common.{◌≡◌, ℕ, ◌-◌, ◌<◌, true, List, [], ◌∷◌, ◌++◌, length, map, get_or, refl, sym, ap, ◌∙◌, subst, inl, inr, arith}
 use Rattle.std.proofs.lemmas.Bool.{cases_lt, false≢true}
-use Rattle.std.proofs.lemmas.List.{map-append, append-nil, get_or_past, get_or_append_left, get_or-append_right}
+use Rattle.std.proofs.lemmas.List.{map-append, get_or_past, get_or_append_left, get_or-append_right}
 use Rattle.std.proofs.Math.ListN.{get_or-map}
 use Rattle.section_group.specs.declared.piece.Piece.{Piece}
 use Rattle.section_group.specs.declared.piece.OutSection.{OutSection}
 use Rattle.section_group.specs.SectionOrder.{no_piece}
 use Rattle.section_group.specs.PieceContents.{piece_contents, HasItsBytes}
 use Rattle.address_layout.specs.Layout.{all_pieces}
-use Rattle.address_layout.specs.declared.layout.Layout.{Layout}
 use Rattle.image_writer.specs.declared.headers.Headers.{Headers}
 use Rattle.image_writer.specs.ExpectedImage.{image_file}
-use Rattle.image_writer.specs.WrittenImage.{layout_plan, at_each_base, IsLaidOut, HasContents}
+use Rattle.image_writer.specs.WrittenImage.{layout_plan, at_each_base, HasContents}
 use Rattle.link_image.specs.declared.placement.Placement.{Placement}
-use Rattle.link_image.specs.Steps.{HoldTables, EndsWithPiece, IsWritten, tables_of, file_of}
+use Rattle.link_image.specs.Steps.{HoldTables, IsWritten, tables_of}
 
 -- no table, and one
 pub no_tables : HoldTables [] []

@@ -7,6 +7,7 @@ pub mod PlaceLemmas
 pub mod AddressLemmas
 pub mod AscendLemmas
 pub mod BaseFieldLemmas
+pub mod PieceMoves
 pub mod MoveLemmas
 pub mod ListedLemmas
 pub mod FileLemmas

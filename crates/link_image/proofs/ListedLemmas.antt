@@ -3,7 +3,6 @@ use Rattle.std.proofs.Common.{◌≡◌, ℕ, suc, ◌+◌, ◌<◌, List, [], �
 use Rattle.std.specs.List.{All, flat_map}
 use Rattle.std.proofs.Math.Seq.{take-suc}
 use Rattle.std.proofs.lemmas.Grind.{flat_map-append}
-use Rattle.std.proofs.lemmas.List.{get_or_default}
 use Rattle.section_group.specs.declared.piece.OutSection.{OutSection}
 use Rattle.base_reloc.specs.declared.field.BaseField.{BaseField}
 use Rattle.relocate.specs.declared.fix.Fix.{Fix}

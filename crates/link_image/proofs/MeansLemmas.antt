@@ -1,14 +1,13 @@
 -- The file of a plan that is placed and patched loads as planned at every permitted base.
-use Rattle.std.proofs.Common.{◌≡◌, ℕ, zero, suc, ◌+◌, ◌-◌, ◌%◌, ◌^◌, ◌<◌, ◌≤◌, Bool, true, false, cond, ◌&&◌, ◌||◌, not, eqb, leb, List, [], ◌∷◌, ◌++◌, length, get_or, map, replicate, slice_set, slice_get, Option, Some, None, refl, sym, ap, ◌∙◌, subst, inl, inr, length-append, arith}
+use Rattle.std.proofs.Common.{◌≡◌, ℕ, ◌+◌, ◌-◌, ◌%◌, ◌^◌, ◌<◌, ◌≤◌, Bool, true, false, cond, ◌&&◌, ◌||◌, not, eqb, leb, List, [], ◌∷◌, ◌++◌, length, get_or, replicate, slice_set, slice_get, Option, Some, None, refl, sym, ap, ◌∙◌, subst, length-append, arith}
 use Rattle.std.specs.List.{flat_map}
 use Rattle.std.proofs.Math.Seq.{get_or-append_seam}
-use Rattle.std.proofs.lemmas.Bool.{and_parts, leb-true, eqb-true, false≢true}
+use Rattle.std.proofs.lemmas.Bool.{and_parts, leb-true, eqb-true}
 use Rattle.std.proofs.lemmas.List.{length-map, get_or_append_left, get_or-append_right}
 use Rattle.section_group.specs.declared.piece.Piece.{Piece}
 use Rattle.section_group.specs.declared.piece.OutSection.{OutSection}
 use Rattle.section_group.specs.Uniqueness.{SectionRow as OutRow, row_of, rows_of}
 use Rattle.address_layout.specs.declared.base.BaseRule.{BaseRule}
-use Rattle.address_layout.specs.declared.layout.Placed.{Placed}
 use Rattle.address_layout.specs.declared.layout.Layout.{Layout}
 use Rattle.address_layout.specs.Growth.{grown_size}
 use Rattle.address_layout.specs.PermittedBase.{is_permitted, address_limit}
@@ -16,9 +15,9 @@ use Rattle.address_layout.specs.Places.{row_at}
 use Rattle.base_reloc.specs.declared.field.BaseField.{BaseField}
 use Rattle.base_reloc.specs.PageBlocks.{blocks_of}
 use Rattle.image_writer.specs.declared.headers.Headers.{Headers}
-use Rattle.image_writer.specs.ExpectedImage.{PlacedBytes, ImagePlan, MeansPlan, own_bytes, plan_headers, raw_bytes, permits, image_file}
+use Rattle.image_writer.specs.ExpectedImage.{PlacedBytes, ImagePlan, MeansPlan, plan_headers, raw_bytes, permits, image_file}
 use Rattle.image_writer.specs.PieceInFile.{piece_at}
-use Rattle.image_writer.specs.WrittenImage.{section_rows, written_plan, layout_plan, at_each_base, IsLaidOut}
+use Rattle.image_writer.specs.WrittenImage.{section_rows, written_plan, layout_plan, at_each_base}
 use Rattle.image_writer.specs.RawData.{all_bytes}
 use Rattle.image_writer.specs.MovedContents.{Stay, Move}
 use Rattle.image_writer.proofs.PlanBytes.{written_bytes}
@@ -32,7 +31,7 @@ use Rattle.link_pieces.specs.Pieces.{link_pieces}
 use Rattle.link_words.specs.Outcome.{LinkOptions}
 use Rattle.link_plan.specs.declared.entry.EntryPlace.{EntryPlace}
 use Rattle.link_plan.specs.declared.plan.LinkPlan.{LinkPlan}
-use Rattle.link_plan.specs.Fixes.{piece_fixes, plan_pieces}
+use Rattle.link_plan.specs.Fixes.{piece_fixes}
 use Rattle.link_plan.specs.Plan.{IsPlanOf}
 use Rattle.link_plan.proofs.CallerLemmas.{plan_count}
 use Rattle.link_image.specs.declared.make.Built.{Built}
@@ -40,10 +39,11 @@ use Rattle.link_image.specs.declared.placement.Placement.{Placement}
 use Rattle.link_image.specs.BaseFields.{holds_address, is_relocated, base_field, IsBaseField, AreBaseFields}
 use Rattle.link_image.specs.ImageHeaders.{headers_of}
 use Rattle.link_image.specs.LinkedBytes.{linked_contents, image_contents, fields_range_fault}
-use Rattle.link_image.specs.LinkedImage.{base_rule, entry_rva, table_row, table_directory, HasTable, IsWhole, IsPlacement, IsBuilt}
+use Rattle.link_image.specs.LinkedImage.{base_rule, entry_rva, table_row, table_directory, HasTable, IsWhole, IsBuilt}
 use Rattle.link_image.specs.Steps.{tables_of, file_of, IsPlaced, IsReady}
 use Rattle.link_image.proofs.FieldLemmas.{total_is}
-use Rattle.link_image.proofs.MoveLemmas.{one_length, contents_room, contents_stay, contents_moved, length_linked}
+use Rattle.link_image.proofs.MoveLemmas.{one_length, contents_room, contents_stay, contents_moved}
+use Rattle.link_image.proofs.PieceMoves.{length_linked}
 
 -- ---- a file is of the contents at its own base
 

@@ -1,13 +1,11 @@
 -- The contents of the pieces of a link at two bases: the fields that hold addresses move with the base, and no other byte
 -- depends on it.
-use Rattle.std.proofs.Common.{◌≡◌, ℕ, ◌+◌, ◌-◌, ◌*◌, ◌%◌, ◌^◌, ◌<◌, ◌≤◌, Bool, true, false, cond, List, [], ◌++◌, length, map, get_or, slice_index, eqb, inl, inr, refl, sym, ap, ◌∙◌, subst, lt-ltb, IsTrue, unwrap_or, option_copied, arith}
-use Rattle.std.specs.List.{All, list_any, range_with_len}
+use Rattle.std.proofs.Common.{◌≡◌, ℕ, ◌+◌, ◌-◌, ◌*◌, ◌%◌, ◌^◌, ◌<◌, ◌≤◌, Bool, true, false, cond, List, [], ◌++◌, length, map, get_or, slice_index, eqb, inl, inr, refl, sym, ap, ◌∙◌, subst, IsTrue, unwrap_or, option_copied, arith}
+use Rattle.std.specs.List.{All}
 use Rattle.std.proofs.Math.ListN.{get_or-map}
-use Rattle.std.proofs.lemmas.Bool.{cases_lt, false≢true}
-use Rattle.std.proofs.lemmas.List.{length-map, length-append, map-append, get_or_append_left, get_or-append_right, ext_get_or}
+use Rattle.std.proofs.lemmas.Bool.{cases_lt}
+use Rattle.std.proofs.lemmas.List.{length-map, length-append, map-append, get_or_append_left, get_or-append_right}
 use Rattle.std.proofs.lemmas.List.Elements.{All-from_get_or}
-use Rattle.std.proofs.lemmas.List.Folds.{list_any_at}
-use Rattle.std.proofs.lemmas.List.FromFn.{get_or-range_with_len, length-range_with_len, get_or-map-range_with_len, length-map-range_with_len}
 use Rattle.link_base.specs.Bytes.{number_at, number_bytes}
 use Rattle.section_group.specs.declared.piece.Piece.{Piece}
 use Rattle.section_group.specs.declared.piece.OutSection.{OutSection}
@@ -22,50 +20,25 @@ use Rattle.base_reloc.specs.Blocks.{width_of}
 use Rattle.base_reloc.specs.Raising.{IsOutside, IsOutsideAll}
 use Rattle.pe_loader.specs.LoadedImage.{base_delta}
 use Rattle.relocate.specs.declared.fix.Fix.{Fix}
-use Rattle.relocate.specs.Field.{field_width, field_end, has_field, no_fix, fix_at}
+use Rattle.relocate.specs.Field.{field_width, field_end, no_fix, fix_at}
 use Rattle.relocate.specs.Judged.{AreTheFields, ArePatchable}
 use Rattle.relocate.specs.Value.{IsOutside as IsOutsideFix}
-use Rattle.relocate.specs.PatchedBytes.{is_based, HaveNoBased}
+use Rattle.relocate.specs.PatchedBytes.{is_based}
 use Rattle.relocate.proofs.OrderLemmas.{IsAmong}
-use Rattle.relocate.proofs.CallerLemmas.{length_patched, bytes_stay, fields_suited, bytes_moved, byte_stays, ends_within, based_width, field_among, among_fields}
+use Rattle.relocate.proofs.CallerLemmas.{bytes_moved, byte_stays, ends_within, based_width, field_among, among_fields}
 use Rattle.image_writer.specs.WrittenImage.{HaveRoom, HasContents}
 use Rattle.image_writer.specs.MovedContents.{HaveOneLength, IsMoved, AreMoved}
 use Rattle.image_writer.specs.PieceInFile.{piece_at}
 use Rattle.image_writer.proofs.CallerLemmas.{have_room}
 use Rattle.module_view.specs.Module.{ModuleView}
 use Rattle.link_pieces.specs.Pieces.{link_pieces, link_contents}
-use Rattle.link_plan.specs.Fixes.{piece_fixes}
+use Rattle.link_plan.specs.Fixes.{piece_fixes, HaveFields}
 use Rattle.link_plan.proofs.CallerLemmas.{plan_count}
-use Rattle.link_image.specs.BaseFields.{piece_holds_address, holds_address, base_field, IsBaseField, AreBaseFields}
-use Rattle.link_image.specs.LinkedBytes.{section_of, owners_in, contents_at, linked_bytes, linked_contents, image_contents}
+use Rattle.link_image.specs.BaseFields.{holds_address, base_field, IsBaseField, AreBaseFields}
+use Rattle.link_image.specs.LinkedBytes.{section_of, owners_in, contents_at, linked_bytes, image_contents}
 use Rattle.link_image.specs.Steps.{HoldTables, IsReady}
 use Rattle.link_image.proofs.StandsLemmas.{OwnerAt, owner_at}
-
--- ---- the contents of a piece and a table
-
-module _ (modules : List ModuleView) (rows : List SectionRow) (layout : Layout) (base : ℕ) where
-  abbrev total : ℕ
-  total = length (link_pieces modules)
-
-  abbrev linked : List (List ℕ)
-  linked = linked_contents modules rows layout base
-
-  linked_read : (k : ℕ) → k < total → get_or linked k [] ≡ linked_bytes modules rows layout base k
-  unfolding linked_contents
-  linked_read k lt = get_or-map-range_with_len (linked_bytes modules rows layout base) 0 total k k [] lt (omega arith)
-
-  pub length_linked : length linked ≡ total
-  unfolding linked_contents
-  length_linked = length-map-range_with_len (linked_bytes modules rows layout base) 0 total
-
-  piece_read : (tables : List (List ℕ)) (k : ℕ) → k < total → get_or (image_contents modules rows layout tables base) k [] ≡ linked_bytes modules rows layout base k
-  piece_read tables k lt = get_or_append_left linked tables [] k (omega (arith, lt, length_linked)) ∙ linked_read k lt
-
-  table_read : (tables : List (List ℕ)) (k : ℕ) → total ≤ k → get_or (image_contents modules rows layout tables base) k [] ≡ get_or tables (k - total) []
-  table_read tables k le = get_or-append_right linked tables total k [] length_linked le
-
-  length_piece : (k : ℕ) → length (linked_bytes modules rows layout base k) ≡ length (contents_at modules k)
-  length_piece k = length_patched base (get_or layout.pieces.items k 0) layout (owners_in rows layout) (piece_fixes modules k) (contents_at modules k)
+use Rattle.link_image.proofs.PieceMoves.{piece_read, table_read, length_piece, based_some, based_has_field, image_stays}
 
 -- ---- room depends on lengths alone
 
@@ -94,15 +67,6 @@ module _ (tables : List (List ℕ)) (rest : List Piece) (holds : HoldTables tabl
             subst (λ (piece : Piece). IsTrue piece.init → length (piece_contents piece) ≡ piece.size) (sym (get_or-append_right pieces rest (length pieces) k no_piece refl le)) (table_has_bytes (k - length pieces) (omega (arith, within, n, le)))
       ]
 
--- ---- a test that nothing passes
-
-not_any : {A : Type 0} (test : A → Bool) (xs : List A) (i : ℕ) (d : A) → list_any test xs ≡ false → i < length xs → test (get_or xs i d) ≡ false
-not_any test xs i d none lt = by (test (get_or xs i d)) refl
-  where
-    by : (b : Bool) → test (get_or xs i d) ≡ b → b ≡ false
-    by false e = refl
-    by true e = absurd (false≢true (sym none ∙ list_any_at test xs i d lt e))
-
 -- ---- a field that holds an address
 
 -- the bytes of a number and a delta stand in new bytes where the number stands in old ones
@@ -114,16 +78,6 @@ AreRaised old new delta at width =
 abbrev RaisesFix : List ℕ → List ℕ → ℕ → Fix → Type 0
 RaisesFix old new delta fix =
     is_based fix ≡ true → (field_end fix ≤ length old) × AreRaised old new delta fix.at (field_width fix.kind)
-
-based_some : (fix : Fix) → is_based fix ≡ true → 0 < field_width fix.kind
-based_some fix based =
-    elim (based_width fix based) [
-      | inl wide ↦ let w = wide.1 in omega (arith, w)
-      | inr narrow ↦ let w = narrow.1 in omega (arith, w)
-    ]
-
-based_has_field : (fix : Fix) → is_based fix ≡ true → has_field fix ≡ true
-based_has_field fix based = lt-ltb 0 (field_width fix.kind) (based_some fix based)
 
 width_is : (rva : ℕ) (fix : Fix) → is_based fix ≡ true → width_of (base_field rva fix) ≡ field_width fix.kind
 width_is rva fix based =
@@ -192,39 +146,20 @@ module _ (modules : List ModuleView) (pieces : List Piece) (fixups : List (List 
   contents_room base =
       room_by_length (pieces ++ ready.rest) sections (map piece_contents (pieces ++ ready.rest)) (contents base) (λ i d lt. length_held base (get_or (all_pieces sections) i d)) (have_room (pieces ++ ready.rest) sections have_contents)
 
-  -- ---- no field holds an address
+  -- ---- fields
 
-  holds_none : holds_address modules ≡ false → (k : ℕ) → k < count → piece_holds_address modules k ≡ false
-  unfolding holds_address
-  holds_none none k lt =
-      let n = length-range_with_len 0 count in
-      let at : get_or (range_with_len 0 count) k 0 ≡ k = get_or-range_with_len 0 count k 0 lt ∙ omega arith in
-      ap (piece_holds_address modules) (sym at) ∙ not_any (piece_holds_address modules) (range_with_len 0 count) k 0 none (omega (arith, lt, n))
-
-  none_based : holds_address modules ≡ false → (k : ℕ) → k < count → HaveNoBased (piece_fixes modules k)
-  none_based none k lt = λ i d within some. not_any is_based (piece_fixes modules k) i d (holds_none none k lt) within
+  have : HaveFields modules (length (link_pieces modules)) fixups
+  have = subst (λ (n : ℕ). HaveFields modules n fixups) count_is ready.fields
 
   are_fields : (k : ℕ) → k < count → AreTheFields (piece_fixes modules k) (get_or fixups k [])
-  are_fields k lt = ready.fields.fields k (omega (arith, lt, count_is))
+  are_fields k lt = have.fields k lt
 
   are_patchable : (k : ℕ) → k < count → ArePatchable (length (contents_at modules k)) (get_or fixups k [])
-  are_patchable k lt = ready.fields.patchable k (omega (arith, lt, count_is))
-
-  piece_stays : holds_address modules ≡ false → (base other k : ℕ) → k < count → bytes_of base k ≡ bytes_of other k
-  piece_stays none base other k lt =
-      bytes_stay false false base other (get_or layout.pieces.items k 0) layout (owners_in rows layout) (piece_fixes modules k) (contents_at modules k)
-      (fields_suited (piece_fixes modules k) (get_or fixups k []) (length (contents_at modules k)) (are_fields k lt) (are_patchable k lt))
-      (none_based none k lt)
-
-  linked_stay : holds_address modules ≡ false → (base other : ℕ) → linked_contents modules rows layout base ≡ linked_contents modules rows layout other
-  linked_stay none base other =
-      ext_get_or [] (linked_contents modules rows layout base) (linked_contents modules rows layout other) (length_linked modules rows layout base ∙ sym (length_linked modules rows layout other)) (λ k lt.
-      let within : k < count = omega (arith, lt, length_linked modules rows layout base) in
-      linked_read modules rows layout base k within ∙ piece_stays none base other k within ∙ sym (linked_read modules rows layout other k within))
+  are_patchable k lt = have.patchable k lt
 
   -- so the contents are the same at each base
   pub contents_stay : holds_address modules ≡ false → (base other : ℕ) → contents base ≡ contents other
-  contents_stay none base other = ap (λ (cs : List (List ℕ)). cs ++ tables) (linked_stay none base other)
+  contents_stay = image_stays modules fixups rows layout have tables
 
   -- ---- fields that hold addresses
 

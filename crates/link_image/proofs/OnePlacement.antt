@@ -1,11 +1,9 @@
 -- Modules have one list of fields that hold addresses, and one placement.
 use Rattle.std.proofs.Common.{◌≡◌, ℕ, zero, suc, ◌+◌, ◌<◌, ◌≤◌, Bool, true, false, cond, eqb, List, [], ◌∷◌, ◌++◌, length, get_or, map, refl, sym, ap, ◌∙◌, subst, inl, inr, ◌⊎◌, arith}
 use Rattle.std.specs.List.{Contains}
-use Rattle.std.proofs.Math.ListN.{get_or-map}
-use Rattle.std.proofs.lemmas.List.{length-map, get_or_default}
-use Rattle.std.proofs.lemmas.List.Elements.{Contains-get_or}
+use Rattle.std.proofs.lemmas.List.{length-map}
 use Rattle.section_group.specs.declared.piece.OutSection.{OutSection}
-use Rattle.section_group.specs.Uniqueness.{SectionRow, row_of, rows_of}
+use Rattle.section_group.specs.Uniqueness.{SectionRow, rows_of}
 use Rattle.section_group.proofs.Theorems.{one_grouping}
 use Rattle.address_layout.specs.declared.layout.Placed.{Placed}
 use Rattle.address_layout.specs.declared.layout.Layout.{Layout}
@@ -19,7 +17,7 @@ use Rattle.module_view.specs.Module.{ModuleView}
 use Rattle.link_words.specs.Outcome.{LinkOptions}
 use Rattle.link_plan.specs.Fixes.{plan_pieces}
 use Rattle.link_image.specs.BaseFields.{is_relocated, IsBaseField, AreBaseFields}
-use Rattle.link_image.specs.LinkedImage.{link_input, table_row, AreGrouped, ArePlaced, HasTable, IsWhole, IsPlacement}
+use Rattle.link_image.specs.LinkedImage.{link_input, table_row, AreGrouped, ArePlaced, IsWhole, IsPlacement}
 
 -- ---- one list of fields
 

@@ -1,5 +1,5 @@
 -- The fields that hold addresses, of the pieces of a plan at their places.
-use Rattle.std.proofs.Common.{◌≡◌, ℕ, ◌<◌, ◌≤◌, ◌^◌, Bool, true, false, List, [], length, map, get_or, inl, refl, sym, ap, ◌∙◌, subst, arith}
+use Rattle.std.proofs.Common.{◌≡◌, ℕ, ◌<◌, ◌≤◌, ◌^◌, Bool, true, false, List, [], length, get_or, inl, refl, sym, ap, ◌∙◌, subst, arith}
 use Rattle.std.specs.List.{All, Contains}
 use Rattle.std.proofs.Math.ListN.{get_or-map}
 use Rattle.std.proofs.lemmas.List.{length-map}
@@ -11,7 +11,6 @@ use Rattle.section_group.specs.PieceContents.{piece_contents}
 use Rattle.address_layout.specs.declared.layout.Layout.{Layout}
 use Rattle.address_layout.specs.Layout.{all_pieces}
 use Rattle.address_layout.proofs.CallerLemmas.{stands}
-use Rattle.module_view.specs.Module.{ModuleView}
 use Rattle.link_pieces.specs.Pieces.{link_pieces}
 use Rattle.link_words.specs.Outcome.{LinkOptions}
 use Rattle.link_plan.specs.declared.plan.LinkPlan.{LinkPlan}

@@ -1,5 +1,5 @@
 -- The section of a piece that stands in one, and the places that fields mean.
-use Rattle.std.proofs.Common.{◌≡◌, ℕ, zero, suc, ◌<◌, Bool, true, false, ◌||◌, eqb, List, [], ◌∷◌, length, filter, get_or, Option, Some, None, unwrap_or, refl, sym, ap, subst, ◌∙◌, inr, eq-eqb, eqb-true, length-append, ◌++◌, arith}
+use Rattle.std.proofs.Common.{◌≡◌, ℕ, zero, suc, ◌<◌, Bool, true, false, ◌||◌, eqb, List, [], ◌∷◌, length, filter, get_or, Option, Some, None, unwrap_or, refl, sym, ap, subst, ◌∙◌, inr, eq-eqb, eqb-true, length-append, arith}
 use Rattle.std.specs.List.{Contains, list_any}
 use Rattle.std.proofs.lemmas.Bool.{false≢true}
 use Rattle.std.proofs.lemmas.List.{length-map}

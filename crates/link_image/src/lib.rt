@@ -8,10 +8,12 @@
 mod base_fields;
 mod file;
 mod headers;
+mod laws;
 mod make;
 mod owners;
 mod patching;
 mod placement;
 mod sections;
 
+pub use laws::{another_base_moves_addresses_alone, one_list_of_base_fields};
 pub use make::{Built, build};

@@ -1,6 +1,5 @@
-use Rattle.std.proofs.Common.{◌<◌, ◌++◌, ℕ, List, length, refl, subst, sym, ◌∙◌, ap, arith}
+use Rattle.std.proofs.Common.{◌<◌, ◌++◌, ℕ, List, length, subst, sym, ◌∙◌, ap, arith}
 use Rattle.std.specs.List.{All}
-use Rattle.section_group.specs.declared.piece.OutSection.{OutSection}
 use Rattle.image_writer.proofs.LaidOutLemmas.{all_here}
 use Rattle.link_image.specs.Steps.{Fits, section_fields, all_fields}
 use Rattle.link_image.proofs.ListedLemmas.{all_more}

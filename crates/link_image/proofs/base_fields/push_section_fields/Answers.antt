@@ -1,6 +1,5 @@
-use Rattle.std.proofs.Common.{◌≡◌, ◌++◌, List, [], get_or, refl, sym, append-nil, ◌∙◌, arith}
+use Rattle.std.proofs.Common.{◌≡◌, [], get_or, refl, sym, append-nil, ◌∙◌, arith}
 use Rattle.std.proofs.lemmas.List.{get_or_default}
-use Rattle.relocate.specs.declared.fix.Fix.{Fix}
 use Rattle.link_image.specs.Steps.{section_fields}
 use Rattle.link_image.proofs.ListedLemmas.{section_more, fit_here}
 use Rattle.link_image.proofs.base_fields.push_section_fields.Goals as goal

@@ -1,11 +1,10 @@
-use Rattle.std.proofs.Common.{◌≡◌, ◌<◌, ◌++◌, ℕ, List, Some, None, length, sym, ap, ◌∙◌, subst, arith}
+use Rattle.std.proofs.Common.{◌≡◌, ◌<◌, ℕ, List, Some, None, length, sym, ap, ◌∙◌, subst, arith}
 use Rattle.std.specs.List.{All}
 use Rattle.std.proofs.lemmas.Result.{err_from_is_err_and}
 use Rattle.link_base.specs.declared.fault.Fault.{Fault}
 use Rattle.section_group.specs.declared.piece.Piece.{Piece}
 use Rattle.section_group.specs.declared.piece.OutSection.{OutSection}
 use Rattle.section_group.specs.Uniqueness.{rows_of}
-use Rattle.section_group.specs.PieceContents.{piece_contents}
 use Rattle.address_layout.specs.Layout.{all_pieces}
 use Rattle.image_writer.specs.declared.headers.Headers.{Headers}
 use Rattle.link_words.specs.Outcome.{LinkOptions, options_said}
@@ -14,7 +13,7 @@ use Rattle.link_image.specs.declared.placement.Placement.{Placement}
 use Rattle.link_image.specs.ImageHeaders.{headers_of}
 use Rattle.link_image.specs.LinkedBytes.{owners, owners_in, linked_contents, fields_range_fault}
 use Rattle.link_image.specs.LinkedImage.{entry_rva, table_directory}
-use Rattle.link_image.specs.Steps.{tables_of, file_of, IsPlaced, IsReady, IsWritten}
+use Rattle.link_image.specs.Steps.{tables_of, file_of, IsPlaced, IsWritten}
 use Rattle.link_image.proofs.SectionLemmas.{ready, bad_range}
 use Rattle.link_image.proofs.MeansLemmas.{built}
 use Rattle.link_image.proofs.make.build.Goals as goal

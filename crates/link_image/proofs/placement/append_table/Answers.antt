@@ -1,6 +1,4 @@
-use Rattle.std.proofs.Common.{◌≡◌, ◌<◌, ◌^◌, ℕ, List, [], ◌∷◌, length, Some, sym, ap, ◌∙◌, subst, arith}
-use Rattle.section_group.specs.declared.piece.OutSection.{OutSection}
-use Rattle.address_layout.specs.declared.layout.Layout.{Layout}
+use Rattle.std.proofs.Common.{◌≡◌, ◌<◌, ◌^◌, ℕ, List, [], ◌∷◌, length, Some, ap, ◌∙◌, subst}
 use Rattle.address_layout.specs.declared.layout.LayoutError.TheVariants as bad
 use Rattle.address_layout.specs.Growth.{Appends, IsGrowRefusal}
 use Rattle.base_reloc.specs.PageBlocks.{blocks_of}

@@ -2,7 +2,6 @@ use Rattle.std.proofs.Common.{◌≡◌, Bool, ◌&&◌, not, length, List, sym,
 use Rattle.std.proofs.lemmas.List.{length-map}
 use Rattle.section_group.specs.declared.piece.Piece.{Piece}
 use Rattle.section_group.specs.BarePieces.{bare}
-use Rattle.link_words.specs.Outcome.{options_said}
 use Rattle.link_pieces.specs.Pieces.{link_pieces}
 use Rattle.link_plan.proofs.CallerLemmas.{plan_count}
 use Rattle.link_image.specs.BaseFields.{holds_address}

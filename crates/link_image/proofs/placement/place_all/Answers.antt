@@ -1,13 +1,10 @@
-use Rattle.std.proofs.Common.{◌≡◌, ◌<◌, ℕ, Bool, List, None, length, refl, sym, ap, ◌∙◌, subst}
-use Rattle.std.specs.List.{All}
+use Rattle.std.proofs.Common.{◌≡◌, Bool, List, None, refl, sym, ◌∙◌, subst}
 use Rattle.section_group.specs.declared.piece.OutSection.{OutSection}
-use Rattle.address_layout.specs.Layout.{all_pieces}
-use Rattle.base_reloc.specs.declared.field.BaseField.{BaseField}
 use Rattle.base_reloc.specs.PageBlocks.{IsAscending}
 use Rattle.link_words.specs.Outcome.{options_said}
 use Rattle.link_image.specs.BaseFields.{AreBaseFields}
 use Rattle.link_image.specs.LinkedImage.{ArePlaced}
-use Rattle.link_image.specs.Steps.{Fits, all_fields}
+use Rattle.link_image.specs.Steps.{all_fields}
 use Rattle.link_image.proofs.SectionLemmas.{placed_alone}
 use Rattle.link_image.proofs.PlanLemmas.{plan_fit, plan_fields, plan_within, plan_fixes}
 use Rattle.link_image.proofs.placement.place_all.Goals as goal

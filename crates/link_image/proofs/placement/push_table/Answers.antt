@@ -1,4 +1,4 @@
-use Rattle.std.proofs.Common.{◌≡◌, ◌++◌, ◌∷◌, [], List, ℕ, refl, ap, ◌∙◌}
+use Rattle.std.proofs.Common.{◌++◌, ◌∷◌, [], List, ℕ, ap, ◌∙◌}
 use Rattle.std.specs.Prelude.{codes}
 use Rattle.section_group.specs.Uniqueness.{SectionRow}
 use Rattle.link_image.proofs.placement.push_table.Goals as goal

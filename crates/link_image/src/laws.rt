@@ -1,0 +1,40 @@
+//! Laws of the definitions, each the contract of a function that does nothing.
+
+ghost use Rattle.std.specs.Prelude.{◌≡◌, ◌<◌, ℕ, ◌+◌, ◌*◌, ◌%◌, ◌^◌, true, false, List, length, slice_index};
+ghost use Rattle.link_base.specs.Bytes.{number_at};
+ghost use Rattle.section_group.specs.Uniqueness.{SectionRow};
+ghost use Rattle.address_layout.specs.declared.layout.Layout.{Layout};
+ghost use Rattle.base_reloc.specs.declared.field.BaseField.{BaseField};
+ghost use Rattle.pe_loader.specs.LoadedImage.{base_delta};
+ghost use Rattle.relocate.specs.declared.fix.Fix.{Fix};
+ghost use Rattle.relocate.specs.Field.{field_width, fix_at};
+ghost use Rattle.relocate.specs.Value.{IsOutside};
+ghost use Rattle.relocate.specs.PatchedBytes.{is_based};
+ghost use Rattle.module_view.specs.Module.{ModuleView};
+ghost use Rattle.link_pieces.specs.Pieces.{link_pieces};
+ghost use Rattle.link_plan.specs.Fixes.{piece_fixes, HaveFields};
+ghost use Rattle.link_image.specs.BaseFields.{holds_address, AreBaseFields};
+ghost use Rattle.link_image.specs.LinkedBytes.{linked_bytes, image_contents};
+
+/// At another base each field of a piece that holds an address holds its number and the difference of the bases, modulo its
+/// width, and every other byte is the same. Where no field holds an address, everything is.
+pub fn another_base_moves_addresses_alone()
+    ensures fields { (modules : List ModuleView) (fixups : List (List Fix)) (rows : List SectionRow) (layout : Layout) (base other k i : ℕ)
+        → HaveFields modules (length (link_pieces modules)) fixups → base < 2 ^ 64 → k < length (link_pieces modules) → i < length (piece_fixes modules k)
+        → is_based (fix_at (piece_fixes modules k) i) ≡ true → let fix = fix_at (piece_fixes modules k) i in
+        number_at (field_width fix.kind) (linked_bytes modules rows layout other k) fix.at
+        ≡ (number_at (field_width fix.kind) (linked_bytes modules rows layout base k) fix.at + base_delta base other) % 2 ^ (8 * field_width fix.kind) }
+    ensures elsewhere { (modules : List ModuleView) (fixups : List (List Fix)) (rows : List SectionRow) (layout : Layout) (base other k byte : ℕ)
+        → HaveFields modules (length (link_pieces modules)) fixups → k < length (link_pieces modules)
+        → ((i : ℕ) → i < length (piece_fixes modules k) → is_based (fix_at (piece_fixes modules k) i) ≡ true → IsOutside byte (fix_at (piece_fixes modules k) i))
+        → slice_index (linked_bytes modules rows layout other k) byte ≡ slice_index (linked_bytes modules rows layout base k) byte }
+    ensures without { (modules : List ModuleView) (fixups : List (List Fix)) (rows : List SectionRow) (layout : Layout) (tables : List (List ℕ)) (base other : ℕ)
+        → HaveFields modules (length (link_pieces modules)) fixups → holds_address modules ≡ false
+        → image_contents modules rows layout tables base ≡ image_contents modules rows layout tables other }
+{}
+
+/// Modules at their places have one list of the fields that hold addresses.
+pub fn one_list_of_base_fields()
+    ensures { (modules : List ModuleView) (rvas : List ℕ) (first second : List BaseField)
+        → AreBaseFields modules rvas first → AreBaseFields modules rvas second → first ≡ second }
+{}
