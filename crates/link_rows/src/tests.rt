@@ -18,4 +18,3 @@ mod opening;
 mod options;
 mod records;
 mod refusals;
-mod shown;
