@@ -18,3 +18,4 @@ mod opening;
 mod options;
 mod records;
 mod refusals;
+mod shown;

@@ -11,12 +11,16 @@ use std::alloc::Global;
 use std::test::Fail;
 
 // The types of the fields.
-const ADDR64: u16 = 1;
+pub(super) const ADDR64: u16 = 1;
 
 const ADDR32: u16 = 2;
 
 /// Initialised data that can be written, at a multiple of 8.
-fn data<'a>(name: &'a str, bytes: &'a [u8], fields: &'a [Relocation<'a>]) -> Section<'a> {
+pub(super) fn data<'a>(
+    name: &'a str,
+    bytes: &'a [u8],
+    fields: &'a [Relocation<'a>],
+) -> Section<'a> {
     Section {
         name,
         flags: 0xc040_0040,
@@ -26,7 +30,7 @@ fn data<'a>(name: &'a str, bytes: &'a [u8], fields: &'a [Relocation<'a>]) -> Sec
 }
 
 /// A field of this type, which means a symbol.
-fn field(offset: u32, symbol: &'static str, kind: u16) -> Relocation<'static> {
+pub(super) fn field(offset: u32, symbol: &'static str, kind: u16) -> Relocation<'static> {
     Relocation {
         offset,
         symbol,
@@ -43,7 +47,7 @@ fn table_directory(image: &[u8]) -> Option<(u32, u32)> {
 
 // ---- one field of eight bytes
 
-const ZEROS: &[u8] = b"\x00\x00\x00\x00\x00\x00\x00\x00";
+pub(super) const ZEROS: &[u8] = b"\x00\x00\x00\x00\x00\x00\x00\x00";
 
 const CALLS: &[Relocation<'static>] = &[Relocation {
     offset: 1,
