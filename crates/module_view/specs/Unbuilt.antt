@@ -7,7 +7,7 @@ use Rattle.link_base.specs.NameText.{same_name, begins, begins_import}
 use Rattle.link_base.specs.SectionName.{base_name}
 use Rattle.link_base.specs.PeFormat.{SCN_LNK_COMDAT, SYM_CLASS_EXTERNAL, SYM_CLASS_WEAK_EXTERNAL, SYM_UNDEFINED}
 use Rattle.coff_records.specs.ObjectFile.{section_total, section_name_of, raw_size_of, flags_of, is_uninitialised, SymbolView, name_in, value_in, section_number_in, class_in, symbol_entries}
-use Rattle.module_view.specs.PlacedSection.{is_placed}
+use Rattle.module_view.specs.PlacedSection.{comes_in}
 
 -- ---- files that have no reader yet
 
@@ -25,21 +25,22 @@ is_unread_form bytes = begins bytes library_start || begins bytes short_import_s
 -- ---- sections
 
 -- directives for the linker, of at least one byte
-abbrev pub holds_directives : List ℕ → ℕ → Bool
-holds_directives bytes section =
-    same_name (section_name_of bytes section) (codes ".drectve")
-    && (not (is_uninitialised bytes section) && nat_lt 0 (raw_size_of bytes section))
+abbrev pub holds_directives : (name : List ℕ) → (size : ℕ) → (has_bytes : Bool) → Bool
+holds_directives name size has_bytes = same_name name (codes ".drectve") && (has_bytes && nat_lt 0 size)
 
 -- the exception table, or resources
-abbrev pub is_special_section : List ℕ → ℕ → Bool
-is_special_section bytes section =
-    (same_name (base_name (section_name_of bytes section)) (codes ".pdata") && is_placed bytes section)
-    || same_name (base_name (section_name_of bytes section)) (codes ".rsrc")
+abbrev pub is_special_section : (name : List ℕ) → (flags : ℕ) → Bool
+is_special_section name flags =
+    (same_name (base_name name) (codes ".pdata") && comes_in flags name) || same_name (base_name name) (codes ".rsrc")
 
--- a section that is not linked yet: a COMDAT, directives, or a table that the linker reads
-unfoldable pub is_unbuilt_section : List ℕ → ℕ → Bool
+-- a form that is not linked yet: a COMDAT, directives, or a table that the linker reads
+unfoldable pub is_unbuilt_form : (name : List ℕ) → (flags : ℕ) → (size : ℕ) → (has_bytes : Bool) → Bool
+is_unbuilt_form name flags size has_bytes =
+    has_flag flags SCN_LNK_COMDAT || (holds_directives name size has_bytes || is_special_section name flags)
+
+abbrev pub is_unbuilt_section : List ℕ → ℕ → Bool
 is_unbuilt_section bytes section =
-    has_flag (flags_of bytes section) SCN_LNK_COMDAT || (holds_directives bytes section || is_special_section bytes section)
+    is_unbuilt_form (section_name_of bytes section) (flags_of bytes section) (raw_size_of bytes section) (not (is_uninitialised bytes section))
 
 -- ---- symbols
 

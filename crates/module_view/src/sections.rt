@@ -69,7 +69,7 @@ fn section_form(object: &Object<'_>, texts: &LongTexts<'_>, number: u32) -> Sect
     SectionForm {
         is_linker: is_linker_section(&section.name),
         is_long: false,
-        is_unbuilt: is_unbuilt_section(object, number, &section),
+        is_unbuilt: is_unbuilt_section(&section),
     }
 }
 

@@ -6,7 +6,7 @@ ghost use Rattle.link_base.specs.NameText.{same_name};
 ghost use Rattle.link_base.specs.SectionName.{base_name};
 ghost use Rattle.coff_records.specs.ObjectFile.{section_total, section_name_of, flags_of, raw_size_of, body_of, name_in};
 ghost use Rattle.module_view.specs.PlacedSection.{comes_in};
-ghost use Rattle.module_view.specs.Unbuilt.{is_unbuilt_section, is_loader_name, is_common, is_import_reference, is_external_name, is_unbuilt_symbol};
+ghost use Rattle.module_view.specs.Unbuilt.{is_unbuilt_form, holds_directives, is_special_section, is_loader_name, is_common, is_import_reference, is_external_name, is_unbuilt_symbol};
 
 use crate::base_name::has_base_name;
 use crate::placed_section::comes_in;
@@ -16,31 +16,24 @@ use link_base::pe_format::{
     SCN_LNK_COMDAT, SYM_CLASS_EXTERNAL, SYM_CLASS_WEAK_EXTERNAL, SYM_UNDEFINED,
 };
 
-/// Whether a section of this number, which was read, has a form that is not linked yet.
-#[tactic(auto, unfolding(crate::specs::Unbuilt::is_unbuilt_section))]
-pub(crate) fn is_unbuilt_section(_object: &Object<'_>, _number: u32, section: &Section<'_>) -> bool
-    requires name { section.now.name ≡ section_name_of _object.now _number }
-    requires flags { section.now.flags ≡ flags_of _object.now _number }
-    requires size { section.now.size ≡ raw_size_of _object.now _number }
-    requires body { option_copied section.now.body ≡ body_of _object.now _number }
-    ensures { result ≡ is_unbuilt_section _object.now _number }
+/// Whether a section has a form that is not linked yet.
+#[tactic(auto, unfolding(crate::specs::Unbuilt::is_unbuilt_form))]
+pub(crate) fn is_unbuilt_section(section: &Section<'_>) -> bool
+    ensures { result ≡ is_unbuilt_form section.now.name section.now.flags section.now.size (is_some section.now.body) }
 {
     section.flags & SCN_LNK_COMDAT != 0 || holds_directives(section) || is_special_section(section)
 }
 
 /// Whether a section holds directives for the linker.
 fn holds_directives(section: &Section<'_>) -> bool
-    ensures { result ≡ (same_name section.now.name (codes ".drectve")
-        && (is_some section.now.body && nat_lt 0 section.now.size)) }
+    ensures { result ≡ holds_directives section.now.name section.now.size (is_some section.now.body) }
 {
     section.name == Name::of(b".drectve") && section.body.is_some() && section.size > 0
 }
 
 /// Whether a section is an exception table that comes into the image, or holds resources.
 fn is_special_section(section: &Section<'_>) -> bool
-    ensures { result ≡ ((same_name (base_name section.now.name) (codes ".pdata")
-        && comes_in section.now.flags section.now.name)
-        || same_name (base_name section.now.name) (codes ".rsrc")) }
+    ensures { result ≡ is_special_section section.now.name section.now.flags }
 {
     (has_base_name(&section.name, b".pdata") && comes_in(section.flags, &section.name))
         || has_base_name(&section.name, b".rsrc")

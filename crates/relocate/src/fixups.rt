@@ -22,6 +22,7 @@ impl Fixups {
         }
     }
 
+    /// Whether there is no relocation.
     pub fn is_empty(&self) -> bool
         ensures { result ≡ (length self.now == 0) }
     {
