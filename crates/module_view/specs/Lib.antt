@@ -1,6 +1,8 @@
 pub mod Module
 pub mod Opening
 pub mod PlacedSection
+pub mod AuxRecords
+pub mod Parents
 pub mod SymbolLists
 pub mod Unbuilt
 pub mod Steps

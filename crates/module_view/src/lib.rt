@@ -4,6 +4,7 @@
 //! mean across modules is left to others.
 #![tactic(auto)]
 
+pub mod aux_records;
 mod base_name;
 mod definition;
 mod error;
