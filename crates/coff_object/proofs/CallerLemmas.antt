@@ -13,7 +13,7 @@ use Rattle.coff_records.specs.SymbolRecord.{SymbolView, section_number_in, secti
 use Rattle.coff_records.specs.ObjectFile.{section_total, section_at, flags_of, alignment_value, alignment_of, raw_size_of, raw_offset_of, is_uninitialised, relocation_total, relocations_of, record_total, symbol_at, symbol_size, symbol_section_of, symbol_value_of, starts_symbol}
 use Rattle.coff_records.specs.FileRanges.{leaves_file, body_leaves}
 use Rattle.coff_object.specs.ObjectFaults.{of_symbol, has_no_alignment, has_no_section, value_exceeds, is_in_section, object_fault}
-use Rattle.coff_records.proofs.CallerLemmas.{range_whole, records_fit-whole, size_cases}
+use Rattle.coff_records.proofs.CallerLemmas.{range_whole, sections_fit, records_fit-whole, size_cases}
 use Rattle.coff_object.proofs.LoopLemmas.{section_passes}
 use Rattle.coff_object.proofs.NumberLemmas.{number_inside}
 use Rattle.coff_object.proofs.StartLemmas.{each_passes}
@@ -32,6 +32,10 @@ symbol_size_is file = size_cases file
 -- no more records than the file holds
 pub records_fit : (file : List ℕ) → object_fault file ≡ None → 18 * record_total file ≤ length file
 records_fit file e = records_fit-whole file (range_holds file (no_fault file e).symbols)
+
+-- no more sections than the file holds headers of
+pub headers_fit : (file : List ℕ) → object_fault file ≡ None → 40 * section_total file ≤ length file
+headers_fit file e = sections_fit file (no_fault file e).headers
 
 -- a symbol's section number that is that of a section is one of the file's
 pub symbol_section_inside : (file : List ℕ) (index : ℕ) → object_fault file ≡ None → starts_symbol file index ≡ true → section_of_number (symbol_section_of file index) ≤ section_total file

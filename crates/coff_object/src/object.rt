@@ -87,6 +87,15 @@ impl<'a> Object<'a> {
         section_in(self.file.bytes(), self.strings, &header)
     }
 
+    /// The flags of a section, by its number.
+    pub fn section_flags(&self, i: u32) -> u32
+        requires first { 1 ≤ i }
+        requires last { i ≤ section_total self.now }
+        ensures { result ≡ flags_of self.now i }
+    {
+        self.file.section_header(i).flags()
+    }
+
     /// The first bytes of a section's name, at most `limit`: a name that is longer costs no more.
     pub fn section_name_start(&self, i: u32, limit: usize) -> Name<'a>
         requires first { 1 ≤ i }

@@ -3,3 +3,6 @@ pub mod CallerLemmas
 pub mod SectionLemmas
 pub mod SymbolLemmas
 pub mod OpeningLemmas
+pub mod ComdatLemmas
+pub mod ParentLemmas
+pub mod AuxLemmas

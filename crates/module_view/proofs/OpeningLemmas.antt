@@ -11,21 +11,26 @@ use Rattle.module_view.specs.declared.error.ModuleError.{ModuleError}
 use Rattle.module_view.specs.declared.error.ModuleError.TheVariants as error
 use Rattle.module_view.specs.Unbuilt.{has_unbuilt_section, has_unbuilt_symbol}
 use Rattle.module_view.specs.Opening.{opening_error, form_error, content_error, unsupported, has_linker_section, has_long_section_name, has_long_symbol_name, RefusesToOpen}
-use Rattle.module_view.specs.Steps.{section_form, symbol_error}
+use Rattle.module_view.specs.AuxFaults.{aux_fault}
+use Rattle.module_view.specs.Steps.{section_form}
 use Rattle.link_base.proofs.RefusalLemmas.{or_none}
 
 -- ---- sections, then symbols
 
-in_stages : (linker long_section long_symbol unbuilt_section unbuilt_symbol : Bool) → first_standing (unsupported linker form.LinkerSection ∷ unsupported (long_section || long_symbol) form.LongName ∷ unsupported (unbuilt_section || unbuilt_symbol) form.NotBuilt ∷ []) ≡ option_or (option_map error.Unsupported (first_standing (shown linker form.LinkerSection ∷ shown long_section form.LongName ∷ []))) (first_standing (unsupported long_symbol form.LongName ∷ unsupported (unbuilt_section || unbuilt_symbol) form.NotBuilt ∷ []))
-in_stages true long_section long_symbol unbuilt_section unbuilt_symbol = refl
-in_stages false true long_symbol unbuilt_section unbuilt_symbol = refl
-in_stages false false long_symbol unbuilt_section unbuilt_symbol = refl
+in_stages : (linker long_section long_symbol unbuilt : Bool) (fault : Option ModuleError) → first_standing (unsupported linker form.LinkerSection ∷ unsupported (long_section || long_symbol) form.LongName ∷ fault ∷ unsupported unbuilt form.NotBuilt ∷ []) ≡ option_or (option_map error.Unsupported (first_standing (shown linker form.LinkerSection ∷ shown long_section form.LongName ∷ []))) (first_standing (unsupported long_symbol form.LongName ∷ fault ∷ unsupported unbuilt form.NotBuilt ∷ []))
+in_stages true long_section long_symbol unbuilt fault = refl
+in_stages false true long_symbol unbuilt fault = refl
+in_stages false false long_symbol unbuilt fault = refl
 
-content_by : (bytes : List ℕ) (unbuilt : Bool) → unbuilt ≡ has_unbuilt_section bytes → content_error bytes ≡ option_or (option_map error.Unsupported (section_form bytes)) (symbol_error unbuilt bytes)
-unfolding content_error section_form symbol_error
-content_by bytes unbuilt is =
-    in_stages (has_linker_section bytes) (has_long_section_name bytes) (has_long_symbol_name bytes) (has_unbuilt_section bytes) (has_unbuilt_symbol bytes)
-    ∙ ap (λ (b : Bool). option_or (option_map error.Unsupported (first_standing (shown (has_linker_section bytes) form.LinkerSection ∷ shown (has_long_section_name bytes) form.LongName ∷ []))) (first_standing (unsupported (has_long_symbol_name bytes) form.LongName ∷ unsupported (b || has_unbuilt_symbol bytes) form.NotBuilt ∷ []))) (sym is)
+-- what is shown after sections
+abbrev later_error : List ℕ → Option ModuleError
+later_error bytes =
+    first_standing (unsupported (has_long_symbol_name bytes) form.LongName ∷ option_map error.Object (aux_fault bytes) ∷ unsupported (has_unbuilt_section bytes || has_unbuilt_symbol bytes) form.NotBuilt ∷ [])
+
+content_by : (bytes : List ℕ) → content_error bytes ≡ option_or (option_map error.Unsupported (section_form bytes)) (later_error bytes)
+unfolding content_error section_form
+content_by bytes =
+    in_stages (has_linker_section bytes) (has_long_section_name bytes) (has_long_symbol_name bytes) (has_unbuilt_section bytes || has_unbuilt_symbol bytes) (option_map error.Object (aux_fault bytes))
 
 -- ---- the stages
 
@@ -44,14 +49,45 @@ by_contents bytes form sound = rw (sym form, sound) (or_none (content_error byte
 
 pub refused_sections : (bytes : List ℕ) (kind : Kind) → None ≡ form_error bytes → object_fault bytes ≡ None → section_form bytes ≡ Some kind → opening_error bytes ≡ Some (error.Unsupported kind)
 refused_sections bytes kind form sound is =
-    by_contents bytes form sound ∙ content_by bytes (has_unbuilt_section bytes) refl
-    ∙ ap (λ (o : Option Kind). option_or (option_map error.Unsupported o) (symbol_error (has_unbuilt_section bytes) bytes)) is
+    by_contents bytes form sound ∙ content_by bytes
+    ∙ ap (λ (o : Option Kind). option_or (option_map error.Unsupported o) (later_error bytes)) is
 
-pub by_symbols : (bytes : List ℕ) (unbuilt : Bool) → None ≡ form_error bytes → object_fault bytes ≡ None → section_form bytes ≡ None → unbuilt ≡ has_unbuilt_section bytes → opening_error bytes ≡ symbol_error unbuilt bytes
-by_symbols bytes unbuilt form sound sections is =
-    by_contents bytes form sound ∙ content_by bytes unbuilt is
-    ∙ ap (λ (o : Option Kind). option_or (option_map error.Unsupported o) (symbol_error unbuilt bytes)) sections
+-- the sections show nothing: what is shown after them stands
+by_later : (bytes : List ℕ) → None ≡ form_error bytes → object_fault bytes ≡ None → section_form bytes ≡ None → opening_error bytes ≡ later_error bytes
+by_later bytes form sound sections =
+    by_contents bytes form sound ∙ content_by bytes
+    ∙ ap (λ (o : Option Kind). option_or (option_map error.Unsupported o) (later_error bytes)) sections
 
-pub refused_symbols : (bytes : List ℕ) (unbuilt : Bool) (e : ModuleError) → None ≡ form_error bytes → object_fault bytes ≡ None → section_form bytes ≡ None → unbuilt ≡ has_unbuilt_section bytes → RefusesToOpen (symbol_error unbuilt bytes) e → RefusesToOpen (opening_error bytes) e
-refused_symbols bytes unbuilt e form sound sections is h =
-    subst (λ (o : Option ModuleError). RefusesToOpen o e) (sym (by_symbols bytes unbuilt form sound sections is)) h
+refuses_earlier : (stands : Bool) (later : Option ModuleError) (e : ModuleError) → RefusesToOpen (unsupported stands form.LongName) e → RefusesToOpen (option_or (unsupported stands form.LongName) later) e
+refuses_earlier true later e h = h
+refuses_earlier false later (error.Object fault) h = absurd cc
+refuses_earlier false later (error.Unsupported kind) h = absurd cc
+refuses_earlier false later error.Memory h = tt
+
+pub refused_symbols : (bytes : List ℕ) (e : ModuleError) → None ≡ form_error bytes → object_fault bytes ≡ None → section_form bytes ≡ None → RefusesToOpen (unsupported (has_long_symbol_name bytes) form.LongName) e → RefusesToOpen (opening_error bytes) e
+refused_symbols bytes e read sound sections h =
+    subst (λ (o : Option ModuleError). RefusesToOpen o e) (sym (by_later bytes read sound sections))
+    (refuses_earlier (has_long_symbol_name bytes) (first_standing (option_map error.Object (aux_fault bytes) ∷ unsupported (has_unbuilt_section bytes || has_unbuilt_symbol bytes) form.NotBuilt ∷ [])) e h)
+
+-- no name is too long: a fault of auxiliary records stands, or what is not linked yet
+by_aux : (bytes : List ℕ) → None ≡ form_error bytes → object_fault bytes ≡ None → section_form bytes ≡ None → has_long_symbol_name bytes ≡ false → opening_error bytes ≡ option_or (option_map error.Object (aux_fault bytes)) (unsupported (has_unbuilt_section bytes || has_unbuilt_symbol bytes) form.NotBuilt)
+by_aux bytes read sound sections short =
+    by_later bytes read sound sections ∙ rw short (ap (option_or (option_map error.Object (aux_fault bytes))) (or_none (unsupported (has_unbuilt_section bytes || has_unbuilt_symbol bytes) form.NotBuilt)))
+
+refuses_fault : (fault : Option ObjError) (later : Option ModuleError) (e : ModuleError) → RefusesToOpen (option_map error.Object fault) e → RefusesToOpen (option_or (option_map error.Object fault) later) e
+refuses_fault (Some fault) later e h = h
+refuses_fault None later (error.Object fault) h = absurd cc
+refuses_fault None later (error.Unsupported kind) h = absurd cc
+refuses_fault None later error.Memory h = tt
+
+pub refused_aux : (bytes : List ℕ) (e : ModuleError) → None ≡ form_error bytes → object_fault bytes ≡ None → section_form bytes ≡ None → has_long_symbol_name bytes ≡ false → RefusesToOpen (option_map error.Object (aux_fault bytes)) e → RefusesToOpen (opening_error bytes) e
+refused_aux bytes e read sound sections short h =
+    subst (λ (o : Option ModuleError). RefusesToOpen o e) (sym (by_aux bytes read sound sections short))
+    (refuses_fault (aux_fault bytes) (unsupported (has_unbuilt_section bytes || has_unbuilt_symbol bytes) form.NotBuilt) e h)
+
+-- the auxiliary records are well formed: only what is not linked yet is refused
+pub by_unbuilt : (bytes : List ℕ) (sections symbols unbuilt : Bool) → None ≡ form_error bytes → object_fault bytes ≡ None → section_form bytes ≡ None → has_long_symbol_name bytes ≡ false → aux_fault bytes ≡ None → sections ≡ has_unbuilt_section bytes → symbols ≡ has_unbuilt_symbol bytes → (sections || symbols) ≡ unbuilt → opening_error bytes ≡ unsupported unbuilt form.NotBuilt
+by_unbuilt bytes sections symbols unbuilt read sound shown_none short aux first second is =
+    by_aux bytes read sound shown_none short
+    ∙ ap (λ (o : Option ObjError). option_or (option_map error.Object o) (unsupported (has_unbuilt_section bytes || has_unbuilt_symbol bytes) form.NotBuilt)) aux
+    ∙ ap (λ (b : Bool). unsupported b form.NotBuilt) (ap (λ (b : Bool). b || has_unbuilt_symbol bytes) (sym first) ∙ ap (λ (b : Bool). sections || b) (sym second) ∙ is)

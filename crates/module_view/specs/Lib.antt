@@ -2,8 +2,10 @@ pub mod Module
 pub mod Opening
 pub mod PlacedSection
 pub mod AuxRecords
-pub mod Parents
 pub mod SymbolLists
+pub mod Comdats
+pub mod Parents
+pub mod AuxFaults
 pub mod Unbuilt
 pub mod Steps
 pub mod ModuleParts

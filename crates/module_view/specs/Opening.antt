@@ -1,5 +1,6 @@
 -- Which bytes do not open as a module, and why: the forms that the first bytes show, then the faults of the object, then
--- the forms that its names show, then those that are not linked yet. The order is own.
+-- the forms that its names show, then the faults of auxiliary records, then the forms that are not linked yet. The order is
+-- own.
 use Rattle.std.specs.Prelude.{◌≡◌, ℕ, Bool, ◌||◌, ◌&&◌, not, ◌==◌, nat_lt, List, [], ◌∷◌, length, Option, Some, None, option_map, codes}
 use Rattle.std.specs.List.{list_any}
 use Rattle.link_base.specs.Bytes.{u16_at, has_bytes}
@@ -14,6 +15,7 @@ use Rattle.coff_object.specs.ObjectFaults.{object_fault}
 use Rattle.module_view.specs.declared.error.ModuleError.{ModuleError}
 use Rattle.module_view.specs.declared.error.ModuleError.TheVariants as error
 use Rattle.module_view.specs.Module.{ModuleView}
+use Rattle.module_view.specs.AuxFaults.{aux_fault}
 use Rattle.module_view.specs.Unbuilt.{is_unread_form, sections_in, has_unbuilt_section, has_unbuilt_symbol}
 
 -- ---- the first bytes
@@ -65,7 +67,7 @@ form_error bytes =
 abbrev pub object_error : List ℕ → Option ModuleError
 object_error bytes = option_map error.Object (object_fault bytes)
 
--- ---- its names, and what is not linked yet
+-- ---- its names, its auxiliary records, and what is not linked yet
 
 -- a section that the linker makes itself: a part of the import tables, or the base relocations (PE Format, "The
 -- .idata Section" and "The .reloc Section (Image Only)"); that it is refused is own
@@ -90,6 +92,7 @@ content_error bytes =
     first_standing
     (unsupported (has_linker_section bytes) form.LinkerSection
     ∷ unsupported (has_long_section_name bytes || has_long_symbol_name bytes) form.LongName
+    ∷ option_map error.Object (aux_fault bytes)
     ∷ unsupported (has_unbuilt_section bytes || has_unbuilt_symbol bytes) form.NotBuilt
     ∷ [])
 

@@ -6,7 +6,8 @@ use Rattle.link_base.specs.Bytes.{has_flag}
 use Rattle.link_base.specs.NameText.{same_name, begins, begins_import}
 use Rattle.link_base.specs.SectionName.{base_name}
 use Rattle.link_base.specs.PeFormat.{SCN_LNK_COMDAT, SYM_CLASS_EXTERNAL, SYM_CLASS_WEAK_EXTERNAL, SYM_UNDEFINED}
-use Rattle.coff_records.specs.ObjectFile.{section_total, section_name_of, raw_size_of, flags_of, is_uninitialised, SymbolView, name_in, value_in, section_number_in, class_in, symbol_entries}
+use Rattle.coff_records.specs.ObjectFile.{section_total, section_name_of, raw_size_of, flags_of, is_uninitialised, SymbolView, name_in, section_number_in, class_in, symbol_entries}
+use Rattle.module_view.specs.SymbolLists.{is_weak, is_common}
 use Rattle.module_view.specs.PlacedSection.{comes_in}
 
 -- ---- files that have no reader yet
@@ -51,12 +52,6 @@ is_external_name symbol = (class_in symbol == SYM_CLASS_EXTERNAL) || (class_in s
 abbrev pub has_section_number : SymbolView → ℤ → Bool
 has_section_number symbol number = int_eq (section_number_in symbol) number
 
--- a common: an external symbol in no section, with its size as its value (PE Format, "Section Number Values")
-abbrev pub is_common : SymbolView → Bool
-is_common symbol =
-    (class_in symbol == SYM_CLASS_EXTERNAL)
-    && (has_section_number symbol SYM_UNDEFINED && not (value_in symbol == 0))
-
 -- an undefined symbol that names an entry of the import address table
 abbrev pub is_import_reference : SymbolView → Bool
 is_import_reference symbol = has_section_number symbol SYM_UNDEFINED && begins_import (name_in symbol)
@@ -68,7 +63,7 @@ is_loader_name name = same_name name (codes "_tls_used") || same_name name (code
 -- a symbol that is not linked yet: a weak external, a common, an entry of the import address table, or a loader's name
 unfoldable pub is_unbuilt_symbol : SymbolView → Bool
 is_unbuilt_symbol symbol =
-    (class_in symbol == SYM_CLASS_WEAK_EXTERNAL)
+    is_weak symbol
     || (is_common symbol
     || (is_import_reference symbol
     || (is_external_name symbol && is_loader_name (name_in symbol))))

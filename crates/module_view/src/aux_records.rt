@@ -4,7 +4,7 @@ ghost use Rattle.std.specs.Prelude.{◌≡◌, ◌≤◌, true, length, IfSome};
 ghost use Rattle.std.specs.Option.{option_copied};
 ghost use Rattle.link_base.specs.PeFormat as pe;
 ghost use Rattle.coff_records.specs.ObjectFile.{starts_symbol, aux_total_of};
-ghost use Rattle.module_view.specs.AuxRecords.{first_aux, said_by, tag_in, characteristics_in, selection_in, associated_in};
+ghost use Rattle.module_view.specs.AuxRecords.{first_aux, tag_in, characteristics_in, selection_in, associated_in};
 
 use coff_object::Object;
 use link_base::pe_format::SIZEOF_SYMBOL_EX;
@@ -56,57 +56,36 @@ pub(crate) fn first_aux<'a>(object: &Object<'a>, index: u32, aux: u8) -> Option<
     Some(object.aux(index, 0))
 }
 
-/// The record of the symbol that a weak external means, 0 without an auxiliary record.
+/// The record of the symbol that a weak external means.
 #[tactic(auto, unfolding(crate::specs::AuxRecords::tag_in))]
-pub(crate) fn tag_of(aux: Option<&[u8]>) -> u32
-    requires whole { IfSome aux (λ aux. pe.SIZEOF_SYMBOL ≤ length aux.now) }
-    ensures { result ≡ said_by tag_in (option_copied aux.entry) }
+pub(crate) fn tag_in(aux: &[u8]) -> u32
+    requires { pe.SIZEOF_SYMBOL ≤ length aux.now }
+    ensures { result ≡ tag_in aux.now }
 {
-    match aux {
-        Some(aux) => u32_in(aux, WEAK_TAG_INDEX),
-        None => 0,
-    }
+    u32_in(aux, WEAK_TAG_INDEX)
 }
 
-/// How libraries are searched for a weak external, 0 without an auxiliary record.
+/// How libraries are searched for the name of a weak external.
 #[tactic(auto, unfolding(crate::specs::AuxRecords::characteristics_in))]
-pub(crate) fn characteristics_of(aux: Option<&[u8]>) -> u32
-    requires whole { IfSome aux (λ aux. pe.SIZEOF_SYMBOL ≤ length aux.now) }
-    ensures { result ≡ said_by characteristics_in (option_copied aux.entry) }
+pub(crate) fn characteristics_in(aux: &[u8]) -> u32
+    requires { pe.SIZEOF_SYMBOL ≤ length aux.now }
+    ensures { result ≡ characteristics_in aux.now }
 {
-    match aux {
-        Some(aux) => u32_in(aux, WEAK_CHARACTERISTICS),
-        None => 0,
-    }
+    u32_in(aux, WEAK_CHARACTERISTICS)
 }
 
-/// The selection of a section, 0 without an auxiliary record.
+/// How one of several COMDAT sections is selected.
 #[tactic(auto, unfolding(crate::specs::AuxRecords::selection_in))]
-pub(crate) fn selection_of(aux: Option<&[u8]>) -> u8
-    requires whole { IfSome aux (λ aux. pe.SIZEOF_SYMBOL ≤ length aux.now) }
-    ensures { result ≡ said_by selection_in (option_copied aux.entry) }
+pub(crate) fn selection_in(aux: &[u8]) -> u8
+    requires { pe.SIZEOF_SYMBOL ≤ length aux.now }
+    ensures { result ≡ selection_in aux.now }
 {
-    match aux {
-        Some(aux) => aux[SECTION_SELECTION],
-        None => 0,
-    }
+    aux[SECTION_SELECTION]
 }
 
-/// The section that a section is selected with, 0 without an auxiliary record.
+/// The section that a COMDAT section is selected with.
 #[tactic(auto, unfolding(crate::specs::AuxRecords::associated_in))]
-pub(crate) fn associated_of(aux: Option<&[u8]>) -> u32
-    requires whole { IfSome aux (λ aux. pe.SIZEOF_SYMBOL ≤ length aux.now) }
-    ensures { result ≡ said_by associated_in (option_copied aux.entry) }
-{
-    match aux {
-        Some(aux) => associated_in(aux),
-        None => 0,
-    }
-}
-
-/// The section that an auxiliary record associates.
-#[tactic(auto, unfolding(crate::specs::AuxRecords::associated_in))]
-fn associated_in(aux: &[u8]) -> u32
+pub(crate) fn associated_in(aux: &[u8]) -> u32
     requires { pe.SIZEOF_SYMBOL ≤ length aux.now }
     ensures { result ≡ associated_in aux.now }
 {

@@ -23,3 +23,13 @@ pub struct Definition<'a> {
     pub symbol: u32,
     pub place: Place,
 }
+
+/// Zeroed memory that modules share under a name: each says a size, and the greatest counts.
+#[derive(Drop)]
+pub struct Common<'a> {
+    pub name: Name<'a>,
+    /// The record that the symbol starts at.
+    pub symbol: u32,
+    /// In bytes.
+    pub size: u32,
+}

@@ -3,11 +3,15 @@
 ghost use Rattle.std.specs.Prelude.{◌≡◌, None, Some, option_map};
 ghost use Rattle.std.specs.Option.{option_copied};
 ghost use Rattle.coff_records.specs.ObjectFile.{starts_symbol};
-ghost use Rattle.module_view.specs.SymbolLists.{definitions_of, references_of};
+ghost use Rattle.module_view.specs.SymbolLists.{definitions_of, references_of, weaks_of, commons_of};
+ghost use Rattle.module_view.specs.Comdats.{comdat_of};
 ghost use Rattle.module_view.specs.Opening.{IsOpened};
 
-use crate::definition::Definition;
-use crate::reference::Reference;
+use crate::comdat::{Comdat, SectionSymbols};
+use crate::comdats::{comdat_in, is_section_number};
+use crate::definition::{Common, Definition};
+use crate::reference::{Reference, Weak};
+use crate::symbols::SymbolLists;
 use coff_object::Object;
 use link_base::Name;
 use std::marker::Model;
@@ -25,10 +29,9 @@ pub struct Module<'a> {
     pub(crate) origin: Origin<'a>,
     pub(crate) bytes: &'a [u8],
     pub(crate) object: Object<'a>,
-    pub(crate) definitions: Vec<Definition<'a>>,
-    pub(crate) references: Vec<Reference<'a>>,
-    /// For each symbol record, whether a symbol starts there.
-    pub(crate) starts: Vec<bool>,
+    pub(crate) lists: SymbolLists<'a>,
+    /// The first two symbols of each section, where one is a COMDAT.
+    pub(crate) comdats: Vec<SectionSymbols>,
 }
 
 impl<'a> Model for Module<'a> {
@@ -40,7 +43,7 @@ impl<'a> Model for Module<'a> {
 
     ghost view = { λ m. view_of m.origin m.bytes.now };
 
-    ghost invariant = { λ m. KeepsLists m.bytes.now m.object m.definitions.items m.references.items m.starts.items };
+    ghost invariant = { λ m. KeepsLists m.bytes.now m.object m.lists m.comdats.items };
 }
 
 impl<'a> Module<'a> {
@@ -79,7 +82,7 @@ impl<'a> Module<'a> {
         ensures definitions { result.now ≡ definitions_of self.now.bytes }
         ensures opened { IsOpened self.now }
     {
-        &self.definitions
+        &self.lists.definitions
     }
 
     /// What it names and does not define, in the order of its symbols.
@@ -87,14 +90,42 @@ impl<'a> Module<'a> {
         ensures references { result.now ≡ references_of self.now.bytes }
         ensures opened { IsOpened self.now }
     {
-        &self.references
+        &self.lists.references
+    }
+
+    /// Its weak externals, in the order of its symbols.
+    pub fn weaks(&self) -> &[Weak<'a>]
+        ensures weaks { result.now ≡ weaks_of self.now.bytes }
+        ensures opened { IsOpened self.now }
+    {
+        &self.lists.weaks
+    }
+
+    /// Its commons, in the order of its symbols.
+    pub fn commons(&self) -> &[Common<'a>]
+        ensures commons { result.now ≡ commons_of self.now.bytes }
+        ensures opened { IsOpened self.now }
+    {
+        &self.lists.commons
+    }
+
+    /// As which COMDAT a section goes, by its number: none where there is no such section, or it is no COMDAT.
+    #[tactic(auto, unfolding(crate::specs::Comdats::comdat_of))]
+    pub fn comdat(&self, i: u32) -> Option<Comdat<'a>>
+        ensures comdat { result ≡ comdat_of self.now.bytes i }
+        ensures opened { IsOpened self.now }
+    {
+        if !is_section_number(self.object.section_count(), i) {
+            return None;
+        }
+        comdat_in(&self.object, i, &self.comdats)
     }
 
     /// Whether a symbol starts at a record.
     pub fn is_symbol(&self, j: u32) -> bool
         ensures { result ≡ starts_symbol self.now.bytes j }
     {
-        match self.starts.get(j as usize) {
+        match self.lists.starts.get(j as usize) {
             Some(starts) => *starts,
             None => false,
         }

@@ -4,17 +4,19 @@ ghost use Rattle.std.specs.Prelude.{◌≡◌, ◌<◌, ◌^◌, ◌-◌, length
 ghost use Rattle.module_view.specs.ModuleParts.{view_of};
 ghost use Rattle.module_view.specs.Opening.{opening_error, RefusesToOpen};
 
+use crate::aux_faults::judge_aux;
 use crate::error::ModuleError;
 use crate::first_bytes::form_shown;
 use crate::input_module::{Module, Origin};
 use crate::sections::judge_sections;
-use crate::symbols::{SymbolLists, read_symbols};
+use crate::symbols::read_symbols;
 use coff_object::{LongTexts, Object};
+use link_base::Kind;
 use std::alloc::Global;
 
 /// The module with these bytes. They are refused for the first of: a form that the first bytes show (`Unsupported`), a fault
-/// of the object (`Object`), a section that the linker makes itself, a name of more than 32,000 bytes, and a form that is
-/// not linked yet (`Unsupported`).
+/// of the object (`Object`), a section that the linker makes itself, a name of more than 32,000 bytes (`Unsupported`), a fault
+/// of an auxiliary record (`Object`), and a form that is not linked yet (`Unsupported`).
 pub fn open_module<'a>(
     alloc: Global,
     origin: Origin<'a>,
@@ -33,24 +35,27 @@ pub fn open_module<'a>(
         Err(error) => return Err(ModuleError::Object(error)),
     };
     let texts = LongTexts::of(alloc, object.string_table())?;
-    let unbuilt = match judge_sections(&object, &texts) {
-        Ok(unbuilt) => unbuilt,
+    let sections = match judge_sections(&object, &texts) {
+        Ok(sections) => sections,
         Err(kind) => return Err(ModuleError::Unsupported(kind)),
     };
-    let SymbolLists {
-        definitions,
-        references,
-        starts,
-    } = match read_symbols(alloc, &object, &texts, unbuilt) {
+    let lists = match read_symbols(alloc, &object, &texts) {
         Ok(lists) => lists,
         Err(error) => return Err(error),
     };
+    let comdats = match judge_aux(alloc, &object, &lists, sections.has_comdat) {
+        Ok(comdats) => comdats,
+        Err(error) => return Err(error),
+    };
+    let is_unbuilt = sections.is_unbuilt | lists.is_unbuilt;
+    if is_unbuilt {
+        return Err(ModuleError::Unsupported(Kind::NotBuilt));
+    }
     Ok(Module {
         origin,
         bytes,
         object,
-        definitions,
-        references,
-        starts,
+        lists,
+        comdats,
     })
 }

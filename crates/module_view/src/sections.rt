@@ -1,8 +1,11 @@
 //! What one pass over the sections of an object shows.
 
 ghost use Rattle.std.specs.Prelude.{◌≡◌, ◌≤◌, false, None, Some, IfOk, OnOk, IfErr, codes};
+ghost use Rattle.link_base.specs.Bytes.{has_flag};
 ghost use Rattle.link_base.specs.NameText.{begins};
+ghost use Rattle.link_base.specs.PeFormat.{SCN_LNK_COMDAT};
 ghost use Rattle.coff_records.specs.ObjectFile.{section_total, section_name_of, string_table};
+ghost use Rattle.module_view.specs.Comdats.{is_comdat, has_comdat};
 ghost use Rattle.module_view.specs.Unbuilt.{is_unbuilt_section, has_unbuilt_section};
 ghost use Rattle.module_view.specs.Opening.{is_linker_section, is_long};
 ghost use Rattle.module_view.specs.Steps.{section_form};
@@ -10,6 +13,7 @@ ghost use Rattle.module_view.specs.Steps.{section_form};
 use crate::base_name::has_base_name;
 use crate::unbuilt::is_unbuilt_section;
 use coff_object::{LongTexts, Object};
+use link_base::pe_format::SCN_LNK_COMDAT;
 use link_base::{Kind, Name};
 
 /// So many bytes of a section's name show whether the linker makes it itself.
@@ -21,34 +25,53 @@ struct SectionForm {
     is_linker: bool,
     is_long: bool,
     is_unbuilt: bool,
+    is_comdat: bool,
 }
 
-/// Whether a section of the object has a form that is not linked yet. The object is refused where one is a section that the
-/// linker makes itself, and else where one has a name that is too long.
+/// What the sections of an object show.
+#[derive(Clone, Copy)]
+pub(crate) struct SectionForms {
+    /// One of them has a form that is not linked yet.
+    pub(crate) is_unbuilt: bool,
+    /// One of them is a COMDAT.
+    pub(crate) has_comdat: bool,
+}
+
+/// Judges the sections of an object. It is refused where one is a section that the linker makes itself, and else where one
+/// has a name that is too long.
 #[tactic(auto, unfolding(crate::specs::Steps::section_form))]
-pub(crate) fn judge_sections(object: &Object<'_>, texts: &LongTexts<'_>) -> Result<bool, Kind>
+pub(crate) fn judge_sections(
+    object: &Object<'_>,
+    texts: &LongTexts<'_>,
+) -> Result<SectionForms, Kind>
     requires { texts.now ≡ string_table object.now }
-    ensures unbuilt { IfOk result (λ unbuilt. unbuilt ≡ has_unbuilt_section object.now) }
+    ensures unbuilt { IfOk result (λ forms. forms.is_unbuilt ≡ has_unbuilt_section object.now) }
+    ensures comdat { IfOk result (λ forms. forms.has_comdat ≡ has_comdat object.now) }
     ensures accepted { OnOk result (section_form object.now ≡ None) }
     ensures refused { IfErr result (λ kind. section_form object.now ≡ Some kind) }
 {
     let mut long = false;
-    let mut unbuilt = false;
+    let mut is_unbuilt = false;
+    let mut has_comdat = false;
     for index in 0..object.section_count() {
         let form = section_form(object, texts, index + 1);
         if form.is_linker {
             return Err(Kind::LinkerSection);
         }
         long |= form.is_long;
-        unbuilt |= form.is_unbuilt;
+        is_unbuilt |= form.is_unbuilt;
+        has_comdat |= form.is_comdat;
     }
     if long {
         return Err(Kind::LongName);
     }
-    Ok(unbuilt)
+    Ok(SectionForms {
+        is_unbuilt,
+        has_comdat,
+    })
 }
 
-/// What a section shows: of one whose name is too long not whether it has a form that is not linked yet.
+/// What a section shows: of one whose name is too long no more than that.
 fn section_form(object: &Object<'_>, texts: &LongTexts<'_>, number: u32) -> SectionForm
     requires table { texts.now ≡ string_table object.now }
     requires first { 1 ≤ number }
@@ -56,6 +79,7 @@ fn section_form(object: &Object<'_>, texts: &LongTexts<'_>, number: u32) -> Sect
     ensures linker { result.is_linker ≡ is_linker_section (section_name_of object.now number) }
     ensures long { result.is_long ≡ is_long (section_name_of object.now number) }
     ensures unbuilt { result.is_long ≡ false → result.is_unbuilt ≡ is_unbuilt_section object.now number }
+    ensures comdat { result.is_long ≡ false → result.is_comdat ≡ is_comdat object.now number }
 {
     if texts.is_long_section(object, number) {
         let name = object.section_name_start(number, LINKER_NAME_START);
@@ -63,6 +87,7 @@ fn section_form(object: &Object<'_>, texts: &LongTexts<'_>, number: u32) -> Sect
             is_linker: is_linker_section(&name),
             is_long: true,
             is_unbuilt: false,
+            is_comdat: false,
         };
     }
     let section = object.section(number);
@@ -70,7 +95,15 @@ fn section_form(object: &Object<'_>, texts: &LongTexts<'_>, number: u32) -> Sect
         is_linker: is_linker_section(&section.name),
         is_long: false,
         is_unbuilt: is_unbuilt_section(&section),
+        is_comdat: is_comdat(section.flags),
     }
+}
+
+/// Whether a section with these flags is a COMDAT.
+pub(crate) fn is_comdat(flags: u32) -> bool
+    ensures { result ≡ has_flag flags SCN_LNK_COMDAT }
+{
+    flags & SCN_LNK_COMDAT != 0
 }
 
 /// Whether a section of this name is one that the linker makes itself.

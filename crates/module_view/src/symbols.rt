@@ -1,66 +1,84 @@
 //! The lists that one pass over the symbols of an object makes.
 
-ghost use Rattle.std.specs.Prelude.{◌≡◌, ◌<◌, ◌++◌, ◌∷◌, [], ℕ, false, None, Some, slice_index_or, IfOk, OnOk, IfErr, if◌then◌else◌};
-ghost use Rattle.coff_records.specs.ObjectFile.{starts_symbol, string_table};
-ghost use Rattle.module_view.specs.SymbolLists.{is_definition, place_of, definition_of, definitions_of, is_reference, reference_of, references_of};
-ghost use Rattle.module_view.specs.Opening.{RefusesToOpen};
-ghost use Rattle.module_view.specs.Steps.{symbol_error};
+ghost use Rattle.std.specs.Prelude.{◌≡◌, ◌<◌, ◌≤◌, ◌++◌, ◌∷◌, [], ℕ, true, false, not, None, Some, length, slice_index_or, IfSome, IfOk, OnOk, IfErr, if◌then◌else◌};
+ghost use Rattle.std.specs.Option.{option_copied};
+ghost use Rattle.link_base.specs.PeFormat as pe;
+ghost use Rattle.link_base.specs.declared.kinds.form.Kind.TheVariants as form;
+ghost use Rattle.coff_records.specs.ObjectFile.{starts_symbol, string_table, symbol_at};
+ghost use Rattle.module_view.specs.AuxRecords.{said_by, tag_in, characteristics_in};
+ghost use Rattle.module_view.specs.SymbolLists.{is_definition, place_of, definition_of, definitions_of, is_weak, weak_of, weaks_of, is_common, common_of, commons_of, is_undefined, is_reference, asks_for_search, reference_of, references_of};
+ghost use Rattle.module_view.specs.Unbuilt.{has_unbuilt_symbol};
+ghost use Rattle.module_view.specs.Opening.{unsupported, has_long_symbol_name, RefusesToOpen};
 
-use crate::definition::{Definition, Place};
+use crate::aux_records::{WEAK_EXTERN_SEARCH_LIBRARY, characteristics_in, first_aux, tag_in};
+use crate::definition::{Common, Definition, Place};
 use crate::error::ModuleError;
-use crate::reference::Reference;
+use crate::reference::{Reference, Weak};
 use crate::unbuilt::is_unbuilt_symbol;
 use coff_object::{LongTexts, Object, SymbolRecord};
-use link_base::pe_format::{SYM_ABSOLUTE, SYM_CLASS_EXTERNAL, SYM_UNDEFINED};
+use link_base::pe_format::{
+    SYM_ABSOLUTE, SYM_CLASS_EXTERNAL, SYM_CLASS_WEAK_EXTERNAL, SYM_UNDEFINED,
+};
 use link_base::{Kind, Memory};
 use std::alloc::Global;
 
-/// What a module keeps of its symbols.
+/// What the symbols of an object are.
 #[derive(Drop)]
 pub(crate) struct SymbolLists<'a> {
     pub(crate) definitions: Vec<Definition<'a>>,
     pub(crate) references: Vec<Reference<'a>>,
+    pub(crate) weaks: Vec<Weak<'a>>,
+    pub(crate) commons: Vec<Common<'a>>,
+    /// For each symbol record, whether a symbol starts there.
     pub(crate) starts: Vec<bool>,
+    /// One of them has a form that is not linked yet.
+    pub(crate) is_unbuilt: bool,
 }
 
-/// Reads the symbols of an object, whose sections have a form that is not linked yet or have not. It is refused where a
-/// symbol's name is too long, and else where something has such a form.
-#[tactic(auto, unfolding(crate::specs::Steps::symbol_error))]
+/// Reads the symbols of an object. It is refused where a symbol's name is too long.
 pub(crate) fn read_symbols<'a>(
     alloc: Global,
     object: &Object<'a>,
     texts: &LongTexts<'_>,
-    unbuilt: bool,
 ) -> Result<SymbolLists<'a>, ModuleError>
     requires { texts.now ≡ string_table object.now }
     ensures definitions { IfOk result (λ lists. lists.definitions.items ≡ definitions_of object.now) }
     ensures references { IfOk result (λ lists. lists.references.items ≡ references_of object.now) }
+    ensures weaks { IfOk result (λ lists. lists.weaks.items ≡ weaks_of object.now) }
+    ensures commons { IfOk result (λ lists. lists.commons.items ≡ commons_of object.now) }
     ensures starts { IfOk result (λ lists. (j : ℕ) → slice_index_or lists.starts.items j false ≡ starts_symbol object.now j) }
-    ensures accepted { OnOk result (symbol_error unbuilt object.now ≡ None) }
-    ensures refused { IfErr result (RefusesToOpen (symbol_error unbuilt object.now)) }
+    ensures unbuilt { IfOk result (λ lists. lists.is_unbuilt ≡ has_unbuilt_symbol object.now) }
+    ensures accepted { OnOk result (has_long_symbol_name object.now ≡ false) }
+    ensures refused { IfErr result (RefusesToOpen (unsupported (has_long_symbol_name object.now) form.LongName)) }
 {
     let mut definitions = Vec::new(alloc);
     let mut references = Vec::new(alloc);
+    let mut weaks = Vec::new(alloc);
+    let mut commons = Vec::new(alloc);
     let mut starts = vec![in alloc; false; object.record_count() as usize]?;
-    let mut unbuilt = unbuilt;
+    let mut is_unbuilt = false;
     for (index, symbol) in object.symbols() {
         if texts.is_long_symbol(&symbol) {
             return Err(ModuleError::Unsupported(Kind::LongName));
         }
         starts[index as usize] = true;
-        unbuilt |= is_unbuilt_symbol(&symbol);
+        is_unbuilt |= is_unbuilt_symbol(&symbol);
         push_definition(&mut definitions, index, &symbol)?;
-        push_reference(&mut references, index, &symbol)?;
-    }
-    if unbuilt {
-        return Err(ModuleError::Unsupported(Kind::NotBuilt));
+        push_reference(&mut references, object, index, &symbol)?;
+        push_weak(&mut weaks, object, index, &symbol)?;
+        push_common(&mut commons, index, &symbol)?;
     }
     Ok(SymbolLists {
         definitions,
         references,
+        weaks,
+        commons,
         starts,
+        is_unbuilt,
     })
 }
+
+// ---- definitions
 
 /// Appends a symbol, where it is a definition.
 fn push_definition<'a>(
@@ -102,29 +120,135 @@ fn definition_place(symbol: &SymbolRecord<'_>) -> Option<Place>
     None
 }
 
+// ---- references
+
 /// Appends a symbol, where it is a reference.
 fn push_reference<'a>(
     references: &mut Vec<Reference<'a>>,
+    object: &Object<'a>,
     index: u32,
     symbol: &SymbolRecord<'a>,
 ) -> Result<(), Memory>
+    requires start { starts_symbol object.now index ≡ true }
+    requires symbol { symbol.now ≡ symbol_at object.now index }
     ensures { OnOk result (references.new.items ≡ references.old.items
-        ++ (if is_reference symbol.now then reference_of (index, symbol.now) ∷ [] else [])) }
+        ++ (if is_reference symbol.now then reference_of object.now (index, symbol.now) ∷ [] else [])) }
 {
     if is_reference(symbol) {
         references.push(Reference {
             name: symbol.name(),
             symbol: index,
-            search: true,
+            search: asks_for_search(object, index, symbol),
         })?;
     }
     Ok(())
 }
 
-/// Whether a symbol is external and undefined, and no common.
+/// Whether a symbol is undefined, and no common, or is a weak external.
 #[tactic(auto, unfolding(crate::specs::SymbolLists::is_reference))]
 fn is_reference(symbol: &SymbolRecord<'_>) -> bool
     ensures { result ≡ is_reference symbol.now }
 {
+    is_undefined(symbol) || is_weak(symbol)
+}
+
+/// Whether a symbol is external and undefined, and no common.
+#[tactic(auto, unfolding(crate::specs::SymbolLists::is_undefined))]
+fn is_undefined(symbol: &SymbolRecord<'_>) -> bool
+    ensures { result ≡ is_undefined symbol.now }
+{
     symbol.class() == SYM_CLASS_EXTERNAL && symbol.section() == SYM_UNDEFINED && symbol.value() == 0
+}
+
+/// Whether libraries are searched for the name of a reference.
+#[tactic(auto, unfolding(crate::specs::SymbolLists::asks_for_search))]
+fn asks_for_search(object: &Object<'_>, index: u32, symbol: &SymbolRecord<'_>) -> bool
+    requires start { starts_symbol object.now index ≡ true }
+    requires symbol { symbol.now ≡ symbol_at object.now index }
+    ensures { result ≡ asks_for_search object.now (index, symbol.now) }
+{
+    !is_weak(symbol)
+        || characteristics_said(first_aux(object, index, symbol.aux()))
+            == WEAK_EXTERN_SEARCH_LIBRARY
+}
+
+// ---- weak externals
+
+/// Appends a symbol, where it is a weak external.
+fn push_weak<'a>(
+    weaks: &mut Vec<Weak<'a>>,
+    object: &Object<'a>,
+    index: u32,
+    symbol: &SymbolRecord<'a>,
+) -> Result<(), Memory>
+    requires start { starts_symbol object.now index ≡ true }
+    requires symbol { symbol.now ≡ symbol_at object.now index }
+    ensures { OnOk result (weaks.new.items ≡ weaks.old.items
+        ++ (if is_weak symbol.now then weak_of object.now (index, symbol.now) ∷ [] else [])) }
+{
+    if is_weak(symbol) {
+        weaks.push(Weak {
+            name: symbol.name(),
+            symbol: index,
+            tag: tag_said(first_aux(object, index, symbol.aux())),
+        })?;
+    }
+    Ok(())
+}
+
+pub(crate) fn is_weak(symbol: &SymbolRecord<'_>) -> bool
+    ensures { result ≡ is_weak symbol.now }
+{
+    symbol.class() == SYM_CLASS_WEAK_EXTERNAL
+}
+
+/// The record of the symbol that a weak external means, 0 without an auxiliary record.
+fn tag_said(aux: Option<&[u8]>) -> u32
+    requires whole { IfSome aux (λ aux. pe.SIZEOF_SYMBOL ≤ length aux.now) }
+    ensures { result ≡ said_by tag_in (option_copied aux.entry) }
+{
+    match aux {
+        Some(aux) => tag_in(aux),
+        None => 0,
+    }
+}
+
+/// How libraries are searched for a weak external, 0 without an auxiliary record.
+fn characteristics_said(aux: Option<&[u8]>) -> u32
+    requires whole { IfSome aux (λ aux. pe.SIZEOF_SYMBOL ≤ length aux.now) }
+    ensures { result ≡ said_by characteristics_in (option_copied aux.entry) }
+{
+    match aux {
+        Some(aux) => characteristics_in(aux),
+        None => 0,
+    }
+}
+
+// ---- commons
+
+/// Appends a symbol, where it is a common.
+fn push_common<'a>(
+    commons: &mut Vec<Common<'a>>,
+    index: u32,
+    symbol: &SymbolRecord<'a>,
+) -> Result<(), Memory>
+    ensures { OnOk result (commons.new.items ≡ commons.old.items
+        ++ (if is_common symbol.now then common_of (index, symbol.now) ∷ [] else [])) }
+{
+    if is_common(symbol) {
+        commons.push(Common {
+            name: symbol.name(),
+            symbol: index,
+            size: symbol.value(),
+        })?;
+    }
+    Ok(())
+}
+
+/// Whether a symbol is a common: external, in no section, and with a size as its value.
+#[tactic(auto, unfolding(crate::specs::SymbolLists::is_common))]
+pub(crate) fn is_common(symbol: &SymbolRecord<'_>) -> bool
+    ensures { result ≡ is_common symbol.now }
+{
+    symbol.class() == SYM_CLASS_EXTERNAL && symbol.section() == SYM_UNDEFINED && symbol.value() != 0
 }

@@ -3,6 +3,7 @@
 use crate::error::ModuleError;
 use crate::input_module::Origin;
 use crate::opening::open_module;
+use crate::parents::first_circle;
 use link_base::{Kind, Memory, Name};
 use std::alloc::Global;
 use std::test::Fail;
@@ -127,5 +128,14 @@ fn opens_or_names_the_form(rt: HostRuntime) -> Result<(), Fail> {
         let expected = form.map_or(Opened::Module(1), Opened::Form);
         assert_eq!(rt; opening_of(rt.alloc(), &bytes)?, expected);
     }
+    Ok(())
+}
+
+#[test]
+fn finds_the_first_circle(rt: HostRuntime) -> Result<(), Fail> {
+    assert_eq!(rt; first_circle(rt.alloc(), &[])?, None);
+    assert_eq!(rt; first_circle(rt.alloc(), &[0, 0, 3, 4, 1])?, None);
+    assert_eq!(rt; first_circle(rt.alloc(), &[0, 0, 2])?, Some(2));
+    assert_eq!(rt; first_circle(rt.alloc(), &[0, 2, 3, 4, 3])?, Some(1));
     Ok(())
 }

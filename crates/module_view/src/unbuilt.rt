@@ -6,10 +6,11 @@ ghost use Rattle.link_base.specs.NameText.{same_name};
 ghost use Rattle.link_base.specs.SectionName.{base_name};
 ghost use Rattle.coff_records.specs.ObjectFile.{section_total, section_name_of, flags_of, raw_size_of, body_of, name_in};
 ghost use Rattle.module_view.specs.PlacedSection.{comes_in};
-ghost use Rattle.module_view.specs.Unbuilt.{is_unbuilt_form, holds_directives, is_special_section, is_loader_name, is_common, is_import_reference, is_external_name, is_unbuilt_symbol};
+ghost use Rattle.module_view.specs.Unbuilt.{is_unbuilt_form, holds_directives, is_special_section, is_loader_name, is_import_reference, is_external_name, is_unbuilt_symbol};
 
 use crate::base_name::has_base_name;
 use crate::placed_section::comes_in;
+use crate::symbols::{is_common, is_weak};
 use coff_object::{Object, Section, SymbolRecord};
 use link_base::Name;
 use link_base::pe_format::{
@@ -45,17 +46,7 @@ fn is_special_section(section: &Section<'_>) -> bool
 pub(crate) fn is_unbuilt_symbol(symbol: &SymbolRecord<'_>) -> bool
     ensures { result ≡ is_unbuilt_symbol symbol.now }
 {
-    symbol.class() == SYM_CLASS_WEAK_EXTERNAL
-        || is_common(symbol)
-        || is_import_reference(symbol)
-        || is_loader_symbol(symbol)
-}
-
-/// Whether a symbol is a common: external, in no section, and with a size as its value.
-fn is_common(symbol: &SymbolRecord<'_>) -> bool
-    ensures { result ≡ is_common symbol.now }
-{
-    symbol.class() == SYM_CLASS_EXTERNAL && symbol.section() == SYM_UNDEFINED && symbol.value() != 0
+    is_weak(symbol) || is_common(symbol) || is_import_reference(symbol) || is_loader_symbol(symbol)
 }
 
 /// Whether an undefined symbol names an entry of the import address table.

@@ -1,10 +1,15 @@
-use Rattle.std.proofs.Common.{ℕ, List, subst, sym, ap, ◌∙◌}
+use Rattle.std.proofs.Common.{ℕ, true, false, List, subst, sym, ap, ◌∙◌}
+use Rattle.std.specs.Prelude.{option_map}
+use Rattle.link_base.specs.declared.kinds.form.Kind.TheVariants as form
 use Rattle.coff_records.specs.ObjectFile.{starts_symbol}
-use Rattle.module_view.specs.SymbolLists.{definitions_of, references_of}
-use Rattle.module_view.specs.Unbuilt.{has_unbuilt_section}
-use Rattle.module_view.specs.Opening.{RefusesToOpen}
-use Rattle.module_view.specs.Steps.{section_form, symbol_error}
-use Rattle.module_view.proofs.OpeningLemmas.{refused_form, refused_object, refused_sections, refused_symbols, by_symbols}
+use Rattle.module_view.specs.declared.error.ModuleError.TheVariants as error
+use Rattle.module_view.specs.SymbolLists.{definitions_of, references_of, weaks_of, commons_of}
+use Rattle.module_view.specs.AuxFaults.{aux_fault}
+use Rattle.module_view.specs.Unbuilt.{has_unbuilt_section, has_unbuilt_symbol}
+use Rattle.module_view.specs.ModuleParts.{KeepsSymbols}
+use Rattle.module_view.specs.Opening.{RefusesToOpen, unsupported, has_long_symbol_name}
+use Rattle.module_view.specs.Steps.{section_form}
+use Rattle.module_view.proofs.OpeningLemmas.{refused_form, refused_object, refused_sections, refused_symbols, refused_aux, by_unbuilt}
 use Rattle.module_view.proofs.opening.open_module.Goals as goal
 
 pub returns-in-Some-clause-refused : goal.returns-in-Some-clause-refused
@@ -21,26 +26,37 @@ returns-in-Err-judge_sections-clause-refused c =
 
 pub returns-in-Err-read_symbols-clause-refused : goal.returns-in-Err-read_symbols-clause-refused
 returns-in-Err-read_symbols-clause-refused c =
-    let unbuilt = c.in-Ok-judge_sections.unbuilt in
     let same = c.in-Ok.ensures.same_bytes in
-    refused_symbols c.args.bytes.now unbuilt c.in-Err-read_symbols.error c.in_default.ensures c.in-Ok.ensures.well_formed (ap section_form (sym same) ∙ c.in-Ok-judge_sections.ensures.accepted) (c.in-Ok-judge_sections.ensures.unbuilt ∙ ap has_unbuilt_section same)
-    (subst (λ (bytes : List ℕ). RefusesToOpen (symbol_error unbuilt bytes) c.in-Err-read_symbols.error) same c.in-Err-read_symbols.ensures.refused)
+    refused_symbols c.args.bytes.now c.in-Err-read_symbols.error c.in_default.ensures c.in-Ok.ensures.well_formed (ap section_form (sym same) ∙ c.in-Ok-judge_sections.ensures.accepted)
+    (subst (λ (bytes : List ℕ). RefusesToOpen (unsupported (has_long_symbol_name bytes) form.LongName) c.in-Err-read_symbols.error) same c.in-Err-read_symbols.ensures.refused)
+
+pub returns-in-Err-judge_aux-clause-refused : goal.returns-in-Err-judge_aux-clause-refused
+returns-in-Err-judge_aux-clause-refused c =
+    let same = c.in-Ok.ensures.same_bytes in
+    refused_aux c.args.bytes.now c.in-Err-judge_aux.error c.in_default.ensures c.in-Ok.ensures.well_formed (ap section_form (sym same) ∙ c.in-Ok-judge_sections.ensures.accepted) (ap has_long_symbol_name (sym same) ∙ c.in-Ok-read_symbols.ensures.accepted)
+    (subst (λ (bytes : List ℕ). RefusesToOpen (option_map error.Object (aux_fault bytes)) c.in-Err-judge_aux.error) same c.in-Err-judge_aux.ensures.refused)
+
+pub returns-then-is_unbuilt-clause-refused : goal.returns-then-is_unbuilt-clause-refused
+returns-then-is_unbuilt-clause-refused c =
+    let same = c.in-Ok.ensures.same_bytes in
+    by_unbuilt c.args.bytes.now c.in-Ok-judge_sections.sections.is_unbuilt c.in-Ok-read_symbols.lists.is_unbuilt true c.in_default.ensures c.in-Ok.ensures.well_formed (ap section_form (sym same) ∙ c.in-Ok-judge_sections.ensures.accepted) (ap has_long_symbol_name (sym same) ∙ c.in-Ok-read_symbols.ensures.accepted) (ap aux_fault (sym same) ∙ c.in-Ok-judge_aux.ensures.accepted) (c.in-Ok-judge_sections.ensures.unbuilt ∙ ap has_unbuilt_section same) (c.in-Ok-read_symbols.ensures.unbuilt ∙ ap has_unbuilt_symbol same) c.if-is_unbuilt.true
 
 pub invariant_of-result : goal.invariant_of-result
 invariant_of-result c =
-    let unbuilt = c.in-Ok-judge_sections.unbuilt in
     let same = c.in-Ok.ensures.same_bytes in
     let lists = c.in-Ok-read_symbols.ensures in
     record {
-      opened = by_symbols c.args.bytes.now unbuilt c.in_default.ensures c.in-Ok.ensures.well_formed (ap section_form (sym same) ∙ c.in-Ok-judge_sections.ensures.accepted) (c.in-Ok-judge_sections.ensures.unbuilt ∙ ap has_unbuilt_section same) ∙ ap (symbol_error unbuilt) (sym same) ∙ lists.accepted;
+      opened = by_unbuilt c.args.bytes.now c.in-Ok-judge_sections.sections.is_unbuilt c.in-Ok-read_symbols.lists.is_unbuilt false c.in_default.ensures c.in-Ok.ensures.well_formed (ap section_form (sym same) ∙ c.in-Ok-judge_sections.ensures.accepted) (ap has_long_symbol_name (sym same) ∙ lists.accepted) (ap aux_fault (sym same) ∙ c.in-Ok-judge_aux.ensures.accepted) (c.in-Ok-judge_sections.ensures.unbuilt ∙ ap has_unbuilt_section same) (lists.unbuilt ∙ ap has_unbuilt_symbol same) c.if-is_unbuilt.false;
       viewed = same;
       defined = lists.definitions ∙ ap definitions_of same;
       referred = lists.references ∙ ap references_of same;
+      weak = lists.weaks ∙ ap weaks_of same;
+      common = lists.commons ∙ ap commons_of same;
       started = λ j. lists.starts j ∙ ap (λ (bytes : List ℕ). starts_symbol bytes j) same;
+      comdats = subst (λ (bytes : List ℕ). KeepsSymbols bytes c.in-Ok-judge_aux.comdats.items) same c.in-Ok-judge_aux.ensures.symbols;
     }
 
 pub returns-clause-accepted : goal.returns-clause-accepted
 returns-clause-accepted c =
-    let unbuilt = c.in-Ok-judge_sections.unbuilt in
     let same = c.in-Ok.ensures.same_bytes in
-    by_symbols c.args.bytes.now unbuilt c.in_default.ensures c.in-Ok.ensures.well_formed (ap section_form (sym same) ∙ c.in-Ok-judge_sections.ensures.accepted) (c.in-Ok-judge_sections.ensures.unbuilt ∙ ap has_unbuilt_section same) ∙ ap (symbol_error unbuilt) (sym same) ∙ c.in-Ok-read_symbols.ensures.accepted
+    by_unbuilt c.args.bytes.now c.in-Ok-judge_sections.sections.is_unbuilt c.in-Ok-read_symbols.lists.is_unbuilt false c.in_default.ensures c.in-Ok.ensures.well_formed (ap section_form (sym same) ∙ c.in-Ok-judge_sections.ensures.accepted) (ap has_long_symbol_name (sym same) ∙ c.in-Ok-read_symbols.ensures.accepted) (ap aux_fault (sym same) ∙ c.in-Ok-judge_aux.ensures.accepted) (c.in-Ok-judge_sections.ensures.unbuilt ∙ ap has_unbuilt_section same) (c.in-Ok-read_symbols.ensures.unbuilt ∙ ap has_unbuilt_symbol same) c.if-is_unbuilt.false

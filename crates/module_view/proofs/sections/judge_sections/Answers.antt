@@ -1,6 +1,7 @@
 use Rattle.std.proofs.Common.{◌+◌, ◌<◌, refl, sym, ◌∙◌, arith}
 use Rattle.coff_records.specs.ObjectFile.{section_total, section_name_of}
 use Rattle.link_base.proofs.TestLemmas.{or_left, or_right}
+use Rattle.module_view.specs.Comdats.{is_comdat}
 use Rattle.module_view.specs.Unbuilt.{is_unbuilt_section}
 use Rattle.module_view.specs.Opening.{is_linker_section, is_long}
 use Rattle.module_view.specs.Steps.{section_form}
@@ -23,5 +24,6 @@ loop-index-preserved c =
     record {
       linker = no_section (λ section. is_linker_section (section_name_of bytes section)) i (i + 1) (omega arith) c.loop-index.invariant.linker (sym c.section_form-form.ensures.linker ∙ c.if-form.false);
       long = any_section (λ section. is_long (section_name_of bytes section)) i (i + 1) c.loop-index.long form.is_long (omega arith) c.loop-index.invariant.long c.section_form-form.ensures.long;
-      unbuilt = λ short. any_section (is_unbuilt_section bytes) i (i + 1) c.loop-index.unbuilt form.is_unbuilt (omega arith) (c.loop-index.invariant.unbuilt (or_left c.loop-index.long form.is_long short)) (c.section_form-form.ensures.unbuilt (or_right c.loop-index.long form.is_long short));
+      unbuilt = λ short. any_section (is_unbuilt_section bytes) i (i + 1) c.loop-index.is_unbuilt form.is_unbuilt (omega arith) (c.loop-index.invariant.unbuilt (or_left c.loop-index.long form.is_long short)) (c.section_form-form.ensures.unbuilt (or_right c.loop-index.long form.is_long short));
+      comdat = λ short. any_section (is_comdat bytes) i (i + 1) c.loop-index.has_comdat form.is_comdat (omega arith) (c.loop-index.invariant.comdat (or_left c.loop-index.long form.is_long short)) (c.section_form-form.ensures.comdat (or_right c.loop-index.long form.is_long short));
     }

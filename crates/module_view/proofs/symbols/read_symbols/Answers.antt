@@ -1,19 +1,27 @@
-use Rattle.std.proofs.Common.{◌<◌, List, Bool, eqb, ◌||◌, ◌++◌, length, sym, ap, ◌∙◌, arith}
+use Rattle.std.proofs.Common.{◌<◌, List, Bool, eqb, ◌||◌, ◌++◌, length, map, filter, sym, ap, ◌∙◌, arith}
 use Rattle.std.specs.List.{list_any}
 use Rattle.std.proofs.lemmas.List.{length-set}
 use Rattle.coff_records.specs.SymbolRecord.{name_in}
 use Rattle.coff_records.specs.ObjectFile.{SymbolEntry}
 use Rattle.coff_object.proofs.CallerLemmas.{symbols_left-all, symbols_left-step, symbol_strings}
+use Rattle.module_view.specs.declared.definition.Common.{Common}
 use Rattle.module_view.specs.declared.definition.Definition.{Definition}
 use Rattle.module_view.specs.declared.reference.Reference.{Reference}
-use Rattle.module_view.specs.SymbolLists.{defines, definition_of, definitions_in, definitions_of, refers, reference_of, references_in, references_of}
+use Rattle.module_view.specs.declared.reference.Weak.{Weak}
+use Rattle.module_view.specs.SymbolLists.{defines, definition_of, definitions_in, definitions_of, refers, reference_of, references_of, is_weak, weak_of, weaks_of, is_common, common_of, commons_in, commons_of}
 use Rattle.module_view.specs.Unbuilt.{is_unbuilt_symbol}
 use Rattle.module_view.specs.Opening.{is_long}
 use Rattle.module_view.proofs.SymbolLemmas.{still_none, one_noted, listed_more, marks_more, starts_among, unmarked}
 use Rattle.module_view.proofs.symbols.read_symbols.Goals as goal
 
+abbrev weak_entry : SymbolEntry → Bool
+weak_entry entry = is_weak entry.1
+
+abbrev common_entry : SymbolEntry → Bool
+common_entry entry = is_common entry.1
+
 pub loop-index-init : goal.loop-index-init
-unfolding definitions_of references_of
+unfolding definitions_of references_of weaks_of commons_of
 loop-index-init c =
     let bytes = c.args.object.now in
     let all = c.into_iter-index-iterator.ensures.into_iter_gives ∙ c.symbols-index-items.ensures in
@@ -23,9 +31,11 @@ loop-index-init c =
       ends = tt;
       left = symbols_left-all bytes entries all;
       long = ap (list_any (λ (entry : SymbolEntry). is_long (name_in entry.1))) all;
-      unbuilt = ap (λ (es : List SymbolEntry). c.args.unbuilt || list_any (λ (entry : SymbolEntry). is_unbuilt_symbol entry.1) es) all;
+      unbuilt = ap (list_any (λ (entry : SymbolEntry). is_unbuilt_symbol entry.1)) all;
       definitions = ap (λ (ds : List Definition). ds ++ definitions_in entries) c.new-definitions.ensures.items ∙ ap definitions_in all;
-      references = ap (λ (rs : List Reference). rs ++ references_in entries) c.new-references.ensures.items ∙ ap references_in all;
+      references = ap (λ (rs : List Reference). rs ++ map (reference_of bytes) (filter refers entries)) c.new-references.ensures.items ∙ ap (λ (es : List SymbolEntry). map (reference_of bytes) (filter refers es)) all;
+      weaks = ap (λ (ws : List Weak). ws ++ map (weak_of bytes) (filter weak_entry entries)) c.new-weaks.ensures.items ∙ ap (λ (es : List SymbolEntry). map (weak_of bytes) (filter weak_entry es)) all;
+      commons = ap (λ (cs : List Common). cs ++ commons_in entries) c.new-commons.ensures.items ∙ ap commons_in all;
       count = omega (arith, c.in_ok-starts.ensures.len, c.record_count.ensures);
       starts = λ j.
           ap (λ (b : Bool). b || list_any (λ (e : SymbolEntry). eqb e.0 j) entries) (unmarked c.in_ok-starts.starts.items _ j (c.in_ok-starts.ensures.items_if_clones_equal (λ y e. e)))
@@ -43,6 +53,22 @@ index_mut-requires c =
     let step = symbols_left-step c.args.object.now c.loop-index.index-iterator c.next.new.self c.in-Some.index c.in-Some.symbol c.loop-index.invariant.left c.in-Some.ensures.steps in
     omega (arith, step.below, c.loop-index.invariant.count)
 
+pub push_reference-requires-clause-start : goal.push_reference-requires-clause-start
+push_reference-requires-clause-start c =
+    (symbols_left-step c.args.object.now c.loop-index.index-iterator c.next.new.self c.in-Some.index c.in-Some.symbol c.loop-index.invariant.left c.in-Some.ensures.steps).starts
+
+pub push_reference-requires-clause-symbol : goal.push_reference-requires-clause-symbol
+push_reference-requires-clause-symbol c =
+    (symbols_left-step c.args.object.now c.loop-index.index-iterator c.next.new.self c.in-Some.index c.in-Some.symbol c.loop-index.invariant.left c.in-Some.ensures.steps).is
+
+pub push_weak-requires-clause-start : goal.push_weak-requires-clause-start
+push_weak-requires-clause-start c =
+    (symbols_left-step c.args.object.now c.loop-index.index-iterator c.next.new.self c.in-Some.index c.in-Some.symbol c.loop-index.invariant.left c.in-Some.ensures.steps).starts
+
+pub push_weak-requires-clause-symbol : goal.push_weak-requires-clause-symbol
+push_weak-requires-clause-symbol c =
+    (symbols_left-step c.args.object.now c.loop-index.index-iterator c.next.new.self c.in-Some.index c.in-Some.symbol c.loop-index.invariant.left c.in-Some.ensures.steps).is
+
 pub loop-index-preserved : goal.loop-index-preserved
 loop-index-preserved c =
     let bytes = c.args.object.now in
@@ -58,9 +84,11 @@ loop-index-preserved c =
       ends = tt;
       left = step.left;
       long = still_none (λ (e : SymbolEntry). is_long (name_in e.1)) before after entry _ c.is_long_symbol.result steps c.loop-index.invariant.long c.is_long_symbol.ensures c.if-is_long_symbol.false;
-      unbuilt = one_noted (λ (e : SymbolEntry). is_unbuilt_symbol e.1) before after entry c.loop-index.unbuilt c.is_unbuilt_symbol-unbuilt.result _ steps c.loop-index.invariant.unbuilt c.is_unbuilt_symbol-unbuilt.ensures;
+      unbuilt = one_noted (λ (e : SymbolEntry). is_unbuilt_symbol e.1) before after entry c.loop-index.is_unbuilt c.is_unbuilt_symbol-is_unbuilt.result _ steps c.loop-index.invariant.unbuilt c.is_unbuilt_symbol-is_unbuilt.ensures;
       definitions = listed_more defines definition_of before after entry c.loop-index.definitions.items c.push_definition.new.definitions.items (definitions_of bytes) steps c.loop-index.invariant.definitions c.in_ok-push_definition.ensures;
-      references = listed_more refers reference_of before after entry c.loop-index.references.items c.push_reference.new.references.items (references_of bytes) steps c.loop-index.invariant.references c.in_ok-push_reference.ensures;
+      references = listed_more refers (reference_of bytes) before after entry c.loop-index.references.items c.push_reference.new.references.items (references_of bytes) steps c.loop-index.invariant.references c.in_ok-push_reference.ensures;
+      weaks = listed_more weak_entry (weak_of bytes) before after entry c.loop-index.weaks.items c.push_weak.new.weaks.items (weaks_of bytes) steps c.loop-index.invariant.weaks c.in_ok-push_weak.ensures;
+      commons = listed_more common_entry common_of before after entry c.loop-index.commons.items c.push_common.new.commons.items (commons_of bytes) steps c.loop-index.invariant.commons c.in_ok-push_common.ensures;
       count = length-set marks c.in-Some.index _ ∙ c.loop-index.invariant.count;
       starts = λ j. marks_more before after entry marks j _ steps within (c.loop-index.invariant.starts j);
     }
