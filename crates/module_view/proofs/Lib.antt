@@ -3,6 +3,4 @@ pub mod CallerLemmas
 pub mod SectionLemmas
 pub mod SymbolLemmas
 pub mod OpeningLemmas
-pub mod ComdatLemmas
-pub mod ParentLemmas
 pub mod AuxLemmas

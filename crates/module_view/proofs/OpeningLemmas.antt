@@ -11,7 +11,7 @@ use Rattle.module_view.specs.declared.error.ModuleError.{ModuleError}
 use Rattle.module_view.specs.declared.error.ModuleError.TheVariants as error
 use Rattle.module_view.specs.Unbuilt.{has_unbuilt_section, has_unbuilt_symbol}
 use Rattle.module_view.specs.Opening.{opening_error, form_error, content_error, unsupported, has_linker_section, has_long_section_name, has_long_symbol_name, RefusesToOpen}
-use Rattle.module_view.specs.AuxFaults.{aux_fault}
+use Rattle.coff_aux.specs.AuxFaults.{aux_fault}
 use Rattle.module_view.specs.Steps.{section_form}
 use Rattle.link_base.proofs.RefusalLemmas.{or_none}
 

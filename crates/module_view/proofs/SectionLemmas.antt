@@ -1,15 +1,16 @@
 -- The first bytes of a section's name, and one more section in a loop.
-use Rattle.std.proofs.Common.{◌≡◌, ℕ, zero, suc, ◌+◌, ◌<◌, ◌≤◌, Bool, true, false, ◌&&◌, ◌||◌, List, [], ◌∷◌, ◌++◌, length, take, nat_eq, refl, sym, ap, ◌∙◌, arith}
+use Rattle.std.proofs.Common.{◌≡◌, ℕ, zero, suc, ◌+◌, ◌<◌, ◌≤◌, Bool, true, false, ◌&&◌, ◌||◌, List, [], ◌∷◌, length, take, nat_eq, refl, sym, ap, ◌∙◌, arith}
 use Rattle.std.specs.Prelude.{codes}
 use Rattle.std.specs.List.{list_any, range_with_len}
 use lib.Pointwise.{pointwise}
 use Rattle.std.proofs.lemmas.List.{take-take}
-use Rattle.std.proofs.lemmas.List.Folds.{list_any-append, list_any_at}
+use Rattle.std.proofs.lemmas.List.Folds.{list_any_at}
 use Rattle.std.proofs.lemmas.List.FromFn.{length-range_with_len, get_or-range_with_len}
 use Rattle.link_base.specs.NameText.{begins}
 use Rattle.link_base.specs.SectionName.{base_name, is_cut}
 use Rattle.link_base.proofs.RangeLemmas.{range_more}
 use Rattle.coff_object.proofs.CallerLemmas.{before_first-take}
+use Rattle.coff_aux.proofs.CallerLemmas.{any_more}
 use Rattle.module_view.specs.Opening.{is_linker_section}
 
 -- ---- the first bytes of a name
@@ -33,15 +34,6 @@ is_linker_section-take n name le =
     ∙ ap (λ (b : Bool). begins name (codes ".idata$") || b) relocations
 
 -- ---- a loop over sections, or over symbols
-
-or_false : (b : Bool) → b ≡ (b || false)
-or_false true = refl
-or_false false = refl
-
--- one more passes, or an earlier one
-pub any_more : {X : Type 0} (test : X → Bool) (xs : List X) (x : X) (b : Bool) → b ≡ test x → list_any test (xs ++ x ∷ []) ≡ (list_any test xs || b)
-any_more test xs x b is =
-    list_any-append test xs (x ∷ []) ∙ ap (λ (c : Bool). list_any test xs || c) (sym (or_false (test x)) ∙ sym is)
 
 pub any_section : (test : ℕ → Bool) (n section : ℕ) (before here : Bool) → 1 + n ≡ section → before ≡ list_any test (range_with_len 1 n) → here ≡ test section → (before || here) ≡ list_any test (range_with_len 1 (n + 1))
 any_section test n section before here place was is =

@@ -1,15 +1,9 @@
 -- One more symbol in a loop over the symbols of an object.
-use Rattle.std.proofs.Common.{◌≡◌, ℕ, zero, suc, ◌<◌, ◌≢◌, ℤ, pos, negsuc, replicate, w32, FitsSigned, to_z, of_z, Bool, true, false, cond, ◌||◌, eqb, List, [], ◌∷◌, ◌++◌, length, map, filter, get_or, set, inl, inr, refl, sym, ap, ◌∙◌, append_assoc, arith}
-use Rattle.std.specs.Int.Signed.{lt_z}
-use lib.IntN.{nat_abs}
+use Rattle.std.proofs.Common.{◌≡◌, ℕ, ◌<◌, Bool, true, false, cond, ◌||◌, eqb, List, [], ◌∷◌, ◌++◌, length, map, filter, get_or, set, inl, inr, refl, sym, ap, ◌∙◌, append_assoc, arith}
 use Rattle.std.specs.List.{list_any}
-use Rattle.std.proofs.lemmas.Bool.{ne_eqb}
 use Rattle.std.proofs.lemmas.Bool.Decides.{eqb_tells}
-use Rattle.std.proofs.lemmas.Int.{to_z-of_z}
 use Rattle.std.proofs.lemmas.List.{get_or-set_same, get_or-set_other}
-use Rattle.coff_records.specs.SymbolRecord.{SymbolView, class_in, section_of_number}
-use Rattle.coff_records.specs.ObjectFile.{SymbolEntry, symbols_of, symbol_entry, symbol_entries, starts_symbol}
-use Rattle.module_view.specs.SymbolLists.{is_definition}
+use Rattle.coff_records.specs.ObjectFile.{SymbolEntry}
 
 -- ---- what is told of symbols, after one more
 
@@ -74,39 +68,3 @@ pub marks_more : (before after : List SymbolEntry) (entry : SymbolEntry) (marks 
 marks_more before after entry marks j whole is lt was =
     ap (λ (b : Bool). b || list_any (λ (e : SymbolEntry). eqb e.0 j) after) (mark marks entry.0 j lt)
     ∙ one_noted (λ (e : SymbolEntry). eqb e.0 j) before after entry (get_or marks j false) (eqb entry.0 j) whole is was refl
-
-any_entry : (f : ℕ → SymbolEntry) (j : ℕ) (indexes : List ℕ) → ((i : ℕ) → (f i).0 ≡ i) → list_any (λ e. eqb e.0 j) (map f indexes) ≡ list_any (λ i. eqb i j) indexes
-any_entry f j [] own = refl
-any_entry f j (i ∷ rest) own =
-    ap (λ (k : ℕ). eqb k j || list_any (λ (e : SymbolEntry). eqb e.0 j) (map f rest)) (own i)
-    ∙ ap (λ (b : Bool). eqb i j || b) (any_entry f j rest own)
-
--- the symbols of an object tell where one starts
-pub starts_among : (bytes : List ℕ) (j : ℕ) → list_any (λ e. eqb e.0 j) (symbol_entries bytes) ≡ starts_symbol bytes j
-unfolding starts_symbol
-starts_among bytes j = any_entry (symbol_entry bytes) j (symbols_of bytes) (λ i. refl)
-
--- nothing is marked at first
-pub unmarked : (marks : List Bool) (n j : ℕ) → marks ≡ replicate n false → get_or marks j false ≡ false
-unmarked marks n j is = ap (λ (ms : List Bool). get_or ms j false) is ∙ each n j
-  where
-    each : (n j : ℕ) → get_or (replicate n false) j false ≡ false
-    each zero j = refl
-    each (suc n) zero = refl
-    each (suc n) (suc j) = each n j
-
--- ---- the section of a definition
-
-pub section_read : (number : ℤ) → FitsSigned w32 number → lt_z (pos 0) number ≡ true → nat_abs (to_z w32 (of_z w32 number)) ≡ section_of_number number
-section_read number fits above = ap nat_abs (to_z-of_z w32 number fits) ∙ go number above
-  where
-    go : (z : ℤ) → lt_z (pos 0) z ≡ true → nat_abs z ≡ section_of_number z
-    go (pos n) e = refl
-    go (negsuc n) e = absurd cc
-
--- ---- which symbols are definitions
-
-pub external_none : (symbol : SymbolView) (class : ℕ) → class ≡ class_in symbol → class ≢ 2 → is_definition symbol ≡ false
-unfolding is_definition
-external_none symbol class is other =
-    rw (ne_eqb (class_in symbol) 2 (λ e. other (is ∙ e))) refl

@@ -1,11 +1,7 @@
 pub mod Module
 pub mod Opening
 pub mod PlacedSection
-pub mod AuxRecords
 pub mod SymbolLists
-pub mod Comdats
-pub mod Parents
-pub mod AuxFaults
 pub mod Unbuilt
 pub mod Steps
 pub mod ModuleParts

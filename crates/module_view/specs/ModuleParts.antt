@@ -1,23 +1,16 @@
 -- What a module keeps beside its bytes. Own.
-use Rattle.std.specs.Prelude.{◌≡◌, ℕ, ◌-◌, true, false, List, slice_index_or, None}
-use Rattle.coff_records.specs.ObjectFile.{section_total, starts_symbol}
-use Rattle.module_view.specs.declared.comdat.SectionSymbols.{SectionSymbols}
+use Rattle.std.specs.Prelude.{◌≡◌, ℕ, false, List, slice_index_or, None}
+use Rattle.coff_records.specs.ObjectFile.{starts_symbol}
+use Rattle.coff_aux.specs.declared.comdat.SectionSymbols.{SectionSymbols}
+use Rattle.coff_aux.specs.Steps.{KeepsSymbols}
 use Rattle.module_view.specs.declared.input_module.Origin.{Origin}
 use Rattle.module_view.specs.declared.symbols.SymbolLists.{SymbolLists}
 use Rattle.module_view.specs.Module.{ModuleView}
 use Rattle.module_view.specs.SymbolLists.{definitions_of, references_of, weaks_of, commons_of}
-use Rattle.module_view.specs.Comdats.{is_section_number, is_comdat, section_symbols_of}
 use Rattle.module_view.specs.Opening.{opening_error}
-use Rattle.module_view.specs.Steps.{no_symbols}
 
 abbrev pub view_of : Origin → List ℕ → ModuleView
 view_of origin bytes = record { file = origin.file; member = origin.member; bytes = bytes }
-
--- the first two symbols of each COMDAT section
-abbrev pub KeepsSymbols : List ℕ → List SectionSymbols → Type 0
-KeepsSymbols bytes symbols =
-    (section : ℕ) → is_section_number (section_total bytes) section ≡ true → is_comdat bytes section ≡ true
-    → slice_index_or symbols (section - 1) no_symbols ≡ section_symbols_of bytes section
 
 -- the bytes open, and the object and the lists are those of the bytes
 pub record KeepsLists (bytes object : List ℕ) (lists : SymbolLists) (symbols : List SectionSymbols) : Type 0 where

@@ -15,7 +15,7 @@ use Rattle.coff_object.specs.ObjectFaults.{object_fault}
 use Rattle.module_view.specs.declared.error.ModuleError.{ModuleError}
 use Rattle.module_view.specs.declared.error.ModuleError.TheVariants as error
 use Rattle.module_view.specs.Module.{ModuleView}
-use Rattle.module_view.specs.AuxFaults.{aux_fault}
+use Rattle.coff_aux.specs.AuxFaults.{aux_fault}
 use Rattle.module_view.specs.Unbuilt.{is_unread_form, sections_in, has_unbuilt_section, has_unbuilt_symbol}
 
 -- ---- the first bytes

@@ -11,7 +11,7 @@ use Rattle.module_view.specs.declared.definition.Place.TheVariants as place
 use Rattle.module_view.specs.declared.definition.Common.{Common}
 use Rattle.module_view.specs.declared.reference.Reference.{Reference}
 use Rattle.module_view.specs.declared.reference.Weak.{Weak}
-use Rattle.module_view.specs.AuxRecords.{WEAK_EXTERN_SEARCH_LIBRARY, first_aux, said_by, tag_in, characteristics_in}
+use Rattle.coff_aux.specs.AuxRecords.{WEAK_EXTERN_SEARCH_LIBRARY, first_aux, said_by, tag_in, characteristics_in}
 
 -- ---- definitions
 

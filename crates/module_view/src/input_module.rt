@@ -4,14 +4,13 @@ ghost use Rattle.std.specs.Prelude.{◌≡◌, None, Some, option_map};
 ghost use Rattle.std.specs.Option.{option_copied};
 ghost use Rattle.coff_records.specs.ObjectFile.{starts_symbol};
 ghost use Rattle.module_view.specs.SymbolLists.{definitions_of, references_of, weaks_of, commons_of};
-ghost use Rattle.module_view.specs.Comdats.{comdat_of};
+ghost use Rattle.coff_aux.specs.Comdats.{comdat_of};
 ghost use Rattle.module_view.specs.Opening.{IsOpened};
 
-use crate::comdat::{Comdat, SectionSymbols};
-use crate::comdats::{comdat_in, is_section_number};
 use crate::definition::{Common, Definition};
 use crate::reference::{Reference, Weak};
 use crate::symbols::SymbolLists;
+use coff_aux::{Comdat, SectionSymbols, comdat_in, is_section_number};
 use coff_object::Object;
 use link_base::Name;
 use std::marker::Model;
@@ -110,7 +109,7 @@ impl<'a> Module<'a> {
     }
 
     /// As which COMDAT a section goes, by its number: none where there is no such section, or it is no COMDAT.
-    #[tactic(auto, unfolding(crate::specs::Comdats::comdat_of))]
+    #[tactic(auto, unfolding(coff_aux::specs::Comdats::comdat_of))]
     pub fn comdat(&self, i: u32) -> Option<Comdat<'a>>
         ensures comdat { result ≡ comdat_of self.now.bytes i }
         ensures opened { IsOpened self.now }

@@ -5,29 +5,24 @@
 #![tactic(auto)]
 
 mod aux_faults;
-pub mod aux_records;
 mod base_name;
-mod comdat;
-mod comdats;
 mod definition;
 mod error;
 mod first_bytes;
 mod input_module;
 mod laws;
 mod opening;
-mod parents;
 mod placed_section;
 mod reference;
 mod sections;
 mod symbols;
 mod unbuilt;
-mod weaks;
 
-pub use comdat::Comdat;
+pub use coff_aux::Comdat;
 pub use definition::{Common, Definition, Place};
 pub use error::ModuleError;
 pub use input_module::{Module, Origin};
-pub use laws::{circles_come_twice, modules_are_shared};
+pub use laws::modules_are_shared;
 pub use opening::open_module;
 pub use placed_section::comes_in;
 pub use reference::{Reference, Weak};

@@ -1,19 +1,17 @@
 //! What one pass over the sections of an object shows.
 
 ghost use Rattle.std.specs.Prelude.{◌≡◌, ◌≤◌, false, None, Some, IfOk, OnOk, IfErr, codes};
-ghost use Rattle.link_base.specs.Bytes.{has_flag};
 ghost use Rattle.link_base.specs.NameText.{begins};
-ghost use Rattle.link_base.specs.PeFormat.{SCN_LNK_COMDAT};
 ghost use Rattle.coff_records.specs.ObjectFile.{section_total, section_name_of, string_table};
-ghost use Rattle.module_view.specs.Comdats.{is_comdat, has_comdat};
+ghost use Rattle.coff_aux.specs.Comdats.{is_comdat, has_comdat};
 ghost use Rattle.module_view.specs.Unbuilt.{is_unbuilt_section, has_unbuilt_section};
 ghost use Rattle.module_view.specs.Opening.{is_linker_section, is_long};
 ghost use Rattle.module_view.specs.Steps.{section_form};
 
 use crate::base_name::has_base_name;
 use crate::unbuilt::is_unbuilt_section;
+use coff_aux::is_comdat;
 use coff_object::{LongTexts, Object};
-use link_base::pe_format::SCN_LNK_COMDAT;
 use link_base::{Kind, Name};
 
 /// So many bytes of a section's name show whether the linker makes it itself.
@@ -97,13 +95,6 @@ fn section_form(object: &Object<'_>, texts: &LongTexts<'_>, number: u32) -> Sect
         is_unbuilt: is_unbuilt_section(&section),
         is_comdat: is_comdat(section.flags),
     }
-}
-
-/// Whether a section with these flags is a COMDAT.
-pub(crate) fn is_comdat(flags: u32) -> bool
-    ensures { result ≡ has_flag flags SCN_LNK_COMDAT }
-{
-    flags & SCN_LNK_COMDAT != 0
 }
 
 /// Whether a section of this name is one that the linker makes itself.

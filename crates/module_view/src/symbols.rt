@@ -5,16 +5,17 @@ ghost use Rattle.std.specs.Option.{option_copied};
 ghost use Rattle.link_base.specs.PeFormat as pe;
 ghost use Rattle.link_base.specs.declared.kinds.form.Kind.TheVariants as form;
 ghost use Rattle.coff_records.specs.ObjectFile.{starts_symbol, string_table, symbol_at};
-ghost use Rattle.module_view.specs.AuxRecords.{said_by, tag_in, characteristics_in};
+ghost use Rattle.coff_aux.specs.AuxRecords.{said_by, tag_in, characteristics_in};
 ghost use Rattle.module_view.specs.SymbolLists.{is_definition, place_of, definition_of, definitions_of, is_weak, weak_of, weaks_of, is_common, common_of, commons_of, is_undefined, is_reference, asks_for_search, reference_of, references_of};
 ghost use Rattle.module_view.specs.Unbuilt.{has_unbuilt_symbol};
 ghost use Rattle.module_view.specs.Opening.{unsupported, has_long_symbol_name, RefusesToOpen};
 
-use crate::aux_records::{WEAK_EXTERN_SEARCH_LIBRARY, characteristics_in, first_aux, tag_in};
 use crate::definition::{Common, Definition, Place};
 use crate::error::ModuleError;
 use crate::reference::{Reference, Weak};
 use crate::unbuilt::is_unbuilt_symbol;
+use coff_aux::aux_records::WEAK_EXTERN_SEARCH_LIBRARY;
+use coff_aux::{characteristics_in, first_aux, tag_in};
 use coff_object::{LongTexts, Object, SymbolRecord};
 use link_base::pe_format::{
     SYM_ABSOLUTE, SYM_CLASS_EXTERNAL, SYM_CLASS_WEAK_EXTERNAL, SYM_UNDEFINED,

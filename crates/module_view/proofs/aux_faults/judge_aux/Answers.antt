@@ -4,15 +4,15 @@ use Rattle.std.proofs.lemmas.List.FromFn.{length-map-range_with_len}
 use Rattle.coff_records.specs.ObjectFile.{section_total, record_total, symbol_entries}
 use Rattle.coff_object.specs.ObjectFaults.{first_of}
 use Rattle.coff_object.proofs.CallerLemmas.{records_fit, headers_fit}
-use Rattle.module_view.specs.declared.comdat.ComdatRecord.{ComdatRecord}
+use Rattle.coff_aux.specs.declared.comdat.ComdatRecord.{ComdatRecord}
 use Rattle.module_view.specs.declared.error.ModuleError.{ModuleError}
 use Rattle.module_view.specs.declared.error.ModuleError.TheVariants as error
-use Rattle.module_view.specs.AuxFaults.{is_bad_weak, aux_fault}
-use Rattle.module_view.specs.Comdats.{comdat_record_of}
+use Rattle.coff_aux.specs.AuxFaults.{is_bad_weak, aux_fault}
+use Rattle.coff_aux.specs.Comdats.{comdat_record_of}
 use Rattle.module_view.specs.Opening.{RefusesToOpen}
-use Rattle.module_view.specs.Steps.{all_comdat_records, record_fault}
-use Rattle.module_view.proofs.ComdatLemmas.{kept_symbols, none_kept}
-use Rattle.module_view.proofs.AuxLemmas.{weak_stands, fault_by_records, no_comdat_fault}
+use Rattle.coff_aux.specs.Steps.{all_comdat_records, record_fault}
+use Rattle.coff_aux.proofs.CallerLemmas.{kept_symbols, none_kept}
+use Rattle.coff_aux.proofs.CallerLemmas.{weak_stands, fault_by_records, no_comdat_fault}
 use Rattle.module_view.proofs.aux_faults.judge_aux.Goals as goal
 
 pub returns-in-Some-clause-refused : goal.returns-in-Some-clause-refused

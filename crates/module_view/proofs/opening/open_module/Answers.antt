@@ -4,9 +4,9 @@ use Rattle.link_base.specs.declared.kinds.form.Kind.TheVariants as form
 use Rattle.coff_records.specs.ObjectFile.{starts_symbol}
 use Rattle.module_view.specs.declared.error.ModuleError.TheVariants as error
 use Rattle.module_view.specs.SymbolLists.{definitions_of, references_of, weaks_of, commons_of}
-use Rattle.module_view.specs.AuxFaults.{aux_fault}
+use Rattle.coff_aux.specs.AuxFaults.{aux_fault}
 use Rattle.module_view.specs.Unbuilt.{has_unbuilt_section, has_unbuilt_symbol}
-use Rattle.module_view.specs.ModuleParts.{KeepsSymbols}
+use Rattle.coff_aux.specs.Steps.{KeepsSymbols}
 use Rattle.module_view.specs.Opening.{RefusesToOpen, unsupported, has_long_symbol_name}
 use Rattle.module_view.specs.Steps.{section_form}
 use Rattle.module_view.proofs.OpeningLemmas.{refused_form, refused_object, refused_sections, refused_symbols, refused_aux, by_unbuilt}

@@ -1,7 +1,7 @@
 use Rattle.std.proofs.Common.{◌+◌, ◌<◌, refl, sym, ◌∙◌, arith}
 use Rattle.coff_records.specs.ObjectFile.{section_total, section_name_of}
 use Rattle.link_base.proofs.TestLemmas.{or_left, or_right}
-use Rattle.module_view.specs.Comdats.{is_comdat}
+use Rattle.coff_aux.specs.Comdats.{is_comdat}
 use Rattle.module_view.specs.Unbuilt.{is_unbuilt_section}
 use Rattle.module_view.specs.Opening.{is_linker_section, is_long}
 use Rattle.module_view.specs.Steps.{section_form}

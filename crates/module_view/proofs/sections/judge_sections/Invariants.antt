@@ -1,7 +1,7 @@
 use Rattle.std.proofs.Common.{◌≡◌, false}
 use Rattle.std.specs.List.{list_any, range_with_len}
 use Rattle.coff_records.specs.ObjectFile.{section_name_of}
-use Rattle.module_view.specs.Comdats.{is_comdat}
+use Rattle.coff_aux.specs.Comdats.{is_comdat}
 use Rattle.module_view.specs.Unbuilt.{is_unbuilt_section}
 use Rattle.module_view.specs.Opening.{is_linker_section, is_long}
 use Rattle.module_view.proofs.sections.judge_sections.Given as goal

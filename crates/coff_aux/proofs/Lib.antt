@@ -1,0 +1,5 @@
+pub mod CallerLemmas
+pub mod StartLemmas
+pub mod ComdatLemmas
+pub mod ParentLemmas
+pub mod RecordLemmas

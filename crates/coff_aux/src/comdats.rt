@@ -1,0 +1,249 @@
+//! What COMDAT sections say of themselves, read by one pass over the symbols of an object.
+
+ghost use Rattle.std.specs.Prelude.{◌≡◌, ◌<◌, ◌≤◌, ◌-◌, ◌^◌, true, length, slice_index_or, IfSome, IfOk};
+ghost use Rattle.link_base.specs.Bytes.{has_flag};
+ghost use Rattle.link_base.specs.PeFormat.{SCN_LNK_COMDAT};
+ghost use Rattle.coff_records.specs.ObjectFile.{section_total, starts_symbol};
+ghost use Rattle.coff_aux.specs.Comdats.{section_symbols_of, said_by_symbol, comdat_record_of, is_associative, is_section_number, parent_in, leader_name, parent_said, comdat_by};
+ghost use Rattle.coff_aux.specs.Steps.{KeepsSymbols};
+ghost use Rattle.coff_aux.specs.Steps.{all_section_symbols, all_comdat_records, no_symbols, parents_in, with_symbol, noted_symbols};
+
+use crate::aux_records::{COMDAT_SELECT_ASSOCIATIVE, associated_in, first_aux, selection_in};
+use crate::comdat::{Comdat, ComdatRecord, SectionSymbols};
+use coff_object::Object;
+use link_base::pe_format::{SCN_LNK_COMDAT, SYM_CLASS_EXTERNAL, SYM_CLASS_STATIC, SYM_UNDEFINED};
+use link_base::{Memory, Name};
+use std::alloc::Global;
+
+/// Of a section without symbols.
+const NO_SYMBOLS: SectionSymbols = SectionSymbols {
+    first: None,
+    second: None,
+};
+
+// ---- the symbols of a section
+
+/// The first two symbols of each section.
+pub fn section_symbols(alloc: Global, object: &Object<'_>) -> Result<Vec<SectionSymbols>, Memory>
+    ensures { IfOk result (λ symbols. symbols.items ≡ all_section_symbols object.now) }
+{
+    let mut symbols = vec![in alloc; NO_SYMBOLS; object.section_count() as usize]?;
+    for (index, symbol) in object.symbols() {
+        note_symbol(&mut symbols, symbol.section(), index);
+    }
+    Ok(symbols)
+}
+
+/// Notes a symbol of a section, where the number is that of one.
+#[tactic(auto, unfolding(crate::specs::Steps::noted_symbols))]
+fn note_symbol(symbols: &mut Vec<SectionSymbols>, section: i32, index: u32)
+    ensures { symbols.new.items ≡ noted_symbols symbols.old.items section index }
+{
+    if section <= SYM_UNDEFINED {
+        return;
+    }
+    let place = section as usize - 1;
+    if place < symbols.len() {
+        symbols[place] = with_symbol(symbols[place], index);
+    }
+}
+
+/// The first two symbols of a section, after one more.
+#[tactic(auto, unfolding(crate::specs::Steps::with_symbol))]
+fn with_symbol(noted: SectionSymbols, index: u32) -> SectionSymbols
+    ensures { result ≡ with_symbol noted index }
+{
+    if noted.first.is_none() {
+        return SectionSymbols {
+            first: Some(index),
+            second: None,
+        };
+    }
+    if noted.second.is_none() {
+        return SectionSymbols {
+            first: noted.first,
+            second: Some(index),
+        };
+    }
+    noted
+}
+
+// ---- what they say
+
+/// Whether a section with these flags is a COMDAT.
+pub fn is_comdat(flags: u32) -> bool
+    ensures { result ≡ has_flag flags SCN_LNK_COMDAT }
+{
+    flags & SCN_LNK_COMDAT != 0
+}
+
+/// What each COMDAT section says of itself, by the sections' numbers from 1.
+pub fn comdat_records(
+    alloc: Global,
+    object: &Object<'_>,
+    symbols: &[SectionSymbols],
+) -> Result<Vec<Option<ComdatRecord>>, Memory>
+    requires { symbols.now ≡ all_section_symbols object.now }
+    ensures { IfOk result (λ records. records.items ≡ all_comdat_records object.now) }
+{
+    let mut records = Vec::new(alloc);
+    records.reserve(symbols.len())?;
+    for index in 0..object.section_count() {
+        let said = comdat_record(object, index + 1, symbols[index as usize].first);
+        records.push(said)?;
+    }
+    Ok(records)
+}
+
+/// What a section with this section symbol says of itself, where it is a COMDAT.
+#[tactic(auto, unfolding(crate::specs::Comdats::comdat_record_of))]
+pub(crate) fn comdat_record(
+    object: &Object<'_>,
+    number: u32,
+    first: Option<u32>,
+) -> Option<ComdatRecord>
+    requires low { 1 ≤ number }
+    requires high { number ≤ section_total object.now }
+    requires symbol { first ≡ (section_symbols_of object.now number).first }
+    ensures { result ≡ comdat_record_of object.now number }
+{
+    if !is_comdat(object.section_flags(number)) {
+        return None;
+    }
+    Some(match first {
+        Some(symbol) => said_by_symbol(object, symbol),
+        None => ComdatRecord {
+            has_symbol: false,
+            selection: 0,
+            associated: 0,
+        },
+    })
+}
+
+/// What a section symbol says of its section.
+#[tactic(auto, unfolding(crate::specs::Comdats::said_by_symbol))]
+fn said_by_symbol(object: &Object<'_>, symbol: u32) -> ComdatRecord
+    requires { starts_symbol object.now symbol ≡ true }
+    ensures { result ≡ said_by_symbol object.now symbol }
+{
+    let section_symbol = object.symbol(symbol);
+    let has_symbol = section_symbol.class == SYM_CLASS_STATIC && section_symbol.aux > 0;
+    match first_aux(object, symbol, section_symbol.aux) {
+        Some(aux) => ComdatRecord {
+            has_symbol,
+            selection: selection_in(aux),
+            associated: associated_in(aux),
+        },
+        None => ComdatRecord {
+            has_symbol,
+            selection: 0,
+            associated: 0,
+        },
+    }
+}
+
+/// The name of a leader, where it is external.
+#[tactic(auto, unfolding(crate::specs::Comdats::leader_name))]
+pub(crate) fn leader_name<'a>(object: &Object<'a>, second: Option<u32>) -> Option<Name<'a>>
+    requires { IfSome second (λ symbol. starts_symbol object.now symbol ≡ true) }
+    ensures { result ≡ leader_name object.now second }
+{
+    let Some(symbol) = second else {
+        return None;
+    };
+    let leader = object.symbol(symbol);
+    if leader.class == SYM_CLASS_EXTERNAL {
+        Some(leader.name)
+    } else {
+        None
+    }
+}
+
+/// As which COMDAT a section goes, by the first two symbols of each.
+#[tactic(auto, unfolding(crate::specs::Comdats::comdat_record_of))]
+pub fn comdat_in<'a>(
+    object: &Object<'a>,
+    number: u32,
+    symbols: &[SectionSymbols],
+) -> Option<Comdat<'a>>
+    requires section { is_section_number (section_total object.now) number ≡ true }
+    requires kept { KeepsSymbols object.now symbols.now }
+    ensures { result ≡ comdat_by (leader_name object.now (section_symbols_of object.now number).second) (comdat_record_of object.now number) }
+{
+    if !is_comdat(object.section_flags(number)) {
+        return None;
+    }
+    let noted = symbols_at(symbols, number);
+    let said = comdat_record(object, number, noted.first)?;
+    Some(Comdat {
+        selection: said.selection,
+        leader: leader_name(object, noted.second),
+        parent: parent_said(&said),
+    })
+}
+
+/// The first two symbols of a section.
+fn symbols_at(symbols: &[SectionSymbols], number: u32) -> SectionSymbols
+    requires { 1 ≤ number }
+    ensures { result ≡ slice_index_or symbols.now (number - 1) no_symbols }
+{
+    match symbols.get(number as usize - 1) {
+        Some(noted) => *noted,
+        None => NO_SYMBOLS,
+    }
+}
+
+/// The section that a COMDAT section is selected with, where its selection says so.
+fn parent_said(said: &ComdatRecord) -> Option<u32>
+    ensures { result ≡ parent_said said.now }
+{
+    if is_associative(said) {
+        Some(said.associated)
+    } else {
+        None
+    }
+}
+
+// ---- parents
+
+/// The parent of each section, by its number: 0 where it has none, and at 0.
+pub(crate) fn parents_of(
+    alloc: Global,
+    records: &[Option<ComdatRecord>],
+) -> Result<Vec<u32>, Memory>
+    requires { length records.now < 2 ^ 32 }
+    ensures { IfOk result (λ parents. parents.items ≡ parents_in records.now) }
+{
+    let count = records.len() as u32;
+    let mut parents = Vec::new(alloc);
+    parents.reserve(records.len() + 1)?;
+    parents.push(0)?;
+    for index in 0..count {
+        parents.push(parent_in(count, &records[index as usize]))?;
+    }
+    Ok(parents)
+}
+
+#[tactic(auto, unfolding(crate::specs::Comdats::parent_in))]
+fn parent_in(count: u32, said: &Option<ComdatRecord>) -> u32
+    ensures { result ≡ parent_in count said.now }
+{
+    match said {
+        Some(said) if is_associative(said) && is_section_number(count, said.associated) => {
+            said.associated
+        }
+        _ => 0,
+    }
+}
+
+pub(crate) fn is_associative(said: &ComdatRecord) -> bool
+    ensures { result ≡ is_associative said.now }
+{
+    said.selection == COMDAT_SELECT_ASSOCIATIVE
+}
+
+pub fn is_section_number(count: u32, number: u32) -> bool
+    ensures { result ≡ is_section_number count number }
+{
+    (1..=count).contains(&number)
+}
