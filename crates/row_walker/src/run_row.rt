@@ -1,0 +1,91 @@
+//! A row that is run: its files are made, and its steps taken.
+
+use crate::checks::{
+    check_at, check_gone, check_kept, check_printed, check_same, check_size, check_starts,
+    check_status, held,
+};
+use crate::error::{FailedLine, RowError};
+use crate::object_file::object_file;
+use crate::row::{Action, Contents, Row, RowFile};
+use crate::stage::{NamedBytes, Stage};
+use std::alloc::Global;
+
+/// Takes the steps of the row up to the first that is not met.
+pub fn run_row(alloc: Global, row: &Row) -> Result<(), FailedLine> {
+    if let Some(unread) = &row.unread {
+        return Err(copy_of(alloc, unread));
+    }
+    let mut given = Vec::new(alloc);
+    for file in &row.files {
+        match push_given(alloc, &mut given, file) {
+            Ok(()) => {}
+            Err(error) => return Err(FailedLine {
+                line: file.line,
+                error,
+            }),
+        }
+    }
+    let mut stage = match Stage::new(alloc, given) {
+        Ok(stage) => stage,
+        Err(error) => return Err(FailedLine { line: 0, error }),
+    };
+    for step in &row.steps {
+        match take_step(alloc, &mut stage, &step.action) {
+            Ok(()) => {}
+            Err(error) => return Err(FailedLine {
+                line: step.line,
+                error,
+            }),
+        }
+    }
+    Ok(())
+}
+
+fn copy_of(alloc: Global, unread: &FailedLine) -> FailedLine {
+    let error = match &unread.error {
+        RowError::Malformed(text) => RowError::Malformed(text),
+        RowError::Wrong(text) => match text.clone() {
+            Ok(text) => RowError::Wrong(text),
+            Err(_) => RowError::Memory,
+        },
+        RowError::Memory => RowError::Memory,
+    };
+    FailedLine {
+        line: unread.line,
+        error,
+    }
+}
+
+fn push_given(alloc: Global, given: &mut Vec<NamedBytes>, file: &RowFile) -> Result<(), RowError> {
+    let bytes = match &file.contents {
+        Contents::Plain(bytes) => Vec::from_slice(alloc, bytes)?,
+        Contents::Parts(object) => object_file(alloc, object)?,
+    };
+    let name = file.name.clone()?;
+    given.push(NamedBytes { name, bytes })?;
+    Ok(())
+}
+
+fn take_step(alloc: Global, stage: &mut Stage, action: &Action) -> Result<(), RowError> {
+    match action {
+        Action::FailCall(number) => stage.fail_call(*number),
+        Action::FailPut(number) => stage.fail_put(*number),
+        Action::Run(words) => stage.run(alloc, words),
+        Action::Status(status) => check_status(alloc, stage, *status),
+        Action::Printed(printed) => check_printed(alloc, stage, printed),
+        Action::At {
+            name,
+            offset,
+            bytes,
+        } => check_at(alloc, stage, name.as_str(), *offset, bytes),
+        Action::Size { name, len } => check_size(alloc, stage, name.as_str(), *len),
+        Action::Gone(name) => check_gone(alloc, stage, name.as_str()),
+        Action::Kept(name) => check_kept(alloc, stage, name.as_str()),
+        Action::Same(name, other) => check_same(alloc, stage, name.as_str(), other.as_str()),
+        Action::Starts(name, other) => { check_starts(alloc, stage, name.as_str(), other.as_str()) }
+        Action::Copy(name, copy) => {
+            let bytes = Vec::from_slice(alloc, held(alloc, stage, name.as_str())?)?;
+            stage.give(alloc, copy.as_str(), bytes)
+        }
+    }
+}
