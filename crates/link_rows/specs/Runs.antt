@@ -2,8 +2,6 @@
 use Rattle.std.specs.Prelude.{ℕ, List, [], map, fold, Some}
 use Rattle.std.specs.Borrow.{Bor}
 use Rattle.link_files.specs.Store.{Store, no_files, with_file}
-use Rattle.link_files.specs.FaultPlan.{fresh_plan}
-use Rattle.link_files.specs.MemFiles.{MemState}
 use Rattle.link_files.specs.MemSink.{SinkState}
 use Rattle.link_files.specs.Outside.{FilesView, SinkView}
 use Rattle.linker_program.specs.LinkRun.{Ran, IsOwed}
@@ -21,10 +19,6 @@ Named = Bor (List ℕ) × Bor (List ℕ)
 -- the store of the files, each in place of one before it of its name
 abbrev pub stored : List Named → Store
 stored files = fold (λ store file. with_file store file.0.now file.1.now) no_files files
-
--- files of which the calls with these numbers are to fail, and none did so far
-abbrev pub files_failing : List ℕ → Store → MemState
-files_failing numbers store = record { files = store; read_faults = 0; write_faults = 0; plan = fresh_plan numbers }
 
 -- ---- what comes of it
 

@@ -1,21 +1,44 @@
-//! What the linker makes of its words and files.
+//! The most modules.
 
-mod bases;
-mod big_objects;
-mod build_error;
-mod builder;
-mod case;
-mod failures;
-mod fields;
-mod limits;
-mod links;
-mod many_objects;
-mod names;
-mod object;
-mod objects;
-mod one_object;
-mod opening;
-mod options;
-mod records;
-mod refusals;
-mod shown;
+use crate::run_without_failures;
+use std::alloc::Global;
+use std::test::Fail;
+
+/// An object with the code of `main`: three bytes in `.text`.
+const PLAIN: &[u8] =
+    b"\x64\x86\x01\x00\x00\x00\x00\x00\x3f\x00\x00\x00\x01\x00\x00\x00\x00\x00\x00\x00\
+    .text\x00\x00\x00\x00\x00\x00\x00\x00\x00\x00\x00\x03\x00\x00\x00\x3c\x00\x00\x00\
+    \x00\x00\x00\x00\x00\x00\x00\x00\x00\x00\x00\x00\x20\x00\x50\x60\
+    \x31\xc0\xc3\
+    main\x00\x00\x00\x00\x00\x00\x00\x00\x01\x00\x20\x00\x02\x00\
+    \x04\x00\x00\x00";
+
+/// What a link of the small object prints, named so many times.
+fn line_of_modules(alloc: Global, count: usize) -> Result<Vec<u8>, Fail> {
+    let mut words = Vec::new(alloc);
+    words.push("link")?;
+    for _ in 0..count {
+        words.push("a.obj")?;
+    }
+    words.push("/ENTRY:main")?;
+    words.push("/OUT:a.exe")?;
+    let ended = run_without_failures(alloc, &[("a.obj", PLAIN)], &words)?;
+    Ok(ended.out.taken().to_vec(alloc)?)
+}
+
+#[test]
+fn as_many_as_65534_modules_are_opened(rt: HostRuntime) -> Result<(), Fail> {
+    let line = line_of_modules(rt.alloc(), 65_534)?;
+    assert_eq!(rt;
+        line.as_slice(),
+        b"fault 11 Duplicate main 0 1\n".as_slice()
+    );
+    Ok(())
+}
+
+#[test]
+fn one_module_more_is_refused(rt: HostRuntime) -> Result<(), Fail> {
+    let line = line_of_modules(rt.alloc(), 65_535)?;
+    assert_eq!(rt; line.as_slice(), b"fault 4 InputLimit 65535\n".as_slice());
+    Ok(())
+}

@@ -1,12 +1,11 @@
 //! A run of the linker on words and files in memory.
 
 ghost use Rattle.std.specs.Prelude.{◌≡◌, map, string_bytes, IfOk};
-ghost use Rattle.link_files.specs.MemSink.{fresh_sink};
 ghost use Rattle.link_files.specs.Outside.{files_of};
-ghost use Rattle.link_rows.specs.Runs.{texts, stored, files_failing, unfailed, shown, silent, IsRun};
+ghost use Rattle.link_rows.specs.Runs.{texts, stored, unfailed, shown, silent, IsRun};
 
 use link_base::Memory;
-use link_files::{Files, MemFiles, MemSink, NeverFails};
+use link_files::{Files, MemSink, NeverFails};
 use linker_program::run;
 use std::alloc::Global;
 
@@ -30,7 +29,7 @@ pub fn run_without_failures(
     ensures { IfOk result (λ ended. IsRun (texts words.now) (unfailed (stored files.now)) (unfailed ended.files) (shown ended.out) ended.status) }
 {
     let store = store_of(alloc, files)?;
-    let out = sink_failing(alloc, &[])?;
+    let out = MemSink::new(alloc, Vec::new(alloc));
     run_over(alloc, store, out, words)
 }
 
@@ -43,28 +42,6 @@ fn store_of(alloc: Global, files: &[NamedFile<'_>]) -> Result<NeverFails, Memory
         store.add(name, bytes)?;
     }
     Ok(store)
-}
-
-/// The files, of which the calls with these numbers are to fail: reads and writes are counted together, from 1.
-pub fn store_failing(
-    alloc: Global,
-    files: &[NamedFile<'_>],
-    failing_calls: &[u64],
-) -> Result<MemFiles, Memory>
-    ensures { IfOk result (λ store. store ≡ files_failing failing_calls.now (stored files.now)) }
-{
-    let mut store = MemFiles::new(alloc, Vec::from_slice(alloc, failing_calls)?);
-    for (name, bytes) in files {
-        store.add(name, bytes)?;
-    }
-    Ok(store)
-}
-
-/// A sink of which the puts with these numbers are to fail: they are counted from 1.
-pub fn sink_failing(alloc: Global, failing_puts: &[u64]) -> Result<MemSink, Memory>
-    ensures { IfOk result (λ sink. sink ≡ fresh_sink failing_puts.now) }
-{
-    Ok(MemSink::new(alloc, Vec::from_slice(alloc, failing_puts)?))
 }
 
 /// Runs the linker over files and a sink of which no call failed so far.
