@@ -4,7 +4,7 @@ ghost use Rattle.std.specs.Prelude.{◌≡◌, IfOk};
 
 use crate::error::RowError;
 use link_files::{MemFiles, MemSink, NeverFails};
-use linker_program::run;
+use linker_program::{Status, run};
 use std::alloc::Global;
 use std::mem;
 
@@ -85,18 +85,21 @@ impl Stage {
     pub fn run(&mut self, alloc: Global, words: &[String]) -> Result<(), RowError> {
         let calls = mem::replace(&mut self.failing_calls, Vec::new(alloc));
         let puts = mem::replace(&mut self.failing_puts, Vec::new(alloc));
-        let planned = !calls.is_empty() || !puts.is_empty();
+        let is_planned = !calls.is_empty() || !puts.is_empty();
         let mut printed = MemSink::new(alloc, puts);
-        if planned {
+        let status = if is_planned {
             let mut files = failing_files(alloc, &self.given, calls)?;
             let status = run(alloc, &mut files, &mut printed, words);
             self.failed = Some(files);
-            self.ended = Some(Ended { status, printed });
+            status
         } else {
-            let status = run(alloc, &mut self.store, &mut printed, words);
             self.failed = None;
-            self.ended = Some(Ended { status, printed });
+            run(alloc, &mut self.store, &mut printed, words)
+        };
+        if status == Status::OutOfMemory.code() {
+            return Err(RowError::Memory);
         }
+        self.ended = Some(Ended { status, printed });
         Ok(())
     }
 }
