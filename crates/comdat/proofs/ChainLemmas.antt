@@ -7,7 +7,7 @@ use Rattle.std.proofs.lemmas.Option.{same_Some, none-some}
 use Rattle.link_base.specs.Bytes.{first_below}
 use Rattle.link_base.proofs.CallerLemmas.{first_below-found, first_below-none, first_below-some, first_below-all_fail}
 use Rattle.coff_aux.specs.Parents.{parent_at, ancestor, comes_back, AreParents}
-use Rattle.coff_aux.proofs.ParentLemmas.{ancestor-within}
+use Rattle.coff_aux.proofs.CallerLemmas.{ancestor-within}
 use Rattle.comdat.specs.Chains.{ends_at, chain_steps, chain_end, at_chain_end, AreDecided}
 
 -- no chain comes back

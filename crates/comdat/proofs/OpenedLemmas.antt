@@ -19,7 +19,7 @@ use Rattle.coff_aux.specs.Comdats.{comdat_record_of, parent_in, parents_of}
 use Rattle.module_view.specs.Opening.{unsupported, has_linker_section, has_long_section_name, has_long_symbol_name, form_error, object_error, content_error, opening_error}
 use Rattle.coff_aux.specs.Parents.{comes_back, AreParents}
 use Rattle.coff_aux.specs.Steps.{all_comdat_records, parents_in}
-use Rattle.coff_aux.proofs.RecordLemmas.{are_parents}
+use Rattle.coff_aux.proofs.CallerLemmas.{are_parents}
 use Rattle.comdat.specs.Chains.{chain_end, at_chain_end}
 use Rattle.comdat.specs.Selection.{own_flag, sections_of, named_sections, entry_in, entries_of, all_entries, is_chosen_of_group}
 use Rattle.comdat.specs.Groups.{is_selected}
