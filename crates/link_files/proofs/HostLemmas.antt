@@ -1,15 +1,11 @@
--- Writing and reading part by part, where the bytes of the writer or the reader are known.
-use Rattle.std.proofs.Common.{◌≡◌, ℕ, ◌+◌, List, ◌++◌, length, take, drop, Option, Some, None, sym, ap, subst, ◌∙◌, append_assoc, take-append-drop}
-use Rattle.std.proofs.Math.Seq.{take-add, take-append_seam}
-use Rattle.std.specs.Io.KnownBytes.{Appends, Keeps, Consumes}
-use Rattle.std.proofs.KnownBytes.{Consumes-trans}
-
--- what was appended and then kept was appended
-pub Appends-kept : (old mid new : Option (List ℕ)) (bytes : List ℕ) → Appends old mid bytes → Keeps mid new → Appends old new bytes
-Appends-kept None mid new bytes a k = tt
-Appends-kept (Some xs) None new bytes a k = absurd a
-Appends-kept (Some xs) (Some ys) None bytes a k = absurd k
-Appends-kept (Some xs) (Some ys) (Some zs) bytes a k = k ∙ a
+-- Writing part by part, where the bytes of the writer are known.
+use Rattle.std.proofs.Common.{◌≡◌, ℕ, List, ◌++◌, length, take, drop, Option, Result, Ok, Err, IfErr, sym, ap, subst, ◌∙◌, append_assoc, take-append-drop}
+use Rattle.std.proofs.Math.Seq.{take-append_seam}
+use Rattle.std.proofs.lemmas.List.{append-nil, nil_from_length}
+use Rattle.std.specs.Io.KnownBytes.{Appends}
+use Rattle.link_files.specs.declared.sink.PutError.{PutError}
+use Rattle.link_files.specs.declared.sink.PutError.TheVariants.{Fault, Memory}
+use Rattle.link_files.specs.HostWrites.{WritesWhole}
 
 -- a part that stands in front is the first bytes
 pub first_bytes : (all done rest : List ℕ) (old new : Option (List ℕ)) → all ≡ done ++ rest → Appends old new done → (len : ℕ) × Appends old new (take len all)
@@ -21,7 +17,9 @@ pub moves_over : (all done rest : List ℕ) (n : ℕ) → all ≡ done ++ rest �
 moves_over all done rest n split =
     split ∙ ap (λ (l : List ℕ). done ++ l) (sym (take-append-drop n rest)) ∙ sym (append_assoc done (take n rest) (drop n rest))
 
--- the filled front grows by what was read behind it
-pub front_grows : (a b c : Option (List ℕ)) (old new : List ℕ) (filled count : ℕ) → take filled new ≡ take filled old → Consumes a b (take filled old) → Consumes b c (take count (drop filled new)) → Consumes a c (take (filled + count) new)
-front_grows a b c old new filled count same before read =
-    subst (Consumes a c) (ap (λ (l : List ℕ). l ++ take count (drop filled new)) (sym same) ∙ sym (take-add filled count new)) (Consumes-trans a b c (take filled old) (take count (drop filled new)) before read)
+-- nothing is left to write, and the flush succeeded or was a fault
+pub flushed_whole : {T : Type 0} (all done rest : List ℕ) (old new : Option (List ℕ)) (answer : Result T PutError) → all ≡ done ++ rest → length rest ≡ 0 → Appends old new done → IfErr answer (λ error. error ≡ Fault) → WritesWhole old new all answer
+flushed_whole all done rest old new (Ok _) split none appended is =
+    subst (Appends old new) (sym (split ∙ ap (λ (l : List ℕ). done ++ l) (nil_from_length rest none) ∙ append-nil done)) appended
+flushed_whole all done rest old new (Err Fault) split none appended is = first_bytes all done rest old new split appended
+flushed_whole all done rest old new (Err Memory) split none appended is = absurd (cc is)

@@ -8,5 +8,6 @@ pub mod MemSink
 pub mod HostCounts
 pub mod HostWrites
 pub mod HostReads
+pub mod HostErrors
 pub mod Outside
 pub mod Outputs

@@ -1,6 +1,5 @@
 -- What a list of output files leaves, written one after the other. Own.
-use Rattle.std.specs.Prelude.{◌≡◌, ◌<◌, ◌≤◌, ℕ, Bool, List, [], ◌∷◌, length, map, take, slice_index_or, Option, Result, Ok, Err}
-use Rattle.std.specs.Borrow.{Bor}
+use Rattle.std.specs.Prelude.{◌≡◌, ◌<◌, ◌≤◌, ℕ, List, [], ◌∷◌, length, take, slice_index_or, Option, Result, Ok, Err}
 use Rattle.link_files.specs.declared.outputs.Output.{Output}
 use Rattle.link_files.specs.declared.outputs.OutputError.{OutputError}
 use Rattle.link_files.specs.declared.outputs.OutputError.TheVariants as stop

@@ -1,8 +1,10 @@
 //! The trusted edge of the files: those of the system.
 
-ghost use Rattle.std.specs.Prelude.{◌≡◌, ◌≤◌, ◌<◌, length, take, IfOk, OnOk, vec_len};
+ghost use Rattle.std.specs.Prelude.{◌≡◌, ◌≤◌, length, IfOk};
+ghost use Rattle.std.specs.IoError.{error_kind};
 ghost use Rattle.link_files.specs.HostCounts.{no_faults};
-ghost use Rattle.link_files.specs.HostReads.{ReadsBehind, GivesUpTo};
+ghost use Rattle.link_files.specs.HostErrors.{read_error_of, create_error_of};
+ghost use Rattle.link_files.specs.HostReads.{ReadsRest};
 
 use crate::files::{FileError, Files, WriteError};
 use crate::host_sink::write_whole;
@@ -76,7 +78,8 @@ impl<'a, R: rt::Files> Files for HostFiles<'a, R> {
     }
 }
 
-/// Reads the file, unless its length is above the limit: then, and where it grows above it, it is too large.
+/// Reads the file, unless its length is above the limit: then, and where more bytes come than the limit, it is too
+/// large.
 fn read_file<R: rt::Files, A: Allocator>(
     system: &R,
     alloc: A,
@@ -85,7 +88,7 @@ fn read_file<R: rt::Files, A: Allocator>(
 ) -> Result<Vec<u8, A>, FileError>
     ensures { IfOk result (λ bytes. length bytes.items ≤ limit) }
 {
-    let mut file = match fs::open(system, name) {
+    let file = match fs::open(system, name) {
         Ok(file) => file,
         Err(error) => return Err(read_error(&error)),
     };
@@ -96,75 +99,31 @@ fn read_file<R: rt::Files, A: Allocator>(
     if len > limit {
         return Err(FileError::TooLarge);
     }
-    let most = limit.saturating_add(1) as usize;
-    let room = len.saturating_add(1) as usize;
-    let mut bytes = Vec::with_capacity(alloc, room)?;
-    bytes.resize(room, 0)?;
-    read_on(&mut file, &mut bytes, most)?;
+    read_rest(alloc, file, len, limit)
+}
+
+/// All that the reader has left. It is too large where more than `limit` bytes come, and nothing is read behind the
+/// first of those. Room for `len` bytes, and one to see the end, is taken at once.
+fn read_rest<F: Read, A: Allocator>(
+    alloc: A,
+    file: F,
+    len: u64,
+    limit: u64,
+) -> Result<Vec<u8, A>, FileError>
+where
+    F: Drop,
+    ensures { ReadsRest (F.remaining file) limit result }
+{
+    let mut bytes = Vec::with_capacity(alloc, len.saturating_add(1) as usize)?;
+    let mut file = file.take(limit.saturating_add(1));
+    match file.read_to_end(&mut bytes) {
+        Ok(_) => {}
+        Err(error) => return Err(read_error(&error)),
+    }
     if bytes.len() as u64 > limit {
         return Err(FileError::TooLarge);
     }
     Ok(bytes)
-}
-
-/// Fills the bytes from the file until it ends or `most` bytes are there. Where the room ends before, there is
-/// more of it.
-fn read_on<F: Read, A: Allocator>(
-    file: &mut F,
-    bytes: &mut Vec<u8, A>,
-    most: usize,
-) -> Result<(), FileError>
-    requires { vec_len bytes.old ≤ most }
-    ensures { OnOk result (GivesUpTo (F.remaining file.old) (F.remaining file.new) bytes.new.items most) }
-{
-    let mut filled = 0;
-    while filled < most {
-        make_room(bytes, filled, most)?;
-        let count = read_behind(file, bytes, filled)?;
-        if count == 0 {
-            bytes.truncate(filled);
-            return Ok(());
-        }
-        filled += count;
-    }
-    bytes.truncate(filled);
-    Ok(())
-}
-
-/// Makes more room, at most `most`, where all of it is filled.
-fn make_room<A: Allocator>(
-    bytes: &mut Vec<u8, A>,
-    filled: usize,
-    most: usize,
-) -> Result<(), FileError>
-    requires within { filled ≤ vec_len bytes.old }
-    requires below { vec_len bytes.old ≤ most }
-    requires wanted { filled < most }
-    ensures room { OnOk result (filled < vec_len bytes.new) }
-    ensures most { OnOk result (vec_len bytes.new ≤ most) }
-    ensures front { take filled bytes.new.items ≡ take filled bytes.old.items }
-{
-    if filled == bytes.len() {
-        bytes.resize(filled.saturating_mul(2).max(1).min(most), 0)?;
-    }
-    Ok(())
-}
-
-/// One read, into the room behind the bytes that are filled.
-fn read_behind<F: Read, A: Allocator>(
-    file: &mut F,
-    bytes: &mut Vec<u8, A>,
-    filled: usize,
-) -> Result<usize, FileError>
-    requires { filled < vec_len bytes.old }
-    ensures len { vec_len bytes.new ≡ vec_len bytes.old }
-    ensures read { IfOk result (ReadsBehind (F.remaining file.old) (F.remaining file.new)
-        bytes.old.items bytes.new.items filled) }
-{
-    match file.read(&mut bytes[filled..]) {
-        Ok(count) => Ok(count),
-        Err(error) => Err(read_error(&error)),
-    }
 }
 
 /// Makes the file, or empties it, and writes the bytes. Once that is done every error is a fault.
@@ -179,15 +138,24 @@ fn write_file<R: rt::Files>(system: &R, name: &str, bytes: &[u8]) -> Result<(), 
     }
 }
 
-fn read_error(error: &io::Error) -> FileError {
+/// No file has the name where it is not there, where its path goes through a file, and where it is longer than the
+/// system's names are. Want of memory has a kind of its own; every other error is a fault.
+fn read_error(error: &io::Error) -> FileError
+    ensures { result ≡ read_error_of (error_kind error.now) }
+{
     match error.kind() {
         ErrorKind::NotFound => FileError::NotFound,
+        ErrorKind::NotADirectory => FileError::NotFound,
+        ErrorKind::InvalidFilename => FileError::NotFound,
         ErrorKind::OutOfMemory => FileError::Memory,
         _ => FileError::Fault,
     }
 }
 
-fn create_error(error: &io::Error) -> WriteError {
+/// Want of memory has a kind of its own; every other error is a fault.
+fn create_error(error: &io::Error) -> WriteError
+    ensures { result ≡ create_error_of (error_kind error.now) }
+{
     match error.kind() {
         ErrorKind::OutOfMemory => WriteError::Memory,
         _ => WriteError::Fault,

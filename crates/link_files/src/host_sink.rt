@@ -1,9 +1,15 @@
 //! The trusted edge of the output: a writer of the system.
 
-ghost use Rattle.std.specs.Prelude.{◌≡◌};
+ghost use Rattle.std.specs.Prelude.{◌≡◌, ◌≢◌, ◌↔◌, IsOk, IfErr};
+ghost use Rattle.std.specs.Io.{WritesAtMost};
+ghost use Rattle.std.specs.Io.KnownBytes.{WriteAppends};
+ghost use Rattle.std.specs.IoError.{error_kind};
+ghost use Rattle.std.specs.declared.io.ErrorKind.TheVariants as kind;
 ghost use Rattle.link_files.specs.HostWrites.{WritesWhole};
+ghost use Rattle.link_files.specs.declared.sink.PutError.TheVariants as put;
 
 use crate::sink::{PutError, Sink};
+use std::io;
 use std::io::{ErrorKind, Write};
 use std::marker::Model;
 
@@ -56,7 +62,7 @@ pub(crate) fn write_whole<W: Write>(out: &mut W, bytes: &[u8]) -> Result<(), Put
 {
     let mut rest = bytes;
     while !rest.is_empty() {
-        match out.write(rest) {
+        match write_some(out, rest) {
             Ok(0) => return Err(PutError::Fault),
             Ok(count) => (_, rest) = rest.split_at(count),
             Err(error) => {
@@ -68,7 +74,34 @@ pub(crate) fn write_whole<W: Write>(out: &mut W, bytes: &[u8]) -> Result<(), Put
             }
         }
     }
-    match out.flush() {
+    flush_answer(out.flush())
+}
+
+/// One write, tried again where it was interrupted. It timed out where each of 2^64 - 1 tries was.
+fn write_some<W: Write>(out: &mut W, bytes: &[u8]) -> io::Result<usize>
+    ensures bound { WritesAtMost result bytes.now }
+    ensures bytes { WriteAppends (W.contents out.old) (W.contents out.new) result bytes.now }
+    ensures retried { IfErr result (λ error. error_kind error ≢ kind.Interrupted) }
+{
+    for _ in 0..u64::MAX {
+        match out.write(bytes) {
+            Ok(count) => return Ok(count),
+            Err(error) => {
+                if error.kind() != ErrorKind::Interrupted {
+                    return Err(error);
+                }
+            }
+        }
+    }
+    Err(io::Error::from(ErrorKind::TimedOut))
+}
+
+/// A flush that failed is a fault.
+fn flush_answer(flushed: io::Result<()>) -> Result<(), PutError>
+    ensures ok { IsOk result ↔ IsOk flushed }
+    ensures fault { IfErr result (λ error. error ≡ put.Fault) }
+{
+    match flushed {
         Ok(()) => Ok(()),
         Err(_) => Err(PutError::Fault),
     }

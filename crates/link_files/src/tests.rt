@@ -4,19 +4,26 @@ ghost use Rattle.std.specs.Prelude.{◌<◌, ◌-◌, ◌^◌};
 
 use super::*;
 use std::alloc::Global;
-use std::io::{ErrorKind, Write};
+use std::io::{ErrorKind, Read, Write};
 use std::test::Fail;
 use std::{fs, io};
 
-/// Takes one byte a write while there is room for it, and then answers an error of this kind, or nothing.
+/// Is interrupted so many times, takes one byte a write while there is room for it, and then answers an error of this
+/// kind, or nothing. A flush answers an error of its own kind, if there is one.
 #[derive(Drop)]
 struct Narrow {
+    interrupts: usize,
     room: usize,
     error: Option<ErrorKind>,
+    flush: Option<ErrorKind>,
 }
 
 impl Write for Narrow {
     fn write(&mut self, bytes: &[u8]) -> io::Result<usize> {
+        if self.interrupts > 0 {
+            self.interrupts -= 1;
+            return Err(io::Error::from(ErrorKind::Interrupted));
+        }
         if self.room > 0 && !bytes.is_empty() {
             self.room -= 1;
             return Ok(1);
@@ -28,7 +35,10 @@ impl Write for Narrow {
     }
 
     fn flush(&mut self) -> io::Result<()> {
-        Ok(())
+        match self.flush {
+            Some(kind) => Err(io::Error::from(kind)),
+            None => Ok(()),
+        }
     }
 }
 
@@ -153,9 +163,9 @@ fn in_memory(alloc: Global) -> Result<(NeverFails, MemSink), Fail> {
     Ok((files, out))
 }
 
-/// What a put answers, of a writer with this room.
-fn put_narrow(room: usize, error: Option<ErrorKind>) -> Result<(), PutError> {
-    let mut out = HostSink::new(Narrow { room, error });
+/// What a put of three bytes answers.
+fn put_narrow(out: Narrow) -> Result<(), PutError> {
+    let mut out = HostSink::new(out);
     out.put(b"xyz")
 }
 
@@ -181,28 +191,67 @@ fn read_real<R: std::rt::Files>(
 #[test]
 fn real_files_are_written_and_read(rt: HostRuntime) -> Result<(), Fail> {
     write_real(&rt, rt.alloc())?;
+    let too_long = "x".repeat(rt.alloc(), 256)?;
     for (name, limit, want) in [
         ("in.bin", 3, Ok(3)),
         ("in.bin", 2, Err(FileError::TooLarge)),
         ("out.bin", 4, Ok(3)),
         ("taken.bin", 3, Ok(3)),
         ("missing.bin", 3, Err(FileError::NotFound)),
+        ("in.bin/missing.bin", 3, Err(FileError::NotFound)),
+        (too_long.as_str(), 3, Err(FileError::NotFound)),
         (".", 1_000_000, Err(FileError::Fault)),
     ] {
         let answer = read_real(&rt, rt.alloc(), name, limit);
         assert_eq!(rt; answer, want, "{name} at {limit}");
+    }
+    assert_eq!(rt;
+        HostFiles::new(&rt).write(".", b"xyz"),
+        Err(WriteError::Fault)
+    );
+    Ok(())
+}
+
+/// Writes a file of so many bytes. Tells whether the kit and a read give them, and a limit of one less is refused.
+fn comes_back<R: std::rt::Files>(rt: &R, alloc: Global, len: usize) -> Result<bool, Fail> {
+    let mut bytes = Vec::with_capacity(alloc, len)?;
+    for index in 0..len {
+        bytes.push((index % 251) as u8)?;
+    }
+    let mut files = HostFiles::new(rt);
+    files.write("long.bin", bytes.as_slice())?;
+    let mut held = Vec::new(alloc);
+    fs::open(rt, "long.bin")?.read_to_end(&mut held)?;
+    let given = files.read(alloc, "long.bin", len as u64)?;
+    let below = files.read(alloc, "long.bin", (len as u64).saturating_sub(1));
+    Ok(held == bytes && given == bytes && length_of(below) == Err(FileError::TooLarge))
+}
+
+#[test]
+fn long_files_come_back(rt: HostRuntime) -> Result<(), Fail> {
+    for len in [1, 4_096, 4_097, 131_072, 131_073, 400_000] {
+        assert!(rt; comes_back(&rt, rt.alloc(), len)?, "{len} bytes");
     }
     Ok(())
 }
 
 #[test]
 fn failing_writers_are_faults(rt: HostRuntime) {
-    for (room, error, want) in [
-        (3, None, Ok(())),
-        (2, None, Err(PutError::Fault)),
-        (2, Some(ErrorKind::OutOfMemory), Err(PutError::Fault)),
-        (0, Some(ErrorKind::OutOfMemory), Err(PutError::Memory)),
+    let memory = Some(ErrorKind::OutOfMemory);
+    for (interrupts, room, error, flush, want) in [
+        (0, 3, None, None, Ok(())),
+        (2, 3, None, None, Ok(())),
+        (0, 2, None, None, Err(PutError::Fault)),
+        (0, 2, memory, None, Err(PutError::Fault)),
+        (0, 0, memory, None, Err(PutError::Memory)),
+        (0, 3, None, memory, Err(PutError::Fault)),
     ] {
-        assert_eq!(rt; put_narrow(room, error), want, "room for {room}");
+        let out = Narrow {
+            interrupts,
+            room,
+            error,
+            flush,
+        };
+        assert_eq!(rt; put_narrow(out), want, "room for {room}");
     }
 }

@@ -27,9 +27,9 @@ use Rattle.coff_records.specs.StringTable.{string_table_offset, string_table_siz
 use Rattle.module_view.specs.Opening.{resource_start, form_error, is_linker_section, content_error, opening_error}
 use Rattle.module_view.specs.PlacedSection.{comes_in}
 use Rattle.module_view.specs.SymbolLists.{is_definition, definitions_of, is_undefined, is_reference, references_of}
-use Rattle.module_view.specs.Comdats.{comdat_record_of, parent_in, parents_of}
-use Rattle.module_view.specs.Parents.{ancestor}
-use Rattle.module_view.specs.AuxFaults.{is_bad_weak, aux_place, parent_place, aux_fault}
+use Rattle.coff_aux.specs.Comdats.{comdat_record_of, parent_in, parents_of}
+use Rattle.coff_aux.specs.Parents.{ancestor}
+use Rattle.coff_aux.specs.AuxFaults.{is_bad_weak, aux_place, parent_place, aux_fault}
 use Rattle.module_view.specs.Unbuilt.{is_unbuilt_form, is_unbuilt_symbol}
 use Rattle.link_pieces.specs.Pieces.{is_named, link_pieces, link_contents}
 use Rattle.link_plan.specs.PlanFaults.{plan_fault}

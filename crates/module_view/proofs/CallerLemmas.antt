@@ -1,4 +1,4 @@
--- What callers may cite of a module that opens: that its object is well formed, and where its definitions stand.
+-- What callers may cite of a module that opens: that its object is well formed, and where its definitions stand; and marks.
 use Rattle.std.proofs.Common.{◌≡◌, ℕ, suc, ◌≤◌, ℤ, pos, negsuc, Bool, true, false, cond, ◌||◌, eqb, List, [], ◌∷◌, filter, Option, Some, None, refl, sym, ap, subst, ◌∙◌, arith}
 use Rattle.std.specs.Prelude.{option_map}
 use Rattle.std.specs.Option.{option_or}
@@ -19,6 +19,7 @@ use Rattle.module_view.specs.declared.definition.Place.TheVariants as place
 use Rattle.module_view.specs.declared.error.ModuleError.TheVariants as error
 use Rattle.module_view.specs.SymbolLists.{is_absolute, is_definition, place_in_section, place_of, defines, definition_of, definitions_of}
 use Rattle.module_view.specs.Opening.{opening_error, form_error, object_error, content_error}
+pub use Rattle.coff_aux.proofs.CallerLemmas.{unmarked}
 
 -- ---- what does not stand
 

@@ -4,6 +4,7 @@
 //! earlier one. Names are looked up by hash, of which nothing is claimed.
 #![tactic(auto)]
 
+mod chosen;
 mod laws;
 mod linker_names;
 mod meaning;
@@ -11,6 +12,7 @@ mod noting;
 mod source;
 mod table;
 
+pub use chosen::Chosen;
 pub use laws::tables_are_shared;
 pub use meaning::{Clash, Meaning, NoMeaning};
 pub use table::SymbolTable;

@@ -1,6 +1,7 @@
 use Rattle.std.proofs.Common.{◌++◌, List, ℕ, take, drop, sym, ap, ◌∙◌}
-use Rattle.std.proofs.KnownBytes.{Appends-trans}
-use Rattle.link_files.proofs.HostLemmas.{Appends-kept, first_bytes, moves_over}
+use Rattle.std.proofs.lemmas.Bool.{eqb-true}
+use Rattle.std.proofs.KnownBytes.{Appends-trans, Appends-kept}
+use Rattle.link_files.proofs.HostLemmas.{first_bytes, moves_over, flushed_whole}
 use Rattle.link_files.proofs.host_sink.write_whole.Goals as goal
 
 pub returns-in-Ok-eq0 : goal.returns-in-Ok-eq0
@@ -22,7 +23,7 @@ returns-in-Err g c =
     let (done, split, appended) = c.loop-rest.invariant in
     first_bytes _ done c.loop-rest.rest.now _ _ split (Appends-kept _ _ _ done appended c.in-Err.ensures.bytes)
 
-pub returns-in-Err-flush : goal.returns-in-Err-flush
-returns-in-Err-flush g c =
+pub returns : goal.returns
+returns g c =
     let (done, split, appended) = c.loop-rest.invariant in
-    first_bytes _ done c.loop-rest.rest.now _ _ split (Appends-kept _ _ _ done appended c.in-Err-flush.ensures.bytes)
+    flushed_whole _ done c.loop-rest.rest.now _ _ c.flush_answer.result split (eqb-true _ 0 (sym c.loop-rest-test.ensures)) (Appends-kept _ _ _ done appended c.flush.ensures.bytes) c.flush_answer.ensures.fault

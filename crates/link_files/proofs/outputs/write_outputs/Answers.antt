@@ -1,9 +1,9 @@
-use Rattle.std.proofs.Common.{◌≡◌, ℕ, ◌<◌, List, length, map, get_or, refl, sym, ap, ◌∙◌, subst, arith}
+use Rattle.std.proofs.Common.{ℕ, ◌<◌, List, length, map, subst, arith}
 use Rattle.std.proofs.lemmas.List.{length-map}
 use Rattle.link_files.specs.Outside.{files_of}
 use Rattle.link_files.specs.Outputs.{named_bytes}
-use Rattle.link_files.specs.Writing.{PutsFile, TearsFile}
-use Rattle.link_files.proofs.OutputLemmas.{nothing_written, one_written, next_torn, left_written, named_at}
+use Rattle.link_files.specs.Writing.{PutsFile}
+use Rattle.link_files.proofs.OutputLemmas.{nothing_written, one_written, named_at}
 use Rattle.link_files.proofs.outputs.write_outputs.Goals as goal
 
 pub loop-index-init : goal.loop-index-init

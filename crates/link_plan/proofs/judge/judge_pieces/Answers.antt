@@ -4,7 +4,7 @@ use Rattle.link_base.specs.Refusals.{first_refusal_below}
 use Rattle.link_base.proofs.RefusalLemmas.{first_refusal_below-more}
 use Rattle.link_pieces.specs.Pieces.{link_pieces}
 use Rattle.link_plan.specs.Fixes.{piece_fault}
-use Rattle.module_view.proofs.SymbolLemmas.{unmarked}
+use Rattle.module_view.proofs.CallerLemmas.{unmarked}
 use Rattle.link_plan.proofs.JudgeLemmas.{read_piece, fault_read, fields_none, fields_more, meant_more, refuses_found}
 use Rattle.link_plan.proofs.judge.judge_pieces.Goals as goal
 

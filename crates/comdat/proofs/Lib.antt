@@ -1,0 +1,12 @@
+pub mod GreatestLemmas
+pub mod ChoiceLemmas
+pub mod CallerLemmas
+pub mod NameLemmas
+pub mod NumberingLemmas
+pub mod ListLemmas
+pub mod GroupLemmas
+pub mod ChainLemmas
+pub mod RowLemmas
+pub mod PlainLemmas
+pub mod OpenedLemmas
+mod WorkedGroups

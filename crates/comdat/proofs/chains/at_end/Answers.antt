@@ -1,0 +1,38 @@
+use Rattle.std.proofs.Common.{◌≡◌, ◌<◌, ℕ, false, get_or, length, refl, sym, ap, ◌∙◌, arith}
+use Rattle.coff_aux.specs.Parents.{ancestor, parent_at}
+use Rattle.comdat.proofs.ChainLemmas.{DoEnd, ancestor_first, ancestor_more, has_ended, end_here, end_above}
+use Rattle.comdat.proofs.chains.at_end.Goals as goal
+
+pub loop-init : goal.loop-init
+loop-init c = record {
+  steps = sym (ancestor_first c.args.parents.now c.args.section);
+  some = c.requires.first;
+  within = c.requires.within;
+  same = refl;
+}
+
+pub returns-then-parent-eq0 : goal.returns-then-parent-eq0
+returns-then-parent-eq0 c =
+    let before = c.loop.invariant in
+    ap (λ (n : ℕ). get_or c.args.own.now n false) (sym (end_here c.args.parents.now c.loop.at before.within c.if-parent-eq0.true) ∙ before.same)
+
+pub loop-preserved : goal.loop-preserved
+loop-preserved c =
+    let parents = c.args.parents.now in
+    let before = c.loop.invariant in
+    let are : DoEnd parents = record { are = c.requires.parents; ends = c.requires.ends } in
+    let some : 0 < parent_at parents c.loop.at = omega (arith, c.if-parent-eq0.false) in
+    record {
+      steps = ap (parent_at parents) before.steps ∙ sym (ancestor_more parents c.loop.counter c.args.section);
+      some = some;
+      within = c.requires.parents.within c.loop.at before.within;
+      same = sym (end_above parents c.loop.at are before.some before.within some) ∙ before.same;
+    }
+
+pub unreachable-requires : goal.unreachable-requires
+unreachable-requires c =
+    let parents = c.args.parents.now in
+    let before = c.loop.invariant in
+    let are : DoEnd parents = record { are = c.requires.parents; ends = c.requires.ends } in
+    let all : c.loop.counter ≡ length parents = omega arith in
+    omega (arith, before.some, before.steps ∙ ap (λ (n : ℕ). ancestor parents n c.args.section) all ∙ has_ended parents c.args.section are c.requires.within)

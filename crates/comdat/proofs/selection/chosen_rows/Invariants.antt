@@ -1,0 +1,12 @@
+use Rattle.std.proofs.Common.{◌≡◌, map}
+use Rattle.std.specs.List.{range_with_len}
+use Rattle.comdat.specs.Selection.{chosen_row}
+use Rattle.comdat.specs.Plain.{row_flags}
+use Rattle.comdat.proofs.OpenedLemmas.{told_from}
+use Rattle.comdat.proofs.selection.chosen_rows.Given as goal
+
+abbrev pub invariant-loop-module : goal.invariant-loop-module
+invariant-loop-module l = record {
+  rest : l.rest ≡ told_from l.modules l.module-index;
+  rows : map row_flags l.rows.items ≡ map (chosen_row l.modules) (range_with_len 0 l.module-index);
+}

@@ -1,0 +1,7 @@
+pub mod Choice
+pub mod Steps
+pub mod Groups
+pub mod Numbering
+pub mod Chains
+pub mod Selection
+pub mod Plain

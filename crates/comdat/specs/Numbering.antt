@@ -1,0 +1,42 @@
+-- What the passes over the groups say of one another. Own.
+use Rattle.std.specs.Prelude.{◌≡◌, ℕ, ◌<◌, ◌==◌, if◌then◌else◌, List, [], ◌∷◌, length, take, slice_index, slice_index_or, Some}
+use Rattle.std.specs.declared.vec.Vec.{Vec}
+use Rattle.std.specs.declared.alloc.Global.{Global}
+use Rattle.link_base.specs.NameText.{same_name}
+use Rattle.comdat.specs.declared.candidate.Candidate.{Candidate}
+use Rattle.comdat.specs.declared.named.Named.{Named}
+use Rattle.comdat.specs.Choice.{no_candidate}
+use Rattle.comdat.specs.Groups.{name_at, group_of, chosen_of}
+
+-- the first section of a group, by the numbers of groups
+pub record IsFirstOf (numbers : List ℕ) (number first : ℕ) : Type 0 where
+  pub within : first < length numbers
+  pub has : slice_index numbers first ≡ number
+  pub before : (k : ℕ) → k < first → slice_index numbers k < number
+
+-- sections have one number where they have one name, and numbers are given in the order of the first sections
+pub record AreNumbers (entries : List Named) (numbers firsts : List ℕ) : Type 0 where
+  pub same_length : length numbers ≡ length entries
+  pub within : (k : ℕ) → k < length entries → slice_index numbers k < length firsts
+  pub alike :
+      (j k : ℕ) → j < length entries → k < length entries → (slice_index numbers j == slice_index numbers k) ≡ same_name (name_at entries j) (name_at entries k)
+  pub first : (number : ℕ) → number < length firsts → IsFirstOf numbers number (slice_index firsts number)
+
+-- those of a number, in their order
+abbrev pub numbered : ℕ → List ℕ → List Named → List Candidate
+numbered number [] entries = []
+numbered number (n ∷ rest) [] = []
+numbered number (n ∷ rest) (entry ∷ others) =
+    if n == number then entry.candidate ∷ numbered number rest others else numbered number rest others
+
+-- the lists of the first sections
+pub record AreLists (entries : List Named) (numbers : List ℕ) (done count : ℕ) (lists : List (Vec Candidate Global)) : Type 0 where
+  pub same_length : length lists ≡ count
+  pub each :
+      (number : ℕ) (d : Vec Candidate Global) → number < count → (slice_index_or lists number d).items ≡ numbered number (take done numbers) (take done entries)
+
+-- each is the chosen one of its group
+pub record AreWinners (entries : List Named) (firsts : List ℕ) (winners : List Candidate) : Type 0 where
+  pub same_length : length winners ≡ length firsts
+  pub each :
+      (number : ℕ) → number < length firsts → chosen_of (group_of entries (name_at entries (slice_index firsts number))) ≡ Some (slice_index_or winners number no_candidate)

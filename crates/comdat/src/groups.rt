@@ -1,0 +1,66 @@
+//! The choice in each of several groups.
+
+ghost use Rattle.std.specs.Prelude.{◌≡◌, None, length, map, OnOk, IfOk, IfErr};
+ghost use Rattle.comdat.specs.Groups.{is_selected, first_conflict, is_same_section, RefusesChoice};
+ghost use Rattle.comdat.specs.Numbering.{AreNumbers, AreLists, AreWinners};
+
+use crate::candidate::Candidate;
+use crate::choice::choose;
+use crate::error::ChooseError;
+use crate::lists::group_lists;
+use crate::named::Named;
+use crate::numbering::{Numbering, number_groups};
+use std::alloc::Global;
+
+/// For each section whether it is the chosen one of its group.
+pub(crate) fn select<'a>(alloc: Global, entries: &[Named<'a>]) -> Result<Vec<bool>, ChooseError<'a>>
+    ensures selected { IfOk result (λ flags. flags.items ≡ map (is_selected entries.now) entries.now) }
+    ensures accepted { OnOk result (first_conflict entries.now ≡ None) }
+    ensures refused { IfErr result (RefusesChoice (first_conflict entries.now)) }
+{
+    let numbering = number_groups(alloc, entries)?;
+    let lists = group_lists(alloc, entries, &numbering)?;
+    let winners = winners(alloc, entries, &numbering, &lists)?;
+    let mut flags = Vec::with_capacity(alloc, entries.len())?;
+    for (index, entry) in entries.iter().enumerate() {
+        let winner = &winners[numbering.numbers[index]];
+        flags.push(is_same_section(&entry.candidate, winner))?;
+    }
+    Ok(flags)
+}
+
+/// The section that each group chooses, by its number.
+fn winners<'a>(
+    alloc: Global,
+    entries: &[Named<'a>],
+    numbering: &Numbering,
+    lists: &[Vec<Candidate<'a>>],
+) -> Result<Vec<Candidate<'a>>, ChooseError<'a>>
+    requires numbers { AreNumbers entries.now numbering.now.numbers.items numbering.now.firsts.items }
+    requires lists { AreLists entries.now numbering.now.numbers.items (length entries.now) (length numbering.now.firsts.items) lists.now }
+    ensures winners { IfOk result (λ winners. AreWinners entries.now numbering.now.firsts.items winners.items) }
+    ensures accepted { OnOk result (first_conflict entries.now ≡ None) }
+    ensures refused { IfErr result (RefusesChoice (first_conflict entries.now)) }
+{
+    let mut winners = Vec::with_capacity(alloc, lists.len())?;
+    for (number, list) in lists.iter().enumerate() {
+        match choose(list) {
+            Ok(place) => winners.push(list[place])?,
+            Err(conflict) => {
+                return Err(ChooseError::Conflict {
+                    name: entries[numbering.firsts[number]].name.again(),
+                    first: list[0].module,
+                    second: list[conflict.second].module,
+                });
+            }
+        }
+    }
+    Ok(winners)
+}
+
+/// Whether two candidates are one section.
+fn is_same_section(one: &Candidate<'_>, other: &Candidate<'_>) -> bool
+    ensures { result ≡ is_same_section one.now other.now }
+{
+    one.module == other.module && one.section == other.section
+}

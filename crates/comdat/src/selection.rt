@@ -1,0 +1,70 @@
+//! Which sections of a link are chosen.
+
+ghost use Rattle.std.specs.Prelude.{◌≡◌, ◌≤◌, ◌++◌, ℕ, Bool, List, None, length, map, IfOk, OnOk, IfErr};
+ghost use Rattle.link_base.specs.Limits as limit;
+ghost use Rattle.coff_aux.specs.Comdats.{parents_of};
+ghost use Rattle.comdat.specs.Chains.{chain_end};
+ghost use Rattle.comdat.specs.Groups.{is_selected, first_conflict, RefusesChoice};
+ghost use Rattle.comdat.specs.Selection.{named_sections, sections_of, own_flag, all_entries, chosen_sections};
+ghost use Rattle.comdat.specs.Plain.{row_flags};
+
+use crate::chains::follow_chains;
+use crate::error::ChooseError;
+use crate::groups::select;
+use crate::rows::{own_flags, parents};
+use crate::sections::named_sections;
+use link_base::Memory;
+use module_view::Module;
+use std::alloc::Global;
+use symbol_table::Chosen;
+
+/// Which sections of the modules are chosen. Each COMDAT section goes by the name of its leader, the second symbol of the
+/// section, where that is external, and of all that go by one name one is chosen, as `choose` says. An associative section
+/// is chosen where the section at the end of its chain of parents is. One that is no COMDAT section is chosen, and so is one
+/// with neither leader nor parent. The first group that conflicts is told, in the order of the first sections of groups.
+/// (PE Format, "COMDAT Sections (Object Only)".)
+pub fn choose_all<'a>(alloc: Global, modules: &[Module<'a>]) -> Result<Chosen, ChooseError<'a>>
+    requires { length modules.now ≤ limit.MODULE_LIMIT }
+    ensures chosen { IfOk result (λ chosen. map row_flags chosen.items ≡ chosen_sections modules.now) }
+    ensures accepted { OnOk result (first_conflict (all_entries modules.now) ≡ None) }
+    ensures refused { IfErr result (RefusesChoice (first_conflict (all_entries modules.now))) }
+{
+    let entries = named_sections(alloc, modules)?;
+    let selected = select(alloc, &entries)?;
+    let rows = chosen_rows(alloc, modules, &selected)?;
+    Ok(rows)
+}
+
+/// The sections of each module, by what is said of all that go by a name.
+fn chosen_rows(alloc: Global, modules: &[Module<'_>], selected: &[bool]) -> Result<Chosen, Memory>
+    requires { selected.now ≡ map (is_selected (all_entries modules.now)) (all_entries modules.now) }
+    ensures { IfOk result (λ rows. map row_flags rows.items ≡ chosen_sections modules.now) }
+{
+    let mut rest = selected;
+    let mut rows = Vec::with_capacity(alloc, modules.len())?;
+    for module in modules {
+        let (row, later) = chosen_row(alloc, module, rest)?;
+        rows.push(row)?;
+        rest = later;
+    }
+    Ok(rows)
+}
+
+/// The sections of a module, and what is said of those of later modules. The list has an entry for each section that goes
+/// by a name.
+fn chosen_row<'w>(
+    alloc: Global,
+    module: &Module<'_>,
+    selected: &'w [bool],
+) -> Result<(Vec<bool>, &'w [bool]), Memory>
+    requires { length (named_sections «module».now.bytes) ≤ length selected.now }
+    ensures { IfOk result (λ r. (chosen : ℕ → Bool) (later : List Bool)
+        → selected.now ≡ map chosen (named_sections «module».now.bytes) ++ later
+        → (r.0.items ≡ map (λ section. own_flag chosen «module».now.bytes (chain_end (parents_of «module».now.bytes) section)) (sections_of «module».now.bytes))
+        × (r.1.now ≡ later)) }
+{
+    let (own, later) = own_flags(alloc, module, selected)?;
+    let parents = parents(alloc, module)?;
+    let flags = follow_chains(alloc, &parents, &own)?;
+    Ok((flags, later))
+}
