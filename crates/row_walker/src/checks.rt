@@ -1,17 +1,24 @@
 //! What is expected of the last run and of the files, and what is said where it did not come.
 
+ghost use Rattle.std.specs.Prelude.{◌≡◌, OnOk, IfOk, Some, None};
+ghost use Rattle.row_walker.specs.Met.{held_by, EndedWith, HasPrinted, HoldsAt, HasLength};
+
 use crate::error::RowError;
 use crate::stage::{Ended, Stage};
 use std::alloc::Global;
 
-fn last_run(stage: &Stage) -> Result<&Ended, RowError> {
+fn last_run(stage: &Stage) -> Result<&Ended, RowError>
+    ensures { IfOk result (λ ended. stage.now.ended ≡ Some ended.now) }
+{
     match &stage.ended {
         Some(ended) => Ok(ended),
         None => Err(RowError::Malformed("no run stands above")),
     }
 }
 
-pub fn check_status(alloc: Global, stage: &Stage, expected: u64) -> Result<(), RowError> {
+pub fn check_status(alloc: Global, stage: &Stage, expected: u64) -> Result<(), RowError>
+    ensures { OnOk result (EndedWith stage.now expected) }
+{
     let ended = last_run(stage)?;
     let status = ended.status;
     if u64::from(status) == expected {
@@ -23,7 +30,9 @@ pub fn check_status(alloc: Global, stage: &Stage, expected: u64) -> Result<(), R
     )?))
 }
 
-pub fn check_printed(alloc: Global, stage: &Stage, expected: &[u8]) -> Result<(), RowError> {
+pub fn check_printed(alloc: Global, stage: &Stage, expected: &[u8]) -> Result<(), RowError>
+    ensures { OnOk result (HasPrinted stage.now expected.now) }
+{
     let ended = last_run(stage)?;
     if ended.printed.taken() == expected {
         return Ok(());
@@ -34,7 +43,9 @@ pub fn check_printed(alloc: Global, stage: &Stage, expected: &[u8]) -> Result<()
 }
 
 /// The bytes of a file as the last run left it.
-pub fn held<'a>(alloc: Global, stage: &'a Stage, name: &str) -> Result<&'a [u8], RowError> {
+pub fn held<'a>(alloc: Global, stage: &'a Stage, name: &str) -> Result<&'a [u8], RowError>
+    ensures { IfOk result (λ bytes. held_by stage.now name.now ≡ Some bytes.now) }
+{
     match stage.held(name) {
         Some(bytes) => Ok(bytes),
         None => Err(RowError::Wrong(format!(in alloc; "there is no file {name}")?)),
@@ -47,7 +58,9 @@ pub fn check_at(
     name: &str,
     offset: usize,
     expected: &[u8],
-) -> Result<(), RowError> {
+) -> Result<(), RowError>
+    ensures { OnOk result (HoldsAt stage.now name.now offset expected.now) }
+{
     let bytes = held(alloc, stage, name)?;
     let end = offset.saturating_add(expected.len());
     let Some(found) = bytes.get(offset..end) else {
@@ -61,12 +74,9 @@ pub fn check_at(
     Err(RowError::Wrong(format!(in alloc; "came {found}")?))
 }
 
-pub fn check_size(
-    alloc: Global,
-    stage: &Stage,
-    name: &str,
-    expected: usize,
-) -> Result<(), RowError> {
+pub fn check_size(alloc: Global, stage: &Stage, name: &str, expected: usize) -> Result<(), RowError>
+    ensures { OnOk result (HasLength stage.now name.now expected) }
+{
     let len = held(alloc, stage, name)?.len();
     if len == expected {
         return Ok(());
@@ -74,7 +84,9 @@ pub fn check_size(
     Err(RowError::Wrong(format!(in alloc; "{name} has {len} bytes")?))
 }
 
-pub fn check_gone(alloc: Global, stage: &Stage, name: &str) -> Result<(), RowError> {
+pub fn check_gone(alloc: Global, stage: &Stage, name: &str) -> Result<(), RowError>
+    ensures { OnOk result (held_by stage.now name.now ≡ None) }
+{
     match stage.held(name) {
         Some(_) => Err(RowError::Wrong(format!(in alloc; "there is a file {name}")?)),
         None => Ok(()),
@@ -96,7 +108,9 @@ pub fn check_kept(alloc: Global, stage: &Stage, name: &str) -> Result<(), RowErr
     Err(RowError::Malformed("the row gives no such file"))
 }
 
-pub fn check_same(alloc: Global, stage: &Stage, name: &str, other: &str) -> Result<(), RowError> {
+pub fn check_same(alloc: Global, stage: &Stage, name: &str, other: &str) -> Result<(), RowError>
+    ensures { OnOk result (held_by stage.now name.now ≡ held_by stage.now other.now) }
+{
     if held(alloc, stage, name)? == held(alloc, stage, other)? {
         return Ok(());
     }

@@ -1,7 +1,8 @@
 //! Worked examples of the whole linker. The program reads rows from standard input: files, arguments, and what is
-//! expected of the run. It takes each row to `linker_program::run` over files in memory, and prints a line for each: its
+//! expected of the runs. It takes each row to `linker_program::run` over files in memory, and prints a line for each: its
 //! title and `ok`, or the line of the input that was not met, with what was expected and what came. Its contracts promise
-//! no more than that it ends. It serves no other crate; `stdin` begins with the form of a row.
+//! that it ends, and that most of what a row can expect passes only where it came (`Meets`). It serves no other crate;
+//! `stdin` begins with the form of a row.
 #![tactic(auto)]
 
 mod bytes;

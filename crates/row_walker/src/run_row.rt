@@ -1,5 +1,8 @@
 //! A row that is run: its files are made, and its steps taken.
 
+ghost use Rattle.std.specs.Prelude.{OnOk};
+ghost use Rattle.row_walker.specs.Met.{Meets};
+
 use crate::checks::{
     check_at, check_gone, check_kept, check_printed, check_same, check_size, check_starts,
     check_status, held,
@@ -66,7 +69,10 @@ fn push_given(alloc: Global, given: &mut Vec<NamedBytes>, file: &RowFile) -> Res
     Ok(())
 }
 
-fn take_step(alloc: Global, stage: &mut Stage, action: &Action) -> Result<(), RowError> {
+/// Does what the step says, or looks whether the stage meets what it expects.
+fn take_step(alloc: Global, stage: &mut Stage, action: &Action) -> Result<(), RowError>
+    ensures { OnOk result (Meets action.now stage.new) }
+{
     match action {
         Action::FailCall(number) => stage.fail_call(*number),
         Action::FailPut(number) => stage.fail_put(*number),

@@ -28,9 +28,9 @@ pub struct Stage {
     /// The files as the row gives them.
     pub given: Vec<NamedBytes>,
     /// The files as the runs without planned failures left them.
-    store: NeverFails,
+    pub store: NeverFails,
     /// The files as the last run left them, where failures were planned for it.
-    failed: Option<MemFiles>,
+    pub failed: Option<MemFiles>,
     /// The reads and writes, and the puts, that are to fail in the next run.
     failing_calls: Vec<u64>,
     failing_puts: Vec<u64>,
@@ -38,6 +38,9 @@ pub struct Stage {
 }
 
 impl Stage {
+    ghost use Rattle.std.specs.Prelude.{option_copied};
+    ghost use Rattle.row_walker.specs.Met.{held_by};
+
     /// The stage before the first step.
     pub fn new(alloc: Global, given: Vec<NamedBytes>) -> Result<Stage, RowError> {
         let mut store = NeverFails::new(alloc);
@@ -73,7 +76,9 @@ impl Stage {
     }
 
     /// The bytes of a file as the last run left it.
-    pub fn held(&self, name: &str) -> Option<&[u8]> {
+    pub fn held(&self, name: &str) -> Option<&[u8]>
+        ensures { option_copied result ≡ held_by self.now name.now }
+    {
         match &self.failed {
             Some(files) => files.held(name),
             None => self.store.held(name),
