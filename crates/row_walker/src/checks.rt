@@ -10,10 +10,10 @@ use std::alloc::Global;
 fn last_run(stage: &Stage) -> Result<&Ended, RowError>
     ensures { IfOk result (λ ended. stage.now.ended ≡ Some ended.now) }
 {
-    match &stage.ended {
-        Some(ended) => Ok(ended),
-        None => Err(RowError::Malformed("no run stands above")),
-    }
+    stage
+        .ended
+        .as_ref()
+        .ok_or(RowError::Malformed("no run stands above"))
 }
 
 pub fn check_status(alloc: Global, stage: &Stage, expected: u64) -> Result<(), RowError>
@@ -98,11 +98,10 @@ pub fn check_kept(alloc: Global, stage: &Stage, name: &str) -> Result<(), RowErr
     let bytes = held(alloc, stage, name)?;
     for file in &stage.given {
         if file.name.as_str() == name {
-            return if file.bytes.as_slice() == bytes {
-                Ok(())
-            } else {
-                Err(RowError::Wrong(format!(in alloc; "{name} has changed")?))
-            };
+            if file.bytes.as_slice() == bytes {
+                return Ok(());
+            }
+            return Err(RowError::Wrong(format!(in alloc; "{name} has changed")?));
         }
     }
     Err(RowError::Malformed("the row gives no such file"))

@@ -41,16 +41,12 @@ fn main(rt: HostRuntime) -> ExitCode {
 
 /// Says why the rows were not walked, and gives the status.
 fn status_of(rt: &impl Print, error: &io::Error) -> u8 {
-    match error.kind() {
-        io::ErrorKind::OutOfMemory => {
-            let _ = println!(rt; "out of memory");
-            OUT_OF_MEMORY
-        }
-        _ => {
-            let _ = println!(rt; "the rows could not be read or printed");
-            FAILED
-        }
+    if error.kind() == io::ErrorKind::OutOfMemory {
+        let _ = println!(rt; "out of memory");
+        return OUT_OF_MEMORY;
     }
+    let _ = println!(rt; "the rows could not be read or printed");
+    FAILED
 }
 
 /// Walks the rows of standard input, and says whether all are right.

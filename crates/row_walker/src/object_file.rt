@@ -3,7 +3,7 @@
 //! the string table.
 
 use crate::error::RowError;
-use crate::numbers::number;
+use crate::numbers::{TOO_GREAT, number};
 use crate::object::{Aux, Form, Object, Relocation, Section, Symbol};
 use crate::string_table::{StringTable, len_u32, push_padded};
 use link_base::pe_format::{FILE_MACHINE_AMD64, SCN_LNK_NRELOC_OVFL};
@@ -208,10 +208,7 @@ fn aux_count(symbol: &Symbol) -> Result<u8, RowError> {
     if let Some(count) = symbol.aux_count {
         return Ok(count);
     }
-    match u8::try_from(symbol.aux.len()) {
-        Ok(count) => Ok(count),
-        Err(_) => Err(RowError::Malformed("too many auxiliary records")),
-    }
+    u8::try_from(symbol.aux.len()).map_err(|_| RowError::Malformed("too many auxiliary records"))
 }
 
 fn push_aux(records: &mut Vec<u8>, object: &Object, aux: &Aux) -> Result<(), RowError> {
@@ -236,13 +233,10 @@ fn record_of(symbols: &[Symbol], name: &str) -> Result<u32, RowError> {
         }
         index = records_behind(index, symbol)?;
     }
-    match number(name) {
-        Ok(index) => match u32::try_from(index) {
-            Ok(index) => Ok(index),
-            Err(_) => Err(RowError::Malformed("a number is too great")),
-        },
-        Err(_) => Err(RowError::Malformed("a symbol is named that is not there")),
-    }
+    let index = number(name).map_err(|_| RowError::Malformed(
+        "a symbol is named that is not there",
+    ))?;
+    u32::try_from(index).map_err(|_| TOO_GREAT)
 }
 
 /// How many records there are.
@@ -267,11 +261,7 @@ fn push_u32(out: &mut Vec<u8>, number: u32) -> Result<(), RowError> {
 
 /// Appends a number that the row or the object gives for a field of two bytes.
 fn push_u16(out: &mut Vec<u8>, number: u32) -> Result<(), RowError> {
-    match u16::try_from(number) {
-        Ok(number) => {
-            out.extend_from_slice(&number.to_le_bytes())?;
-            Ok(())
-        }
-        Err(_) => Err(RowError::Malformed("a number is too great for its field")),
-    }
+    let number = u16::try_from(number).map_err(|_| TOO_GREAT)?;
+    out.extend_from_slice(&number.to_le_bytes())?;
+    Ok(())
 }

@@ -2,7 +2,7 @@
 
 use crate::bytes::bytes_of;
 use crate::error::RowError;
-use crate::numbers::{number_at, u8_at, u16_at, u32_at};
+use crate::numbers::{TOO_GREAT, number_at, u8_at, u16_at, u32_at};
 use crate::object::{Aux, Object, Relocation, Section, Symbol};
 use crate::words::{Word, copy_at, word_at, words_from};
 use std::alloc::Global;
@@ -35,10 +35,7 @@ pub fn add_object_line(
 
 /// A length or an offset of a file.
 pub fn len_at(words: &[Word], index: usize) -> Result<usize, RowError> {
-    match usize::try_from(number_at(words, index)?) {
-        Ok(len) => Ok(len),
-        Err(_) => Err(RowError::Malformed("a number is too great")),
-    }
+    usize::try_from(number_at(words, index)?).map_err(|_| TOO_GREAT)
 }
 
 /// `section NAME FLAGS`

@@ -78,8 +78,5 @@ pub fn push_padded(out: &mut Vec<u8>, bytes: &[u8], len: usize) -> Result<(), Ro
 
 /// A length, count or place as a field of four bytes.
 pub fn len_u32(len: usize) -> Result<u32, RowError> {
-    match u32::try_from(len) {
-        Ok(len) => Ok(len),
-        Err(_) => Err(RowError::Malformed("the object is too large")),
-    }
+    u32::try_from(len).map_err(|_| RowError::Malformed("the object is too large"))
 }

@@ -74,10 +74,10 @@ fn push_escaped(alloc: Global, bytes: &mut Vec<u8>, part: &str) -> Result<(), Ro
 
 /// The word at this index, from 0.
 pub fn word_at(words: &[Word], index: usize) -> Result<&str, RowError> {
-    match words.get(index) {
-        Some(word) => Ok(word.text.as_str()),
-        None => Err(RowError::Malformed("a word is missing")),
-    }
+    let word = words
+        .get(index)
+        .ok_or(RowError::Malformed("a word is missing"))?;
+    Ok(word.text.as_str())
 }
 
 /// A copy of the word at this index, from 0.
@@ -88,8 +88,7 @@ pub fn copy_at(alloc: Global, words: &[Word], index: usize) -> Result<String, Ro
 
 /// The words from this index on.
 pub fn words_from(words: &[Word], index: usize) -> Result<&[Word], RowError> {
-    match words.get(index..) {
-        Some(rest) => Ok(rest),
-        None => Err(RowError::Malformed("a word is missing")),
-    }
+    words
+        .get(index..)
+        .ok_or(RowError::Malformed("a word is missing"))
 }
