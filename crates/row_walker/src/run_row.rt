@@ -20,26 +20,13 @@ pub fn run_row(alloc: Global, row: &Row) -> Result<(), FailedLine> {
     }
     let mut given = Vec::new(alloc);
     for file in &row.files {
-        match push_given(alloc, &mut given, file) {
-            Ok(()) => {}
-            Err(error) => return Err(FailedLine {
-                line: file.line,
-                error,
-            }),
-        }
+        let line = file.line;
+        push_given(alloc, &mut given, file).map_err(|error| FailedLine { line, error })?;
     }
-    let mut stage = match Stage::new(alloc, given) {
-        Ok(stage) => stage,
-        Err(error) => return Err(FailedLine { line: 0, error }),
-    };
+    let mut stage = Stage::new(alloc, given).map_err(|error| FailedLine { line: 0, error })?;
     for step in &row.steps {
-        match take_step(alloc, &mut stage, &step.action) {
-            Ok(()) => {}
-            Err(error) => return Err(FailedLine {
-                line: step.line,
-                error,
-            }),
-        }
+        let line = step.line;
+        take_step(alloc, &mut stage, &step.action).map_err(|error| FailedLine { line, error })?;
     }
     Ok(())
 }
