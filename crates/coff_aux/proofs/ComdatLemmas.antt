@@ -9,8 +9,10 @@ use Rattle.std.proofs.lemmas.List.{ext_get_or, length-set, get_or-set_same, get_
 use Rattle.std.proofs.lemmas.List.Folds.{list_any_at}
 use Rattle.std.proofs.lemmas.List.FromFn.{get_or-map-range_with_len, length-map-range_with_len, get_or-range_with_len, length-range_with_len}
 use Rattle.coff_records.specs.ObjectFile.{section_total, starts_symbol, SymbolEntry, section_number_in, section_of_number, symbol_entries}
+use Rattle.coff_aux.specs.declared.comdat.Comdat.{Comdat}
+use Rattle.coff_aux.specs.declared.comdat.ComdatRecord.{ComdatRecord}
 use Rattle.coff_aux.specs.declared.comdat.SectionSymbols.{SectionSymbols}
-use Rattle.coff_aux.specs.Comdats.{stands_in, first_two, section_symbols_of, is_section_number, is_comdat, has_comdat, comdat_record_of}
+use Rattle.coff_aux.specs.Comdats.{stands_in, first_two, section_symbols_of, is_section_number, is_comdat, has_comdat, comdat_record_of, said_by_first, leader_name, parent_said, comdat_by}
 use Rattle.coff_aux.specs.Steps.{KeepsSymbols}
 use Rattle.coff_aux.specs.Steps.{all_section_symbols, no_symbols, with_symbol, noted_symbols, noted_at}
 use Rattle.coff_aux.proofs.StartLemmas.{starts_among}
@@ -58,10 +60,11 @@ second_among test (entry ∷ rest) j is = ap (λ (b : Bool). eqb entry.0 j || b)
     go true later is = first_among test rest j (sym (second_is entry (filter test rest)) ∙ is)
     go false later is = later is
 
-pub section_symbol_starts : (bytes : List ℕ) (section j : ℕ) → (section_symbols_of bytes section).first ≡ Some j → starts_symbol bytes j ≡ true
+pub section_symbol_starts : (bytes : List ℕ) (section : ℕ) (first : Option ℕ) → first ≡ (section_symbols_of bytes section).first → IfSome first (λ j. starts_symbol bytes j ≡ true)
 unfolding section_symbols_of
-section_symbol_starts bytes section j is =
-    sym (starts_among bytes j) ∙ first_among (stands_in section) (symbol_entries bytes) j is
+section_symbol_starts bytes section None is = tt
+section_symbol_starts bytes section (Some j) is =
+    sym (starts_among bytes j) ∙ first_among (stands_in section) (symbol_entries bytes) j (sym is)
 
 pub leader_starts : (bytes : List ℕ) (section : ℕ) (second : Option ℕ) → second ≡ (section_symbols_of bytes section).second → IfSome second (λ j. starts_symbol bytes j ≡ true)
 unfolding section_symbols_of
@@ -229,3 +232,19 @@ none_said bytes section is = rw is refl
 -- none says anything
 pub no_records : (bytes : List ℕ) → has_comdat bytes ≡ false → (k : ℕ) → k < section_total bytes → comdat_record_of bytes (k + 1) ≡ None
 no_records bytes none k lt = none_said bytes (k + 1) (no_comdat bytes (k + 1) none (omega arith) (omega arith))
+
+-- ---- a COMDAT section, by its first two symbols
+
+pub comdat_by_symbols : (bytes : List ℕ) (section : ℕ) (noted : SectionSymbols) (said : ComdatRecord) (leader : Option (List ℕ)) (parent : Option ℕ) → is_comdat bytes section ≡ true → noted ≡ section_symbols_of bytes section → said ≡ said_by_first bytes noted.first → leader ≡ leader_name bytes noted.second → parent ≡ parent_said said → Some (record { selection = said.selection; leader = leader; parent = parent }) ≡ comdat_by (leader_name bytes (section_symbols_of bytes section).second) (comdat_record_of bytes section)
+unfolding comdat_record_of
+comdat_by_symbols bytes section noted said leader parent comdat kept said_is leader_is parent_is =
+    let name = leader_name bytes (section_symbols_of bytes section).second in
+    let said_same = said_is ∙ ap (λ (symbols : SectionSymbols). said_by_first bytes symbols.first) kept in
+    let leader_same = leader_is ∙ ap (λ (symbols : SectionSymbols). leader_name bytes symbols.second) kept in
+    rw comdat
+    (ap (λ (p : Option ℕ). Some (comdat_with said.selection leader p)) parent_is
+    ∙ ap (λ (l : Option (List ℕ)). Some (comdat_with said.selection l (parent_said said))) leader_same
+    ∙ ap (λ (x : ComdatRecord). Some (comdat_with x.selection name (parent_said x))) said_same)
+  where
+    comdat_with : ℕ → Option (List ℕ) → Option ℕ → Comdat
+    comdat_with selection leader parent = record { selection = selection; leader = leader; parent = parent }

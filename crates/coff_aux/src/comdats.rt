@@ -4,7 +4,7 @@ ghost use Rattle.std.specs.Prelude.{◌≡◌, ◌<◌, ◌≤◌, ◌-◌, ◌^
 ghost use Rattle.link_base.specs.Bytes.{has_flag};
 ghost use Rattle.link_base.specs.PeFormat.{SCN_LNK_COMDAT};
 ghost use Rattle.coff_records.specs.ObjectFile.{section_total, starts_symbol};
-ghost use Rattle.coff_aux.specs.Comdats.{section_symbols_of, said_by_symbol, comdat_record_of, is_associative, is_section_number, parent_in, leader_name, parent_said, comdat_by};
+ghost use Rattle.coff_aux.specs.Comdats.{section_symbols_of, said_by_symbol, said_by_first, comdat_record_of, is_associative, is_section_number, parent_in, leader_name, parent_said, comdat_by};
 ghost use Rattle.coff_aux.specs.Steps.{KeepsSymbols};
 ghost use Rattle.coff_aux.specs.Steps.{all_section_symbols, all_comdat_records, no_symbols, parents_in, with_symbol, noted_symbols};
 
@@ -97,27 +97,32 @@ pub fn comdat_records(
 
 /// What a section with this section symbol says of itself, where it is a COMDAT.
 #[tactic(auto, unfolding(crate::specs::Comdats::comdat_record_of))]
-pub(crate) fn comdat_record(
-    object: &Object<'_>,
-    number: u32,
-    first: Option<u32>,
-) -> Option<ComdatRecord>
+fn comdat_record(object: &Object<'_>, number: u32, first: Option<u32>) -> Option<ComdatRecord>
     requires low { 1 ≤ number }
     requires high { number ≤ section_total object.now }
     requires symbol { first ≡ (section_symbols_of object.now number).first }
     ensures { result ≡ comdat_record_of object.now number }
 {
-    if !is_comdat(object.section_flags(number)) {
-        return None;
+    if is_comdat(object.section_flags(number)) {
+        Some(said_by_first(object, first))
+    } else {
+        None
     }
-    Some(match first {
+}
+
+/// What the section symbol of a section says of it: nothing, where there is none.
+fn said_by_first(object: &Object<'_>, first: Option<u32>) -> ComdatRecord
+    requires { IfSome first (λ symbol. starts_symbol object.now symbol ≡ true) }
+    ensures { result ≡ said_by_first object.now first }
+{
+    match first {
         Some(symbol) => said_by_symbol(object, symbol),
         None => ComdatRecord {
             has_symbol: false,
             selection: 0,
             associated: 0,
         },
-    })
+    }
 }
 
 /// What a section symbol says of its section.
@@ -174,7 +179,7 @@ pub fn comdat_in<'a>(
         return None;
     }
     let noted = symbols_at(symbols, number);
-    let said = comdat_record(object, number, noted.first)?;
+    let said = said_by_first(object, noted.first);
     Some(Comdat {
         selection: said.selection,
         leader: leader_name(object, noted.second),
