@@ -5,8 +5,7 @@ ghost use Rattle.link_base.specs.Bytes.{has_flag};
 ghost use Rattle.link_base.specs.PeFormat.{SCN_LNK_COMDAT};
 ghost use Rattle.coff_records.specs.ObjectFile.{section_total, starts_symbol};
 ghost use Rattle.coff_aux.specs.Comdats.{section_symbols_of, said_by_symbol, said_by_first, comdat_record_of, is_associative, is_section_number, parent_in, leader_name, parent_said, comdat_by};
-ghost use Rattle.coff_aux.specs.Steps.{KeepsSymbols};
-ghost use Rattle.coff_aux.specs.Steps.{all_section_symbols, all_comdat_records, no_symbols, parents_in, with_symbol, noted_symbols};
+ghost use Rattle.coff_aux.specs.Steps.{KeepsSymbols, all_section_symbols, all_comdat_records, no_symbols, parents_in, with_symbol, noted_symbols};
 
 use crate::aux_records::{COMDAT_SELECT_ASSOCIATIVE, associated_in, first_aux, selection_in};
 use crate::comdat::{Comdat, ComdatRecord, SectionSymbols};
@@ -131,9 +130,10 @@ fn said_by_symbol(object: &Object<'_>, symbol: u32) -> ComdatRecord
     requires { starts_symbol object.now symbol ≡ true }
     ensures { result ≡ said_by_symbol object.now symbol }
 {
-    let section_symbol = object.symbol(symbol);
-    let has_symbol = section_symbol.class == SYM_CLASS_STATIC && section_symbol.aux > 0;
-    match first_aux(object, symbol, section_symbol.aux) {
+    let section_symbol = object.symbol_record(symbol);
+    let aux_count = section_symbol.aux();
+    let has_symbol = section_symbol.class() == SYM_CLASS_STATIC && aux_count > 0;
+    match first_aux(object, symbol, aux_count) {
         Some(aux) => ComdatRecord {
             has_symbol,
             selection: selection_in(aux),
@@ -156,9 +156,9 @@ pub(crate) fn leader_name<'a>(object: &Object<'a>, second: Option<u32>) -> Optio
     let Some(symbol) = second else {
         return None;
     };
-    let leader = object.symbol(symbol);
-    if leader.class == SYM_CLASS_EXTERNAL {
-        Some(leader.name)
+    let leader = object.symbol_record(symbol);
+    if leader.class() == SYM_CLASS_EXTERNAL {
+        Some(leader.name())
     } else {
         None
     }
@@ -247,6 +247,7 @@ pub(crate) fn is_associative(said: &ComdatRecord) -> bool
     said.selection == COMDAT_SELECT_ASSOCIATIVE
 }
 
+/// Whether one of this many sections has a number.
 pub fn is_section_number(count: u32, number: u32) -> bool
     ensures { result ≡ is_section_number count number }
 {

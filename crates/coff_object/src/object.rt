@@ -2,7 +2,7 @@
 
 ghost use Rattle.std.specs.Prelude.{◌≡◌, ◌<◌, ◌≤◌, ◌^◌, length, take, IfOk, OnOk, IfErr, is_ok, is_none, true, None, Some};
 ghost use Rattle.std.specs.Option.{option_copied};
-ghost use Rattle.coff_records.specs.ObjectFile.{section_total, section_name_of, name_offset_of, raw_size_of, flags_of, alignment_of, body_of, relocation_total, relocation_of, relocations_of, record_total, symbol_size, string_table, starts_symbol, symbol_name_of, symbol_value_of, symbol_section_of, symbol_kind_of, symbol_class_of, aux_total_of, aux_record, symbol_entries};
+ghost use Rattle.coff_records.specs.ObjectFile.{section_total, section_name_of, name_offset_of, raw_size_of, flags_of, alignment_of, body_of, relocation_total, relocation_of, relocations_of, record_total, symbol_size, string_table, starts_symbol, symbol_at, symbol_name_of, symbol_value_of, symbol_section_of, symbol_kind_of, symbol_class_of, aux_total_of, aux_record, symbol_entries};
 ghost use Rattle.coff_object.specs.ObjectFaults.{object_fault};
 
 use crate::error::ObjError;
@@ -11,8 +11,8 @@ use crate::section::{Section, section_in};
 use crate::symbol::{Symbol, symbol_in};
 use crate::well_formed::is_well_formed;
 use coff_records::{
-    CoffFile, Relocation, Relocations, Symbols, name_offset, relocation_at, relocation_count,
-    relocations_place, section_name_start, string_table,
+    CoffFile, Relocation, Relocations, SymbolRecord, Symbols, name_offset, relocation_at,
+    relocation_count, relocations_place, section_name_start, string_table,
 };
 use link_base::Name;
 use link_base::pe_format::SIZEOF_RELOCATION;
@@ -96,6 +96,15 @@ impl<'a> Object<'a> {
         self.file.section_header(i).flags()
     }
 
+    /// The size of a section, by its number.
+    pub fn section_size(&self, i: u32) -> u32
+        requires first { 1 ≤ i }
+        requires last { i ≤ section_total self.now }
+        ensures { result ≡ raw_size_of self.now i }
+    {
+        self.file.section_header(i).size()
+    }
+
     /// The first bytes of a section's name, at most `limit`: a name that is longer costs no more.
     pub fn section_name_start(&self, i: u32, limit: usize) -> Name<'a>
         requires first { 1 ≤ i }
@@ -157,6 +166,14 @@ impl<'a> Object<'a> {
         self.file.record_count()
     }
 
+    /// The record of the symbol that starts at one. Its name is not looked for until it is asked for.
+    pub fn symbol_record(&self, j: u32) -> SymbolRecord<'a>
+        requires { starts_symbol self.now j ≡ true }
+        ensures { result ≡ symbol_at self.now j }
+    {
+        self.file.symbol(j, self.strings)
+    }
+
     /// The symbol that starts at a record.
     pub fn symbol(&self, j: u32) -> Symbol<'a>
         requires { starts_symbol self.now j ≡ true }
@@ -167,7 +184,7 @@ impl<'a> Object<'a> {
         ensures class { result.class ≡ symbol_class_of self.now j }
         ensures aux { result.aux ≡ aux_total_of self.now j }
     {
-        symbol_in(&self.file.symbol(j, self.strings))
+        symbol_in(&self.symbol_record(j))
     }
 
     /// All symbols with their records' indexes, in the order of their records.

@@ -1,5 +1,5 @@
 use Rattle.coff_object.proofs.Readable.{start_of, symbol_whole}
-use Rattle.coff_object.proofs.object.Object.symbol.Goals as goal
+use Rattle.coff_object.proofs.object.Object.symbol_record.Goals as goal
 
 pub symbol-requires-clause-whole : goal.symbol-requires-clause-whole
 symbol-requires-clause-whole c =
