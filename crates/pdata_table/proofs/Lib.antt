@@ -1,0 +1,6 @@
+pub mod SortLemmas
+pub mod RowLemmas
+pub mod OrderLemmas
+pub mod TableLemmas
+pub mod WorkedTables
+pub mod CallerLemmas
