@@ -1,0 +1,2 @@
+pub mod ExportDirectory
+pub mod Ordinals

@@ -1,0 +1,16 @@
+//! Laws of the definitions, each the contract of a function that does nothing.
+
+ghost use Rattle.std.specs.Prelude.{◌≡◌, ◌≢◌, ◌<◌, ◌^◌, ℕ, List, None, length, slice_index};
+ghost use Rattle.std.specs.List.{All};
+ghost use Rattle.export_tables.specs.Ordinals.{ordinals_of, ordinal_fault};
+
+use directives::Export;
+
+/// The ordinals that are assigned lie from 1 to 65,535, and no two exports have one.
+#[tactic(auto, using(crate::proofs::AssignedLemmas::ordinals_differ, crate::proofs::AssignedLemmas::ordinals_fit))]
+pub fn assigned_ordinals_differ()
+    ensures differ { (rows : List Export) (i j : ℕ) → ordinal_fault rows ≡ None → i < j → j < length rows
+        → slice_index (ordinals_of rows) i ≢ slice_index (ordinals_of rows) j }
+    ensures fit { (rows : List Export) → ordinal_fault rows ≡ None
+        → All (λ ordinal. (0 < ordinal) × (ordinal < 2 ^ 16)) (ordinals_of rows) }
+{}

@@ -1,0 +1,4 @@
+//! Small directories and the ordinals of a few exports.
+
+mod lookup;
+mod ordinals;
