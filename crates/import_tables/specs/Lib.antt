@@ -1,0 +1,4 @@
+pub mod Constants
+pub mod ImportDirectory
+pub mod ImportShape
+pub mod Tallies

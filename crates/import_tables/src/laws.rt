@@ -1,0 +1,30 @@
+//! Laws of the definitions, each the contract of a function that does nothing.
+
+ghost use Rattle.std.specs.Prelude.{◌≡◌, ◌<◌, ◌≤◌, ◌+◌, ◌*◌, ◌⊎◌, ℕ, List, length};
+ghost use Rattle.import_tables.specs.ImportDirectory.{entries_from, entries_of, descriptors_from};
+ghost use Rattle.import_tables.specs.ImportShape.{dlls_of, dll_at, count_of, entry_count, table_start, slot_offset};
+
+use crate::row::ImportRow;
+
+/// A walk that may read more entries or descriptors than the memory has bytes reads no more of them for that: each lies
+/// behind the one before.
+#[tactic(auto, using(crate::proofs::WalkLemmas::more_entries, crate::proofs::WalkLemmas::more_descriptors))]
+pub fn more_is_never_read()
+    ensures entries { (most : ℕ) (memory dll : List ℕ) (at slot : ℕ) → length memory < most
+        → entries_from most memory dll at slot ≡ entries_of memory dll at slot }
+    ensures descriptors { (most : ℕ) (memory : List ℕ) (at : ℕ) → length memory < most
+        → descriptors_from most memory at ≡ descriptors_from (length memory + 1) memory at }
+{}
+
+/// No two imports share a byte of a slot. The slots of a DLL's imports stand in its table, with room for the eight bytes
+/// of zeros that end it, and the table stands within all.
+#[tactic(auto, using(crate::proofs::ApartLemmas::slots_apart, crate::proofs::ApartLemmas::slot_within, crate::proofs::ApartLemmas::table_within))]
+pub fn slots_stand_apart()
+    ensures apart { (rows : List ImportRow) (j k : ℕ) → j < k → k < length rows
+        → (slot_offset rows j + 8 ≤ slot_offset rows k) ⊎ (slot_offset rows k + 8 ≤ slot_offset rows j) }
+    ensures in_table { (rows : List ImportRow) (k : ℕ) → k < length rows
+        → (8 * table_start rows (dll_at rows k) ≤ slot_offset rows k)
+        × (slot_offset rows k + 8 ≤ 8 * (table_start rows (dll_at rows k) + count_of (dll_at rows k) rows)) }
+    ensures tables { (rows : List ImportRow) (k : ℕ) → k < length rows
+        → 8 * (table_start rows (dll_at rows k) + count_of (dll_at rows k) rows) + 8 ≤ 8 * entry_count rows (dlls_of rows) }
+{}

@@ -1,0 +1,25 @@
+//! The import tables of an image, by which a loader finds what each import stands for in its DLL. It takes the bytes of a
+//! mapped image and gives the imports that its directory names; and it takes imports and gives the sizes of their tables
+//! and where each slot stands, to the crates that make images. Its contracts promise that all imports are read, in order,
+//! that a directory is refused exactly where it leaves the memory, and that the imports of a DLL stand together. The bytes
+//! of the tables are left to others.
+#![tactic(auto)]
+
+mod extent;
+mod format;
+mod found;
+mod laws;
+mod lookup;
+mod reading;
+mod row;
+mod shaping;
+
+pub use found::{ImportFound, TableError};
+pub use laws::{more_is_never_read, slots_stand_apart};
+pub use reading::read_imports;
+pub use row::{ImportRow, ImportShape};
+pub use shaping::shape;
+pub use short_import::ImportBy;
+
+#[cfg(test)]
+mod tests;
