@@ -1,7 +1,5 @@
--- Sections without the places of what they borrow, and rows as lists. Own.
-use Rattle.std.specs.Prelude.{Bool, List, option_map, option_copied}
-use Rattle.std.specs.declared.vec.Vec.{Vec}
-use Rattle.std.specs.declared.alloc.Global.{Global}
+-- Sections without the places of what they borrow. Own.
+use Rattle.std.specs.Prelude.{option_map, option_copied}
 use Rattle.comdat.specs.declared.candidate.Candidate.{Candidate}
 use Rattle.comdat.specs.declared.named.Named.{Named}
 use Rattle.comdat.specs.Selection.{lent}
@@ -11,6 +9,3 @@ plain candidate = record candidate { body = option_map lent (option_copied candi
 
 abbrev pub plain_entry : Named → Named
 plain_entry entry = record { name = entry.name; candidate = plain entry.candidate }
-
-abbrev pub row_flags : Vec Bool Global → List Bool
-row_flags row = row.items

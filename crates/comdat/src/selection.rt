@@ -6,7 +6,7 @@ ghost use Rattle.coff_aux.specs.Comdats.{parents_of};
 ghost use Rattle.comdat.specs.Chains.{chain_end};
 ghost use Rattle.comdat.specs.Groups.{is_selected, first_conflict, RefusesChoice};
 ghost use Rattle.comdat.specs.Selection.{named_sections, sections_of, own_flag, all_entries, chosen_sections};
-ghost use Rattle.comdat.specs.Plain.{row_flags};
+ghost use Rattle.symbol_table.specs.Passes.{rows_of};
 
 use crate::chains::follow_chains;
 use crate::error::ChooseError;
@@ -25,7 +25,7 @@ use symbol_table::Chosen;
 /// (PE Format, "COMDAT Sections (Object Only)".)
 pub fn choose_all<'a>(alloc: Global, modules: &[Module<'a>]) -> Result<Chosen, ChooseError<'a>>
     requires { length modules.now ≤ limit.MODULE_LIMIT }
-    ensures chosen { IfOk result (λ chosen. map row_flags chosen.items ≡ chosen_sections modules.now) }
+    ensures chosen { IfOk result (λ chosen. rows_of chosen.items ≡ chosen_sections modules.now) }
     ensures accepted { OnOk result (first_conflict (all_entries modules.now) ≡ None) }
     ensures refused { IfErr result (RefusesChoice (first_conflict (all_entries modules.now))) }
 {
@@ -38,7 +38,7 @@ pub fn choose_all<'a>(alloc: Global, modules: &[Module<'a>]) -> Result<Chosen, C
 /// The sections of each module, by what is said of all that go by a name.
 fn chosen_rows(alloc: Global, modules: &[Module<'_>], selected: &[bool]) -> Result<Chosen, Memory>
     requires { selected.now ≡ map (is_selected (all_entries modules.now)) (all_entries modules.now) }
-    ensures { IfOk result (λ rows. map row_flags rows.items ≡ chosen_sections modules.now) }
+    ensures { IfOk result (λ rows. rows_of rows.items ≡ chosen_sections modules.now) }
 {
     let mut rest = selected;
     let mut rows = Vec::with_capacity(alloc, modules.len())?;

@@ -1,3 +1,12 @@
-pub mod NamingLemmas
-pub mod TableLemmas
+pub mod AbsentLemmas
 pub mod CallerLemmas
+pub mod ChainLemmas
+pub mod EndLemmas
+pub mod GreatestLemmas
+pub mod LinkLemmas
+pub mod LiveLemmas
+pub mod NumberLemmas
+pub mod PassLemmas
+pub mod WeakLemmas
+pub mod TableLemmas
+pub mod WorkedNames

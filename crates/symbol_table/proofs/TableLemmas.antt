@@ -1,88 +1,91 @@
--- One more module.
-use Rattle.std.proofs.Common.{◌≡◌, ℕ, zero, suc, ◌+◌, ◌<◌, ◌≤◌, List, [], ◌∷◌, ◌++◌, length, map, Bool, true, false, not, Option, Some, None, refl, sym, ap, subst, ◌∙◌, arith}
-use Rattle.std.specs.Prelude.{is_some}
-use Rattle.std.specs.Option.{option_or}
-use Rattle.std.specs.List.{All, range_with_len, flat_map}
-use Rattle.std.proofs.lemmas.List.{length-append, map-append}
-use Rattle.std.proofs.lemmas.List.Elements.{All-nil, All-push}
+-- One more module, and what the names of all mean.
+use Rattle.std.proofs.Common.{◌≡◌, ℕ, ◌<◌, Bool, List, [], ◌∷◌, ◌++◌, length, map, get_or, Option, sym, subst, ◌∙◌, arith}
+use Rattle.std.specs.List.{All, AllZip}
+use Rattle.std.proofs.lemmas.List.{length-append, map-append, get_or_default}
+use Rattle.std.proofs.lemmas.List.Elements.{All-push, All-weaker}
+use Rattle.std.proofs.lemmas.Option.{slice_get-get_or}
 use Rattle.link_base.specs.Limits.{MODULE_LIMIT}
-use Rattle.link_base.specs.Refusals.{first_refusal_below}
-use Rattle.link_base.proofs.RangeLemmas.{joined_more}
-use Rattle.module_view.specs.Module.{ModuleView, module_at}
-use Rattle.module_view.specs.ModuleParts.{view_of}
-use Rattle.module_view.specs.declared.input_module.Origin.{Origin}
+use Rattle.module_view.specs.Module.{ModuleView}
 use Rattle.module_view.specs.Opening.{IsOpened}
-use Rattle.module_view.specs.SymbolLists.{definitions_of}
-use Rattle.module_view.specs.declared.definition.Definition.{Definition}
+use Rattle.module_view.specs.SymbolLists.{definitions_of, commons_of, weaks_of}
+use Rattle.symbol_table.specs.declared.link.Link.{Link}
+use Rattle.symbol_table.specs.declared.link.Link.TheVariants as link
+use Rattle.symbol_table.specs.declared.noted.ModuleNames.{ModuleNames}
+use Rattle.symbol_table.specs.Resolution.{Step, Ends, Leads, step}
+use Rattle.symbol_table.specs.Interning.{Numbers, KeepsNumbers, NotesDefinition, NotesCommon, NotesWeak, NotesModule}
+use Rattle.std.specs.declared.vec.Vec.{Vec}
+use Rattle.std.specs.declared.alloc.Global.{Global}
 use Rattle.symbol_table.specs.declared.meaning.Clash.{Clash}
-use Rattle.symbol_table.specs.declared.source.Found.{Found}
-use Rattle.symbol_table.specs.declared.source.Source.{Source}
-use Rattle.symbol_table.specs.Resolution.{Provided, provided, provided_by, all_definitions}
-use Rattle.symbol_table.specs.Clash.{clash_in}
-use Rattle.symbol_table.specs.TableParts.{Names, KeepsModules, source_view}
+use Rattle.symbol_table.specs.declared.lives.FirstLive.{FirstLive}
+use Rattle.symbol_table.specs.declared.greatest.GreatestCommon.{GreatestCommon}
+use Rattle.symbol_table.specs.declared.first_weak.FirstWeak.{FirstWeak}
+use Rattle.symbol_table.specs.Lists.{live_definitions, all_commons, all_weaks}
+use Rattle.symbol_table.specs.Passes.{rows_of, noted_view, AreFirst, AreLives, AreGreatest, AreWeaks}
+use Rattle.symbol_table.specs.Links.{IsStep, no_link, link_at, LeadsBelow, AreSteps}
+use Rattle.symbol_table.specs.TableParts.{KeepsModules}
+use Rattle.symbol_table.proofs.NumberLemmas.{number_within, definition_kept, common_kept, weak_kept, zip_map}
 
-module_before : (modules : List ModuleView) (m : ModuleView) (k : ℕ) → k < length modules → module_at (modules ++ m ∷ []) k ≡ module_at modules k
-module_before [] m k lt = absurd (omega arith)
-module_before (first ∷ rest) m zero lt = refl
-module_before (first ∷ rest) m (suc k) lt = module_before rest m k (omega arith)
+-- ---- a table whose names grow
 
-module_last : (modules : List ModuleView) (m : ModuleView) → module_at (modules ++ m ∷ []) (length modules) ≡ m
-module_last [] m = refl
-module_last (first ∷ rest) m = module_last rest m
+noted_grows : (before after : List (List ℕ)) (noted : ModuleNames) → KeepsNumbers before after → NotesModule before noted → NotesModule after noted
+noted_grows before after noted kept is = record {
+  definitions = zip_map (NotesDefinition before) (NotesDefinition after) (definitions_of noted.bytes.now) noted.definitions.items (definition_kept before after kept) is.definitions;
+  commons = zip_map (NotesCommon before) (NotesCommon after) (commons_of noted.bytes.now) noted.commons.items (common_kept before after kept) is.commons;
+  weaks = zip_map (NotesWeak before noted.bytes.now) (NotesWeak after noted.bytes.now) (weaks_of noted.bytes.now) noted.weaks.items (weak_kept before after kept noted.bytes.now) is.weaks;
+}
 
-same_joined : {X : Type 0} (f g : ℕ → List X) (a n : ℕ) → ((k : ℕ) → a ≤ k → k < a + n → f k ≡ g k) → flat_map f (range_with_len a n) ≡ flat_map g (range_with_len a n)
-same_joined f g a zero same = refl
-same_joined {X} f g a (suc n) same =
-    ap (λ (xs : List X). xs ++ flat_map f (range_with_len (a + 1) n)) (same a (omega arith) (omega arith))
-    ∙ ap (λ (xs : List X). g a ++ xs) (same_joined f g (a + 1) n (λ k low high. same k (omega arith) (omega arith)))
+pub keeps_grow : (before after : List (List ℕ)) (kept : List ModuleNames) → KeepsNumbers before after → KeepsModules before kept → KeepsModules after kept
+keeps_grow before after kept grown is = record {
+  noted = All-weaker (NotesModule before) (NotesModule after) (λ m noted. noted_grows before after m grown noted) kept is.noted;
+  opened = is.opened;
+  few = is.few;
+}
 
-pub all_more : (modules : List ModuleView) (m : ModuleView) → all_definitions (modules ++ m ∷ []) ≡ all_definitions modules ++ provided_by (length modules) m
-all_more modules m =
-    let n = length modules in
-    let joined = modules ++ m ∷ [] in
-    ap (λ (len : ℕ). flat_map (λ k. provided_by k (module_at joined k)) (range_with_len 0 len)) (length-append modules (m ∷ []))
-    ∙ joined_more (λ k. provided_by k (module_at joined k)) 0 n n (omega arith)
-    ∙ ap (λ (es : List Provided). es ++ provided_by n (module_at joined n)) (same_joined (λ k. provided_by k (module_at joined k)) (λ k. provided_by k (module_at modules k)) 0 n (λ k low high. ap (provided_by k) (module_before modules m k (omega arith))))
-    ∙ ap (λ (v : ModuleView). all_definitions modules ++ provided_by n v) (module_last modules m)
+pub keeps_both : (a b c : List (List ℕ)) → KeepsNumbers a b → KeepsNumbers b c → KeepsNumbers a c
+keeps_both a b c first second = λ number name is. second number name (first number name is)
 
--- what is kept of the modules and one more
-pub keeps_more : (modules after : List ModuleView) (m : ModuleView) (old before new : List ℕ → Option Found) (clash found clash' : Option Clash) (definitions : List Definition) (position : ℕ) → KeepsModules modules old clash → length modules < MODULE_LIMIT → after ≡ modules ++ m ∷ [] → IsOpened m → definitions ≡ definitions_of m.bytes → position ≡ length modules → ((name : List ℕ) → before name ≡ old name) → ((earlier : List Provided) → Names earlier before → Names (earlier ++ map (provided position) definitions) new) → ((earlier : List Provided) → Names earlier before → clash_in (earlier ++ map (provided position) definitions) ≡ option_or (clash_in earlier) found) → clash' ≡ option_or clash found → KeepsModules after new clash'
-keeps_more modules after m old before new clash found clash' definitions position keeps room is opened defined at same noted clashes clash_is =
-    let all = all_definitions modules in
-    let was : Names all before = λ name. same name ∙ keeps.named name in
-    let whole : all_definitions after ≡ all ++ map (provided position) definitions =
-    ap all_definitions is ∙ all_more modules m
-    ∙ ap (λ (k : ℕ). all ++ map (provided k) (definitions_of m.bytes)) (sym at)
-    ∙ ap (λ (ds : List Definition). all ++ map (provided position) ds) (sym defined) in
-    record {
-      named = subst (λ (es : List Provided). Names es new) (sym whole) (noted all was);
-      clash_is = clash_is ∙ ap (λ (c : Option Clash). option_or c found) keeps.clash_is ∙ sym (clashes all was) ∙ ap clash_in (sym whole);
-      opened = subst (All IsOpened) (sym is) (All-push IsOpened modules m keeps.opened opened);
-      few = omega (arith, ap length is, length-append modules (m ∷ []));
-    }
+pub keeps_push : (names : List (List ℕ)) (kept now : List ModuleNames) (noted : ModuleNames) → KeepsModules names kept → length kept < MODULE_LIMIT → NotesModule names noted → IsOpened (noted_view noted) → now ≡ kept ++ noted ∷ [] → KeepsModules names now
+keeps_push names kept now noted is room there opened same =
+    subst (KeepsModules names) (sym same) (record {
+      noted = All-push (NotesModule names) kept noted is.noted there;
+      opened = subst (All IsOpened) (sym (map-append noted_view kept (noted ∷ []))) (All-push IsOpened (map noted_view kept) (noted_view noted) is.opened opened);
+      few = omega (arith, length-append kept (noted ∷ []));
+    })
 
--- the modules after one was pushed
-pub sources_more : (sources pushed : List Source) (source : Source) (m : ModuleView) → pushed ≡ sources ++ source ∷ [] → source_view source ≡ m → map source_view pushed ≡ map source_view sources ++ m ∷ []
-sources_more sources pushed source m is same =
-    ap (map source_view) is ∙ map-append source_view sources (source ∷ []) ∙ ap (λ (v : ModuleView). map source_view sources ++ v ∷ []) same
+-- the lists of a module, with numbers that names keep
+pub notes_module : (first second third : List (List ℕ)) (noted : ModuleNames) (bytes : List ℕ) → KeepsNumbers first second → KeepsNumbers second third → noted.bytes.now ≡ bytes → AllZip (NotesDefinition first) (definitions_of bytes) noted.definitions.items → AllZip (NotesCommon second) (commons_of bytes) noted.commons.items → AllZip (NotesWeak third bytes) (weaks_of bytes) noted.weaks.items → NotesModule third noted
+notes_module first second third noted bytes grown again same definitions commons weaks = record {
+  definitions = subst (λ (b : List ℕ). AllZip (NotesDefinition third) (definitions_of b) noted.definitions.items) (sym same)
+      (zip_map (NotesDefinition first) (NotesDefinition third) (definitions_of bytes) noted.definitions.items (definition_kept first third (keeps_both first second third grown again)) definitions);
+  commons = subst (λ (b : List ℕ). AllZip (NotesCommon third) (commons_of b) noted.commons.items) (sym same)
+      (zip_map (NotesCommon second) (NotesCommon third) (commons_of bytes) noted.commons.items (common_kept second third again) commons);
+  weaks = subst (λ (b : List ℕ). AllZip (NotesWeak third b) (weaks_of b) noted.weaks.items) (sym same) weaks;
+}
 
--- of no modules nothing is kept
-pub keeps_none : (modules : List ModuleView) (table : List ℕ → Option Found) → modules ≡ [] → ((name : List ℕ) → table name ≡ None) → KeepsModules modules table None
-unfolding first_refusal_below
-keeps_none modules table none empty =
-    subst (λ (ms : List ModuleView). KeepsModules ms table None) (sym none)
-    (record { named = empty; clash_is = refl; opened = All-nil IsOpened; few = omega arith })
+-- ---- where names lead
 
--- what is kept of a module is the module
-pub same_view : (origin : Origin) (bytes : List ℕ) (m : ModuleView) → origin.file ≡ m.file → origin.member ≡ m.member → bytes ≡ m.bytes → view_of origin bytes ≡ m
-same_view origin bytes m file member same = rw (file, member, same) refl
+-- each link that leads on leads to a name
+pub steps_below : (modules : List ModuleView) (chosen : List (List Bool)) (names : List (List ℕ)) (links : List Link) → AreSteps modules chosen names links → All (LeadsBelow (length links)) links
+steps_below modules chosen names links steps = λ k d lt.
+    let name = get_or names k [] in
+    let numbered : Numbers names k name = slice_get-get_or names k [] (omega (arith, lt, steps.long)) in
+    subst (LeadsBelow (length links)) (get_or_default links k no_link d lt)
+    (below (step modules chosen name) (link_at links k) (steps.each k name numbered))
+  where
+    below : (s : Step) (l : Link) → IsStep names s l → LeadsBelow (length links) l
+    below (Ends end) (link.Ends other) is = tt
+    below (Leads name) (link.Leads number) is = omega (arith, number_within names number name is, steps.long)
+    below (Ends end) (link.Leads number) is = absurd is
+    below (Leads name) (link.Ends other) is = absurd is
 
-pub none_first : (clash found : Option Clash) (b : Bool) → is_some clash ≡ not b → b ≡ true → found ≡ option_or clash found
-none_first None found b is e = refl
-none_first (Some x) found true is e = absurd cc
-none_first (Some x) found false is e = absurd cc
-
-pub some_first : (clash found : Option Clash) (b : Bool) → is_some clash ≡ not b → b ≡ false → clash ≡ option_or clash found
-some_first None found true is e = absurd cc
-some_first None found false is e = absurd cc
-some_first (Some x) found b is e = refl
+-- the steps of all names, by what the passes say of the modules
+pub steps_hold : (names : List (List ℕ)) (kept m1 m3 m4 : List ModuleNames) (chosen c2 c8 : List (Vec Bool Global)) (firsts f5 : List (Option FirstLive)) (clash : Option Clash) (commons k6 : List (Option GreatestCommon)) (weaks w7 : List (Option FirstWeak)) (links : List Link) → m1 ≡ kept → c2 ≡ chosen → m3 ≡ kept → m4 ≡ kept → f5 ≡ firsts → k6 ≡ commons → w7 ≡ weaks → c8 ≡ chosen → AreLives names (live_definitions (map noted_view m1) (rows_of c2)) firsts clash → AreGreatest names (all_commons (map noted_view m3)) commons → AreWeaks names (all_weaks (map noted_view m4)) weaks → ((ms : List ModuleView) → AreFirst names (live_definitions ms (rows_of c8)) f5 → AreGreatest names (all_commons ms) k6 → AreWeaks names (all_weaks ms) w7 → AreSteps ms (rows_of c8) names links) → AreSteps (map noted_view kept) (rows_of chosen) names links
+steps_hold names kept m1 m3 m4 chosen c2 c8 firsts f5 clash commons k6 weaks w7 links e1 e2 e3 e4 e5 e6 e7 e8 lives greatest first each =
+    let modules = map noted_view kept in
+    let live = subst (λ (ms : List ModuleNames). AreFirst names (live_definitions (map noted_view ms) (rows_of c2)) firsts) e1 lives.first in
+    let live_here = subst (λ (rows : List (Vec Bool Global)). AreFirst names (live_definitions modules (rows_of rows)) firsts) (e2 ∙ sym e8) live in
+    subst (λ (rows : List (Vec Bool Global)). AreSteps modules (rows_of rows) names links) e8
+    (each modules
+    (subst (AreFirst names (live_definitions modules (rows_of c8))) (sym e5) live_here)
+    (subst (AreGreatest names (all_commons modules)) (sym e6) (subst (λ (ms : List ModuleNames). AreGreatest names (all_commons (map noted_view ms)) commons) e3 greatest))
+    (subst (AreWeaks names (all_weaks modules)) (sym e7) (subst (λ (ms : List ModuleNames). AreWeaks names (all_weaks (map noted_view ms)) weaks) e4 first)))

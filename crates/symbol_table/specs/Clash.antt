@@ -6,7 +6,7 @@ use Rattle.module_view.specs.Module.{ModuleView}
 use Rattle.module_view.specs.declared.definition.Place.{Place}
 use Rattle.module_view.specs.declared.definition.Place.TheVariants as place
 use Rattle.symbol_table.specs.declared.meaning.Clash.{Clash}
-use Rattle.symbol_table.specs.Resolution.{Provided, has_name, all_definitions}
+use Rattle.symbol_table.specs.Lists.{Provided, has_name, live_definitions}
 
 abbrev pub no_definition : Provided
 no_definition = record { «module» = 0; definition = record { name = []; symbol = 0; place = place.Slot } }
@@ -46,6 +46,6 @@ clash_at entries k =
 abbrev pub clash_in : List Provided → Option Clash
 clash_in entries = first_refusal_below (length entries) (clash_at entries)
 
--- the first definition, by its module and then its symbol, whose name has an earlier one, with the modules of both
-abbrev pub clash_of : List ModuleView → Option Clash
-clash_of modules = clash_in (all_definitions modules)
+-- the first live definition, by its module and then its symbol, whose name has an earlier one, with the modules of both
+abbrev pub clash_of : List ModuleView → List (List Bool) → Option Clash
+clash_of modules chosen = clash_in (live_definitions modules chosen)

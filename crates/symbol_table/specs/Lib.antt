@@ -1,4 +1,9 @@
 pub mod LinkerNames
+pub mod Defaults
+pub mod Lists
 pub mod Resolution
 pub mod Clash
+pub mod Interning
+pub mod Passes
+pub mod Links
 pub mod TableParts

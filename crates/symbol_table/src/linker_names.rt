@@ -4,9 +4,8 @@ ghost use Rattle.std.specs.Prelude.{◌≡◌};
 ghost use Rattle.std.specs.List.{list_any};
 ghost use Rattle.link_base.specs.NameText.{same_name};
 ghost use Rattle.symbol_table.specs.LinkerNames.{zero_names, linker_meaning};
-ghost use Rattle.symbol_table.specs.Resolution.{meaning_if};
 
-use crate::meaning::{Meaning, NoMeaning};
+use crate::meaning::Meaning;
 use link_base::Name;
 
 /// The names that mean the number 0.
@@ -25,16 +24,16 @@ const ZERO_NAMES: [&[u8]; 10] = [
 
 /// What the linker means by a name that nothing defines.
 #[tactic(auto, unfolding(crate::specs::LinkerNames::linker_meaning))]
-pub(crate) fn linker_meaning<'a>(name: &Name<'_>) -> Result<Meaning<'a>, NoMeaning>
-    ensures { result ≡ meaning_if (linker_meaning name.now) }
+pub(crate) fn linker_meaning<'a>(name: &Name<'_>) -> Option<Meaning<'a>>
+    ensures { result ≡ linker_meaning name.now }
 {
     if *name == Name::of(b"__ImageBase") {
-        return Ok(Meaning::ImageBase);
+        return Some(Meaning::ImageBase);
     }
     if is_zero_name(name) {
-        return Ok(Meaning::Absolute(0));
+        return Some(Meaning::Absolute(0));
     }
-    Err(NoMeaning::Undefined)
+    None
 }
 
 /// Whether a name means the number 0.

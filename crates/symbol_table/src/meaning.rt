@@ -1,5 +1,7 @@
 //! What a name can mean.
 
+ghost use Rattle.std.specs.Prelude.{◌≡◌};
+
 use link_base::Name;
 
 /// What a name means.
@@ -30,6 +32,34 @@ pub enum Meaning<'a> {
     Absolute(u32),
     /// The address that the image is loaded at.
     ImageBase,
+}
+
+impl<'a> Meaning<'a> {
+    /// The same meaning.
+    pub fn again(&self) -> Meaning<'a>
+        ensures { result ≡ self.now }
+    {
+        match self {
+            Meaning::Section {
+                module,
+                section,
+                value,
+            } => Meaning::Section {
+                module: *module,
+                section: *section,
+                value: *value,
+            },
+            Meaning::Common { module, symbol } => Meaning::Common {
+                module: *module,
+                symbol: *symbol,
+            },
+            Meaning::Slot { module } => Meaning::Slot { module: *module },
+            Meaning::Thunk { module } => Meaning::Thunk { module: *module },
+            Meaning::LocalSlot(name) => Meaning::LocalSlot(name.again()),
+            Meaning::Absolute(value) => Meaning::Absolute(*value),
+            Meaning::ImageBase => Meaning::ImageBase,
+        }
+    }
 }
 
 /// Why a name means nothing.

@@ -1,28 +1,31 @@
 //! The table of names.
 
-ghost use Rattle.std.specs.Prelude.{◌≡◌, ◌<◌, ◌++◌, ◌∷◌, [], length, All, IfOk, OnOk, OnErr};
+ghost use Rattle.std.specs.Prelude.{◌≡◌, ◌<◌, ◌++◌, ◌∷◌, [], length, IfOk, OnOk, OnErr};
 ghost use Rattle.link_base.specs.Limits as limit;
-ghost use Rattle.module_view.specs.Opening.{IsOpened};
-ghost use Rattle.symbol_table.specs.Resolution.{meaning_of};
-ghost use Rattle.symbol_table.specs.Clash.{clash_of};
+ghost use Rattle.symbol_table.specs.Passes.{rows_of};
+ghost use Rattle.symbol_table.specs.TableParts.{ResolvedView};
 
-use crate::linker_names::linker_meaning;
-use crate::meaning::{Clash, Meaning, NoMeaning};
-use crate::noting::note_all;
-use crate::source::{Found, Source, meaning_at};
-use indexmap::IndexMap;
+use crate::chains::meanings;
+use crate::chosen::Chosen;
+use crate::first_weak::first_weaks;
+use crate::greatest::greatest_commons;
+use crate::interning::{note_commons, note_definitions, note_weaks};
+use crate::link::links;
+use crate::lives::{Lives, live_definitions};
+use crate::noted::ModuleNames;
+use crate::resolved::ResolvedNames;
+use indexmap::IndexSet;
 use link_base::{Memory, Name};
 use module_view::Module;
 use std::alloc::Global;
 use std::marker::Model;
 
-/// The names that modules define, by the modules that were added, in order.
+/// The names of the modules that were added, in order.
 #[derive(Drop)]
 pub struct SymbolTable<'a> {
-    sources: Vec<Source<'a>>,
-    /// The first definition of each name.
-    names: IndexMap<Name<'a>, Found>,
-    clash: Option<Clash<'a>>,
+    alloc: Global,
+    names: IndexSet<Name<'a>>,
+    modules: Vec<ModuleNames<'a>>,
 }
 
 impl<'a> Model for SymbolTable<'a> {
@@ -31,13 +34,12 @@ impl<'a> Model for SymbolTable<'a> {
 
     ghost Value = { List ModuleView };
 
-    ghost use Rattle.indexmap.specs.IndexMap.{get};
-    ghost use Rattle.link_base.specs.NameText.{same_name};
-    ghost use Rattle.symbol_table.specs.TableParts.{source_view, KeepsModules};
+    ghost use Rattle.symbol_table.specs.Passes.{noted_view};
+    ghost use Rattle.symbol_table.specs.TableParts.{KeepsModules};
 
-    ghost view = { λ t. map source_view t.sources.items };
+    ghost view = { λ t. map noted_view t.modules.items };
 
-    ghost invariant = { λ t. KeepsModules (map source_view t.sources.items) (get same_name t.names) t.clash };
+    ghost invariant = { λ t. KeepsModules t.names.keys t.modules.items };
 }
 
 impl<'a> SymbolTable<'a> {
@@ -46,9 +48,9 @@ impl<'a> SymbolTable<'a> {
         ensures { result ≡ [] }
     {
         SymbolTable {
-            sources: Vec::new(alloc),
-            names: IndexMap::new(alloc),
-            clash: None,
+            alloc,
+            names: IndexSet::new(alloc),
+            modules: Vec::new(alloc),
         }
     }
 
@@ -60,43 +62,37 @@ impl<'a> SymbolTable<'a> {
         ensures added { OnOk result (self.new ≡ self.old ++ «module».now ∷ []) }
         ensures unchanged { OnErr result (self.new ≡ self.old) }
     {
-        let definitions = module.definitions();
-        self.names.reserve(definitions.len())?;
-        let position = self.sources.len() as u32;
-        self.sources.push(Source {
+        let alloc = self.alloc;
+        let definitions = note_definitions(alloc, &mut self.names, module.definitions())?;
+        let commons = note_commons(alloc, &mut self.names, module.commons())?;
+        let weaks = note_weaks(alloc, &mut self.names, module)?;
+        let position = self.modules.len() as u32;
+        self.modules.push(ModuleNames {
             origin: module.origin(),
             bytes: module.bytes(),
+            definitions,
+            commons,
+            weaks,
         })?;
-        let clash = note_all(&mut self.names, position, definitions);
-        if self.clash.is_none() {
-            self.clash = clash;
-        }
         Ok(position)
     }
 
-    /// The first definition whose name has an earlier one, with the modules of both, unless they are one number.
-    pub fn clash(&self) -> Option<Clash<'a>>
-        ensures clash { result ≡ clash_of self.now }
-        ensures opened { All IsOpened self.now }
+    /// What the names mean where these sections are chosen. Each name's definitions and its chain are followed once.
+    pub fn resolved(self, alloc: Global, chosen: Chosen) -> Result<ResolvedNames<'a>, Memory>
+        ensures { IfOk result (λ names. names ≡ record { modules = self.entry; chosen = rows_of chosen.items }) }
     {
-        match &self.clash {
-            Some(clash) => Some(Clash {
-                name: clash.name.again(),
-                first: clash.first,
-                second: clash.second,
-            }),
-            None => None,
-        }
-    }
-
-    /// What a name means: its first definition, or else what the linker means by it.
-    pub fn resolve(&self, name: Name<'a>) -> Result<Meaning<'a>, NoMeaning>
-        ensures meaning { result ≡ meaning_of self.now name.entry }
-        ensures opened { All IsOpened self.now }
-    {
-        match self.names.get(&name) {
-            Some(found) => Ok(meaning_at(found.module, found.place)),
-            None => linker_meaning(&name),
-        }
+        let SymbolTable { names, modules, .. } = self;
+        let Lives { firsts, clash } = live_definitions(alloc, &names, &modules, &chosen)?;
+        let commons = greatest_commons(alloc, &names, &modules)?;
+        let weaks = first_weaks(alloc, &names, &modules)?;
+        let mut links = links(alloc, &names, &firsts, &commons, &weaks, &chosen)?;
+        let meanings = meanings(alloc, &mut links)?;
+        Ok(ResolvedNames {
+            names,
+            modules,
+            chosen,
+            meanings,
+            clash,
+        })
     }
 }

@@ -6,7 +6,7 @@ use Rattle.coff_aux.specs.Comdats.{parents_of}
 use Rattle.module_view.specs.Module.{ModuleView, no_module, module_at}
 use Rattle.comdat.specs.Chains.{chain_end}
 use Rattle.comdat.specs.Selection.{named_sections, sections_of, own_flag, is_chosen_of_group, chosen_row}
-use Rattle.comdat.specs.Plain.{row_flags}
+use Rattle.symbol_table.specs.Passes.{row_flags}
 use Rattle.comdat.proofs.OpenedLemmas.{told_from, told_first, told_next, told_room}
 use Rattle.comdat.proofs.selection.chosen_rows.Goals as goal
 

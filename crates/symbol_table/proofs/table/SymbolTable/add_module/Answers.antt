@@ -1,23 +1,35 @@
-use Rattle.std.proofs.Common.{List, ℕ, map, length, ap, arith}
-use Rattle.std.specs.Map.{lookup}
+use Rattle.std.proofs.Common.{length, sym, ap, ◌∙◌, subst, arith}
 use Rattle.std.proofs.lemmas.List.{length-map}
-use Rattle.indexmap.specs.IndexMap.{get}
-use Rattle.link_base.specs.NameText.{same_name}
-use Rattle.symbol_table.specs.declared.source.Found.{Found}
-use Rattle.symbol_table.specs.TableParts.{source_view}
-use Rattle.symbol_table.proofs.TableLemmas.{keeps_more, sources_more, same_view, none_first, some_first}
+use Rattle.module_view.specs.Opening.{opening_error}
+use Rattle.std.specs.List.{AllZip}
+use Rattle.symbol_table.specs.Interning.{NotesDefinition, NotesCommon}
+use Rattle.symbol_table.specs.TableParts.{KeepsModules}
+use Rattle.symbol_table.specs.Passes.{noted_view}
+use Rattle.symbol_table.proofs.TableLemmas.{keeps_grow, keeps_both, keeps_push, notes_module}
 use Rattle.symbol_table.proofs.table.SymbolTable.add_module.Goals as goal
 
-pub invariant_of-self-then-is_none : goal.invariant_of-self-then-is_none
-invariant_of-self-then-is_none c =
-    let sources = c.self.inside.sources.items in
-    let m = c.args.«module».now in
-    let before = get same_name c.reserve.new.self in
-    keeps_more (map source_view sources) (map source_view c.push.new.self.items) m (get same_name c.self.inside.names) before (get same_name c.note_all-clash.new.names) c.self.inside.clash c.note_all-clash.result c.note_all-clash.result c.definitions-definitions.result.now c.len-position.result c.self.invariant (omega (arith, c.requires, ap length c.self.view_is)) (sources_more sources c.push.new.self.items _ m c.in_ok-push.ensures.items (same_view c.origin.result c.bytes.result.now m c.origin.ensures.file c.origin.ensures.member c.bytes.ensures.bytes)) c.bytes.ensures.opened c.definitions-definitions.ensures.definitions (omega (arith, length-map sources source_view, c.len-position.ensures)) (λ name. ap (λ (es : List (List ℕ × Found)). lookup (same_name name) es) c.in_ok-reserve.ensures.entries) c.note_all-clash.ensures.noted c.note_all-clash.ensures.clash (none_first c.self.inside.clash c.note_all-clash.result c.is_none.result c.is_none.ensures c.if-is_none.true)
+pub invariant_of-self : goal.invariant_of-self
+invariant_of-self c = keeps_grow _ _ _ c.in_err-definitions.ensures.kept c.self.invariant
 
-pub invariant_of-self-else-is_none : goal.invariant_of-self-else-is_none
-invariant_of-self-else-is_none c =
-    let sources = c.self.inside.sources.items in
-    let m = c.args.«module».now in
-    let before = get same_name c.reserve.new.self in
-    keeps_more (map source_view sources) (map source_view c.push.new.self.items) m (get same_name c.self.inside.names) before (get same_name c.note_all-clash.new.names) c.self.inside.clash c.note_all-clash.result c.self.inside.clash c.definitions-definitions.result.now c.len-position.result c.self.invariant (omega (arith, c.requires, ap length c.self.view_is)) (sources_more sources c.push.new.self.items _ m c.in_ok-push.ensures.items (same_view c.origin.result c.bytes.result.now m c.origin.ensures.file c.origin.ensures.member c.bytes.ensures.bytes)) c.bytes.ensures.opened c.definitions-definitions.ensures.definitions (omega (arith, length-map sources source_view, c.len-position.ensures)) (λ name. ap (λ (es : List (List ℕ × Found)). lookup (same_name name) es) c.in_ok-reserve.ensures.entries) c.note_all-clash.ensures.noted c.note_all-clash.ensures.clash (some_first c.self.inside.clash c.note_all-clash.result c.is_none.result c.is_none.ensures c.if-is_none.false)
+pub invariant_of-self-in_err-commons : goal.invariant_of-self-in_err-commons
+invariant_of-self-in_err-commons c =
+    keeps_grow _ _ _ (keeps_both _ _ _ c.in_ok-definitions.ensures.kept c.in_err-commons.ensures.kept) c.self.invariant
+
+pub invariant_of-self-in_err-weaks : goal.invariant_of-self-in_err-weaks
+invariant_of-self-in_err-weaks c =
+    keeps_grow _ _ _ (keeps_both _ _ _ c.in_ok-definitions.ensures.kept (keeps_both _ _ _ c.in_ok-commons.ensures.kept c.in_err-weaks.ensures.kept)) c.self.invariant
+
+pub invariant_of-self-in_err-push : goal.invariant_of-self-in_err-push
+invariant_of-self-in_err-push c =
+    subst (KeepsModules c.note_weaks.new.names.keys) (sym c.in_err-push.ensures.items)
+    (keeps_grow _ _ _ (keeps_both _ _ _ c.in_ok-definitions.ensures.kept (keeps_both _ _ _ c.in_ok-commons.ensures.kept c.in_ok-weaks.ensures.kept)) c.self.invariant)
+
+pub invariant_of-self-2 : goal.invariant_of-self-2
+invariant_of-self-2 c =
+    let bytes = c.args.«module».now.bytes in
+    let grown = keeps_grow _ _ _ (keeps_both _ _ _ c.in_ok-definitions.ensures.kept (keeps_both _ _ _ c.in_ok-commons.ensures.kept c.in_ok-weaks.ensures.kept)) c.self.invariant in
+    let noted = notes_module c.note_definitions.new.names.keys c.note_commons.new.names.keys c.note_weaks.new.names.keys _ bytes c.in_ok-commons.ensures.kept c.in_ok-weaks.ensures.kept c.bytes.ensures.bytes
+    (subst (λ ds. AllZip (NotesDefinition c.note_definitions.new.names.keys) ds c.in_ok-definitions.definitions.items) c.definitions.ensures.definitions c.in_ok-definitions.ensures.noted)
+    (subst (λ cs. AllZip (NotesCommon c.note_commons.new.names.keys) cs c.in_ok-commons.commons.items) c.commons.ensures.commons c.in_ok-commons.ensures.noted)
+    c.in_ok-weaks.ensures.noted in
+    keeps_push c.note_weaks.new.names.keys c.self.inside.modules.items c.push.new.self.items _ grown (omega (arith, c.requires, ap length c.self.view_is, length-map c.self.inside.modules.items noted_view)) noted (ap opening_error c.bytes.ensures.bytes ∙ c.bytes.ensures.opened) c.in_ok-push.ensures.items

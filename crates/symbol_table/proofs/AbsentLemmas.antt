@@ -1,0 +1,140 @@
+-- A name without a number: nothing defines it.
+use Rattle.std.proofs.Common.{◌≡◌, ℕ, zero, suc, ◌<◌, Bool, true, false, cond, List, [], ◌∷◌, ◌≤◌, length, get_or, map, filter, Option, Some, None, refl, sym, ap, subst, ◌∙◌, add-one, arith}
+use Rattle.std.proofs.lemmas.Grind.{common_steps}
+use Rattle.std.specs.Prelude.{position, Err, option_map}
+use Rattle.std.specs.List.{position_or_len, All, AllZip, find}
+use Rattle.std.specs.Option.{option_or, ok_or}
+use Rattle.std.proofs.lemmas.Bool.{true≢false}
+use Rattle.std.proofs.lemmas.Option.{slice_get_within, get_or_from_slice_get, slice_get-get_or}
+use Rattle.std.proofs.lemmas.List.Elements.{All-filter, All-map}
+use Rattle.std.proofs.lemmas.List.Quantifiers.{position-Some}
+use Rattle.std.proofs.lemmas.List.Sums.{fails_before_first}
+use Rattle.std.proofs.lemmas.List.{length-map}
+use Rattle.link_base.specs.NameText.{same_name}
+use Rattle.link_base.proofs.RangeLemmas.{all_joined}
+use Rattle.std.proofs.lemmas.Slice.Eq.{bytes_eq-Decides}
+use Rattle.module_view.specs.Module.{ModuleView, module_at}
+use Rattle.module_view.specs.SymbolLists.{definitions_of, commons_of, weaks_of}
+use Rattle.module_view.specs.declared.definition.Definition.{Definition}
+use Rattle.module_view.specs.declared.definition.Common.{Common}
+use Rattle.module_view.specs.declared.reference.Weak.{Weak}
+use Rattle.symbol_table.specs.declared.meaning.Meaning.{Meaning}
+use Rattle.symbol_table.specs.declared.meaning.NoMeaning.TheVariants.{Undefined}
+use Rattle.symbol_table.specs.declared.noted.ModuleNames.{ModuleNames}
+use Rattle.symbol_table.specs.LinkerNames.{linker_meaning}
+use Rattle.symbol_table.specs.Lists.{Provided, provided, provided_by, has_name, is_live, all_definitions, live_definitions, Offered, offered, offered_by, offers, all_commons, Said, said, said_by, says, all_weaks}
+use Rattle.symbol_table.specs.Resolution.{defined_meaning, common_meaning, definition_named, common_named, weak_named, greatest_of, Ends, own_or, weak_step, at_end, step, meaning_if, meaning_within, meaning_of}
+use Rattle.symbol_table.specs.Interning.{Numbers, NotesDefinition, NotesCommon, NotesWeak, NotesModule}
+use Rattle.symbol_table.specs.Passes.{noted_view}
+
+-- ---- where a test finds nothing
+
+pub none_found : {X : Type 0} (test : X → Bool) (xs : List X) → All (λ x. test x ≡ false) xs → find test xs ≡ None
+none_found test [] all = refl
+none_found {X} test (x ∷ xs) all =
+    ap (λ (b : Bool). cond b (Some x) (find test xs)) (all 0 x (omega arith)) ∙ none_found test xs (λ k d lt. all (suc k) d (omega arith))
+
+none_kept : {X : Type 0} (test : X → Bool) (xs : List X) → All (λ x. test x ≡ false) xs → filter test xs ≡ []
+none_kept test [] all = refl
+none_kept {X} test (x ∷ xs) all =
+    ap (λ (b : Bool). cond b (x ∷ filter test xs) (filter test xs)) (all 0 x (omega arith)) ∙ none_kept test xs (λ k d lt. all (suc k) d (omega arith))
+
+-- ---- a name without a number
+
+abbrev pub Absent : List (List ℕ) → List ℕ → Type 0
+Absent names name = (number : ℕ) → Numbers names number name → ⊥
+
+-- other names have numbers
+differs : (names : List (List ℕ)) (name other : List ℕ) (number : ℕ) → Absent names name → Numbers names number other → same_name other name ≡ false
+differs names name other number absent numbered = go (same_name other name) refl
+  where
+    go : (b : Bool) → same_name other name ≡ b → same_name other name ≡ false
+    go false e = e
+    go true e = absurd (absent number (numbered ∙ ap Some ((bytes_eq-Decides other name).0 e)))
+
+zip_left : {X Y : Type 0} (R : X → Y → Type 0) (P : X → Type 0) (xs : List X) (ys : List Y) → AllZip R xs ys → ((x : X) (y : Y) → R x y → P x) → All P xs
+zip_left R P [] ys zip each = λ k d lt. absurd (omega arith)
+zip_left R P (x ∷ xs) [] zip each = absurd zip
+zip_left {X} R P (x ∷ xs) (y ∷ ys) zip each = go (zip_left R P xs ys zip.1 each)
+  where
+    go : All P xs → All P (x ∷ xs)
+    go later zero d lt = each x y zip.0
+    go later (suc k) d lt = later k d (omega arith)
+
+module_noted : (names : List (List ℕ)) (kept : List ModuleNames) (k : ℕ) → All (NotesModule names) kept → k < length kept → (noted : ModuleNames) × (NotesModule names noted × (module_at (map noted_view kept) k ≡ noted_view noted))
+module_noted names [] k all lt = absurd (omega arith)
+module_noted names (m ∷ kept) zero all lt = (m, (all 0 m (omega arith), refl))
+module_noted names (m ∷ kept) (suc k) all lt = module_noted names kept k (λ j d below. all (suc j) d (omega arith)) (omega arith)
+
+module _ (names : List (List ℕ)) (kept : List ModuleNames) (noted : All (NotesModule names) kept) (name : List ℕ) (absent : Absent names name) where
+  no_definition : All (λ entry. has_name name entry ≡ false) (all_definitions (map noted_view kept))
+  no_definition =
+      all_joined (λ entry. has_name name entry ≡ false) (λ k. provided_by k (module_at (map noted_view kept) k).bytes) 0 (length (map noted_view kept)) (λ k low high.
+      let found = module_noted names kept k noted (omega (arith, length-map kept noted_view)) in
+      let own = definitions_of found.0.bytes.now in
+      let each = zip_left (NotesDefinition names) (λ (d : Definition). same_name d.name name ≡ false) own found.0.definitions.items found.1.0.definitions (λ d m is. differs names name d.name m.name absent is.named) in
+      subst (λ (v : ModuleView). All (λ entry. has_name name entry ≡ false) (provided_by k v.bytes)) (sym found.1.1)
+      (All-map (λ entry. has_name name entry ≡ false) (provided k) own each))
+
+  no_common : All (λ entry. offers name entry ≡ false) (all_commons (map noted_view kept))
+  no_common =
+      all_joined (λ entry. offers name entry ≡ false) (λ k. offered_by k (module_at (map noted_view kept) k).bytes) 0 (length (map noted_view kept)) (λ k low high.
+      let found = module_noted names kept k noted (omega (arith, length-map kept noted_view)) in
+      let own = commons_of found.0.bytes.now in
+      let each = zip_left (NotesCommon names) (λ (d : Common). same_name d.name name ≡ false) own found.0.commons.items found.1.0.commons (λ d m is. differs names name d.name m.name absent is.named) in
+      subst (λ (v : ModuleView). All (λ entry. offers name entry ≡ false) (offered_by k v.bytes)) (sym found.1.1)
+      (All-map (λ entry. offers name entry ≡ false) (offered k) own each))
+
+  no_weak : All (λ entry. says name entry ≡ false) (all_weaks (map noted_view kept))
+  no_weak =
+      all_joined (λ entry. says name entry ≡ false) (λ k. said_by k (module_at (map noted_view kept) k).bytes) 0 (length (map noted_view kept)) (λ k low high.
+      let found = module_noted names kept k noted (omega (arith, length-map kept noted_view)) in
+      let own = weaks_of found.0.bytes.now in
+      let each = zip_left (NotesWeak names found.0.bytes.now) (λ (w : Weak). same_name w.name name ≡ false) own found.0.weaks.items found.1.0.weaks (λ w m is. differs names name w.name m.name absent is.named) in
+      subst (λ (v : ModuleView). All (λ entry. says name entry ≡ false) (said_by k v.bytes)) (sym found.1.1)
+      (All-map (λ entry. says name entry ≡ false) (said k found.0.bytes.now) own each))
+
+  step_ends : (chosen : List (List Bool)) → step (map noted_view kept) chosen name ≡ Ends (meaning_if (linker_meaning name))
+  unfolding step
+  step_ends chosen =
+      let modules = map noted_view kept in
+      let defined : definition_named modules chosen name ≡ None =
+      none_found (has_name name) (live_definitions modules chosen) (All-filter (is_live chosen) (λ entry. has_name name entry ≡ false) (all_definitions modules) no_definition) in
+      let common : common_named modules name ≡ None = ap greatest_of (none_kept (offers name) (all_commons modules) no_common) in
+      let weak : weak_named modules name ≡ None = none_found (says name) (all_weaks modules) no_weak in
+      ap (λ (found : Option Provided). own_or (option_or (option_map defined_meaning found) (option_or (option_map common_meaning (common_named modules name)) (linker_meaning name))) (weak_step chosen (weak_named modules name))) defined
+      ∙ ap (λ (found : Option Offered). own_or (option_or (option_map common_meaning found) (linker_meaning name)) (weak_step chosen (weak_named modules name))) common
+      ∙ ap (λ (found : Option Said). own_or (linker_meaning name) (weak_step chosen found)) weak
+      ∙ ends (linker_meaning name)
+    where
+      ends : (own : Option Meaning) → own_or own (Ends (Err Undefined)) ≡ Ends (meaning_if own)
+      ends None = refl
+      ends (Some m) = refl
+
+  pub absent_means : (chosen : List (List Bool)) → meaning_of (map noted_view kept) chosen name ≡ meaning_if (linker_meaning name)
+  unfolding meaning_of meaning_within
+  absent_means chosen =
+      let modules = map noted_view kept in
+      ap (λ (n : ℕ). meaning_within modules chosen n name) (add-one (length (all_weaks modules)))
+      ∙ ap (at_end (meaning_within modules chosen (length (all_weaks modules)))) (step_ends chosen)
+
+-- ---- the number of a name
+
+pub position_numbers : (names : List (List ℕ)) (name : List ℕ) (number : ℕ) → position (same_name name) names ≡ Some number → Numbers names number name
+position_numbers names name number e =
+    let found = position-Some (same_name name) names number [] e in
+    slice_get-get_or names number [] found.0 ∙ ap Some (sym ((bytes_eq-Decides name (get_or names number [])).0 found.1))
+
+nowhere : {X : Type 0} (test : X → Bool) (xs : List X) → position test xs ≡ None → length xs ≤ position_or_len test xs
+nowhere test xs e = grind (arith, common_steps)
+
+pub position_absent : (names : List (List ℕ)) (name : List ℕ) → position (same_name name) names ≡ None → (number : ℕ) → Numbers names number name → ⊥
+position_absent names name e number numbered =
+    let within = slice_get_within names number name numbered in
+    let fails = fails_before_first (same_name name) names number [] (omega (arith, nowhere (same_name name) names e)) in
+    let is : get_or names number [] ≡ name = get_or_from_slice_get names number name [] numbered in
+    absurd (true≢false (sym ((bytes_eq-Decides name (get_or names number [])).1 (sym is)) ∙ fails))
+
+pub ok_or_is : (own : Option Meaning) → ok_or own Undefined ≡ meaning_if own
+ok_or_is None = refl
+ok_or_is (Some m) = refl

@@ -1,0 +1,96 @@
+-- One more of a list: what is found in it, what stands at its number, and one more module.
+use Rattle.std.proofs.Common.{◌⊎◌, inl, inr, ◌≡◌, ℕ, zero, suc, ◌+◌, ◌<◌, Bool, false, cond, nat_eq, List, [], ◌∷◌, ◌++◌, length, map, take, get_or, replicate, Option, Some, None, refl, sym, ap, ◌∙◌, append_assoc, arith}
+use Rattle.std.proofs.Math.ListN.{set}
+use Rattle.std.specs.Prelude.{option_map, filter, is_some}
+use Rattle.std.specs.Option.{option_or}
+use Rattle.std.specs.List.{find, flat_map, range_with_len}
+use Rattle.std.proofs.lemmas.Bool.{eqb-false}
+use Rattle.std.proofs.lemmas.List.{map-append, take_more, length-map, length-set, get_or-map, get_or-set_same, get_or-set_other}
+use Rattle.std.proofs.lemmas.List.Folds.{find-append}
+use Rattle.std.proofs.lemmas.List.Elements.{filter-append}
+use Rattle.link_base.proofs.RangeLemmas.{joined_more}
+use Rattle.module_view.specs.Module.{ModuleView, no_module, module_at}
+use Rattle.symbol_table.specs.declared.noted.ModuleNames.{ModuleNames}
+use Rattle.symbol_table.specs.Lists.{of_all}
+use Rattle.symbol_table.specs.Passes.{noted_view}
+
+-- ---- the first of two
+
+pub or_or : {A : Type 0} (a b c : Option A) → option_or (option_or a b) c ≡ option_or a (option_or b c)
+or_or None b c = refl
+or_or (Some x) b c = refl
+
+pub map_or : {A B : Type 0} (f : A → B) (a b : Option A) → option_map f (option_or a b) ≡ option_or (option_map f a) (option_map f b)
+map_or f None b = refl
+map_or f (Some x) b = refl
+
+pub none_or_some : {A : Type 0} (o : Option A) → (o ≡ None) ⊎ ((x : A) × (o ≡ Some x))
+none_or_some None = inl refl
+none_or_some (Some x) = inr (x, refl)
+
+pub none_from : {A : Type 0} (o : Option A) → is_some o ≡ false → o ≡ None
+none_from None e = refl
+none_from (Some x) e = absurd cc
+
+-- ---- one more
+
+pub find_last : {A : Type 0} (p : A → Bool) (xs : List A) (x : A) (b : Bool) → p x ≡ b → find p (xs ++ x ∷ []) ≡ option_or (find p xs) (cond b (Some x) None)
+find_last {A} p xs x b e =
+    find-append p xs (x ∷ []) ∙ ap (λ (c : Bool). option_or (find p xs) (cond c (Some x) None)) e
+
+pub filter_last : {A : Type 0} (p : A → Bool) (xs : List A) (x : A) (b : Bool) → p x ≡ b → filter p (xs ++ x ∷ []) ≡ filter p xs ++ cond b (x ∷ []) []
+filter_last {A} p xs x b e =
+    filter-append p xs (x ∷ []) ∙ ap (λ (c : Bool). filter p xs ++ cond c (x ∷ []) []) e
+
+pub mapped_more : {A B : Type 0} (f : A → B) (earlier : List B) (xs : List A) (i : ℕ) (d : A) → i < length xs → earlier ++ map f (take (i + 1) xs) ≡ (earlier ++ map f (take i xs)) ++ f (get_or xs i d) ∷ []
+mapped_more {A} {B} f earlier xs i d lt =
+    ap (λ (ys : List A). earlier ++ map f ys) (take_more xs i d lt)
+    ∙ ap (λ (ys : List B). earlier ++ ys) (map-append f (take i xs) (get_or xs i d ∷ []))
+    ∙ sym (append_assoc earlier (map f (take i xs)) (f (get_or xs i d) ∷ []))
+
+pub filtered_more : {A B : Type 0} (p : B → Bool) (f : A → B) (earlier : List B) (xs : List A) (i : ℕ) (d : A) (b : Bool) → i < length xs → p (f (get_or xs i d)) ≡ b → earlier ++ filter p (map f (take (i + 1) xs)) ≡ (earlier ++ filter p (map f (take i xs))) ++ cond b (f (get_or xs i d) ∷ []) []
+filtered_more {A} {B} p f earlier xs i d b lt e =
+    ap (λ (ys : List A). earlier ++ filter p (map f ys)) (take_more xs i d lt)
+    ∙ ap (λ (ys : List B). earlier ++ filter p ys) (map-append f (take i xs) (get_or xs i d ∷ []))
+    ∙ ap (λ (ys : List B). earlier ++ ys) (filter_last p (map f (take i xs)) (f (get_or xs i d)) b e)
+    ∙ sym (append_assoc earlier (filter p (map f (take i xs))) (cond b (f (get_or xs i d) ∷ []) []))
+
+-- ---- what stands at a number
+
+-- a list is changed at one place at most
+pub record Changed {A : Type 0} (old new : List (Option A)) (n : ℕ) (y : Option A) : Type 0 where
+  pub long : length new ≡ length old
+  pub here : get_or new n None ≡ y
+  pub others : (m : ℕ) → nat_eq n m ≡ false → get_or new m None ≡ get_or old m None
+
+pub changed_set : {A : Type 0} (old : List (Option A)) (n : ℕ) (y : Option A) → n < length old → Changed old (set old n y) n y
+changed_set old n y lt = record {
+  long = length-set old n y;
+  here = get_or-set_same old n y None lt;
+  others = λ m e. get_or-set_other old n m y None (λ is. eqb-false n m e (sym is));
+}
+
+pub changed_not : {A : Type 0} (old : List (Option A)) (n : ℕ) (y : Option A) → get_or old n None ≡ y → Changed old old n y
+changed_not old n y e = record { long = refl; here = e; others = λ m differ. refl }
+
+-- in a list of nothing nothing stands at any number
+pub none_at : {A : Type 0} (nothing : Option A) (n m : ℕ) → nothing ≡ None → get_or (replicate n nothing) m None ≡ None
+none_at nothing zero m e = refl
+none_at nothing (suc n) zero e = e
+none_at nothing (suc n) (suc m) e = none_at nothing n m e
+
+-- ---- one more module
+
+-- the lists of the first modules, joined
+abbrev pub of_first : {A : Type 0} → (ℕ → List ℕ → List A) → List ModuleView → ℕ → List A
+of_first list modules n = flat_map (λ k. list k (module_at modules k).bytes) (range_with_len 0 n)
+
+pub of_first_more : {A : Type 0} (list : ℕ → List ℕ → List A) (modules : List ModuleNames) (n : ℕ) (m : ModuleNames) → n < length modules → m ≡ get_or modules n m → of_first list (map noted_view modules) (n + 1) ≡ of_first list (map noted_view modules) n ++ list n m.bytes.now
+of_first_more {A} list modules n m lt is =
+    let views = map noted_view modules in
+    joined_more (λ k. list k (module_at views k).bytes) 0 n n (omega arith)
+    ∙ ap (λ (v : ModuleView). of_first list views n ++ list n v.bytes) (get_or-map noted_view modules n m no_module lt ∙ ap noted_view (sym is))
+
+pub of_first_all : {A : Type 0} (list : ℕ → List ℕ → List A) (modules : List ModuleNames) (n : ℕ) → n ≡ length modules → of_first list (map noted_view modules) n ≡ of_all list (map noted_view modules)
+of_first_all list modules n is =
+    ap (of_first list (map noted_view modules)) (is ∙ sym (length-map modules noted_view))

@@ -1,0 +1,8 @@
+use Rattle.std.proofs.Common.{map}
+use Rattle.symbol_table.specs.Lists.{offered_by}
+use Rattle.symbol_table.specs.Passes.{noted_view, AreGreatest}
+use Rattle.symbol_table.proofs.PassLemmas.{of_first}
+use Rattle.symbol_table.proofs.greatest.greatest_commons.Given as goal
+
+abbrev pub invariant-loop-position : goal.invariant-loop-position
+invariant-loop-position l = AreGreatest l.names.keys (of_first offered_by (map noted_view l.modules) l.position) l.commons.items

@@ -1,0 +1,40 @@
+use Rattle.std.proofs.Common.{ℕ, List, [], ◌∷◌, length, get_or, None, sym, ap, subst, ◌∙◌, arith}
+use borrow.Author.Count.{below_more}
+use Rattle.std.proofs.lemmas.List.{get_or_append_left, get_or_push, length-append}
+use Rattle.std.proofs.lemmas.Option.{slice_get_within}
+use Rattle.symbol_table.specs.declared.link.Link.{Link}
+use Rattle.symbol_table.specs.Resolution.{step}
+use Rattle.symbol_table.specs.Interning.{Numbers}
+use Rattle.std.specs.Prelude.{option_map}
+use Rattle.std.specs.Option.{option_or}
+use Rattle.symbol_table.specs.LinkerNames.{linker_meaning}
+use Rattle.symbol_table.specs.Passes.{rows_of, first_meaning, kept_meaning}
+use Rattle.symbol_table.specs.Links.{IsStep, link_at, no_link}
+use Rattle.symbol_table.proofs.LinkLemmas.{step_is, same_number}
+use Rattle.symbol_table.proofs.link.links.Goals as goal
+
+pub loop-number-preserved : goal.loop-number-preserved
+loop-number-preserved c =
+    let links = c.loop-number.links.items in
+    let number = c.loop-number.number in
+    let names = c.args.names.now.keys in
+    let chosen = rows_of c.args.chosen.now in
+    let link = c.link_of.result in
+    let long = c.loop-number.invariant.long in
+    record {
+      long = omega (arith, ap length c.in_ok-push.ensures.items, length-append links (link ∷ []), long);
+      each = λ modules k name first greatest weak lt.
+          below_more (λ (j : ℕ). Numbers names j name → IsStep names (step modules chosen name) (link_at c.push.new.self.items j)) number
+          (λ j below numbered.
+          subst (IsStep names (step modules chosen name)) (sym (get_or_append_left links (link ∷ []) no_link j (omega (arith, long))) ∙ ap (λ (ls : List Link). link_at ls j) (sym c.in_ok-push.ensures.items)) (c.loop-number.invariant.each modules j name first greatest weak below numbered))
+          (λ numbered.
+          subst (IsStep names (step modules chosen name)) (sym (get_or_push links link no_link number long) ∙ ap (λ (ls : List Link). link_at ls number) (sym c.in_ok-push.ensures.items))
+          (step_is modules chosen names c.args.firsts.now c.args.commons.now c.args.weaks.now number name c.own_meaning-own.result link first greatest weak numbered (c.own_meaning-own.ensures ∙ ap (λ (n : List ℕ). option_or (option_map first_meaning (get_or c.args.firsts.now number None)) (option_or (option_map kept_meaning (get_or c.args.commons.now number None)) (linker_meaning n))) (same_number names number c.name_at-name.result name c.name_at-name.ensures numbered)) (λ entry keeps. c.link_of.ensures names entry keeps)))
+          k lt;
+    }
+
+pub returns : goal.returns
+returns c = λ modules first greatest weak. record {
+  long = omega (arith, c.loop-number.invariant.long, c.len-number-end.ensures.len, c.loop-number-test.false);
+  each = λ k name numbered. c.loop-number.invariant.each modules k name first greatest weak (omega (arith, slice_get_within c.args.names.now.keys k name numbered, c.len-number-end.ensures.len, c.loop-number-test.false)) numbered;
+}

@@ -1,0 +1,57 @@
+-- Names by numbers. Own.
+use Rattle.std.specs.Prelude.{◌≡◌, ℕ, List, slice_get, Some}
+use Rattle.std.specs.List.{AllZip}
+use Rattle.module_view.specs.SymbolLists.{definitions_of, commons_of, weaks_of}
+use Rattle.module_view.specs.declared.definition.Definition.{Definition}
+use Rattle.module_view.specs.declared.definition.Common.{Common}
+use Rattle.module_view.specs.declared.reference.Weak.{Weak}
+use Rattle.symbol_table.specs.declared.noted.ModuleNames.{ModuleNames}
+use Rattle.symbol_table.specs.declared.noted.NotedDefinition.{NotedDefinition}
+use Rattle.symbol_table.specs.declared.noted.NotedCommon.{NotedCommon}
+use Rattle.symbol_table.specs.declared.noted.NotedWeak.{NotedWeak}
+use Rattle.symbol_table.specs.declared.noted.NotedDefault.{NotedDefault}
+use Rattle.symbol_table.specs.declared.noted.NotedDefault.TheVariants as noted
+use Rattle.symbol_table.specs.declared.weak_default.WeakDefault.{WeakDefault}
+use Rattle.symbol_table.specs.declared.weak_default.WeakDefault.TheVariants as default
+use Rattle.symbol_table.specs.Defaults.{default_of}
+
+-- a name has a number
+abbrev pub Numbers : List (List ℕ) → ℕ → List ℕ → Type 0
+Numbers names number name = slice_get names number ≡ Some name
+
+-- each name keeps its number
+abbrev pub KeepsNumbers : List (List ℕ) → List (List ℕ) → Type 0
+KeepsNumbers before after = (number : ℕ) (name : List ℕ) → Numbers before number name → Numbers after number name
+
+-- ---- one of a list
+
+pub record NotesDefinition (names : List (List ℕ)) (definition : Definition) (noted : NotedDefinition) : Type 0 where
+  pub named : Numbers names noted.name definition.name
+  pub place_is : noted.place ≡ definition.place
+
+pub record NotesCommon (names : List (List ℕ)) (common : Common) (noted : NotedCommon) : Type 0 where
+  pub named : Numbers names noted.name common.name
+  pub symbol_is : noted.symbol ≡ common.symbol
+  pub size_is : noted.size ≡ common.size
+
+-- a default by the number of its name
+abbrev pub NotesDefault : List (List ℕ) → WeakDefault → NotedDefault → Type 0
+NotesDefault names (default.Name name) (noted.Name number) = Numbers names number name
+NotesDefault names (default.Place section value) said = said ≡ noted.Place section value
+NotesDefault names (default.Absolute value) said = said ≡ noted.Absolute value
+NotesDefault names default.Nothing said = said ≡ noted.Nothing
+NotesDefault names (default.Name name) (noted.Place section value) = ⊥
+NotesDefault names (default.Name name) (noted.Absolute value) = ⊥
+NotesDefault names (default.Name name) noted.Nothing = ⊥
+
+pub record NotesWeak (names : List (List ℕ)) (bytes : List ℕ) (weak : Weak) (noted : NotedWeak) : Type 0 where
+  pub named : Numbers names noted.name weak.name
+  pub default_is : NotesDefault names (default_of bytes weak.tag) noted.default
+
+-- ---- a module
+
+-- what is kept of a module is its lists, with names by their numbers
+pub record NotesModule (names : List (List ℕ)) (noted : ModuleNames) : Type 0 where
+  pub definitions : AllZip (NotesDefinition names) (definitions_of noted.bytes.now) noted.definitions.items
+  pub commons : AllZip (NotesCommon names) (commons_of noted.bytes.now) noted.commons.items
+  pub weaks : AllZip (NotesWeak names noted.bytes.now) (weaks_of noted.bytes.now) noted.weaks.items

@@ -1,0 +1,87 @@
+-- What the passes over a table say of each name, by its number. Own.
+use Rattle.std.specs.Prelude.{◌≡◌, ℕ, Bool, true, nat_lt, List, length, filter, map, slice_index_or, Option, Some, None, option_map}
+use Rattle.std.specs.List.{find}
+use Rattle.std.specs.declared.vec.Vec.{Vec}
+use Rattle.std.specs.declared.alloc.Global.{Global}
+use Rattle.module_view.specs.Module.{ModuleView}
+use Rattle.module_view.specs.ModuleParts.{view_of}
+use Rattle.symbol_table.specs.declared.noted.ModuleNames.{ModuleNames}
+use Rattle.symbol_table.specs.declared.lives.FirstLive.{FirstLive}
+use Rattle.symbol_table.specs.declared.greatest.GreatestCommon.{GreatestCommon}
+use Rattle.symbol_table.specs.declared.first_weak.FirstWeak.{FirstWeak}
+use Rattle.symbol_table.specs.declared.meaning.Clash.{Clash}
+use Rattle.symbol_table.specs.declared.meaning.Meaning.{Meaning}
+use Rattle.symbol_table.specs.declared.meaning.Meaning.TheVariants as meaning
+use Rattle.symbol_table.specs.Lists.{Provided, has_name, Offered, offers, Said, says}
+use Rattle.symbol_table.specs.Clash.{clash_between, clash_in}
+use Rattle.symbol_table.specs.Resolution.{greatest_of, meaning_at}
+use Rattle.symbol_table.specs.Interning.{Numbers, NotesDefault}
+
+abbrev pub row_flags : Vec Bool Global → List Bool
+row_flags row = row.items
+
+abbrev pub rows_of : List (Vec Bool Global) → List (List Bool)
+rows_of rows = map row_flags rows
+
+-- a module, by what is kept of it
+abbrev pub noted_view : ModuleNames → ModuleView
+noted_view noted = view_of noted.origin noted.bytes.now
+
+-- ---- definitions
+
+abbrev pub live_of : Provided → FirstLive
+live_of entry = record { «module» = entry.«module»; place = entry.definition.place }
+
+abbrev pub first_meaning : FirstLive → Meaning
+first_meaning first = meaning_at first.«module» first.place
+
+-- the first of these definitions that has a name
+abbrev pub AreFirst : List (List ℕ) → List Provided → List (Option FirstLive) → Type 0
+AreFirst names entries firsts =
+    (number : ℕ) (name : List ℕ) → Numbers names number name → slice_index_or firsts number None ≡ option_map live_of (find (has_name name) entries)
+
+-- the first of each name, and the clash of two
+pub record AreLives (names : List (List ℕ)) (entries : List Provided) (firsts : List (Option FirstLive)) (clash : Option Clash) : Type 0 where
+  pub long : length firsts ≡ length names
+  pub first : AreFirst names entries firsts
+  pub clash_is : clash ≡ clash_in entries
+
+-- the clash of a definition with the first of its name
+abbrev pub clash_with_first : Provided → FirstLive → Option Clash
+clash_with_first later first =
+    clash_between later.definition.name first.«module» first.place later.«module» later.definition.place
+
+-- ---- commons
+
+abbrev pub common_kept : Offered → GreatestCommon
+common_kept entry = record { «module» = entry.«module»; symbol = entry.common.symbol; size = entry.common.size }
+
+abbrev pub kept_meaning : GreatestCommon → Meaning
+kept_meaning common = meaning.Common common.«module» common.symbol
+
+abbrev pub is_greater : ℕ → Option GreatestCommon → Bool
+is_greater size None = true
+is_greater size (Some common) = nat_lt common.size size
+
+-- the greatest of these commons that has a name
+pub record AreGreatest (names : List (List ℕ)) (entries : List Offered) (commons : List (Option GreatestCommon)) : Type 0 where
+  pub long : length commons ≡ length names
+  pub greatest :
+      (number : ℕ) (name : List ℕ) → Numbers names number name → slice_index_or commons number None ≡ option_map common_kept (greatest_of (filter (offers name) entries))
+
+-- ---- weak externals
+
+pub record KeepsSaid (names : List (List ℕ)) (entry : Said) (weak : FirstWeak) : Type 0 where
+  pub module_is : weak.«module» ≡ entry.«module»
+  pub default_is : NotesDefault names entry.default weak.default
+
+abbrev pub KeepsWeak : List (List ℕ) → Option Said → Option FirstWeak → Type 0
+KeepsWeak names None weak = weak ≡ None
+KeepsWeak names (Some entry) (Some weak) = KeepsSaid names entry weak
+KeepsWeak names (Some entry) None = ⊥
+
+-- the first of these weak externals that has a name
+pub record AreWeaks (names : List (List ℕ)) (entries : List Said) (weaks : List (Option FirstWeak)) : Type 0 where
+  pub long : length weaks ≡ length names
+  pub first :
+      (number : ℕ) (name : List ℕ) → Numbers names number name → KeepsWeak names (find (says name) entries) (slice_index_or weaks number None)

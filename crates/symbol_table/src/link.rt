@@ -1,0 +1,143 @@
+//! Where names lead, by their numbers.
+
+ghost use Rattle.std.specs.Prelude.{◌≡◌, ℕ, List, Option, length, option_map, IfOk};
+ghost use Rattle.std.specs.Option.{option_or};
+ghost use Rattle.module_view.specs.Module.{ModuleView};
+ghost use Rattle.symbol_table.specs.LinkerNames.{linker_meaning};
+ghost use Rattle.symbol_table.specs.Lists.{Said, live_definitions, all_commons, all_weaks};
+ghost use Rattle.symbol_table.specs.Resolution.{meaning_at, place_meaning, own_or, weak_step};
+ghost use Rattle.symbol_table.specs.Passes.{rows_of, first_meaning, kept_meaning, AreFirst, AreGreatest, KeepsWeak, AreWeaks};
+ghost use Rattle.symbol_table.specs.Links.{IsStep, AreSteps};
+
+use crate::chosen::is_chosen;
+use crate::first_weak::FirstWeak;
+use crate::greatest::GreatestCommon;
+use crate::interning::name_at;
+use crate::linker_names::linker_meaning;
+use crate::lives::FirstLive;
+use crate::meaning::{Meaning, NoMeaning};
+use crate::noted::NotedDefault;
+use indexmap::IndexSet;
+use link_base::{Memory, Name};
+use module_view::Place;
+use std::alloc::Global;
+
+/// Where a name leads.
+#[derive(Drop)]
+pub(crate) enum Link<'a> {
+    /// To no other: what it means, or why it means nothing.
+    Ends(Result<Meaning<'a>, NoMeaning>),
+    /// To the name of a number.
+    Leads(usize),
+}
+
+/// Where each name leads, by its number.
+pub(crate) fn links<'a>(
+    alloc: Global,
+    names: &IndexSet<Name<'a>>,
+    firsts: &[Option<FirstLive>],
+    commons: &[Option<GreatestCommon>],
+    weaks: &[Option<FirstWeak>],
+    chosen: &[Vec<bool>],
+) -> Result<Vec<Link<'a>>, Memory>
+    requires firsts { length firsts.now ≡ length names.now.keys }
+    requires commons { length commons.now ≡ length names.now.keys }
+    requires weaks { length weaks.now ≡ length names.now.keys }
+    ensures { IfOk result (λ links. (modules : List ModuleView)
+        → AreFirst names.now.keys (live_definitions modules (rows_of chosen.now)) firsts.now
+        → AreGreatest names.now.keys (all_commons modules) commons.now
+        → AreWeaks names.now.keys (all_weaks modules) weaks.now
+        → AreSteps modules (rows_of chosen.now) names.now.keys links.items) }
+{
+    let mut links = Vec::with_capacity(alloc, names.len())?;
+    for number in 0..names.len() {
+        let name = name_at(names, number);
+        let own = own_meaning(&name, firsts[number], commons[number]);
+        links.push(link_of(own, weaks[number], chosen))?;
+    }
+    Ok(links)
+}
+
+/// Where a name leads, by what it means without its default.
+fn link_of<'a>(own: Option<Meaning<'a>>, weak: Option<FirstWeak>, chosen: &[Vec<bool>]) -> Link<'a>
+    ensures { (names : List (List ℕ)) (entry : Option Said) → KeepsWeak names entry weak
+        → IsStep names (own_or own.entry (weak_step (rows_of chosen.now) entry)) result }
+{
+    match own {
+        Some(meaning) => Link::Ends(Ok(meaning)),
+        None => weak_link(weak, chosen),
+    }
+}
+
+/// What a name means without its default.
+fn own_meaning<'a>(
+    name: &Name<'_>,
+    first: Option<FirstLive>,
+    common: Option<GreatestCommon>,
+) -> Option<Meaning<'a>>
+    ensures { result ≡ option_or (option_map first_meaning first) (option_or (option_map kept_meaning common) (linker_meaning name.now)) }
+{
+    if let Some(first) = first {
+        return Some(meaning_at(first.module, first.place));
+    }
+    if let Some(common) = common {
+        return Some(Meaning::Common {
+            module: common.module,
+            symbol: common.symbol,
+        });
+    }
+    linker_meaning(name)
+}
+
+/// What a definition at a place of a module means.
+fn meaning_at<'a>(module: u32, place: Place) -> Meaning<'a>
+    ensures { result ≡ meaning_at «module» place }
+{
+    match place {
+        Place::Section { section, value } => Meaning::Section {
+            module,
+            section,
+            value,
+        },
+        Place::Absolute(value) => Meaning::Absolute(value),
+        Place::Slot => Meaning::Slot { module },
+        Place::Thunk => Meaning::Thunk { module },
+    }
+}
+
+/// Where a name leads by its first weak external.
+fn weak_link<'a>(weak: Option<FirstWeak>, chosen: &[Vec<bool>]) -> Link<'a>
+    ensures { (names : List (List ℕ)) (entry : Option Said) → KeepsWeak names entry weak
+        → IsStep names (weak_step (rows_of chosen.now) entry) result }
+{
+    let Some(weak) = weak else {
+        return Link::Ends(Err(NoMeaning::Undefined));
+    };
+    match weak.default {
+        NotedDefault::Name(number) => Link::Leads(number),
+        NotedDefault::Place { section, value } => {
+            Link::Ends(place_meaning(weak.module, section, value, chosen))
+        }
+        NotedDefault::Absolute(value) => Link::Ends(Ok(Meaning::Absolute(value))),
+        NotedDefault::Nothing => Link::Ends(Err(NoMeaning::Undefined)),
+    }
+}
+
+/// What a place in a section of a module means: nothing, where the section is not chosen.
+fn place_meaning<'a>(
+    module: u32,
+    section: u32,
+    value: u32,
+    chosen: &[Vec<bool>],
+) -> Result<Meaning<'a>, NoMeaning>
+    ensures { result ≡ place_meaning (rows_of chosen.now) «module» section value }
+{
+    if !is_chosen(chosen, module, section) {
+        return Err(NoMeaning::Undefined);
+    }
+    Ok(Meaning::Section {
+        module,
+        section,
+        value,
+    })
+}

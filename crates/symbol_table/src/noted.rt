@@ -1,0 +1,47 @@
+//! What a table keeps of modules: their lists, with names by numbers.
+
+use module_view::{Origin, Place};
+
+/// What a table keeps of a module.
+#[derive(Drop)]
+pub(crate) struct ModuleNames<'a> {
+    pub(crate) origin: Origin<'a>,
+    pub(crate) bytes: &'a [u8],
+    pub(crate) definitions: Vec<NotedDefinition>,
+    pub(crate) commons: Vec<NotedCommon>,
+    pub(crate) weaks: Vec<NotedWeak>,
+}
+
+/// A definition, by the number of its name.
+#[derive(Clone, Copy)]
+pub(crate) struct NotedDefinition {
+    pub(crate) name: usize,
+    pub(crate) place: Place,
+}
+
+/// A common, by the number of its name.
+#[derive(Clone, Copy)]
+pub(crate) struct NotedCommon {
+    pub(crate) name: usize,
+    pub(crate) symbol: u32,
+    pub(crate) size: u32,
+}
+
+/// A weak external, by the number of its name.
+#[derive(Clone, Copy)]
+pub(crate) struct NotedWeak {
+    pub(crate) name: usize,
+    pub(crate) default: NotedDefault,
+}
+
+/// What a weak external means where nothing defines its name.
+#[derive(Clone, Copy)]
+pub(crate) enum NotedDefault {
+    /// What the name of a number means.
+    Name(usize),
+    /// A place in a section of its module.
+    Place { section: u32, value: u32 },
+    /// A number.
+    Absolute(u32),
+    Nothing,
+}

@@ -1,0 +1,76 @@
+//! What names mean.
+
+ghost use Rattle.std.specs.Prelude.{◌≡◌};
+ghost use Rattle.std.specs.List.{All};
+ghost use Rattle.module_view.specs.Opening.{IsOpened};
+ghost use Rattle.symbol_table.specs.Lists.{is_chosen_in};
+ghost use Rattle.symbol_table.specs.Clash.{clash_of};
+ghost use Rattle.symbol_table.specs.Resolution.{meaning_of};
+
+use crate::chains::again;
+use crate::chosen::{Chosen, is_chosen};
+use crate::linker_names::linker_meaning;
+use crate::meaning::{Clash, Meaning, NoMeaning};
+use crate::noted::ModuleNames;
+use indexmap::IndexSet;
+use link_base::Name;
+use std::marker::Model;
+
+/// What the names of modules mean, some of whose sections are chosen.
+#[derive(Drop)]
+pub struct ResolvedNames<'a> {
+    pub(crate) names: IndexSet<Name<'a>>,
+    pub(crate) modules: Vec<ModuleNames<'a>>,
+    pub(crate) chosen: Chosen,
+    /// What each name means, by its number.
+    pub(crate) meanings: Vec<Result<Meaning<'a>, NoMeaning>>,
+    pub(crate) clash: Option<Clash<'a>>,
+}
+
+impl<'a> Model for ResolvedNames<'a> {
+    ghost use Rattle.std.specs.Prelude.{map};
+    ghost use Rattle.symbol_table.specs.Passes.{rows_of, noted_view};
+    ghost use Rattle.symbol_table.specs.TableParts.{ResolvedView, KeepsMeanings};
+
+    ghost Value = { ResolvedView };
+
+    ghost view = { λ t. record { modules = map noted_view t.modules.items; chosen = rows_of t.chosen.items } };
+
+    ghost invariant = { λ t. KeepsMeanings t.names.keys t.modules.items (rows_of t.chosen.items) t.meanings.items t.clash };
+}
+
+impl<'a> ResolvedNames<'a> {
+    /// Whether a section is chosen, by the position of its module and its number.
+    pub fn is_chosen(&self, module: u32, section: u32) -> bool
+        ensures { result ≡ is_chosen_in self.now.chosen «module» section }
+    {
+        is_chosen(&self.chosen, module, section)
+    }
+
+    /// The first live definition whose name has an earlier one, with the modules of both, unless they are one number.
+    pub fn clash(&self) -> Option<Clash<'a>>
+        ensures clash { result ≡ clash_of self.now.modules self.now.chosen }
+        ensures opened { All IsOpened self.now.modules }
+    {
+        match &self.clash {
+            Some(clash) => Some(Clash {
+                name: clash.name.again(),
+                first: clash.first,
+                second: clash.second,
+            }),
+            None => None,
+        }
+    }
+
+    /// What a name means: its first live definition, its greatest common, what the linker means by it, or what its first
+    /// weak external does by default.
+    pub fn resolve(&self, name: Name<'a>) -> Result<Meaning<'a>, NoMeaning>
+        ensures meaning { result ≡ meaning_of self.now.modules self.now.chosen name.entry }
+        ensures opened { All IsOpened self.now.modules }
+    {
+        match self.names.get_index_of(&name) {
+            Some(number) => again(&self.meanings[number]),
+            None => linker_meaning(&name).ok_or(NoMeaning::Undefined),
+        }
+    }
+}
