@@ -1,5 +1,5 @@
 -- What callers may cite of the fields of a plan: the pieces that they mean are named, and each relocation has its number.
-use Rattle.std.proofs.Common.{◌≡◌, ◌≢◌, ℕ, zero, suc, ◌+◌, ◌<◌, Bool, true, false, cond, ◌||◌, List, [], ◌∷◌, length, filter, get_or, Option, Some, None, option_map, Result, Ok, Err, refl, ap, ◌∙◌, eq-eqb, arith, ne_eqb}
+use Rattle.std.proofs.Common.{◌≡◌, ℕ, zero, suc, ◌+◌, ◌<◌, Bool, true, false, cond, ◌||◌, List, [], ◌∷◌, length, filter, get_or, Option, Some, None, option_map, Result, Ok, Err, refl, ap, ◌∙◌, eq-eqb, arith}
 use Rattle.std.specs.List.{All, range_with_len, find}
 use Rattle.std.proofs.lemmas.Bool.{or_right}
 use Rattle.std.proofs.lemmas.List.Elements.{All-nil, All-cons, All-head, All-tail}
@@ -7,7 +7,7 @@ use Rattle.std.proofs.lemmas.List.Folds.{list_any_at}
 use Rattle.std.proofs.lemmas.List.FromFn.{get_or-range_with_len, length-range_with_len, get_or-map-range_with_len, length-map-range_with_len}
 use Rattle.link_base.proofs.CallerLemmas.{first_below-some}
 use Rattle.link_base.specs.declared.kinds.target.TargetFault.{TargetFault}
-use Rattle.link_base.specs.declared.kinds.target.TargetFault.TheVariants.{Local}
+use Rattle.link_base.specs.declared.kinds.target.TargetFault.TheVariants.{Local, Discarded}
 use Rattle.coff_records.specs.declared.relocation.Relocation.{Relocation}
 use Rattle.coff_records.specs.ObjectFile.{SymbolView, SymbolEntry, value_in, section_number_in, section_of_number, symbol_entries, name_in, relocations_of}
 use Rattle.section_group.specs.SectionOrder.{no_piece}
@@ -17,15 +17,15 @@ use Rattle.relocate.specs.declared.fix.Target.TheVariants as target
 use Rattle.relocate.specs.Field.{has_field, fix_at}
 use Rattle.relocate.specs.Value.{meant, target_of}
 use Rattle.relocate.specs.PatchedBytes.{AreNumbered}
-use Rattle.module_view.specs.Module.{ModuleView, module_at, no_module}
+use Rattle.module_view.specs.Module.{ModuleView, module_at}
 use Rattle.module_view.specs.SymbolLists.{is_absolute}
 use Rattle.symbol_table.specs.declared.meaning.Meaning.{Meaning}
 use Rattle.symbol_table.specs.declared.meaning.Meaning.TheVariants as meaning
 use Rattle.symbol_table.specs.declared.meaning.NoMeaning.{NoMeaning}
-use Rattle.symbol_table.specs.Resolution.{meaning_of}
+use Rattle.link_plan.specs.NameMeaning.{name_meaning, takes_part}
 use Rattle.link_pieces.specs.Pieces.{link_pieces}
 use Rattle.link_pieces.specs.PieceIndex.{piece_index, holds_section}
-use Rattle.link_plan.specs.Targets.{target_in, section_target, meant_target, has_meaning, local_target, symbol_target, is_record}
+use Rattle.link_plan.specs.Targets.{target_in, section_target, own_target, meant_target, has_meaning, local_target, symbol_target, is_record}
 use Rattle.link_plan.specs.Fixes.{fix_of, fixes_from, piece_at, piece_fixes, piece_in, meant_in, is_that, means_piece, mean_piece, is_meant, planned_piece, plan_pieces}
 
 kept_one : {A : Type 0} (P : A → Type 0) (b : Bool) (x : A) (rest : List A) → (b ≡ true → P x) → All P rest → All P (cond b (x ∷ rest) rest)
@@ -83,14 +83,19 @@ name_within modules (Ok (meaning.Absolute value)) = tt
 name_within modules (Ok meaning.ImageBase) = tt
 name_within modules (Err none) = tt
 
-local_within : (modules : List ModuleView) (position : ℕ) (symbol : SymbolView) (absolute inside : Bool) → OkWithin modules (cond absolute (Ok (target.Absolute (value_in symbol))) (cond inside (section_target modules position (section_of_number (section_number_in symbol)) (value_in symbol)) (Err Local)))
+own_within : (modules : List ModuleView) (position section value : ℕ) (part : Bool) → OkWithin modules (cond part (section_target modules position section value) (Err Discarded))
+own_within modules position section value true = section_within modules position section value
+own_within modules position section value false = tt
+
+local_within : (modules : List ModuleView) (position : ℕ) (symbol : SymbolView) (absolute inside : Bool) → OkWithin modules (cond absolute (Ok (target.Absolute (value_in symbol))) (cond inside (own_target modules position (section_of_number (section_number_in symbol)) (value_in symbol)) (Err Local)))
 local_within modules position symbol true inside = tt
-local_within modules position symbol false true = section_within modules position (section_of_number (section_number_in symbol)) (value_in symbol)
+local_within modules position symbol false true =
+    own_within modules position (section_of_number (section_number_in symbol)) (value_in symbol) (takes_part modules position (section_of_number (section_number_in symbol)))
 local_within modules position symbol false false = tt
 
-symbol_within : (modules : List ModuleView) (position : ℕ) (symbol : SymbolView) (b : Bool) → OkWithin modules (cond b (meant_target modules (meaning_of modules (name_in symbol))) (local_target modules position symbol))
+symbol_within : (modules : List ModuleView) (position : ℕ) (symbol : SymbolView) (b : Bool) → OkWithin modules (cond b (meant_target modules (name_meaning modules (name_in symbol))) (local_target modules position symbol))
 unfolding local_target
-symbol_within modules position symbol true = name_within modules (meaning_of modules (name_in symbol))
+symbol_within modules position symbol true = name_within modules (name_meaning modules (name_in symbol))
 symbol_within modules position symbol false = local_within modules position symbol (is_absolute symbol) _
 
 record_within : (modules : List ModuleView) (position : ℕ) (found : Option SymbolEntry) → IsWithin modules (meant (option_map (λ entry. symbol_target modules position entry.1) found))

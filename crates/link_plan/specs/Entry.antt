@@ -9,7 +9,7 @@ use Rattle.module_view.specs.Module.{ModuleView}
 use Rattle.symbol_table.specs.declared.meaning.Meaning.{Meaning}
 use Rattle.symbol_table.specs.declared.meaning.Meaning.TheVariants.{Section, ImageBase}
 use Rattle.symbol_table.specs.declared.meaning.NoMeaning.{NoMeaning}
-use Rattle.symbol_table.specs.Resolution.{meaning_of}
+use Rattle.link_plan.specs.NameMeaning.{name_meaning}
 use Rattle.link_pieces.specs.PieceIndex.{piece_index}
 use Rattle.link_plan.specs.declared.entry.EntryPlace.{EntryPlace}
 use Rattle.link_plan.specs.References.{name_fault}
@@ -23,7 +23,7 @@ meant (Err none) = None
 -- what an entry means, where there is one and it means something
 abbrev pub entry_meant : List ModuleView → Option (List ℕ) → Option Meaning
 entry_meant modules None = None
-entry_meant modules (Some name) = meant (meaning_of modules name)
+entry_meant modules (Some name) = meant (name_meaning modules name)
 
 -- the entry means nothing
 abbrev pub entry_meaning_fault : List ModuleView → Option (List ℕ) → Option Fault

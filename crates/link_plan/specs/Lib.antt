@@ -1,3 +1,4 @@
+pub mod NameMeaning
 pub mod References
 pub mod Targets
 pub mod Fixes

@@ -27,7 +27,7 @@ pub record StandsNamed (pieces : List Piece) (place : EntryPlace) : Type 0 where
 pub record IsPlanOf (options : LinkOptions) (modules : List ModuleView) (plan : LinkPlan) : Type 0 where
   pub opened : All IsOpened modules
   pub modules_are : plan.modules.items ≡ modules
-  pub table_is : plan.table ≡ modules
+  pub names_are : plan.names ≡ modules
   pub pieces_are : map bare plan.pieces.items ≡ plan_pieces modules
   pub contents_are : map piece_contents plan.pieces.items ≡ link_contents modules
   pub aligned : All (λ piece. IsAlignment piece.align) plan.pieces.items

@@ -15,7 +15,7 @@ use Rattle.module_view.specs.SymbolLists.{is_absolute}
 use Rattle.symbol_table.specs.declared.meaning.Meaning.{Meaning}
 use Rattle.symbol_table.specs.declared.meaning.Meaning.TheVariants as meaning
 use Rattle.symbol_table.specs.declared.meaning.NoMeaning.{NoMeaning}
-use Rattle.symbol_table.specs.Resolution.{meaning_of}
+use Rattle.link_plan.specs.NameMeaning.{name_meaning, takes_part}
 use Rattle.link_pieces.specs.PieceIndex.{piece_index}
 
 -- ---- a place
@@ -27,6 +27,11 @@ target_in value (Some piece) = Ok (target.Piece piece value)
 -- an offset in a section of the module at a position, which may not come into the image
 abbrev pub section_target : List ModuleView → ℕ → ℕ → ℕ → Result Target TargetFault
 section_target modules position section value = target_in value (piece_index modules position section)
+
+-- the same of a symbol that only its module can name: a section that takes no part in the link has been discarded
+abbrev pub own_target : List ModuleView → ℕ → ℕ → ℕ → Result Target TargetFault
+own_target modules position section value =
+    if takes_part modules position section then section_target modules position section value else Err fault.Discarded
 
 -- ---- a name
 
@@ -50,13 +55,13 @@ unfoldable pub local_target : List ModuleView → ℕ → SymbolView → Result 
 local_target modules position symbol =
     if is_absolute symbol then Ok (target.Absolute (value_in symbol))
     else (if lt_z SYM_UNDEFINED (section_number_in symbol)
-    then section_target modules position (section_of_number (section_number_in symbol)) (value_in symbol)
+    then own_target modules position (section_of_number (section_number_in symbol)) (value_in symbol)
     else Err fault.Local)
 
 -- a symbol of the module at a position
 abbrev pub symbol_target : List ModuleView → ℕ → SymbolView → Result Target TargetFault
 symbol_target modules position symbol =
-    if has_meaning symbol then meant_target modules (meaning_of modules (name_in symbol))
+    if has_meaning symbol then meant_target modules (name_meaning modules (name_in symbol))
     else local_target modules position symbol
 
 -- ---- a record

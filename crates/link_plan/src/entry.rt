@@ -5,10 +5,11 @@ ghost use Rattle.module_view.specs.Module.{ModuleView};
 ghost use Rattle.link_pieces.specs.PieceIndex.{IsPieceIndex};
 ghost use Rattle.link_plan.specs.Entry.{entry_meant, entry_meaning_fault, meant_place, meant_fault};
 
+use crate::names::LinkNames;
 use crate::references::name_fault;
 use link_base::{Fault, Name, TargetFault};
 use link_pieces::PieceIndex;
-use symbol_table::{Meaning, SymbolTable};
+use symbol_table::Meaning;
 
 /// Where an entry stands: its piece, and the offset in it.
 #[derive(Clone, Copy, Debug, PartialEq, Eq)]
@@ -19,15 +20,15 @@ pub struct EntryPlace {
 
 /// What the entry means, where there is one.
 pub(crate) fn entry_meaning<'a>(
-    table: &SymbolTable<'a>,
+    names: &LinkNames<'a>,
     entry: &Option<Name<'a>>,
 ) -> Result<Option<Meaning<'a>>, Fault<'a>>
-    ensures meant { IfOk result (λ meaning. meaning ≡ entry_meant table.now entry.now) }
-    ensures accepted { OnOk result (entry_meaning_fault table.now entry.now ≡ None) }
-    ensures refused { IfErr result (λ fault. entry_meaning_fault table.now entry.now ≡ Some fault) }
+    ensures meant { IfOk result (λ meaning. meaning ≡ entry_meant names.now entry.now) }
+    ensures accepted { OnOk result (entry_meaning_fault names.now entry.now ≡ None) }
+    ensures refused { IfErr result (λ fault. entry_meaning_fault names.now entry.now ≡ Some fault) }
 {
     let Some(name) = entry else { return Ok(None) };
-    match table.resolve(name.again()) {
+    match names.resolve(name.again()) {
         Ok(meaning) => Ok(Some(meaning)),
         Err(none) => Err(name_fault(name, None, none)),
     }

@@ -8,13 +8,13 @@ ghost use Rattle.link_plan.specs.Targets.{AreTargets};
 ghost use Rattle.link_plan.specs.Fixes.{section_fixes};
 ghost use Rattle.link_plan.specs.Steps.{HoldsTargets};
 
+use crate::names::LinkNames;
 use crate::targets::{RecordTarget, targets_of};
 use coff_object::Object;
 use link_base::Memory;
 use link_pieces::PieceIndex;
 use relocate::Fix;
 use std::alloc::Global;
-use symbol_table::SymbolTable;
 
 /// What the symbols of one module mean, by its position: the module whose relocations were read last.
 #[derive(Drop)]
@@ -27,24 +27,24 @@ pub(crate) struct LastTargets {
 pub(crate) fn section_fixes<'a>(
     alloc: Global,
     last: &mut LastTargets,
-    table: &SymbolTable<'a>,
+    names: &LinkNames<'a>,
     index: &PieceIndex,
     object: &Object<'a>,
     position: u32,
     section: u32,
 ) -> Result<Vec<Fix>, Memory>
-    requires indexed { IsPieceIndex table.now index.now }
-    requires held { HoldsTargets table.now last.old.position last.old.targets.items }
-    requires here { object.now ≡ (module_at table.now position).bytes }
+    requires indexed { IsPieceIndex names.now index.now }
+    requires held { HoldsTargets names.now last.old.position last.old.targets.items }
+    requires here { object.now ≡ (module_at names.now position).bytes }
     requires first { 1 ≤ section }
     requires last { section ≤ section_total object.now }
-    ensures fixes { IfOk result (λ fixes. fixes.items ≡ section_fixes table.now position object.now section) }
-    ensures held { OnOk result (HoldsTargets table.now last.new.position last.new.targets.items) }
+    ensures fixes { IfOk result (λ fixes. fixes.items ≡ section_fixes names.now position object.now section) }
+    ensures held { OnOk result (HoldsTargets names.now last.new.position last.new.targets.items) }
 {
     if object.relocation_count(section) == 0 {
         return Ok(Vec::new(alloc));
     }
-    read_targets(alloc, last, table, index, object, position)?;
+    read_targets(alloc, last, names, index, object, position)?;
     fixes_of(alloc, object, section, &last.targets)
 }
 
@@ -52,19 +52,19 @@ pub(crate) fn section_fixes<'a>(
 fn read_targets<'a>(
     alloc: Global,
     last: &mut LastTargets,
-    table: &SymbolTable<'a>,
+    names: &LinkNames<'a>,
     index: &PieceIndex,
     object: &Object<'a>,
     position: u32,
 ) -> Result<(), Memory>
-    requires indexed { IsPieceIndex table.now index.now }
-    requires held { HoldsTargets table.now last.old.position last.old.targets.items }
-    requires here { object.now ≡ (module_at table.now position).bytes }
+    requires indexed { IsPieceIndex names.now index.now }
+    requires held { HoldsTargets names.now last.old.position last.old.targets.items }
+    requires here { object.now ≡ (module_at names.now position).bytes }
     ensures position { OnOk result (last.new.position ≡ Some position) }
-    ensures targets { OnOk result (AreTargets table.now position object.now last.new.targets.items) }
+    ensures targets { OnOk result (AreTargets names.now position object.now last.new.targets.items) }
 {
     if last.position != Some(position) {
-        last.targets = targets_of(alloc, table, index, object, position)?;
+        last.targets = targets_of(alloc, names, index, object, position)?;
         last.position = Some(position);
     }
     Ok(())

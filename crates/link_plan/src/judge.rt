@@ -12,13 +12,13 @@ ghost use Rattle.link_plan.specs.Steps.{HoldsTargets};
 
 use crate::fixes::{LastTargets, section_fixes};
 use crate::meant::mark_meant;
+use crate::names::LinkNames;
 use link_base::{Fault, Memory, Refusal};
 use link_pieces::PieceIndex;
 use module_view::Module;
 use relocate::{FieldError, Fix, Fixups, check};
 use section_group::Piece;
 use std::alloc::Global;
-use symbol_table::SymbolTable;
 
 /// The fields of all pieces, and which pieces some field means.
 #[derive(Drop)]
@@ -30,13 +30,13 @@ pub(crate) struct JudgedFixes {
 /// Judges the relocations of the pieces, in the order of the pieces. The first that has a fault is refused.
 pub(crate) fn judge_pieces<'a>(
     alloc: Global,
-    table: &SymbolTable<'a>,
+    names: &LinkNames<'a>,
     index: &PieceIndex,
     modules: &[Module<'a>],
     pieces: &[Piece<'a>],
     large: bool,
 ) -> Result<JudgedFixes, Refusal<'a>>
-    requires same { table.now ≡ modules.now }
+    requires same { names.now ≡ modules.now }
     requires indexed { IsPieceIndex modules.now index.now }
     requires pieces { map bare pieces.now ≡ link_pieces modules.now }
     requires contents { map piece_contents pieces.now ≡ link_contents modules.now }
@@ -54,7 +54,7 @@ pub(crate) fn judge_pieces<'a>(
     };
     for k in 0..pieces.len() {
         let piece = &pieces[k];
-        let fixes = piece_fixes(alloc, &mut last, table, index, modules, piece)?;
+        let fixes = piece_fixes(alloc, &mut last, names, index, modules, piece)?;
         mark_meant(&mut meant, &fixes);
         let fields = judge(alloc, piece, &fixes, large)?;
         keep(&mut fixups, fields)?;
@@ -74,12 +74,12 @@ fn keep(fixups: &mut Vec<Fixups>, fields: Fixups) -> Result<(), Memory>
 fn piece_fixes<'a>(
     alloc: Global,
     last: &mut LastTargets,
-    table: &SymbolTable<'a>,
+    names: &LinkNames<'a>,
     index: &PieceIndex,
     modules: &[Module<'a>],
     piece: &Piece<'a>,
 ) -> Result<Vec<Fix>, Memory>
-    requires same { table.now ≡ modules.now }
+    requires same { names.now ≡ modules.now }
     requires indexed { IsPieceIndex modules.now index.now }
     requires held { HoldsTargets modules.now last.old.position last.old.targets.items }
     requires whole { IsSectionOf modules.now (bare piece.now) }
@@ -92,7 +92,7 @@ fn piece_fixes<'a>(
     section_fixes(
         alloc,
         last,
-        table,
+        names,
         index,
         object,
         piece.module,

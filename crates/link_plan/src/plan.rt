@@ -1,24 +1,24 @@
 //! The plan of a link.
 
-ghost use Rattle.std.specs.Prelude.{◌≡◌, ◌≤◌, length, None, Some, IfOk, IfErr, OnOk};
+ghost use Rattle.std.specs.Prelude.{◌≤◌, length, IfOk, IfErr};
 ghost use Rattle.link_base.specs.Limits.{MODULE_LIMIT};
 ghost use Rattle.link_base.specs.Refusals.{RefusesFor};
 ghost use Rattle.link_words.specs.Outcome.{options_said};
-ghost use Rattle.link_plan.specs.PlanFaults.{choice_fault, plan_fault};
+ghost use Rattle.link_plan.specs.PlanFaults.{plan_fault};
 ghost use Rattle.link_plan.specs.Plan.{IsPlanOf};
 
 use crate::entry::{EntryPlace, entry_meaning, entry_place};
 use crate::judge::judge_pieces;
 use crate::meant::name_meant;
+use crate::names::{LinkNames, check_clash, link_names};
 use crate::references::check_references;
-use link_base::{Fault, Memory, Refusal};
+use link_base::Refusal;
 use link_pieces::{PieceIndex, pieces_of};
 use link_words::Options;
 use module_view::Module;
 use relocate::Fixups;
 use section_group::Piece;
 use std::alloc::Global;
-use symbol_table::SymbolTable;
 
 /// What a link will hold.
 #[derive(Drop)]
@@ -26,7 +26,7 @@ pub struct LinkPlan<'a> {
     /// The modules, in the order of joining.
     pub modules: Vec<Module<'a>>,
     /// What the names of the modules mean.
-    pub table: SymbolTable<'a>,
+    pub names: LinkNames<'a>,
     /// The pieces of the image, in the order of the modules and of their sections.
     pub pieces: Vec<Piece<'a>>,
     /// The fields of each piece.
@@ -35,8 +35,9 @@ pub struct LinkPlan<'a> {
     pub entry: Option<EntryPlace>,
 }
 
-/// The plan of a link of these modules. The input is refused for the first of: two definitions of one name (`Duplicate`),
-/// an entry or another name that nothing defines (`Undefined`), an entry that has no place in the image (`BadTarget`),
+/// The plan of a link of these modules. The input is refused for the first of: COMDAT sections that conflict
+/// (`ComdatConflict`), two definitions of one name (`Duplicate`), an entry or another name that nothing defines
+/// (`Undefined`) or whose default leads back to it (`WeakCycle`), an entry that has no place in the image (`BadTarget`),
 /// and a relocation that is malformed or whose target cannot be used (`BadReloc`, `BadTarget`).
 pub fn plan_of<'a>(
     alloc: Global,
@@ -47,47 +48,20 @@ pub fn plan_of<'a>(
     ensures planned { IfOk result (IsPlanOf (options_said options.now) modules.entry.items) }
     ensures refused { IfErr result (RefusesFor (plan_fault (options_said options.now) modules.entry.items)) }
 {
-    let table = table_of(alloc, &modules)?;
-    check_choice(&table)?;
-    let meaning = entry_meaning(&table, &options.entry)?;
-    check_references(&table, &modules)?;
+    let names = link_names(alloc, &modules)?;
+    check_clash(&names)?;
+    let meaning = entry_meaning(&names, &options.entry)?;
+    check_references(&names, &modules)?;
     let mut pieces = pieces_of(alloc, &modules)?;
     let index = PieceIndex::new(alloc, &modules, &pieces)?;
     let entry = entry_place(&index, &meaning)?;
-    let fixes = judge_pieces(alloc, &table, &index, &modules, &pieces, options.large)?;
+    let fixes = judge_pieces(alloc, &names, &index, &modules, &pieces, options.large)?;
     name_meant(&mut pieces, &fixes.meant);
     Ok(LinkPlan {
         modules,
-        table,
+        names,
         pieces,
         fixes: fixes.fixups,
         entry,
     })
-}
-
-/// The table of the names of all modules.
-fn table_of<'a>(alloc: Global, modules: &[Module<'a>]) -> Result<SymbolTable<'a>, Memory>
-    requires { length modules.now ≤ MODULE_LIMIT }
-    ensures { IfOk result (λ table. table ≡ modules.now) }
-{
-    let mut table = SymbolTable::new(alloc);
-    for module in modules {
-        table.add_module(module)?;
-    }
-    Ok(table)
-}
-
-/// That no name is defined twice.
-fn check_choice<'a>(table: &SymbolTable<'a>) -> Result<(), Fault<'a>>
-    ensures accepted { OnOk result (choice_fault table.now ≡ None) }
-    ensures refused { IfErr result (λ fault. choice_fault table.now ≡ Some fault) }
-{
-    match table.clash() {
-        None => Ok(()),
-        Some(clash) => Err(Fault::Duplicate {
-            name: clash.name,
-            first: Some(clash.first),
-            second: Some(clash.second),
-        }),
-    }
 }

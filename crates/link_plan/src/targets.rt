@@ -4,9 +4,10 @@ ghost use Rattle.std.specs.Prelude.{◌≡◌, ◌==◌, ◌<◌, ℕ, List, Non
 ghost use Rattle.std.specs.Option.{option_or};
 ghost use Rattle.module_view.specs.Module.{ModuleView};
 ghost use Rattle.link_pieces.specs.PieceIndex.{IsPieceIndex};
-ghost use Rattle.link_plan.specs.Targets.{section_target, meant_target, has_meaning, local_target, symbol_target, AreTargets};
-ghost use Rattle.symbol_table.specs.Resolution.{meaning_of};
+ghost use Rattle.link_plan.specs.Targets.{section_target, own_target, meant_target, has_meaning, local_target, symbol_target, AreTargets};
+ghost use Rattle.link_plan.specs.NameMeaning.{name_meaning};
 
+use crate::names::LinkNames;
 use coff_object::{Object, SymbolRecord};
 use link_base::pe_format::{
     SYM_ABSOLUTE, SYM_CLASS_EXTERNAL, SYM_CLASS_WEAK_EXTERNAL, SYM_DEBUG, SYM_UNDEFINED,
@@ -15,7 +16,7 @@ use link_base::{Memory, Name, TargetFault};
 use link_pieces::PieceIndex;
 use relocate::Target;
 use std::alloc::Global;
-use symbol_table::{Meaning, SymbolTable};
+use symbol_table::Meaning;
 
 /// What a symbol means to a relocation: a target, or why it has none; nothing where a record is no symbol.
 pub(crate) type RecordTarget = Option<Result<Target, TargetFault>>;
@@ -23,17 +24,17 @@ pub(crate) type RecordTarget = Option<Result<Target, TargetFault>>;
 /// What each symbol record of the object at a position means, by the record's index.
 pub(crate) fn targets_of<'a>(
     alloc: Global,
-    table: &SymbolTable<'a>,
+    names: &LinkNames<'a>,
     index: &PieceIndex,
     object: &Object<'a>,
     position: u32,
 ) -> Result<Vec<RecordTarget>, Memory>
-    requires { IsPieceIndex table.now index.now }
-    ensures { IfOk result (λ targets. AreTargets table.now position object.now targets.items) }
+    requires { IsPieceIndex names.now index.now }
+    ensures { IfOk result (λ targets. AreTargets names.now position object.now targets.items) }
 {
     let mut targets = nothing_yet(alloc, object.record_count())?;
     for (at, symbol) in object.symbols() {
-        let target = symbol_target(table, index, &symbol, position);
+        let target = symbol_target(names, index, &symbol, position);
         note(&mut targets, at as usize, target);
     }
     Ok(targets)
@@ -64,18 +65,18 @@ fn note(targets: &mut Vec<RecordTarget>, at: usize, target: Result<Target, Targe
 
 /// What a symbol of the module at a position means.
 fn symbol_target<'a>(
-    table: &SymbolTable<'a>,
+    names: &LinkNames<'a>,
     index: &PieceIndex,
     symbol: &SymbolRecord<'a>,
     position: u32,
 ) -> Result<Target, TargetFault>
-    requires { IsPieceIndex table.now index.now }
-    ensures { result ≡ symbol_target table.now position symbol.now }
+    requires { IsPieceIndex names.now index.now }
+    ensures { result ≡ symbol_target names.now position symbol.now }
 {
     if has_meaning(symbol) {
-        return name_target(table, index, symbol.name());
+        return name_target(names, index, symbol.name());
     }
-    local_target(index, symbol, position)
+    local_target(names, index, symbol, position)
 }
 
 /// Whether others can name a symbol.
@@ -92,14 +93,14 @@ fn has_meaning(symbol: &SymbolRecord<'_>) -> bool
 
 /// What a name means to a relocation.
 fn name_target<'a>(
-    table: &SymbolTable<'a>,
+    names: &LinkNames<'a>,
     index: &PieceIndex,
     name: Name<'a>,
 ) -> Result<Target, TargetFault>
-    requires { IsPieceIndex table.now index.now }
-    ensures { result ≡ meant_target table.now (meaning_of table.now name.entry) }
+    requires { IsPieceIndex names.now index.now }
+    ensures { result ≡ meant_target names.now (name_meaning names.now name.entry) }
 {
-    match table.resolve(name) {
+    match names.resolve(name) {
         Ok(
             Meaning::Section {
                 module,
@@ -116,20 +117,39 @@ fn name_target<'a>(
 /// What a symbol of the module at a position means that no other module can name.
 #[tactic(auto, unfolding(crate::specs::Targets::local_target))]
 fn local_target(
+    names: &LinkNames<'_>,
     index: &PieceIndex,
     symbol: &SymbolRecord<'_>,
     position: u32,
 ) -> Result<Target, TargetFault>
-    ensures { (modules : List ModuleView) → IsPieceIndex modules index.now → result ≡ local_target modules position symbol.now }
+    requires { IsPieceIndex names.now index.now }
+    ensures { result ≡ local_target names.now position symbol.now }
 {
     let section = symbol.section();
     if section == SYM_ABSOLUTE {
         return Ok(Target::Absolute(symbol.value()));
     }
     if section > SYM_UNDEFINED {
-        return section_target(index, position, section as u32, symbol.value());
+        return own_target(names, index, position, section as u32, symbol.value());
     }
     Err(TargetFault::Local)
+}
+
+/// An offset in a section of the module at a position, which that module alone can name.
+fn own_target(
+    names: &LinkNames<'_>,
+    index: &PieceIndex,
+    position: u32,
+    section: u32,
+    value: u32,
+) -> Result<Target, TargetFault>
+    requires { IsPieceIndex names.now index.now }
+    ensures { result ≡ own_target names.now position section value }
+{
+    if !names.takes_part(position, section) {
+        return Err(TargetFault::Discarded);
+    }
+    section_target(index, position, section, value)
 }
 
 /// An offset in a section of the module at a position.

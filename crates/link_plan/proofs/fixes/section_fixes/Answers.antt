@@ -6,4 +6,4 @@ pub returns-then-relocation_count-eq0-clause-fixes :
     goal.returns-then-relocation_count-eq0-clause-fixes
 returns-then-relocation_count-eq0-clause-fixes c =
     c.new.ensures.items
-    ∙ sym (no_relocations c.args.table.now c.args.position c.args.object.now c.args.section (sym c.relocation_count.ensures ∙ c.if-relocation_count-eq0.true))
+    ∙ sym (no_relocations c.args.names.now c.args.position c.args.object.now c.args.section (sym c.relocation_count.ensures ∙ c.if-relocation_count-eq0.true))

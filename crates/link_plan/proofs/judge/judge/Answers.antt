@@ -1,4 +1,4 @@
-use Rattle.std.proofs.Common.{◌∙◌, sym, arith, eqb-true, length}
+use Rattle.std.proofs.Common.{◌∙◌, sym, eqb-true, length}
 use Rattle.section_group.specs.PieceContents.{piece_contents}
 use Rattle.link_plan.proofs.JudgeLemmas.{none_judged}
 use Rattle.link_plan.proofs.judge.judge.Goals as goal

@@ -9,55 +9,73 @@ use Rattle.link_words.specs.Outcome.{options_said}
 use Rattle.link_plan.specs.References.{references_fault}
 use Rattle.link_plan.specs.Entry.{entry_meant, entry_meaning_fault, meant_fault, meant_place}
 use Rattle.link_plan.specs.Fixes.{HaveFields, is_meant, fixes_fault}
-use Rattle.link_plan.specs.PlanFaults.{choice_fault}
+use Rattle.link_plan.specs.PlanFaults.{conflict_fault, clash_fault}
 use Rattle.link_plan.proofs.EntryLemmas.{entry_stands}
-use Rattle.link_plan.proofs.StageLemmas.{choice_stage, entry_stage, references_stage, place_stage, fields_stage}
+use Rattle.link_plan.proofs.StageLemmas.{conflict_stage, clash_stage, chosen_well, entry_stage, references_stage, place_stage, fields_stage}
 use Rattle.link_plan.proofs.MeantLemmas.{planned}
 use Rattle.link_plan.proofs.NamedLemmas.{count_named, contents_named, aligned_named, bodies_named, stands_named}
 use Rattle.link_plan.proofs.plan.plan_of.Goals as goal
 
-pub returns-in_err-check_choice-clause-refused : goal.returns-in_err-check_choice-clause-refused
-returns-in_err-check_choice-clause-refused c =
+pub returns-in_err-names-clause-refused : goal.returns-in_err-names-clause-refused
+returns-in_err-names-clause-refused c =
     let options = options_said c.args.options.now in
-    let table_is = c.in_ok-table.ensures ∙ c.deref.ensures.value in
-    let given = err_from_is_err_and c.from_residual-in_err-check_choice.result c.from_residual-in_err-check_choice.ensures.1 in
+    let given = err_from_is_err_and c.from_residual.result c.from_residual.ensures.1 in
     rw (given.1, given.2)
-    (choice_stage options c.args.modules.items c.in_err-check_choice.field-0.0 (ap choice_fault (sym table_is) ∙ c.in_err-check_choice.ensures.refused))
+    (conflict_stage options c.args.modules.items c.in_err-names.field-0.0 (subst (λ (ms : List ModuleView). RefusesFor (conflict_fault ms) c.in_err-names.field-0.0) c.deref.ensures.value c.in_err-names.ensures.refused))
+
+pub returns-in_err-check_clash-clause-refused : goal.returns-in_err-check_clash-clause-refused
+returns-in_err-check_clash-clause-refused c =
+    let options = options_said c.args.options.now in
+    let names_are = c.in_ok-names.ensures.names ∙ c.deref.ensures.value in
+    let given = err_from_is_err_and c.from_residual-in_err-check_clash.result c.from_residual-in_err-check_clash.ensures.1 in
+    rw (given.1, given.2)
+    (clash_stage options c.args.modules.items c.in_err-check_clash.field-0.0
+    (ap conflict_fault (sym c.deref.ensures.value) ∙ c.in_ok-names.ensures.accepted)
+    (ap clash_fault (sym names_are) ∙ c.in_err-check_clash.ensures.refused))
 
 pub returns-in_err-meaning-clause-refused : goal.returns-in_err-meaning-clause-refused
 returns-in_err-meaning-clause-refused c =
     let options = options_said c.args.options.now in
-    let table_is = c.in_ok-table.ensures ∙ c.deref.ensures.value in
+    let names_are = c.in_ok-names.ensures.names ∙ c.deref.ensures.value in
+    let chosen = chosen_well c.args.modules.items
+    (ap conflict_fault (sym c.deref.ensures.value) ∙ c.in_ok-names.ensures.accepted)
+    (ap clash_fault (sym names_are) ∙ c.in_ok-check_clash.ensures.accepted) in
     let given = err_from_is_err_and c.from_residual-in_err-meaning.result c.from_residual-in_err-meaning.ensures.1 in
     rw (given.1, given.2)
     (entry_stage options c.args.modules.items c.in_err-meaning.field-0.0
-    (ap choice_fault (sym table_is) ∙ c.in_ok-check_choice.ensures.accepted)
-    (ap (λ (ms : List ModuleView). entry_meaning_fault ms options.entry_name) (sym table_is) ∙ c.in_err-meaning.ensures.refused))
+    chosen
+    (ap (λ (ms : List ModuleView). entry_meaning_fault ms options.entry_name) (sym names_are) ∙ c.in_err-meaning.ensures.refused))
 
 pub returns-in_err-check_references-clause-refused :
     goal.returns-in_err-check_references-clause-refused
 returns-in_err-check_references-clause-refused c =
     let options = options_said c.args.options.now in
-    let table_is = c.in_ok-table.ensures ∙ c.deref.ensures.value in
+    let names_are = c.in_ok-names.ensures.names ∙ c.deref.ensures.value in
+    let chosen = chosen_well c.args.modules.items
+    (ap conflict_fault (sym c.deref.ensures.value) ∙ c.in_ok-names.ensures.accepted)
+    (ap clash_fault (sym names_are) ∙ c.in_ok-check_clash.ensures.accepted) in
     let given = err_from_is_err_and c.from_residual-in_err-check_references.result c.from_residual-in_err-check_references.ensures.1 in
     rw (given.1, given.2)
     (references_stage options c.args.modules.items c.in_err-check_references.field-0.0
-    (ap choice_fault (sym table_is) ∙ c.in_ok-check_choice.ensures.accepted)
-    (ap (λ (ms : List ModuleView). entry_meaning_fault ms options.entry_name) (sym table_is) ∙ c.in_ok-meaning.ensures.accepted)
+    chosen
+    (ap (λ (ms : List ModuleView). entry_meaning_fault ms options.entry_name) (sym names_are) ∙ c.in_ok-meaning.ensures.accepted)
     (ap references_fault (sym c.deref-2.ensures.value) ∙ c.in_err-check_references.ensures.refused))
 
 pub returns-in_err-entry-clause-refused : goal.returns-in_err-entry-clause-refused
 returns-in_err-entry-clause-refused c =
     let options = options_said c.args.options.now in
     let modules = c.args.modules.items in
-    let table_is = c.in_ok-table.ensures ∙ c.deref.ensures.value in
+    let names_are = c.in_ok-names.ensures.names ∙ c.deref.ensures.value in
+    let chosen = chosen_well c.args.modules.items
+    (ap conflict_fault (sym c.deref.ensures.value) ∙ c.in_ok-names.ensures.accepted)
+    (ap clash_fault (sym names_are) ∙ c.in_ok-check_clash.ensures.accepted) in
     let given = err_from_is_err_and c.from_residual-in_err-entry.result c.from_residual-in_err-entry.ensures.1 in
-    let meant = c.in_ok-meaning.ensures.meant ∙ ap (λ (ms : List ModuleView). entry_meant ms options.entry_name) table_is in
+    let meant = c.in_ok-meaning.ensures.meant ∙ ap (λ (ms : List ModuleView). entry_meant ms options.entry_name) names_are in
     let refused = c.in_err-entry.ensures.refused c.deref-4.result.now c.in_ok-index.ensures in
     rw (given.1, given.2)
     (place_stage options modules c.in_err-entry.field-0.0
-    (ap choice_fault (sym table_is) ∙ c.in_ok-check_choice.ensures.accepted)
-    (ap (λ (ms : List ModuleView). entry_meaning_fault ms options.entry_name) (sym table_is) ∙ c.in_ok-meaning.ensures.accepted)
+    chosen
+    (ap (λ (ms : List ModuleView). entry_meaning_fault ms options.entry_name) (sym names_are) ∙ c.in_ok-meaning.ensures.accepted)
     (ap references_fault (sym c.deref-2.ensures.value) ∙ c.in_ok-check_references.ensures.accepted)
     (ap (meant_fault modules) (sym meant) ∙ ap (λ (ms : List ModuleView). meant_fault ms c.in_ok-meaning.meaning) (sym c.deref-4.ensures.value) ∙ refused))
 
@@ -65,13 +83,16 @@ pub returns-in_err-fixes-clause-refused : goal.returns-in_err-fixes-clause-refus
 returns-in_err-fixes-clause-refused c =
     let options = options_said c.args.options.now in
     let modules = c.args.modules.items in
-    let table_is = c.in_ok-table.ensures ∙ c.deref.ensures.value in
-    let meant = c.in_ok-meaning.ensures.meant ∙ ap (λ (ms : List ModuleView). entry_meant ms options.entry_name) table_is in
+    let names_are = c.in_ok-names.ensures.names ∙ c.deref.ensures.value in
+    let chosen = chosen_well c.args.modules.items
+    (ap conflict_fault (sym c.deref.ensures.value) ∙ c.in_ok-names.ensures.accepted)
+    (ap clash_fault (sym names_are) ∙ c.in_ok-check_clash.ensures.accepted) in
+    let meant = c.in_ok-meaning.ensures.meant ∙ ap (λ (ms : List ModuleView). entry_meant ms options.entry_name) names_are in
     let accepted = c.in_ok-entry.ensures.accepted c.deref-4.result.now c.in_ok-index.ensures in
     let given = err_from_is_err_and c.from_residual-in_err-fixes.result c.from_residual-in_err-fixes.ensures.1 in
     let fault = fields_stage options modules
-    (ap choice_fault (sym table_is) ∙ c.in_ok-check_choice.ensures.accepted)
-    (ap (λ (ms : List ModuleView). entry_meaning_fault ms options.entry_name) (sym table_is) ∙ c.in_ok-meaning.ensures.accepted)
+    chosen
+    (ap (λ (ms : List ModuleView). entry_meaning_fault ms options.entry_name) (sym names_are) ∙ c.in_ok-meaning.ensures.accepted)
     (ap references_fault (sym c.deref-2.ensures.value) ∙ c.in_ok-check_references.ensures.accepted)
     (ap (meant_fault modules) (sym meant) ∙ ap (λ (ms : List ModuleView). meant_fault ms c.in_ok-meaning.meaning) (sym c.deref-4.ensures.value) ∙ accepted) in
     rw (given.1, given.2)
@@ -81,8 +102,11 @@ pub returns-clause-planned : goal.returns-clause-planned
 returns-clause-planned c =
     let options = options_said c.args.options.now in
     let modules = c.args.modules.items in
-    let table_is = c.in_ok-table.ensures ∙ c.deref.ensures.value in
-    let meant = c.in_ok-meaning.ensures.meant ∙ ap (λ (ms : List ModuleView). entry_meant ms options.entry_name) table_is in
+    let names_are = c.in_ok-names.ensures.names ∙ c.deref.ensures.value in
+    let chosen = chosen_well c.args.modules.items
+    (ap conflict_fault (sym c.deref.ensures.value) ∙ c.in_ok-names.ensures.accepted)
+    (ap clash_fault (sym names_are) ∙ c.in_ok-check_clash.ensures.accepted) in
+    let meant = c.in_ok-meaning.ensures.meant ∙ ap (λ (ms : List ModuleView). entry_meant ms options.entry_name) names_are in
     let placed = c.in_ok-entry.ensures.placed c.deref-4.result.now c.in_ok-index.ensures ∙ ap (λ (ms : List ModuleView). meant_place ms c.in_ok-meaning.meaning) c.deref-4.ensures.value in
     let accepted = c.in_ok-entry.ensures.accepted c.deref-4.result.now c.in_ok-index.ensures in
     let old = c.in_ok-pieces.pieces.items in
@@ -98,7 +122,7 @@ returns-clause-planned c =
     record {
       opened = opened;
       modules_are = refl;
-      table_is = table_is;
+      names_are = names_are;
       pieces_are = planned modules old marks now pieces_are marked named;
       contents_are = contents_named old marks now named ∙ c.in_ok-pieces.ensures.contents ∙ ap link_contents c.deref-3.ensures.value;
       aligned = aligned_named old marks now named c.in_ok-pieces.ensures.aligned;
@@ -109,8 +133,8 @@ returns-clause-planned c =
       stands = rw entry_is (λ place e. stands_named old marks now place named (entry_stands modules old options.entry_name pieces_are opened place e));
       no_fault =
           fields_stage options modules
-          (ap choice_fault (sym table_is) ∙ c.in_ok-check_choice.ensures.accepted)
-          (ap (λ (ms : List ModuleView). entry_meaning_fault ms options.entry_name) (sym table_is) ∙ c.in_ok-meaning.ensures.accepted)
+          chosen
+          (ap (λ (ms : List ModuleView). entry_meaning_fault ms options.entry_name) (sym names_are) ∙ c.in_ok-meaning.ensures.accepted)
           (ap references_fault (sym c.deref-2.ensures.value) ∙ c.in_ok-check_references.ensures.accepted)
           (ap (meant_fault modules) (sym meant) ∙ ap (λ (ms : List ModuleView). meant_fault ms c.in_ok-meaning.meaning) (sym c.deref-4.ensures.value) ∙ accepted)
           ∙ ap (λ (ms : List ModuleView). fixes_fault ms options.large) (sym judged)

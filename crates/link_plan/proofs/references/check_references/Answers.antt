@@ -14,7 +14,7 @@ pub returns-in_err-check_module-clause-refused : goal.returns-in_err-check_modul
 returns-in_err-check_module-clause-refused c =
     let modules = c.args.modules.now in
     let k = c.loop-position.position in
-    let here = module_here c.args.table.now modules k c.index-modules-position.result c.requires.same (omega arith) c.index-modules-position.is in
+    let here = module_here c.args.names.now modules k c.index-modules-position.result c.requires.same (omega arith) c.index-modules-position.is in
     let given = err_from_is_err_and c.from_residual.result c.from_residual.ensures.1 in
     rw (given.1, given.2)
     (first_refusal_below-found k (length modules) (references_fault_at modules) c.in_err-check_module.field-0.0 (omega arith) c.loop-position.invariant
@@ -24,5 +24,5 @@ pub loop-position-preserved : goal.loop-position-preserved
 loop-position-preserved c =
     let modules = c.args.modules.now in
     let k = c.loop-position.position in
-    let here = module_here c.args.table.now modules k c.index-modules-position.result c.requires.same (omega arith) c.index-modules-position.is in
+    let here = module_here c.args.names.now modules k c.index-modules-position.result c.requires.same (omega arith) c.index-modules-position.is in
     first_refusal_below-more k (references_fault_at modules) c.loop-position.invariant (here ∙ c.in_ok-check_module.ensures.accepted)

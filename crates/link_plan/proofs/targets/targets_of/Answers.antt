@@ -18,8 +18,8 @@ loop-at-init c =
       left = symbols_left-all bytes c.into_iter-at-iterator.result all;
       count = ap length c.in_ok-targets.ensures ∙ length-replicate c.record_count.result _ ∙ c.record_count.ensures;
       noted = λ other.
-          ap (λ o. option_or o (option_map (λ (e : SymbolEntry). symbol_target c.args.table.now c.args.position e.1) (find (is_record other) c.into_iter-at-iterator.result))) (nothing_noted c.in_ok-targets.targets.items c.record_count.result other c.in_ok-targets.ensures)
-          ∙ ap (λ (es : List SymbolEntry). option_map (λ (e : SymbolEntry). symbol_target c.args.table.now c.args.position e.1) (find (is_record other) es)) all;
+          ap (λ o. option_or o (option_map (λ (e : SymbolEntry). symbol_target c.args.names.now c.args.position e.1) (find (is_record other) c.into_iter-at-iterator.result))) (nothing_noted c.in_ok-targets.targets.items c.record_count.result other c.in_ok-targets.ensures)
+          ∙ ap (λ (es : List SymbolEntry). option_map (λ (e : SymbolEntry). symbol_target c.args.names.now c.args.position e.1) (find (is_record other) es)) all;
     }
 
 pub note-requires : goal.note-requires
@@ -36,7 +36,7 @@ loop-at-preserved c =
       left = step.left;
       count = c.note.ensures.len ∙ c.loop-at.invariant.count;
       noted = λ other.
-          noted_more (λ (e : SymbolEntry). symbol_target c.args.table.now c.args.position e.1) c.loop-at.at-iterator c.next.new.self (c.in-Some.at, c.in-Some.symbol) other _ _ _ c.in-Some.ensures.steps
+          noted_more (λ (e : SymbolEntry). symbol_target c.args.names.now c.args.position e.1) c.loop-at.at-iterator c.next.new.self (c.in-Some.at, c.in-Some.symbol) other _ _ _ c.in-Some.ensures.steps
           (c.note.ensures.noted other ∙ ap (λ t. option_or (slice_index_or c.loop-at.targets.items other None) (cond (eqb c.in-Some.at other) (Some t) None)) c.symbol_target-target.ensures)
           (c.loop-at.invariant.noted other);
     }

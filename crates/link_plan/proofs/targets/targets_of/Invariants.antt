@@ -12,5 +12,5 @@ invariant-loop-at l = record {
   ends : (goal.iterator-loop-at).is_finite l.at-iterator;
   left : SymbolsLeft l.object l.at-iterator;
   count : length l.targets.items ≡ record_total l.object;
-  noted : (other : ℕ) → option_or (get_or l.targets.items other None) (option_map (λ entry. symbol_target l.table l.position entry.1) (find (is_record other) l.at-iterator)) ≡ record_target l.table l.position l.object other;
+  noted : (other : ℕ) → option_or (get_or l.targets.items other None) (option_map (λ entry. symbol_target l.names l.position entry.1) (find (is_record other) l.at-iterator)) ≡ record_target l.names l.position l.object other;
 }

@@ -1,0 +1,117 @@
+//! What names mean in the modules of a link.
+
+ghost use Rattle.std.specs.Prelude.{◌≡◌, ◌≤◌, None, Some, map, length, IfOk, OnOk, IfErr};
+ghost use Rattle.link_base.specs.Limits.{MODULE_LIMIT};
+ghost use Rattle.link_base.specs.Refusals.{RefusesFor};
+ghost use Rattle.symbol_table.specs.Passes.{rows_of};
+ghost use Rattle.comdat.specs.Selection.{chosen_sections};
+ghost use Rattle.link_plan.specs.NameMeaning.{name_meaning, takes_part};
+ghost use Rattle.link_plan.specs.PlanFaults.{conflict_fault, clash_fault};
+
+use comdat::{ChooseError, choose_all};
+use link_base::{Fault, Memory, Name, Refusal};
+use module_view::Module;
+use std::alloc::Global;
+use std::marker::Model;
+use symbol_table::{Chosen, Meaning, NoMeaning, ResolvedNames, SymbolTable};
+
+/// What names mean in the modules of a link, of each group of whose COMDAT sections one is chosen.
+#[derive(Drop)]
+pub struct LinkNames<'a> {
+    names: ResolvedNames<'a>,
+}
+
+impl<'a> Model for LinkNames<'a> {
+    ghost use Rattle.std.specs.Prelude.{◌≡◌, List};
+    ghost use Rattle.module_view.specs.Module.{ModuleView};
+    ghost use Rattle.comdat.specs.Selection.{chosen_sections};
+
+    ghost Value = { List ModuleView };
+
+    ghost view = { λ t. t.names.modules };
+
+    ghost invariant = { λ t. t.names.chosen ≡ chosen_sections t.names.modules };
+}
+
+impl<'a> LinkNames<'a> {
+    /// What a name means.
+    pub fn resolve(&self, name: Name<'a>) -> Result<Meaning<'a>, NoMeaning>
+        ensures { result ≡ name_meaning self.now name.entry }
+    {
+        self.names.resolve(name)
+    }
+
+    /// Whether a section takes part in the link, by the position of its module and its number: it is chosen.
+    pub fn takes_part(&self, module: u32, section: u32) -> bool
+        ensures { result ≡ takes_part self.now «module» section }
+    {
+        self.names.is_chosen(module, section)
+    }
+}
+
+/// The names of the modules. COMDAT sections that conflict are refused.
+pub(crate) fn link_names<'a>(
+    alloc: Global,
+    modules: &[Module<'a>],
+) -> Result<LinkNames<'a>, Refusal<'a>>
+    requires { length modules.now ≤ MODULE_LIMIT }
+    ensures names { IfOk result (λ names. names ≡ modules.now) }
+    ensures accepted { OnOk result (conflict_fault modules.now ≡ None) }
+    ensures refused { IfErr result (RefusesFor (conflict_fault modules.now)) }
+{
+    let chosen = choose(alloc, modules)?;
+    let table = table_of(alloc, modules)?;
+    let names = table.resolved(alloc, chosen)?;
+    Ok(LinkNames { names })
+}
+
+/// Which sections of the modules are chosen.
+fn choose<'a>(alloc: Global, modules: &[Module<'a>]) -> Result<Chosen, Refusal<'a>>
+    requires { length modules.now ≤ MODULE_LIMIT }
+    ensures chosen { IfOk result (λ chosen. rows_of chosen.items ≡ chosen_sections modules.now) }
+    ensures accepted { OnOk result (conflict_fault modules.now ≡ None) }
+    ensures refused { IfErr result (RefusesFor (conflict_fault modules.now)) }
+{
+    match choose_all(alloc, modules) {
+        Ok(chosen) => Ok(chosen),
+        Err(
+            ChooseError::Conflict {
+                name,
+                first,
+                second,
+            },
+        ) => Err(Refusal::Fault(Fault::ComdatConflict {
+            name,
+            first: Some(first),
+            second: Some(second),
+        })),
+        Err(ChooseError::Memory) => Err(Refusal::Memory),
+    }
+}
+
+/// The table of the names of all modules.
+fn table_of<'a>(alloc: Global, modules: &[Module<'a>]) -> Result<SymbolTable<'a>, Memory>
+    requires { length modules.now ≤ MODULE_LIMIT }
+    ensures { IfOk result (λ table. table ≡ modules.now) }
+{
+    let mut table = SymbolTable::new(alloc);
+    for module in modules {
+        table.add_module(module)?;
+    }
+    Ok(table)
+}
+
+/// That no name is defined twice.
+pub(crate) fn check_clash<'a>(names: &LinkNames<'a>) -> Result<(), Fault<'a>>
+    ensures accepted { OnOk result (clash_fault names.now ≡ None) }
+    ensures refused { IfErr result (λ fault. clash_fault names.now ≡ Some fault) }
+{
+    match names.names.clash() {
+        None => Ok(()),
+        Some(clash) => Err(Fault::Duplicate {
+            name: clash.name,
+            first: Some(clash.first),
+            second: Some(clash.second),
+        }),
+    }
+}
