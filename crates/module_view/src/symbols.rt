@@ -63,7 +63,7 @@ pub(crate) fn read_symbols<'a>(
             return Err(ModuleError::Unsupported(Kind::LongName));
         }
         starts[index as usize] = true;
-        is_unbuilt |= is_unbuilt_symbol(&symbol);
+        is_unbuilt |= is_unbuilt_symbol(object, &symbol);
         push_definition(&mut definitions, index, &symbol)?;
         push_reference(&mut references, object, index, &symbol)?;
         push_weak(&mut weaks, object, index, &symbol)?;
@@ -197,7 +197,7 @@ fn push_weak<'a>(
     Ok(())
 }
 
-pub(crate) fn is_weak(symbol: &SymbolRecord<'_>) -> bool
+fn is_weak(symbol: &SymbolRecord<'_>) -> bool
     ensures { result ≡ is_weak symbol.now }
 {
     symbol.class() == SYM_CLASS_WEAK_EXTERNAL
@@ -248,7 +248,7 @@ fn push_common<'a>(
 
 /// Whether a symbol is a common: external, in no section, and with a size as its value.
 #[tactic(auto, unfolding(crate::specs::SymbolLists::is_common))]
-pub(crate) fn is_common(symbol: &SymbolRecord<'_>) -> bool
+fn is_common(symbol: &SymbolRecord<'_>) -> bool
     ensures { result ≡ is_common symbol.now }
 {
     symbol.class() == SYM_CLASS_EXTERNAL && symbol.section() == SYM_UNDEFINED && symbol.value() != 0

@@ -90,7 +90,7 @@ fn object(alloc: Global, section: &[u8], symbol: &[u8], len: u16) -> Result<Vec<
 }
 
 /// What is wrong with auxiliary records: whether the section is a COMDAT (by a byte of its flags), how many symbol records there
-/// are, these, and the fault with its place; with none the object is well formed, but not linked yet.
+/// are, these, and the fault with its place; with none the object opens.
 const AUX_RECORDS: [(u8, u8, &[u8], Option<(ObjFault, u32)>); 16] = [
     // a COMDAT that says all it has to
     (

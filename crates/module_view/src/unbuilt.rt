@@ -6,23 +6,21 @@ ghost use Rattle.link_base.specs.NameText.{same_name};
 ghost use Rattle.link_base.specs.SectionName.{base_name};
 ghost use Rattle.coff_records.specs.ObjectFile.{section_total, section_name_of, flags_of, raw_size_of, body_of, name_in};
 ghost use Rattle.module_view.specs.PlacedSection.{comes_in};
-ghost use Rattle.module_view.specs.Unbuilt.{is_unbuilt_form, holds_directives, is_special_section, is_loader_name, is_import_reference, is_external_name, is_unbuilt_symbol};
+ghost use Rattle.module_view.specs.Unbuilt.{is_unbuilt_form, holds_directives, is_special_section, is_loader_name, is_in_comdat, is_import_reference, is_external_name, is_unbuilt_symbol};
 
 use crate::base_name::has_base_name;
 use crate::placed_section::comes_in;
-use crate::symbols::{is_common, is_weak};
+use coff_aux::{is_comdat, is_section_number};
 use coff_object::{Object, Section, SymbolRecord};
 use link_base::Name;
-use link_base::pe_format::{
-    SCN_LNK_COMDAT, SYM_CLASS_EXTERNAL, SYM_CLASS_WEAK_EXTERNAL, SYM_UNDEFINED,
-};
+use link_base::pe_format::{SYM_CLASS_EXTERNAL, SYM_CLASS_WEAK_EXTERNAL, SYM_UNDEFINED};
 
 /// Whether a section has a form that is not linked yet.
 #[tactic(auto, unfolding(crate::specs::Unbuilt::is_unbuilt_form))]
 pub(crate) fn is_unbuilt_section(section: &Section<'_>) -> bool
     ensures { result ≡ is_unbuilt_form section.now.name section.now.flags section.now.size (is_some section.now.body) }
 {
-    section.flags & SCN_LNK_COMDAT != 0 || holds_directives(section) || is_special_section(section)
+    holds_directives(section) || is_special_section(section)
 }
 
 /// Whether a section holds directives for the linker.
@@ -43,17 +41,30 @@ fn is_special_section(section: &Section<'_>) -> bool
 /// Whether a symbol has a form that is not linked yet. Its name is read only where its class and its section ask
 /// for it.
 #[tactic(auto, unfolding(crate::specs::Unbuilt::is_unbuilt_symbol))]
-pub(crate) fn is_unbuilt_symbol(symbol: &SymbolRecord<'_>) -> bool
-    ensures { result ≡ is_unbuilt_symbol symbol.now }
+pub(crate) fn is_unbuilt_symbol(object: &Object<'_>, symbol: &SymbolRecord<'_>) -> bool
+    ensures { result ≡ is_unbuilt_symbol object.now symbol.now }
 {
-    is_weak(symbol) || is_common(symbol) || is_import_reference(symbol) || is_loader_symbol(symbol)
+    is_import_reference(object, symbol) || is_loader_symbol(symbol)
 }
 
-/// Whether an undefined symbol names an entry of the import address table.
-fn is_import_reference(symbol: &SymbolRecord<'_>) -> bool
-    ensures { result ≡ is_import_reference symbol.now }
+/// Whether a symbol names an entry of the import address table, and may refer to that of another module.
+fn is_import_reference(object: &Object<'_>, symbol: &SymbolRecord<'_>) -> bool
+    ensures { result ≡ is_import_reference object.now symbol.now }
 {
-    symbol.section() == SYM_UNDEFINED && symbol.name().is_import()
+    (symbol.section() == SYM_UNDEFINED || is_in_comdat(object, symbol)) && symbol.name().is_import()
+}
+
+/// Whether a symbol stands in a COMDAT section.
+#[tactic(auto, unfolding(crate::specs::Unbuilt::is_in_comdat))]
+fn is_in_comdat(object: &Object<'_>, symbol: &SymbolRecord<'_>) -> bool
+    ensures { result ≡ is_in_comdat object.now symbol.now }
+{
+    let section = symbol.section();
+    if section <= SYM_UNDEFINED {
+        return false;
+    }
+    let number = section as u32;
+    is_section_number(object.section_count(), number) && is_comdat(object.section_flags(number))
 }
 
 /// Whether an external or weak name is one that the loader of a program looks for.
