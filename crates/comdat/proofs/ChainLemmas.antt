@@ -1,5 +1,5 @@
 -- Chains of parents that end: a section and its parent have one end.
-use Rattle.std.proofs.Common.{◌≡◌, ℕ, zero, suc, ◌+◌, ◌<◌, Bool, false, eqb, List, length, get_or, set, Option, None, Some, unwrap_or, refl, sym, ap, ◌∙◌, subst, inl, inr, eq-eqb, add-one, arith}
+use Rattle.std.proofs.Common.{◌≡◌, ℕ, zero, suc, ◌+◌, ◌-◌, ◌<◌, Bool, false, eqb, List, ◌∷◌, length, get_or, set, Option, None, Some, unwrap_or, refl, sym, ap, ◌∙◌, subst, inl, inr, eq-eqb, add-one, arith}
 use Rattle.std.proofs.Math.ListN.{length-set}
 use Rattle.std.proofs.lemmas.Bool.{eqb-true, eqb-false, not-false, cases_eq}
 use Rattle.std.proofs.lemmas.List.{get_or-set_other, get_or-set_same}
@@ -82,6 +82,11 @@ end_above parents section are some lt has = go (has_steps parents section are so
         let found : first_below (length parents) (ends_at parents parent) ≡ Some n =
         first_below-found n (length parents) (ends_at parents parent) (omega (arith, h.0)) none (above n ∙ h.1.0) in
         ap (λ (o : Option ℕ). ancestor parents (unwrap_or o 0) section) e ∙ ancestor_next parents n section ∙ ap (λ (o : Option ℕ). ancestor parents (unwrap_or o 0) parent) (sym found)
+
+-- what a list says of a section, with an entry for 0 in front and without
+pub behind_first : (own : List Bool) (section : ℕ) → 0 < section → get_or own (section - 1) false ≡ get_or (false ∷ own) section false
+behind_first own zero some = absurd (omega arith)
+behind_first own (suc k) some = ap (λ (n : ℕ). get_or own n false) (omega arith)
 
 -- ---- what was decided
 

@@ -9,4 +9,5 @@ pub mod ChainLemmas
 pub mod RowLemmas
 pub mod PlainLemmas
 pub mod OpenedLemmas
+pub mod RowEndLemmas
 mod WorkedGroups

@@ -86,20 +86,20 @@ parent_count bytes =
 
 -- ---- flags
 
-range_alike : {X : Type 0} (f g : ℕ → X) (a n : ℕ) → ((k : ℕ) → a ≤ k → k < a + n → f k ≡ g k) → map f (range_with_len a n) ≡ map g (range_with_len a n)
+pub range_alike : {X : Type 0} (f g : ℕ → X) (a n : ℕ) → ((k : ℕ) → a ≤ k → k < a + n → f k ≡ g k) → map f (range_with_len a n) ≡ map g (range_with_len a n)
 range_alike f g a zero same = refl
 range_alike f g a (suc n) same = λ i. same a (omega arith) (omega arith) i ∷ range_alike f g (a + 1) n (λ k low high. same k (omega arith) (omega arith)) i
 
 -- what a list of a module says of the ends of chains
-pub flags_at_ends : (bytes : List ℕ) (chosen : ℕ → Bool) (own : List Bool) (count : ℕ) → opening_error bytes ≡ None → own ≡ false ∷ map (own_flag chosen bytes) (sections_of bytes) → count ≡ length (parents_of bytes) - 1 → map (at_chain_end (parents_of bytes) own) (range_with_len 1 count) ≡ map (λ section. own_flag chosen bytes (chain_end (parents_of bytes) section)) (sections_of bytes)
+pub flags_at_ends : (bytes : List ℕ) (chosen : ℕ → Bool) (own : List Bool) (count : ℕ) → opening_error bytes ≡ None → own ≡ map (own_flag chosen bytes) (sections_of bytes) → count ≡ length (parents_of bytes) - 1 → map (at_chain_end (parents_of bytes) (false ∷ own)) (range_with_len 1 count) ≡ map (λ section. own_flag chosen bytes (chain_end (parents_of bytes) section)) (sections_of bytes)
 flags_at_ends bytes chosen own count opened is all =
     let parents = parents_of bytes in
     let total = section_total bytes in
     let are : DoEnd parents = record { are = parents_are bytes; ends = ends bytes opened } in
-    ap (λ (n : ℕ). map (at_chain_end parents own) (range_with_len 1 n)) (omega (arith, all, parent_count bytes))
-    ∙ range_alike (at_chain_end parents own) (λ section. own_flag chosen bytes (chain_end parents section)) 1 total (λ k low high.
+    ap (λ (n : ℕ). map (at_chain_end parents (false ∷ own)) (range_with_len 1 n)) (omega (arith, all, parent_count bytes))
+    ∙ range_alike (at_chain_end parents (false ∷ own)) (λ section. own_flag chosen bytes (chain_end parents section)) 1 total (λ k low high.
     let within : k < length parents = omega (arith, parent_count bytes) in
-    ap (λ (flags : List Bool). get_or flags (chain_end parents k) false) is
+    ap (λ (flags : List Bool). get_or (false ∷ flags) (chain_end parents k) false) is
     ∙ behind (own_flag chosen bytes) total (chain_end parents k) (end_some parents k are (omega arith) within) (omega (arith, end_within parents k are.are within, parent_count bytes)))
   where
     behind : (f : ℕ → Bool) (total k : ℕ) → 0 < k → k < total + 1 → get_or (false ∷ map f (range_with_len 1 total)) k false ≡ f k

@@ -1,11 +1,40 @@
--- What the sections of a module say of themselves, in a loop over sections.
-use Rattle.std.proofs.Common.{◌≡◌, ℕ, suc, ◌+◌, ◌-◌, ◌<◌, ◌≤◌, Bool, true, false, cond, List, [], ◌∷◌, ◌++◌, length, get_or, drop, filter, map, sym, ap, ◌∙◌, arith}
+-- What is said of the sections of a module, in a loop over by what each is chosen.
+use Rattle.std.proofs.Common.{◌≡◌, ℕ, suc, ◌+◌, ◌-◌, ◌<◌, ◌≤◌, Bool, true, false, cond, List, [], ◌∷◌, ◌++◌, length, get_or, drop, filter, map, Option, Some, None, refl, sym, ap, ◌∙◌, drop-cons, add-one, arith}
+use Rattle.std.specs.Prelude.{is_some}
 use Rattle.std.specs.List.{range_with_len}
 use Rattle.std.proofs.lemmas.List.{length-drop, length-append}
-use Rattle.std.proofs.lemmas.List.FromFn.{map-range_with_len_more}
+use Rattle.std.proofs.lemmas.List.FromFn.{map-range_with_len_more, length-map-range_with_len, get_or-map-range_with_len}
+use Rattle.coff_aux.specs.declared.comdat.Comdat.{Comdat}
 use Rattle.coff_records.specs.ObjectFile.{section_total}
-use Rattle.coff_aux.specs.Comdats.{comdat_of, comdat_record_of, parent_in}
-use Rattle.comdat.specs.Selection.{goes_by_name, is_free, named_sections, own_flag}
+use Rattle.coff_aux.specs.Comdats.{comdat_of}
+use Rattle.comdat.specs.declared.chosen_by.ChosenBy.{ChosenBy}
+use Rattle.comdat.specs.declared.chosen_by.ChosenBy.TheVariants as by
+use Rattle.comdat.specs.ChosenBy.{is_itself, is_group, by_parent_or_leader, chosen_by_said, chosen_by}
+use Rattle.comdat.specs.Selection.{group_name_by, group_name_of, goes_by_name, is_free, sections_of, named_sections, own_flag}
+
+-- ---- one section
+
+-- it is chosen in a group where it goes by a name
+pub group_is : (said : Option Comdat) → is_group (chosen_by_said said) ≡ is_some (group_name_of said)
+group_is None = refl
+group_is (Some said) = go said.parent said.leader
+  where
+    go : (parent : Option ℕ) (leader : Option (List ℕ)) → is_group (by_parent_or_leader parent leader) ≡ is_some (group_name_by parent leader)
+    go (Some parent) leader = refl
+    go None (Some leader) = refl
+    go None None = refl
+
+-- and by itself where it is free
+pub itself_is : (said : Option Comdat) → is_itself (chosen_by_said said) ≡ is_free said
+itself_is None = refl
+itself_is (Some said) = go said.parent said.leader
+  where
+    go : (parent : Option ℕ) (leader : Option (List ℕ)) → is_itself (by_parent_or_leader parent leader) ≡ is_free (Some (record said { parent = parent; leader = leader }))
+    go (Some parent) leader = refl
+    go None (Some leader) = refl
+    go None None = refl
+
+-- ---- the sections of a list, in a loop
 
 -- the sections after the first that go by a name
 pub left : List ℕ → ℕ → ℕ → List ℕ
@@ -24,72 +53,98 @@ left_next bytes total done b lt goes =
     one_less : (total done : ℕ) → done < total → total - done ≡ suc (total - (done + 1))
     one_less total done lt = omega (arith, lt)
 
-pub record RowSoFar (bytes : List ℕ) (total : ℕ) (selected rest flags : List Bool) (done : ℕ) : Type 0 where
-  pub counted : length flags ≡ done + 1
-  pub room : length (left bytes total done) ≤ length rest
-  pub told : (chosen : ℕ → Bool) (later : List Bool) → selected ≡ map chosen (named_sections bytes) ++ later → (flags ≡ false ∷ map (own_flag chosen bytes) (range_with_len 1 done)) × (rest ≡ map chosen (left bytes total done) ++ later)
+-- the number of those of a list, from a place on, that go by a name
+pub group_count : List ChosenBy → ℕ → ℕ
+group_count row done = length (filter is_group (drop done row))
 
-pub row_none : (bytes : List ℕ) (total : ℕ) (selected flags : List Bool) → total ≡ section_total bytes → length (named_sections bytes) ≤ length selected → flags ≡ false ∷ [] → RowSoFar bytes total selected selected flags 0
-row_none bytes total selected flags is room first =
-    let all : left bytes total 0 ≡ named_sections bytes = ap (λ (n : ℕ). left bytes n 0) is ∙ left_all bytes in
+count_next : (row : List ChosenBy) (done : ℕ) (here : ChosenBy) (b : Bool) → done < length row → here ≡ get_or row done by.Itself → is_group here ≡ b → group_count row done ≡ cond b (group_count row (done + 1) + 1) (group_count row (done + 1))
+unfolding group_count
+count_next row done here b lt is group =
+    let rest = filter is_group (drop (suc done) row) in
+    ap (λ (r : List ChosenBy). length (filter is_group r)) (drop-cons row done by.Itself lt)
+    ∙ ap (λ (t : Bool). length (cond t (get_or row done by.Itself ∷ rest) rest)) (ap is_group (sym is) ∙ group)
+    ∙ go b (get_or row done by.Itself) rest (group_count row (done + 1)) (ap (λ (n : ℕ). length (filter is_group (drop n row))) (add-one done))
+  where
+    go : (b : Bool) (first : ChosenBy) (rest : List ChosenBy) (n : ℕ) → n ≡ length rest → length (cond b (first ∷ rest) rest) ≡ cond b (n + 1) n
+    go true first rest n e = omega (arith, e)
+    go false first rest n e = sym e
+
+pub record RowSoFar (row : List ChosenBy) (selected rest flags : List Bool) (done : ℕ) : Type 0 where
+  pub counted : length flags ≡ done
+  pub room : group_count row done ≤ length rest
+  pub told :
+      (bytes : List ℕ) (chosen : ℕ → Bool) (later : List Bool) → row ≡ map (chosen_by bytes) (sections_of bytes) → selected ≡ map chosen (named_sections bytes) ++ later → (flags ≡ map (own_flag chosen bytes) (range_with_len 1 done)) × (rest ≡ map chosen (left bytes (section_total bytes) done) ++ later)
+
+pub row_none : (row : List ChosenBy) (selected flags : List Bool) → length (filter is_group row) ≤ length selected → flags ≡ [] → RowSoFar row selected selected flags 0
+unfolding group_count
+row_none row selected flags room none = record {
+  counted = ap length none;
+  room = room;
+  told = λ bytes chosen later is e. (none, e ∙ ap (λ (s : List ℕ). map chosen s ++ later) (sym (left_all bytes)));
+}
+
+-- the section at a place of the list
+record IsHere (row : List ChosenBy) (done : ℕ) (here : ChosenBy) (bytes : List ℕ) : Type 0 where
+  within : done < section_total bytes
+  group : is_group here ≡ goes_by_name bytes (done + 1)
+  itself : is_itself here ≡ is_free (comdat_of bytes (done + 1))
+
+is_here : (row : List ChosenBy) (done : ℕ) (here : ChosenBy) (bytes : List ℕ) → done < length row → here ≡ get_or row done by.Itself → row ≡ map (chosen_by bytes) (sections_of bytes) → IsHere row done here bytes
+is_here row done here bytes lt is all =
+    let within : done < section_total bytes = omega (arith, ap length all, length-map-range_with_len (chosen_by bytes) 1 (section_total bytes)) in
+    let said : here ≡ chosen_by bytes (done + 1) =
+    is ∙ ap (λ (r : List ChosenBy). get_or r done by.Itself) all ∙ get_or-map-range_with_len (chosen_by bytes) 1 (section_total bytes) done (done + 1) by.Itself within (omega arith) in
     record {
-      counted = ap length first ∙ omega arith;
-      room = omega (arith, ap length all, room);
-      told = λ chosen later e. (first, e ∙ ap (λ (s : List ℕ). map chosen s ++ later) (sym all));
+      within = within;
+      group = ap is_group said ∙ group_is (comdat_of bytes (done + 1));
+      itself = ap is_itself said ∙ itself_is (comdat_of bytes (done + 1));
     }
 
-flags_more : (bytes : List ℕ) (chosen : ℕ → Bool) (done : ℕ) (flags more : List Bool) (flag : Bool) → flags ≡ false ∷ map (own_flag chosen bytes) (range_with_len 1 done) → more ≡ flags ++ flag ∷ [] → flag ≡ own_flag chosen bytes (done + 1) → more ≡ false ∷ map (own_flag chosen bytes) (range_with_len 1 (done + 1))
+flags_more : (bytes : List ℕ) (chosen : ℕ → Bool) (done : ℕ) (flags more : List Bool) (flag : Bool) → flags ≡ map (own_flag chosen bytes) (range_with_len 1 done) → more ≡ flags ++ flag ∷ [] → flag ≡ own_flag chosen bytes (done + 1) → more ≡ map (own_flag chosen bytes) (range_with_len 1 (done + 1))
 flags_more bytes chosen done flags more flag is pushed own =
     pushed ∙ ap (λ (fs : List Bool). fs ++ flag ∷ []) is
-    ∙ ap (λ (b : Bool). false ∷ (map (own_flag chosen bytes) (range_with_len 1 done) ++ b ∷ [])) own
-    ∙ ap (λ (fs : List Bool). false ∷ fs) (sym (map-range_with_len_more (own_flag chosen bytes) 1 done (done + 1) (omega arith)))
+    ∙ ap (λ (b : Bool). map (own_flag chosen bytes) (range_with_len 1 done) ++ b ∷ []) own
+    ∙ sym (map-range_with_len_more (own_flag chosen bytes) 1 done (done + 1) (omega arith))
 
--- a section that goes by a name
-pub row_named : (bytes : List ℕ) (total : ℕ) (selected rest rest' flags more : List Bool) (flag : Bool) (done : ℕ) → RowSoFar bytes total selected rest flags done → done < total → goes_by_name bytes (done + 1) ≡ true → flag ≡ get_or rest 0 false → rest' ≡ drop 1 rest → more ≡ flags ++ flag ∷ [] → RowSoFar bytes total selected rest' more (done + 1)
-row_named bytes total selected rest rest' flags more flag done is lt goes first later pushed =
-    let next = left_next bytes total done true lt goes in
+-- one that goes by a name
+pub row_group : (row : List ChosenBy) (selected rest rest' flags more : List Bool) (flag : Bool) (done : ℕ) (here : ChosenBy) → RowSoFar row selected rest flags done → done < length row → here ≡ get_or row done by.Itself → is_group here ≡ true → flag ≡ get_or rest 0 false → rest' ≡ drop 1 rest → more ≡ flags ++ flag ∷ [] → RowSoFar row selected rest' more (done + 1)
+row_group row selected rest rest' flags more flag done here before lt is group first later pushed =
     record {
-      counted = omega (arith, ap length pushed, length-append flags (flag ∷ []), is.counted);
-      room = omega (arith, is.room, ap length next, ap length later, length-drop 1 rest);
-      told = λ chosen others e.
-          let before = is.told chosen others e in
-          let here : rest ≡ chosen (done + 1) ∷ (map chosen (left bytes total (done + 1)) ++ others) = before.1 ∙ ap (λ (s : List ℕ). map chosen s ++ others) next in
+      counted = omega (arith, ap length pushed, length-append flags (flag ∷ []), before.counted);
+      room = omega (arith, before.room, count_next row done here true lt is group, ap length later, length-drop 1 rest);
+      told = λ bytes chosen others all e.
+          let at = is_here row done here bytes lt is all in
+          let goes : goes_by_name bytes (done + 1) ≡ true = sym at.group ∙ group in
+          let told = before.told bytes chosen others all e in
+          let there : rest ≡ chosen (done + 1) ∷ (map chosen (left bytes (section_total bytes) (done + 1)) ++ others) = told.1 ∙ ap (λ (s : List ℕ). map chosen s ++ others) (left_next bytes (section_total bytes) done true at.within goes) in
           let own : own_flag chosen bytes (done + 1) ≡ chosen (done + 1) = ap (λ (b : Bool). cond b (chosen (done + 1)) (is_free (comdat_of bytes (done + 1)))) goes in
-          (flags_more bytes chosen done flags more flag before.0 pushed (first ∙ ap (λ (r : List Bool). get_or r 0 false) here ∙ sym own), later ∙ ap (drop 1) here);
+          (flags_more bytes chosen done flags more flag told.0 pushed (first ∙ ap (λ (r : List Bool). get_or r 0 false) there ∙ sym own), later ∙ ap (drop 1) there);
     }
 
 -- another one
-pub row_other : (bytes : List ℕ) (total : ℕ) (selected rest flags more : List Bool) (flag : Bool) (done : ℕ) → RowSoFar bytes total selected rest flags done → done < total → goes_by_name bytes (done + 1) ≡ false → flag ≡ is_free (comdat_of bytes (done + 1)) → more ≡ flags ++ flag ∷ [] → RowSoFar bytes total selected rest more (done + 1)
-row_other bytes total selected rest flags more flag done is lt goes free pushed =
-    let next = left_next bytes total done false lt goes in
+pub row_other : (row : List ChosenBy) (selected rest flags more : List Bool) (flag : Bool) (done : ℕ) (here : ChosenBy) → RowSoFar row selected rest flags done → done < length row → here ≡ get_or row done by.Itself → is_group here ≡ false → flag ≡ is_itself here → more ≡ flags ++ flag ∷ [] → RowSoFar row selected rest more (done + 1)
+row_other row selected rest flags more flag done here before lt is group itself pushed =
     record {
-      counted = omega (arith, ap length pushed, length-append flags (flag ∷ []), is.counted);
-      room = omega (arith, is.room, ap length next);
-      told = λ chosen others e.
-          let before = is.told chosen others e in
+      counted = omega (arith, ap length pushed, length-append flags (flag ∷ []), before.counted);
+      room = omega (arith, before.room, count_next row done here false lt is group);
+      told = λ bytes chosen others all e.
+          let at = is_here row done here bytes lt is all in
+          let goes : goes_by_name bytes (done + 1) ≡ false = sym at.group ∙ group in
+          let told = before.told bytes chosen others all e in
           let own : own_flag chosen bytes (done + 1) ≡ is_free (comdat_of bytes (done + 1)) = ap (λ (b : Bool). cond b (chosen (done + 1)) (is_free (comdat_of bytes (done + 1)))) goes in
-          (flags_more bytes chosen done flags more flag before.0 pushed (free ∙ sym own), before.1 ∙ ap (λ (s : List ℕ). map chosen s ++ others) next);
+          (flags_more bytes chosen done flags more flag told.0 pushed (itself ∙ at.itself ∙ sym own), told.1 ∙ ap (λ (s : List ℕ). map chosen s ++ others) (left_next bytes (section_total bytes) done false at.within goes));
     }
 
 -- all sections were seen
-pub row_all : (bytes : List ℕ) (total : ℕ) (selected rest flags : List Bool) (done : ℕ) (chosen : ℕ → Bool) (later : List Bool) → RowSoFar bytes total selected rest flags done → done ≡ total → total ≡ section_total bytes → selected ≡ map chosen (named_sections bytes) ++ later → (flags ≡ false ∷ map (own_flag chosen bytes) (range_with_len 1 (section_total bytes))) × (rest ≡ later)
+pub row_all : (row : List ChosenBy) (selected rest flags : List Bool) (done : ℕ) (bytes : List ℕ) (chosen : ℕ → Bool) (later : List Bool) → RowSoFar row selected rest flags done → done ≡ length row → row ≡ map (chosen_by bytes) (sections_of bytes) → selected ≡ map chosen (named_sections bytes) ++ later → (flags ≡ map (own_flag chosen bytes) (sections_of bytes)) × (rest ≡ later)
 unfolding left
-row_all bytes total selected rest flags done chosen later is all count e =
-    let told = is.told chosen later e in
-    let none : total - done ≡ 0 = omega (arith, all) in
-    (told.0 ∙ ap (λ (n : ℕ). false ∷ map (own_flag chosen bytes) (range_with_len 1 n)) (all ∙ count), told.1 ∙ ap (λ (n : ℕ). map chosen (filter (goes_by_name bytes) (range_with_len (done + 1) n)) ++ later) none)
+row_all row selected rest flags done bytes chosen later is end all e =
+    let told = is.told bytes chosen later all e in
+    let total : done ≡ section_total bytes = end ∙ ap length all ∙ length-map-range_with_len (chosen_by bytes) 1 (section_total bytes) in
+    let none : section_total bytes - done ≡ 0 = omega (arith, total) in
+    (told.0 ∙ ap (λ (n : ℕ). map (own_flag chosen bytes) (range_with_len 1 n)) total, told.1 ∙ ap (λ (n : ℕ). map chosen (filter (goes_by_name bytes) (range_with_len (done + 1) n)) ++ later) none)
 
 -- the next section has an entry
-pub has_next : (bytes : List ℕ) (total : ℕ) (selected rest flags : List Bool) (done : ℕ) → RowSoFar bytes total selected rest flags done → done < total → goes_by_name bytes (done + 1) ≡ true → 0 < length rest
-has_next bytes total selected rest flags done is lt goes =
-    omega (arith, is.room, ap length (left_next bytes total done true lt goes))
-
--- ---- parents
-
--- one more parent
-pub parents_more : (bytes : List ℕ) (done count : ℕ) (parents more : List ℕ) (parent : ℕ) → count ≡ section_total bytes → parents ≡ 0 ∷ map (λ section. parent_in (section_total bytes) (comdat_record_of bytes section)) (range_with_len 1 done) → more ≡ parents ++ parent ∷ [] → parent ≡ parent_in count (comdat_record_of bytes (done + 1)) → more ≡ 0 ∷ map (λ section. parent_in (section_total bytes) (comdat_record_of bytes section)) (range_with_len 1 (done + 1))
-parents_more bytes done count parents more parent total is pushed has =
-    let parent_at = λ (section : ℕ). parent_in (section_total bytes) (comdat_record_of bytes section) in
-    pushed ∙ ap (λ (ps : List ℕ). ps ++ parent ∷ []) is
-    ∙ ap (λ (p : ℕ). 0 ∷ (map parent_at (range_with_len 1 done) ++ p ∷ [])) (has ∙ ap (λ (n : ℕ). parent_in n (comdat_record_of bytes (done + 1))) total)
-    ∙ ap (λ (ps : List ℕ). 0 ∷ ps) (sym (map-range_with_len_more parent_at 1 done (done + 1) (omega arith)))
+pub has_next : (row : List ChosenBy) (selected rest flags : List Bool) (done : ℕ) (here : ChosenBy) → RowSoFar row selected rest flags done → done < length row → here ≡ get_or row done by.Itself → is_group here ≡ true → 0 < length rest
+has_next row selected rest flags done here before lt is group =
+    omega (arith, before.room, count_next row done here true lt is group)

@@ -5,3 +5,4 @@ pub mod Numbering
 pub mod Chains
 pub mod Selection
 pub mod Plain
+pub mod ChosenBy

@@ -1,6 +1,6 @@
 //! Sections that are chosen with others.
 
-ghost use Rattle.std.specs.Prelude.{◌≡◌, ◌<◌, ◌-◌, None, Bool, List, length, map, IfOk};
+ghost use Rattle.std.specs.Prelude.{◌≡◌, ◌<◌, ◌+◌, ◌-◌, ◌∷◌, None, false, Bool, List, length, map, IfOk};
 ghost use Rattle.std.specs.List.{range_with_len};
 ghost use Rattle.link_base.specs.Bytes.{first_below};
 ghost use Rattle.coff_aux.specs.Parents.{AreParents, comes_back};
@@ -9,8 +9,8 @@ ghost use Rattle.comdat.specs.Chains.{at_chain_end, AreDecided};
 use link_base::Memory;
 use std::alloc::Global;
 
-/// For each section, from number 1 on, what a list says of the section at the end of its chain of parents. Both lists
-/// have an entry for each number from 0 on.
+/// For each section, from number 1 on, what a list says of the section at the end of its chain of parents. The parents
+/// have an entry for each number from 0 on, the list one for each section.
 pub(crate) fn follow_chains(
     alloc: Global,
     parents: &[u32],
@@ -18,8 +18,8 @@ pub(crate) fn follow_chains(
 ) -> Result<Vec<bool>, Memory>
     requires parents { AreParents parents.now }
     requires ends { first_below (length parents.now) (comes_back parents.now) ≡ None }
-    requires own { length own.now ≡ length parents.now }
-    ensures { IfOk result (λ flags. flags.items ≡ map (at_chain_end parents.now own.now) (range_with_len 1 (length parents.now - 1))) }
+    requires own { length own.now + 1 ≡ length parents.now }
+    ensures { IfOk result (λ flags. flags.items ≡ map (at_chain_end parents.now (false ∷ own.now)) (range_with_len 1 (length parents.now - 1))) }
 {
     let mut decided = vec![in alloc; None; parents.len()]?;
     let mut flags = Vec::with_capacity(alloc, parents.len())?;
@@ -35,11 +35,11 @@ pub(crate) fn follow_chains(
 fn at_end(parents: &[u32], own: &[bool], decided: &[Option<bool>], section: usize) -> bool
     requires parents { AreParents parents.now }
     requires ends { first_below (length parents.now) (comes_back parents.now) ≡ None }
-    requires own { length own.now ≡ length parents.now }
-    requires decided { AreDecided parents.now own.now decided.now }
+    requires own { length own.now + 1 ≡ length parents.now }
+    requires decided { AreDecided parents.now (false ∷ own.now) decided.now }
     requires first { 0 < section }
     requires within { section < length parents.now }
-    ensures { result ≡ at_chain_end parents.now own.now section }
+    ensures { result ≡ at_chain_end parents.now (false ∷ own.now) section }
 {
     let mut at = section;
     for _ in 0..parents.len() {
@@ -48,7 +48,7 @@ fn at_end(parents: &[u32], own: &[bool], decided: &[Option<bool>], section: usiz
         }
         let parent = parents[at] as usize;
         if parent == 0 {
-            return own[at];
+            return own[at - 1];
         }
         at = parent;
     }

@@ -8,6 +8,7 @@
 mod candidate;
 mod chains;
 mod choice;
+mod chosen_by;
 mod error;
 mod groups;
 mod lists;

@@ -1,98 +1,133 @@
-//! The sections of modules that go by a name.
+//! What the sections of modules say of themselves. Each COMDAT section is asked once, and no other.
 
-ghost use Rattle.std.specs.Prelude.{◌≡◌, ◌≤◌, ◌++◌, ◌∷◌, [], if◌then◌else◌, Some, None, length, map, option_map, IfOk, OnOk};
+ghost use Rattle.std.specs.Prelude.{◌≡◌, ◌+◌, ◌≤◌, ◌++◌, ◌∷◌, [], if◌then◌else◌, length, map, IfOk, OnOk};
+ghost use Rattle.std.specs.List.{range_with_len};
 ghost use Rattle.link_base.specs.Limits as limit;
 ghost use Rattle.coff_records.specs.ObjectFile.{section_total};
+ghost use Rattle.coff_aux.specs.Comdats.{has_comdat};
+ghost use Rattle.module_view.specs.Module.{module_at};
+ghost use Rattle.comdat.specs.ChosenBy.{chosen_by, all_chosen_by, listed};
 ghost use Rattle.comdat.specs.Selection.{goes_by_name, entry_in, entries_of, all_entries};
 ghost use Rattle.comdat.specs.Plain.{plain_entry};
 
 use crate::candidate::Candidate;
+use crate::chosen_by::ChosenBy;
 use crate::named::Named;
+use coff_aux::{Comdat, is_comdat};
 use coff_object::Object;
 use link_base::Memory;
 use module_view::Module;
 use std::alloc::Global;
 
-/// The COMDAT sections of all modules that go by a name, in the order of the modules and of their sections.
-pub(crate) fn named_sections<'a>(
+/// What the sections of modules say.
+#[derive(Drop)]
+pub(crate) struct Sections<'a> {
+    /// The COMDAT sections that go by a name, in the order of the modules and of their sections.
+    pub(crate) entries: Vec<Named<'a>>,
+    /// By what each section of a module is chosen. A module without a COMDAT section has an empty list.
+    pub(crate) rows: Vec<Vec<ChosenBy>>,
+}
+
+/// Reads the sections of all modules.
+pub(crate) fn read_sections<'a>(
     alloc: Global,
     modules: &[Module<'a>],
-) -> Result<Vec<Named<'a>>, Memory>
+) -> Result<Sections<'a>, Memory>
     requires { length modules.now ≤ limit.MODULE_LIMIT }
-    ensures { IfOk result (λ entries. map plain_entry entries.items ≡ all_entries modules.now) }
+    ensures entries { IfOk result (λ sections. map plain_entry sections.entries.items ≡ all_entries modules.now) }
+    ensures rows { IfOk result (λ sections. map listed sections.rows.items
+        ≡ map (λ k. all_chosen_by (module_at modules.now k).bytes) (range_with_len 0 (length modules.now))) }
 {
     let mut entries = Vec::new(alloc);
+    let mut rows = Vec::with_capacity(alloc, modules.len())?;
     for position in 0..modules.len() {
-        push_module(&mut entries, position as u32, &modules[position])?;
+        let row = read_module(alloc, &mut entries, position as u32, &modules[position])?;
+        rows.push(row)?;
     }
-    Ok(entries)
+    Ok(Sections { entries, rows })
 }
 
-/// Appends those of the module at a position.
-fn push_module<'a>(
+/// Reads those of the module at a position, and appends those that go by a name.
+fn read_module<'a>(
+    alloc: Global,
     entries: &mut Vec<Named<'a>>,
     position: u32,
     module: &Module<'a>,
-) -> Result<(), Memory>
-    ensures { OnOk result (map plain_entry entries.new.items
+) -> Result<Vec<ChosenBy>, Memory>
+    ensures entries { OnOk result (map plain_entry entries.new.items
         ≡ map plain_entry entries.old.items ++ entries_of position «module».now.bytes) }
+    ensures row { IfOk result (λ row. row.items ≡ all_chosen_by «module».now.bytes) }
 {
+    let mut row = Vec::new(alloc);
     let Some(object) = module.object() else {
-        return Ok(());
+        return Ok(row);
     };
-    for index in 0..object.section_count() {
-        push_section(entries, position, module, object, index + 1)?;
+    if !has_comdat(object) {
+        return Ok(row);
     }
-    Ok(())
+    row.reserve(object.section_count() as usize)?;
+    for index in 0..object.section_count() {
+        let by = read_section(entries, position, module, object, index + 1)?;
+        row.push(by)?;
+    }
+    Ok(row)
 }
 
-/// Appends a section, where it goes by a name.
-fn push_section<'a>(
+/// Whether some section is a COMDAT section.
+fn has_comdat(object: &Object<'_>) -> bool
+    ensures { result ≡ has_comdat object.now }
+{
+    for index in 0..object.section_count() {
+        if is_comdat(object.section_flags(index + 1)) {
+            return true;
+        }
+    }
+    false
+}
+
+/// By what a section is chosen. It is appended, where it goes by a name.
+#[tactic(auto, unfolding(coff_aux::specs::Comdats::comdat_of, coff_aux::specs::Comdats::comdat_record_of))]
+fn read_section<'a>(
     entries: &mut Vec<Named<'a>>,
     position: u32,
     module: &Module<'a>,
     object: &Object<'a>,
     section: u32,
-) -> Result<(), Memory>
+) -> Result<ChosenBy, Memory>
     requires object { object.now ≡ «module».now.bytes }
     requires first { 1 ≤ section }
     requires last { section ≤ section_total object.now }
-    ensures { OnOk result (map plain_entry entries.new.items ≡ map plain_entry entries.old.items
+    ensures entries { OnOk result (map plain_entry entries.new.items ≡ map plain_entry entries.old.items
         ++ (if goes_by_name «module».now.bytes section then entry_in position «module».now.bytes section ∷ [] else [])) }
+    ensures by { IfOk result (λ by. by ≡ chosen_by «module».now.bytes section) }
 {
-    if let Some(named) = named_section(position, module, object, section) {
-        entries.push(named)?;
+    if !is_comdat(object.section_flags(section)) {
+        return Ok(ChosenBy::Itself);
     }
-    Ok(())
-}
-
-/// A section with its name, where it goes by one.
-fn named_section<'a>(
-    position: u32,
-    module: &Module<'a>,
-    object: &Object<'a>,
-    section: u32,
-) -> Option<Named<'a>>
-    requires object { object.now ≡ «module».now.bytes }
-    requires first { 1 ≤ section }
-    requires last { section ≤ section_total object.now }
-    ensures { option_map plain_entry result
-        ≡ (if goes_by_name «module».now.bytes section then Some (entry_in position «module».now.bytes section) else None) }
-{
-    let comdat = module.comdat(section)?;
-    if comdat.parent.is_some() {
-        return None;
+    let Some(comdat) = module.comdat(section) else {
+        return Ok(ChosenBy::Itself);
+    };
+    let Comdat {
+        selection,
+        leader,
+        parent,
+    } = comdat;
+    if let Some(parent) = parent {
+        return Ok(ChosenBy::Parent(parent));
     }
-    let name = comdat.leader?;
+    let Some(name) = leader else {
+        return Ok(ChosenBy::Itself);
+    };
     let header = object.section(section);
-    Some(Named {
+    entries.push(Named {
         name,
         candidate: Candidate {
             module: position,
             section,
-            selection: comdat.selection,
+            selection,
             size: header.size,
             body: header.body,
         },
-    })
+    })?;
+    Ok(ChosenBy::Group)
 }

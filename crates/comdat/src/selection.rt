@@ -1,18 +1,24 @@
 //! Which sections of a link are chosen.
 
 ghost use Rattle.std.specs.Prelude.{◌≡◌, ◌≤◌, ◌++◌, ℕ, Bool, List, None, length, map, IfOk, OnOk, IfErr};
+ghost use Rattle.std.specs.List.{range_with_len};
 ghost use Rattle.link_base.specs.Limits as limit;
+ghost use Rattle.coff_records.specs.ObjectFile.{section_total};
 ghost use Rattle.coff_aux.specs.Comdats.{parents_of};
+ghost use Rattle.module_view.specs.Module.{module_at};
+ghost use Rattle.module_view.specs.Opening.{IsOpened};
 ghost use Rattle.comdat.specs.Chains.{chain_end};
+ghost use Rattle.comdat.specs.ChosenBy.{all_chosen_by, listed};
 ghost use Rattle.comdat.specs.Groups.{is_selected, first_conflict, RefusesChoice};
 ghost use Rattle.comdat.specs.Selection.{named_sections, sections_of, own_flag, all_entries, chosen_sections};
 ghost use Rattle.symbol_table.specs.Passes.{rows_of};
 
 use crate::chains::follow_chains;
+use crate::chosen_by::ChosenBy;
 use crate::error::ChooseError;
 use crate::groups::select;
-use crate::rows::{own_flags, parents};
-use crate::sections::named_sections;
+use crate::rows::{has_child, own_flags, parents};
+use crate::sections::read_sections;
 use link_base::Memory;
 use module_view::Module;
 use std::alloc::Global;
@@ -29,42 +35,69 @@ pub fn choose_all<'a>(alloc: Global, modules: &[Module<'a>]) -> Result<Chosen, C
     ensures accepted { OnOk result (first_conflict (all_entries modules.now) ≡ None) }
     ensures refused { IfErr result (RefusesChoice (first_conflict (all_entries modules.now))) }
 {
-    let entries = named_sections(alloc, modules)?;
-    let selected = select(alloc, &entries)?;
-    let rows = chosen_rows(alloc, modules, &selected)?;
+    let sections = read_sections(alloc, modules)?;
+    let selected = select(alloc, &sections.entries)?;
+    let rows = chosen_rows(alloc, modules, &sections.rows, &selected)?;
     Ok(rows)
 }
 
-/// The sections of each module, by what is said of all that go by a name.
-fn chosen_rows(alloc: Global, modules: &[Module<'_>], selected: &[bool]) -> Result<Chosen, Memory>
-    requires { selected.now ≡ map (is_selected (all_entries modules.now)) (all_entries modules.now) }
-    ensures { IfOk result (λ rows. rows_of rows.items ≡ chosen_sections modules.now) }
+/// The sections of each module, by what each is chosen by, and by what is said of all that go by a name.
+fn chosen_rows(
+    alloc: Global,
+    modules: &[Module<'_>],
+    rows: &[Vec<ChosenBy>],
+    selected: &[bool],
+) -> Result<Chosen, Memory>
+    requires rows { map listed rows.now ≡ map (λ k. all_chosen_by (module_at modules.now k).bytes) (range_with_len 0 (length modules.now)) }
+    requires selected { selected.now ≡ map (is_selected (all_entries modules.now)) (all_entries modules.now) }
+    ensures { IfOk result (λ chosen. rows_of chosen.items ≡ chosen_sections modules.now) }
 {
     let mut rest = selected;
-    let mut rows = Vec::with_capacity(alloc, modules.len())?;
-    for module in modules {
-        let (row, later) = chosen_row(alloc, module, rest)?;
-        rows.push(row)?;
+    let mut chosen = Vec::with_capacity(alloc, modules.len())?;
+    for position in 0..modules.len() {
+        let (row, later) = chosen_row(alloc, &modules[position], &rows[position], rest)?;
+        chosen.push(row)?;
         rest = later;
     }
-    Ok(rows)
+    Ok(chosen)
 }
 
 /// The sections of a module, and what is said of those of later modules. The list has an entry for each section that goes
-/// by a name.
+/// by a name. Where no section is a COMDAT section, all are chosen; where none has a parent, no chain is followed.
 fn chosen_row<'w>(
     alloc: Global,
     module: &Module<'_>,
+    row: &[ChosenBy],
     selected: &'w [bool],
 ) -> Result<(Vec<bool>, &'w [bool]), Memory>
-    requires { length (named_sections «module».now.bytes) ≤ length selected.now }
+    requires row { row.now ≡ all_chosen_by «module».now.bytes }
+    requires room { length (named_sections «module».now.bytes) ≤ length selected.now }
     ensures { IfOk result (λ r. (chosen : ℕ → Bool) (later : List Bool)
         → selected.now ≡ map chosen (named_sections «module».now.bytes) ++ later
         → (r.0.items ≡ map (λ section. own_flag chosen «module».now.bytes (chain_end (parents_of «module».now.bytes) section)) (sections_of «module».now.bytes))
         × (r.1.now ≡ later)) }
 {
-    let (own, later) = own_flags(alloc, module, selected)?;
-    let parents = parents(alloc, module)?;
+    let count = section_count(module);
+    if row.is_empty() {
+        let flags = vec![in alloc; true; count as usize]?;
+        return Ok((flags, selected));
+    }
+    let (own, later) = own_flags(alloc, row, selected)?;
+    if !has_child(row) {
+        return Ok((own, later));
+    }
+    let parents = parents(alloc, row)?;
     let flags = follow_chains(alloc, &parents, &own)?;
     Ok((flags, later))
+}
+
+/// How many sections a module has.
+fn section_count(module: &Module<'_>) -> u32
+    ensures count { result ≡ section_total «module».now.bytes }
+    ensures opened { IsOpened «module».now }
+{
+    match module.object() {
+        Some(object) => object.section_count(),
+        None => 0,
+    }
 }

@@ -186,12 +186,12 @@ fn each_name_chooses_or_the_first_conflict_is_told(rt: HostRuntime) -> Result<()
 #[test]
 fn a_child_is_chosen_with_the_end_of_its_chain(rt: HostRuntime) -> Result<(), Fail> {
     let parents = [0, 0, 4, 2, 0, 1];
-    let own = [false, true, false, false, true, false];
+    let own = [true, false, false, true, false];
     let flags = follow_chains(rt.alloc(), &parents, &own)
         .ok()
         .ok_or("refused")?;
     assert_eq!(rt; flags.as_slice(), [true, true, true, true, true].as_slice());
-    let own = [false, true, true, true, false, true];
+    let own = [true, true, true, false, true];
     let flags = follow_chains(rt.alloc(), &parents, &own)
         .ok()
         .ok_or("refused")?;

@@ -1,6 +1,6 @@
-use Rattle.std.proofs.Common.{◌≡◌, ◌<◌, ℕ, false, get_or, length, refl, sym, ap, ◌∙◌, arith}
+use Rattle.std.proofs.Common.{◌≡◌, ◌<◌, ℕ, false, ◌∷◌, get_or, length, refl, sym, ap, ◌∙◌, arith}
 use Rattle.coff_aux.specs.Parents.{ancestor, parent_at}
-use Rattle.comdat.proofs.ChainLemmas.{DoEnd, ancestor_first, ancestor_more, has_ended, end_here, end_above}
+use Rattle.comdat.proofs.ChainLemmas.{DoEnd, ancestor_first, ancestor_more, has_ended, end_here, end_above, behind_first}
 use Rattle.comdat.proofs.chains.at_end.Goals as goal
 
 pub loop-init : goal.loop-init
@@ -14,7 +14,8 @@ loop-init c = record {
 pub returns-then-parent-eq0 : goal.returns-then-parent-eq0
 returns-then-parent-eq0 c =
     let before = c.loop.invariant in
-    ap (λ (n : ℕ). get_or c.args.own.now n false) (sym (end_here c.args.parents.now c.loop.at before.within c.if-parent-eq0.true) ∙ before.same)
+    behind_first c.args.own.now c.loop.at before.some
+    ∙ ap (λ (n : ℕ). get_or (false ∷ c.args.own.now) n false) (sym (end_here c.args.parents.now c.loop.at before.within c.if-parent-eq0.true) ∙ before.same)
 
 pub loop-preserved : goal.loop-preserved
 loop-preserved c =

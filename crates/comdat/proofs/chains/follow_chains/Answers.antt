@@ -1,4 +1,4 @@
-use Rattle.std.proofs.Common.{◌≡◌, ◌≤◌, ℕ, ◌-◌, Bool, List, [], ◌∷◌, ◌++◌, length, drop, take, map, Option, sym, ap, subst, ◌∙◌, arith}
+use Rattle.std.proofs.Common.{◌≡◌, ◌≤◌, ℕ, ◌-◌, Bool, false, List, [], ◌∷◌, ◌++◌, length, drop, take, map, Option, sym, ap, subst, ◌∙◌, arith}
 use Rattle.std.specs.List.{range_with_len}
 use Rattle.std.proofs.lemmas.List.{take-append-le, take_all}
 use Rattle.std.proofs.lemmas.List.FromFn.{map-range_with_len_more}
@@ -14,7 +14,7 @@ written len new old same =
 pub loop-section-preserved : goal.loop-section-preserved
 loop-section-preserved c =
     let parents = c.args.parents.now in
-    let own = c.args.own.now in
+    let own = false ∷ c.args.own.now in
     let section = c.loop-section.section in
     let before = c.loop-section.invariant in
     let new = c.decide.new.decided in
@@ -34,4 +34,4 @@ pub returns : goal.returns
 returns c =
     let low : 1 ≤ c.loop-section.section = c.loop-section.auto.section in
     c.loop-section.invariant.flags
-    ∙ ap (λ (n : ℕ). map (at_chain_end c.args.parents.now c.args.own.now) (range_with_len 1 n)) (omega (arith, low, c.loop-section.invariant.within, c.loop-section-test.false))
+    ∙ ap (λ (n : ℕ). map (at_chain_end c.args.parents.now (false ∷ c.args.own.now)) (range_with_len 1 n)) (omega (arith, low, c.loop-section.invariant.within, c.loop-section-test.false))

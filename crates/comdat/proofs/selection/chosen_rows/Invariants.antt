@@ -5,8 +5,8 @@ use Rattle.symbol_table.specs.Passes.{row_flags}
 use Rattle.comdat.proofs.OpenedLemmas.{told_from}
 use Rattle.comdat.proofs.selection.chosen_rows.Given as goal
 
-abbrev pub invariant-loop-module : goal.invariant-loop-module
-invariant-loop-module l = record {
-  rest : l.rest ≡ told_from l.modules l.module-index;
-  rows : map row_flags l.rows.items ≡ map (chosen_row l.modules) (range_with_len 0 l.module-index);
+abbrev pub invariant-loop-position : goal.invariant-loop-position
+invariant-loop-position l = record {
+  rest : l.rest ≡ told_from l.modules l.position;
+  chosen : map row_flags l.chosen.items ≡ map (chosen_row l.modules) (range_with_len 0 l.position);
 }

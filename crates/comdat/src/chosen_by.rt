@@ -1,0 +1,50 @@
+//! By what sections are chosen.
+
+ghost use Rattle.std.specs.Prelude.{◌≡◌};
+ghost use Rattle.comdat.specs.ChosenBy.{is_itself, is_group, is_child, parent_by};
+
+use coff_aux::is_section_number;
+
+/// By what a section is chosen.
+#[derive(Clone, Copy)]
+pub(crate) enum ChosenBy {
+    /// In any case: it is no COMDAT section, or has neither a leader nor a parent.
+    Itself,
+    /// As one of those that go by the name of its leader.
+    Group,
+    /// With the section of this number, its parent.
+    Parent(u32),
+}
+
+impl ChosenBy {
+    /// Whether it is chosen in any case.
+    pub(crate) fn is_itself(self) -> bool
+        ensures { result ≡ is_itself self }
+    {
+        matches!(self, ChosenBy::Itself)
+    }
+
+    /// Whether it goes by a name.
+    pub(crate) fn is_group(self) -> bool
+        ensures { result ≡ is_group self }
+    {
+        matches!(self, ChosenBy::Group)
+    }
+
+    /// Whether it goes by a parent.
+    pub(crate) fn is_child(self) -> bool
+        ensures { result ≡ is_child self }
+    {
+        matches!(self, ChosenBy::Parent(_))
+    }
+
+    /// Its parent among this many sections, 0 where it has none.
+    pub(crate) fn parent(self, count: u32) -> u32
+        ensures { result ≡ parent_by count self }
+    {
+        match self {
+            ChosenBy::Parent(parent) if is_section_number(count, parent) => parent,
+            _ => 0,
+        }
+    }
+}
