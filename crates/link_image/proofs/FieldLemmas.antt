@@ -144,8 +144,8 @@ module _ (modules : List ModuleView) (pieces : List Piece) (fixups : List (List 
   same_place : (k : ℕ) (range : RelocRange) → k < length pieces → out_of_range (get_or pieces k no_piece) range ≡ out_of_range (link_piece_at modules k) range
   same_place k range lt =
       let within : k < length (link_pieces modules) = omega (arith, lt, total_is) in
-      let is : bare (get_or pieces k no_piece) ≡ planned_piece modules k =
-      sym (get_or-map bare pieces k no_piece) ∙ ap (λ (ps : List Piece). get_or ps k no_piece) ready.pieces_are ∙ planned_at modules k within in
+      let is : bare (get_or pieces k no_piece) ≡ planned_piece ready.options modules k =
+      sym (get_or-map bare pieces k no_piece) ∙ ap (λ (ps : List Piece). get_or ps k no_piece) ready.pieces_are ∙ planned_at ready.options modules k within in
       ap (λ (p : Piece). out_of_range p range) is
 
   pub range_here : (base k : ℕ) (fields : List Fix) (fault : Fault) → k < length pieces → AreTheFields (piece_fixes modules k) fields → RefusesRange base (get_or layout.pieces.items k 0) layout owner fields (contents_at modules k) (get_or pieces k no_piece) fault → piece_range_fault modules (rows_of sections) layout base k ≡ Some fault

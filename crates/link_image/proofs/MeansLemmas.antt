@@ -201,7 +201,7 @@ module _ (options : LinkOptions) (plan : LinkPlan) (placement : Placement) (owne
   means permitted = by (is_relocated options plan.modules.items) refl placed.means.whole
     where
       before_count : length placed.means.before.pieces.items ≡ length plan.pieces.items
-      before_count = placed.means.placed.layout_of.standing.rva_for_each ∙ plan_count plan.modules.items ∙ sym total
+      before_count = placed.means.placed.layout_of.standing.rva_for_each ∙ plan_count options plan.modules.items ∙ sym total
 
       by : (b : Bool) → is_relocated options plan.modules.items ≡ b → IsWhole b plan.modules.items (rows_of placed.means.sections) placed.means.before (rows_of placement.sections.items) placement.layout (tables_of placement.table) → MeansPlan image (image_file image)
       by true relocated table =

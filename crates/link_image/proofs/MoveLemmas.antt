@@ -106,7 +106,7 @@ module _ (modules : List ModuleView) (pieces : List Piece) (fixups : List (List 
   bytes_of base k = linked_bytes modules rows layout base k
 
   count_is : length pieces ≡ count
-  count_is = sym (length-map pieces bare) ∙ ap (λ (ps : List Piece). length ps) ready.pieces_are ∙ plan_count modules
+  count_is = sym (length-map pieces bare) ∙ ap (λ (ps : List Piece). length ps) ready.pieces_are ∙ plan_count ready.options modules
 
   length_at : (base k : ℕ) → k < count → length (get_or (contents base) k []) ≡ length (contents_at modules k)
   length_at base k lt = ap length (piece_read modules rows layout base tables k lt) ∙ length_piece modules rows layout base k

@@ -142,12 +142,12 @@ one_refused_size old other len first second same has other_has =
 
 -- ---- one placement
 
-pub same_rows : (options : LinkOptions) (modules : List ModuleView) (xs ys : List OutSection) → AreGrouped options (plan_pieces modules) xs → AreGrouped options (plan_pieces modules) ys → rows_of xs ≡ rows_of ys
-same_rows options modules xs ys x y = one_grouping (link_input options (plan_pieces modules)) xs ys x.grouping y.grouping
+pub same_rows : (options : LinkOptions) (modules : List ModuleView) (xs ys : List OutSection) → AreGrouped options (plan_pieces options modules) xs → AreGrouped options (plan_pieces options modules) ys → rows_of xs ≡ rows_of ys
+same_rows options modules xs ys x y = one_grouping (link_input options (plan_pieces options modules)) xs ys x.grouping y.grouping
 
-pub same_layout : (options : LinkOptions) (modules : List ModuleView) (xs ys : List OutSection) (reloc : Bool) (a b : Layout) → AreGrouped options (plan_pieces modules) xs → AreGrouped options (plan_pieces modules) ys → ArePlaced (plan_pieces modules) xs reloc a → ArePlaced (plan_pieces modules) ys reloc b → SameLayout a b
+pub same_layout : (options : LinkOptions) (modules : List ModuleView) (xs ys : List OutSection) (reloc : Bool) (a b : Layout) → AreGrouped options (plan_pieces options modules) xs → AreGrouped options (plan_pieces options modules) ys → ArePlaced (plan_pieces options modules) xs reloc a → ArePlaced (plan_pieces options modules) ys reloc b → SameLayout a b
 same_layout options modules xs ys reloc a b gx gy px py =
-    one_layout (plan_pieces modules) ys reloc a b (layout_same_rows (plan_pieces modules) xs ys reloc a (same_rows options modules xs ys gx gy) px.layout_of) py.layout_of
+    one_layout (plan_pieces options modules) ys reloc a b (layout_same_rows (plan_pieces options modules) xs ys reloc a (same_rows options modules xs ys gx gy) px.layout_of) py.layout_of
 
 -- the lists of two layouts of the same pieces
 pub same_fields : (options : LinkOptions) (modules : List ModuleView) (a b : Layout) (fields other : List BaseField) → SameLayout a b → AreBaseFields modules a.pieces.items fields → AreBaseFields modules b.pieces.items other → fields ≡ other

@@ -28,7 +28,7 @@ module _ (options : LinkOptions) (plan : LinkPlan) (sections : List OutSection) 
   pieces = plan.pieces.items
 
   count : length plan.pieces.items ≡ length (link_pieces plan.modules.items)
-  count = sym (length-map plan.pieces.items bare) ∙ ap (λ (ps : List Piece). length ps) planned.pieces_are ∙ plan_count plan.modules.items
+  count = sym (length-map plan.pieces.items bare) ∙ ap (λ (ps : List Piece). length ps) planned.pieces_are ∙ plan_count options plan.modules.items
 
   sizes : (k : ℕ) → k < length plan.pieces.items → length (contents_at plan.modules.items k) ≤ (get_or plan.pieces.items k no_piece).size
   sizes k lt =

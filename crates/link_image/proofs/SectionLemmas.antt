@@ -47,7 +47,7 @@ use Rattle.link_image.specs.BuildFaults.{IsBuildFault}
 -- ---- pieces without their bytes
 
 -- the grouping of the pieces of a plan is that of the modules
-pub grouped_modules : (options : LinkOptions) (modules : List ModuleView) (pieces : List Piece) (sections : List OutSection) → map bare pieces ≡ plan_pieces modules → AreGrouped options pieces sections → AreGrouped options (plan_pieces modules) sections
+pub grouped_modules : (options : LinkOptions) (modules : List ModuleView) (pieces : List Piece) (sections : List OutSection) → map bare pieces ≡ plan_pieces options modules → AreGrouped options pieces sections → AreGrouped options (plan_pieces options modules) sections
 grouped_modules options modules pieces sections are grouped =
     let used : replicate (length pieces) true ≡ replicate (length (map bare pieces)) true = ap (λ (n : ℕ). replicate n true) (sym (length-map pieces bare)) in
     let bared = subst (λ (u : List Bool). IsGrouping (input_from (map bare pieces) u options.merges) sections) used (grouping_bare pieces (replicate (length pieces) true) options.merges sections grouped.grouping) in
@@ -56,8 +56,8 @@ grouped_modules options modules pieces sections are grouped =
       grouping = subst (λ (ps : List Piece). IsGrouping (link_input options ps) sections) are bared;
     }
 
-pub placed_modules : (modules : List ModuleView) (pieces : List Piece) (sections : List OutSection) (reloc : Bool) (layout : Layout) → map bare pieces ≡ plan_pieces modules → ArePlaced pieces sections reloc layout → ArePlaced (plan_pieces modules) sections reloc layout
-placed_modules modules pieces sections reloc layout are placed = record {
+pub placed_modules : (options : LinkOptions) (modules : List ModuleView) (pieces : List Piece) (sections : List OutSection) (reloc : Bool) (layout : Layout) → map bare pieces ≡ plan_pieces options modules → ArePlaced pieces sections reloc layout → ArePlaced (plan_pieces options modules) sections reloc layout
+placed_modules options modules pieces sections reloc layout are placed = record {
   layout_of = subst (λ (ps : List Piece). IsLayout ps sections reloc layout) are (layout_bare pieces sections reloc layout placed.layout_of);
   few = placed.few;
   within = placed.within;
@@ -74,28 +74,28 @@ standing options pieces sections grouped = stand_once (link_input options pieces
 pub bad_merge : (options : LinkOptions) (modules : List ModuleView) (name : List ℕ) → NamesFirstBad options.merges name → IsBuildFault options modules (faults.BadMerge name)
 bad_merge options modules name named = inl (record { name = name; named = named; is = refl })
 
-pub too_many : (options : LinkOptions) (modules : List ModuleView) (pieces : List Piece) (sections : List OutSection) (reloc : Bool) (count : ℕ) → map bare pieces ≡ plan_pieces modules → AreGrouped options pieces sections → reloc ≡ is_relocated options modules → IsPlaceRefusal pieces sections reloc (bad.TooManySections count) → IsBuildFault options modules (faults.TooManySections count)
+pub too_many : (options : LinkOptions) (modules : List ModuleView) (pieces : List Piece) (sections : List OutSection) (reloc : Bool) (count : ℕ) → map bare pieces ≡ plan_pieces options modules → AreGrouped options pieces sections → reloc ≡ is_relocated options modules → IsPlaceRefusal pieces sections reloc (bad.TooManySections count) → IsBuildFault options modules (faults.TooManySections count)
 too_many options modules pieces sections reloc count are grouped same refused =
     inr (inl (record {
       sections = sections;
       grouped = grouped_modules options modules pieces sections are grouped;
       count = count;
-      refused = subst (λ (r : Bool). IsPlaceRefusal (plan_pieces modules) sections r (bad.TooManySections count)) same refused;
+      refused = subst (λ (r : Bool). IsPlaceRefusal (plan_pieces options modules) sections r (bad.TooManySections count)) same refused;
       is = refl;
     }))
 
-pub too_large : (options : LinkOptions) (modules : List ModuleView) (pieces : List Piece) (sections : List OutSection) (reloc : Bool) (size : ℕ) → map bare pieces ≡ plan_pieces modules → AreGrouped options pieces sections → reloc ≡ is_relocated options modules → IsPlaceRefusal pieces sections reloc (bad.ImageTooLarge size) → IsBuildFault options modules (faults.ImageTooLarge size)
+pub too_large : (options : LinkOptions) (modules : List ModuleView) (pieces : List Piece) (sections : List OutSection) (reloc : Bool) (size : ℕ) → map bare pieces ≡ plan_pieces options modules → AreGrouped options pieces sections → reloc ≡ is_relocated options modules → IsPlaceRefusal pieces sections reloc (bad.ImageTooLarge size) → IsBuildFault options modules (faults.ImageTooLarge size)
 too_large options modules pieces sections reloc size are grouped same refused =
     let bared : IsPlaceRefusal (map bare pieces) sections reloc (bad.ImageTooLarge size) = (refused.0, size_bare pieces sections reloc size refused.1, refused.2) in
     inr (inr (inl (record {
       sections = sections;
       grouped = grouped_modules options modules pieces sections are grouped;
       size = size;
-      refused = inl (subst (λ (r : Bool). IsPlaceRefusal (plan_pieces modules) sections r (bad.ImageTooLarge size)) same (subst (λ (ps : List Piece). IsPlaceRefusal ps sections reloc (bad.ImageTooLarge size)) are bared));
+      refused = inl (subst (λ (r : Bool). IsPlaceRefusal (plan_pieces options modules) sections r (bad.ImageTooLarge size)) same (subst (λ (ps : List Piece). IsPlaceRefusal ps sections reloc (bad.ImageTooLarge size)) are bared));
       is = refl;
     })))
 
-pub large_table : (options : LinkOptions) (modules : List ModuleView) (pieces : List Piece) (sections : List OutSection) (layout : Layout) (fields : List BaseField) (size : ℕ) → map bare pieces ≡ plan_pieces modules → AreGrouped options pieces sections → ArePlaced pieces sections true layout → is_relocated options modules ≡ true → AreBaseFields modules layout.pieces.items fields → IsGrowRefusal layout (length (blocks_of fields)) (bad.ImageTooLarge size) → IsBuildFault options modules (faults.ImageTooLarge size)
+pub large_table : (options : LinkOptions) (modules : List ModuleView) (pieces : List Piece) (sections : List OutSection) (layout : Layout) (fields : List BaseField) (size : ℕ) → map bare pieces ≡ plan_pieces options modules → AreGrouped options pieces sections → ArePlaced pieces sections true layout → is_relocated options modules ≡ true → AreBaseFields modules layout.pieces.items fields → IsGrowRefusal layout (length (blocks_of fields)) (bad.ImageTooLarge size) → IsBuildFault options modules (faults.ImageTooLarge size)
 large_table options modules pieces sections layout fields size are grouped placed relocated based refused =
     inr (inr (inl (record {
       sections = sections;
@@ -104,7 +104,7 @@ large_table options modules pieces sections layout fields size are grouped place
       refused = inr (record {
         relocated = relocated;
         layout = layout;
-        placed = placed_modules modules pieces sections true layout are placed;
+        placed = placed_modules options modules pieces sections true layout are placed;
         fields = fields;
         based = based;
         refused = refused;
@@ -186,7 +186,7 @@ placed_alone options plan placement planned grouped placed alone none =
         sections = sections;
         grouped = grouped_modules options modules pieces sections planned.pieces_are grouped;
         before = layout;
-        placed = subst (λ (r : Bool). ArePlaced (plan_pieces modules) sections r layout) (sym alone) (placed_modules modules pieces sections false layout planned.pieces_are placed);
+        placed = subst (λ (r : Bool). ArePlaced (plan_pieces options modules) sections r layout) (sym alone) (placed_modules options modules pieces sections false layout planned.pieces_are placed);
         whole = subst (λ (r : Bool). IsWhole r modules (rows_of sections) layout (rows_of sections) layout (tables_of placement.table)) (sym alone) (refl, refl, none);
       };
       laid = λ rest holds.
@@ -224,7 +224,7 @@ placed_with_table options plan sections before fields placement planned grouped 
         sections = sections;
         grouped = grouped_modules options modules pieces sections planned.pieces_are grouped;
         before = before;
-        placed = subst (λ (r : Bool). ArePlaced (plan_pieces modules) sections r before) (sym relocated) (placed_modules modules pieces sections true before planned.pieces_are placed);
+        placed = subst (λ (r : Bool). ArePlaced (plan_pieces options modules) sections r before) (sym relocated) (placed_modules options modules pieces sections true before planned.pieces_are placed);
         whole = subst (λ (r : Bool). IsWhole r modules (rows_of sections) before (rows_of placement.sections.items) layout (tables_of placement.table)) (sym relocated)
             (record { fields = fields; based = based; added = added; within = within; rows_are = rows; tables_are = tables });
       };
@@ -254,6 +254,7 @@ placed_with_table options plan sections before fields placement planned grouped 
 -- the pieces of a plan with their fields, where they stand
 pub ready : (options : LinkOptions) (plan : LinkPlan) (placement : Placement) (headers : Headers) (image owner : List ℕ) → IsPlanOf options plan.modules.items plan → IsPlaced options plan placement → IsWritten headers placement plan.pieces.items image → owner ≡ owners_in (rows_of placement.sections.items) placement.layout → IsReady plan.modules.items plan.pieces.items plan.fixes.items placement.sections.items placement.layout owner (tables_of placement.table)
 ready options plan placement headers image owner planned placed written is = record {
+  options = options;
   pieces_are = planned.pieces_are;
   contents_are = planned.contents_are;
   bodies = planned.bodies;

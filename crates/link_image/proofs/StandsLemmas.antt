@@ -107,7 +107,7 @@ owner_read rows count k lt = get_or-map-range_with_len (section_of rows) 0 count
 
 module _ (modules : List ModuleView) (pieces : List Piece) (fixups : List (List Fix)) (sections : List OutSection) (layout : Layout) (owner : List ℕ) (tables : List (List ℕ)) (ready : IsReady modules pieces fixups sections layout owner tables) where
   pub pieces_count : length pieces ≡ length (link_pieces modules)
-  pieces_count = sym (length-map pieces bare) ∙ ap (λ (ps : List Piece). length ps) ready.pieces_are ∙ plan_count modules
+  pieces_count = sym (length-map pieces bare) ∙ ap (λ (ps : List Piece). length ps) ready.pieces_are ∙ plan_count ready.options modules
 
   -- there is an RVA and an owner for each piece
   pub rva_there : (k : ℕ) → k < length pieces → k < length layout.pieces.items
@@ -124,7 +124,7 @@ module _ (modules : List ModuleView) (pieces : List Piece) (fixups : List (List 
   entry_of (target.Piece piece value) stand =
       let within : piece < length pieces = omega (arith, stand.0, pieces_count) in
       let named : (get_or pieces piece no_piece).named ≡ true =
-      ap (λ (p : Piece). p.named) (sym (get_or-map bare pieces piece no_piece) ∙ ap (λ (ps : List Piece). get_or ps piece no_piece) ready.pieces_are ∙ planned_at modules piece stand.0) ∙ stand.1 in
+      ap (λ (p : Piece). p.named) (sym (get_or-map bare pieces piece no_piece) ∙ ap (λ (ps : List Piece). get_or ps piece no_piece) ready.pieces_are ∙ planned_at ready.options modules piece stand.0) ∙ stand.1 ready.options in
       let at = owner_at sections piece (ready.stands piece within (inr named)) in
       let there = rva_there piece within in
       let owned = owner_at_piece piece within in

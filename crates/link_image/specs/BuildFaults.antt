@@ -30,16 +30,16 @@ pub record IsBadMerge (options : LinkOptions) (fault : Fault) : Type 0 where
 -- there are too many sections, that of base relocations counted
 pub record HasTooManySections (options : LinkOptions) (modules : List ModuleView) (fault : Fault) : Type 0 where
   pub sections : List OutSection
-  pub grouped : AreGrouped options (plan_pieces modules) sections
+  pub grouped : AreGrouped options (plan_pieces options modules) sections
   pub count : ℕ
-  pub refused : IsPlaceRefusal (plan_pieces modules) sections (is_relocated options modules) (bad.TooManySections count)
+  pub refused : IsPlaceRefusal (plan_pieces options modules) sections (is_relocated options modules) (bad.TooManySections count)
   pub is : fault ≡ faults.TooManySections count
 
 -- the pieces fit, but not the table of base relocations after them
 pub record HasLargeTable (options : LinkOptions) (modules : List ModuleView) (sections : List OutSection) (size : ℕ) : Type 0 where
   pub relocated : is_relocated options modules ≡ true
   pub layout : Layout
-  pub placed : ArePlaced (plan_pieces modules) sections true layout
+  pub placed : ArePlaced (plan_pieces options modules) sections true layout
   pub fields : List BaseField
   pub based : AreBaseFields modules layout.pieces.items fields
   pub refused : IsGrowRefusal layout (length (blocks_of fields)) (bad.ImageTooLarge size)
@@ -47,9 +47,9 @@ pub record HasLargeTable (options : LinkOptions) (modules : List ModuleView) (se
 -- the image is too large: by its pieces, or else with the table of base relocations
 pub record IsTooLarge (options : LinkOptions) (modules : List ModuleView) (fault : Fault) : Type 0 where
   pub sections : List OutSection
-  pub grouped : AreGrouped options (plan_pieces modules) sections
+  pub grouped : AreGrouped options (plan_pieces options modules) sections
   pub size : ℕ
-  pub refused : IsPlaceRefusal (plan_pieces modules) sections (is_relocated options modules) (bad.ImageTooLarge size) ⊎ HasLargeTable options modules sections size
+  pub refused : IsPlaceRefusal (plan_pieces options modules) sections (is_relocated options modules) (bad.ImageTooLarge size) ⊎ HasLargeTable options modules sections size
   pub is : fault ≡ faults.ImageTooLarge size
 
 -- the image may not stand at the base that it prefers

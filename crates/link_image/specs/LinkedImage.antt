@@ -79,9 +79,9 @@ IsWhole false modules piece_rows before rows layout tables = (rows ≡ piece_row
 -- where everything stands: the sections of the pieces, and after them the table of base relocations where there is one
 pub record IsPlacement (options : LinkOptions) (modules : List ModuleView) (rows : List SectionRow) (layout : Layout) (tables : List (List ℕ)) : Type 0 where
   pub sections : List OutSection
-  pub grouped : AreGrouped options (plan_pieces modules) sections
+  pub grouped : AreGrouped options (plan_pieces options modules) sections
   pub before : Layout
-  pub placed : ArePlaced (plan_pieces modules) sections (is_relocated options modules) before
+  pub placed : ArePlaced (plan_pieces options modules) sections (is_relocated options modules) before
   pub whole : IsWhole (is_relocated options modules) modules (rows_of sections) before rows layout tables
 
 -- the RVA and the size of the table, which is the last piece

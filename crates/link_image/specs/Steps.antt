@@ -102,7 +102,8 @@ pub record IsPlaced (options : LinkOptions) (plan : LinkPlan) (placement : Place
 
 -- the pieces with their fields, the tables after them, and where all of these stand
 pub record IsReady (modules : List ModuleView) (pieces : List Piece) (fixups : List (List Fix)) (sections : List OutSection) (layout : Layout) (owner : List ℕ) (tables : List (List ℕ)) : Type 0 where
-  pub pieces_are : map bare pieces ≡ plan_pieces modules
+  pub options : LinkOptions
+  pub pieces_are : map bare pieces ≡ plan_pieces options modules
   pub contents_are : map piece_contents pieces ≡ link_contents modules
   pub bodies : (k : ℕ) → k < length pieces → HasItsBytes pieces k
   pub fields : HaveFields modules (length pieces) fixups

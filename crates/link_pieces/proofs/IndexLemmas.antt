@@ -1,8 +1,10 @@
 -- An index of pieces, one piece more at a time.
-use Rattle.std.proofs.Common.{◌≡◌, ℕ, ◌+◌, ◌<◌, ◌≤◌, Bool, cond, ◌&&◌, eqb, List, [], length, map, get_or, set, Option, Some, None, inl, inr, refl, sym, ap, subst, ◌∙◌, add-one, arith}
+use Rattle.std.proofs.Common.{◌≡◌, ℕ, ◌+◌, ◌-◌, ◌<◌, ◌≤◌, Bool, true, false, cond, ◌&&◌, eqb, List, [], length, map, get_or, set, Option, Some, None, inl, inr, refl, sym, ap, subst, ◌∙◌, add-one, arith}
 use Rattle.std.specs.Option.{option_or}
 use Rattle.std.specs.Global.{Global}
 use Rattle.std.specs.Prelude.{Vec}
+use Rattle.std.specs.List.{All}
+use Rattle.std.proofs.lemmas.Bool.{eq-eqb, lt-ltb, le-ltb}
 use Rattle.std.proofs.lemmas.Bool.Decides.{eqb_tells}
 use Rattle.std.proofs.lemmas.List.{map-set, get_or-map, get_or-set_same, get_or-set_other, get_or_default, length-map, length-set}
 use Rattle.std.proofs.Math.ListN.{get_or-map as get_or-map_same}
@@ -11,11 +13,13 @@ use Rattle.section_group.specs.declared.piece.Piece.{Piece}
 use Rattle.section_group.specs.BarePieces.{bare}
 use Rattle.section_group.specs.SectionOrder.{no_piece}
 use Rattle.coff_records.specs.ObjectFile.{section_total}
-use Rattle.module_view.specs.Module.{ModuleView, module_at}
-use Rattle.link_pieces.specs.Pieces.{link_pieces}
+use Rattle.module_view.specs.Module.{ModuleView, no_module, module_at}
+use Rattle.link_pieces.specs.Commons.{FIRST_COMMON, HasFewSections}
+use Rattle.link_pieces.specs.Pieces.{link_pieces, IsPieceOf}
 use Rattle.link_pieces.proofs.CallerLemmas.{piece_is, bare_at}
-use Rattle.link_pieces.specs.PieceIndex.{is_piece_of, holds_section, indexed}
-use Rattle.link_pieces.specs.Rows.{items_of}
+use Rattle.link_pieces.proofs.CommonLemmas.{common_place}
+use Rattle.link_pieces.specs.PieceIndex.{is_section_of, is_common_of, holds, indexed}
+use Rattle.link_pieces.specs.Rows.{items_of, section_places, common_places, HasRows}
 use Rattle.link_base.proofs.RefusalLemmas.{or_none}
 
 -- a row that is replaced
@@ -71,30 +75,117 @@ pub found_more : (k : ℕ) (test : ℕ → Bool) → first_below (k + 1) test �
 unfolding first_below
 found_more k test = rw add-one refl
 
-pub holds_read : (pieces : List Piece) (k m s : ℕ) (piece : Piece) → k < length pieces → piece ≡ get_or pieces k piece → holds_section (map bare pieces) m s k ≡ is_piece_of m s piece
-holds_read pieces k m s piece lt is =
-    ap (is_piece_of m s) (get_or-map_same bare pieces k no_piece)
-    ∙ ap (λ (p : Piece). is_piece_of m s (bare p)) (sym (is ∙ get_or_default pieces k piece no_piece lt))
+holds_read : (test : Piece → Bool) (pieces : List Piece) (k : ℕ) (piece : Piece) → k < length pieces → piece ≡ get_or pieces k piece → holds test (map bare pieces) k ≡ test (bare piece)
+holds_read test pieces k piece lt is =
+    ap test (get_or-map_same bare pieces k no_piece)
+    ∙ ap (λ (p : Piece). test (bare p)) (sym (is ∙ get_or_default pieces k piece no_piece lt))
 
-pub index_more : (pieces : List Piece) (k m s : ℕ) (piece : Piece) (before after : Option ℕ) → k < length pieces → piece ≡ get_or pieces k piece → before ≡ first_below k (holds_section (map bare pieces) m s) → after ≡ option_or before (cond (eqb piece.«module» m && eqb piece.number s) (Some k) None) → after ≡ first_below (k + 1) (holds_section (map bare pieces) m s)
-index_more pieces k m s piece before after lt read was is =
+-- a row has it noted where it passes
+pub index_more : (test : Piece → Bool) (pieces : List Piece) (k : ℕ) (piece : Piece) (here : Bool) (before after : Option ℕ) → k < length pieces → piece ≡ get_or pieces k piece → here ≡ test (bare piece) → before ≡ first_below k (holds test (map bare pieces)) → after ≡ option_or before (cond here (Some k) None) → after ≡ first_below (k + 1) (holds test (map bare pieces))
+index_more test pieces k piece here before after lt read passes was is =
     is
-    ∙ ap (λ (o : Option ℕ). option_or o (cond (is_piece_of m s piece) (Some k) None)) was
-    ∙ ap (λ (b : Bool). option_or (first_below k (holds_section (map bare pieces) m s)) (cond b (Some k) None)) (sym (holds_read pieces k m s piece lt read))
-    ∙ sym (found_more k (holds_section (map bare pieces) m s))
+    ∙ ap (λ (o : Option ℕ). option_or o (cond here (Some k) None)) was
+    ∙ ap (λ (b : Bool). option_or (first_below k (holds test (map bare pieces))) (cond b (Some k) None)) (passes ∙ sym (holds_read test pieces k piece lt read))
+    ∙ sym (found_more k (holds test (map bare pieces)))
 
--- a piece is in the rows
-pub record IsInRows (rows : List (List (Option ℕ))) (piece : Piece) : Type 0 where
-  pub row : piece.«module» < length rows
-  pub cell : piece.number < length (get_or rows piece.«module» [])
+-- and stays as it was where it does not
+pub index_same : (test : Piece → Bool) (pieces : List Piece) (k : ℕ) (piece : Piece) (before : Option ℕ) → k < length pieces → piece ≡ get_or pieces k piece → test (bare piece) ≡ false → before ≡ first_below k (holds test (map bare pieces)) → before ≡ first_below (k + 1) (holds test (map bare pieces))
+index_same test pieces k piece before lt read fails was =
+    index_more test pieces k piece false before before lt read (sym fails) was (sym (or_none before))
 
-pub in_rows : (modules : List ModuleView) (pieces : List Piece) (rows : List (List (Option ℕ))) (k : ℕ) (piece : Piece) → map bare pieces ≡ link_pieces modules → length rows ≡ length modules → ((m : ℕ) → m < length modules → length (get_or rows m []) ≡ section_total (module_at modules m).bytes + 1) → k < length pieces → piece ≡ get_or pieces k piece → IsInRows rows piece
-in_rows modules pieces rows k piece same for_each long lt read =
+-- ---- sections and commons
+
+pub of_section : (position section : ℕ) (piece : Piece) → piece.number < FIRST_COMMON → (eqb piece.«module» position && eqb piece.number section) ≡ is_section_of position section piece
+of_section position section piece small =
+    ap (λ (b : Bool). b && (eqb piece.«module» position && eqb piece.number section)) (sym (lt-ltb piece.number FIRST_COMMON small))
+
+pub no_section : (position section : ℕ) (piece : Piece) → FIRST_COMMON ≤ piece.number → is_section_of position section piece ≡ false
+no_section position section piece large =
+    ap (λ (b : Bool). b && (eqb piece.«module» position && eqb piece.number section)) (le-ltb piece.number FIRST_COMMON large)
+
+pub of_common : (position symbol : ℕ) (piece : Piece) → FIRST_COMMON ≤ piece.number → (eqb piece.«module» position && eqb (piece.number - FIRST_COMMON) symbol) ≡ is_common_of position symbol piece
+of_common position symbol piece large = ap (λ (b : Bool). eqb piece.«module» position && b) (shifted piece.number large)
+  where
+    shifted : (number : ℕ) → FIRST_COMMON ≤ number → eqb (number - FIRST_COMMON) symbol ≡ eqb number (FIRST_COMMON + symbol)
+    shifted number large =
+        elim (eqb_tells (number - FIRST_COMMON) symbol) [
+          | inl same ↦ same.0 ∙ sym (eq-eqb number (FIRST_COMMON + symbol) (omega (arith, same.1)))
+          | inr other ↦
+              elim (eqb_tells number (FIRST_COMMON + symbol)) [
+                | inl here ↦ absurd (other.1 (omega (arith, here.1)))
+                | inr apart ↦ other.0 ∙ sym apart.0
+              ]
+        ]
+
+pub no_common : (position symbol : ℕ) (piece : Piece) → piece.number < FIRST_COMMON → is_common_of position symbol piece ≡ false
+no_common position symbol piece small =
+    elim (eqb_tells piece.number (FIRST_COMMON + symbol)) [
+      | inl same ↦ absurd (omega (arith, small, same.1))
+      | inr other ↦ ap (λ (b : Bool). eqb piece.«module» position && b) other.0 ∙ and_false (eqb piece.«module» position)
+    ]
+  where
+    and_false : (b : Bool) → (b && false) ≡ false
+    and_false true = refl
+    and_false false = refl
+
+-- ---- rows with what is noted of the first pieces
+
+pub record AreNoted (places : List ℕ → ℕ) (modules : List ModuleView) (test : ℕ → ℕ → Piece → Bool) (pieces : List Piece) (count : ℕ) (rows : List (List (Option ℕ))) : Type 0 where
+  pub for_each : length rows ≡ length modules
+  pub long : (m : ℕ) → m < length modules → length (get_or rows m []) ≡ places (module_at modules m).bytes
+  pub noted : (m n : ℕ) → indexed rows m n ≡ first_below count (holds (test m n) (map bare pieces))
+
+pub none_noted : (places : List ℕ → ℕ) (modules : List ModuleView) (test : ℕ → ℕ → Piece → Bool) (pieces : List Piece) (rows : List (List (Option ℕ))) → HasRows places modules rows → AreNoted places modules test pieces 0 rows
+unfolding first_below
+none_noted places modules test pieces rows has = record { for_each = has.for_each; long = has.long; noted = has.empty }
+
+pub noted_more : (places : List ℕ → ℕ) (modules : List ModuleView) (test : ℕ → ℕ → Piece → Bool) (pieces : List Piece) (k : ℕ) (piece : Piece) (number : ℕ) (rows after : List (List (Option ℕ))) → k < length pieces → piece ≡ get_or pieces k piece → ((m n : ℕ) → (eqb piece.«module» m && eqb number n) ≡ test m n (bare piece)) → length after ≡ length rows → ((m : ℕ) → length (get_or after m []) ≡ length (get_or rows m [])) → ((m n : ℕ) → indexed after m n ≡ option_or (indexed rows m n) (cond (eqb piece.«module» m && eqb number n) (Some k) None)) → AreNoted places modules test pieces k rows → AreNoted places modules test pieces (k + 1) after
+noted_more places modules test pieces k piece number rows after lt read passes same_length same_rows noted are = record {
+  for_each = same_length ∙ are.for_each;
+  long = λ m within. same_rows m ∙ are.long m within;
+  noted = λ m n. index_more (test m n) pieces k piece _ (indexed rows m n) (indexed after m n) lt read (passes m n) (are.noted m n) (noted m n);
+}
+
+pub noted_same : (places : List ℕ → ℕ) (modules : List ModuleView) (test : ℕ → ℕ → Piece → Bool) (pieces : List Piece) (k : ℕ) (piece : Piece) (rows : List (List (Option ℕ))) → k < length pieces → piece ≡ get_or pieces k piece → ((m n : ℕ) → test m n (bare piece) ≡ false) → AreNoted places modules test pieces k rows → AreNoted places modules test pieces (k + 1) rows
+noted_same places modules test pieces k piece rows lt read fails are = record {
+  for_each = are.for_each;
+  long = are.long;
+  noted = λ m n. index_same (test m n) pieces k piece (indexed rows m n) lt read (fails m n) (are.noted m n);
+}
+
+-- ---- room in rows
+
+-- there is a place for a number of a module
+pub record IsInRows (rows : List (List (Option ℕ))) (position number : ℕ) : Type 0 where
+  pub row : position < length rows
+  pub cell : number < length (get_or rows position [])
+
+piece_read : (modules : List ModuleView) (pieces : List Piece) (k : ℕ) (piece : Piece) → map bare pieces ≡ link_pieces modules → k < length pieces → piece ≡ get_or pieces k piece → IsPieceOf modules (bare piece)
+piece_read modules pieces k piece same lt read =
     let inside : k < length (link_pieces modules) = omega (arith, ap length same, length-map pieces bare) in
-    let whole = piece_is modules k inside in
     let is : bare piece ≡ get_or (link_pieces modules) k no_piece = ap bare (read ∙ get_or_default pieces k piece no_piece lt) ∙ bare_at modules pieces k same in
-    let position : piece.«module» ≡ (get_or (link_pieces modules) k no_piece).«module» = ap (λ (p : Piece). p.«module») is in
-    let number : piece.number ≡ (get_or (link_pieces modules) k no_piece).number = ap (λ (p : Piece). p.number) is in
-    let within : piece.«module» < length modules = omega (arith, whole.within, position) in
-    let last : (get_or (link_pieces modules) k no_piece).number ≤ section_total (module_at modules piece.«module»).bytes = subst (λ (m : ℕ). (get_or (link_pieces modules) k no_piece).number ≤ section_total (module_at modules m).bytes) (sym position) whole.last in
-    record { row = omega (arith, within, for_each); cell = omega (arith, long piece.«module» within, last, number) }
+    subst (IsPieceOf modules) (sym is) (piece_is modules k inside)
+
+pub section_room : (modules : List ModuleView) (pieces : List Piece) (rows : List (List (Option ℕ))) (k : ℕ) (piece : Piece) → map bare pieces ≡ link_pieces modules → length rows ≡ length modules → ((m : ℕ) → m < length modules → length (get_or rows m []) ≡ section_places (module_at modules m).bytes) → k < length pieces → piece ≡ get_or pieces k piece → piece.number < FIRST_COMMON → IsInRows rows piece.«module» piece.number
+section_room modules pieces rows k piece same for_each long lt read small =
+    let whole = piece_read modules pieces k piece same lt read in
+    elim whole.is [
+      | inl section ↦
+          record { row = omega (arith, whole.within, for_each); cell = omega (arith, long piece.«module» whole.within, section.last) }
+      | inr common ↦
+          let number : piece.number ≡ FIRST_COMMON + common.common.symbol = ap (λ (p : Piece). p.number) common.is in
+          absurd (omega (arith, small, number))
+    ]
+
+pub common_room : (modules : List ModuleView) (pieces : List Piece) (rows : List (List (Option ℕ))) (k : ℕ) (piece : Piece) → map bare pieces ≡ link_pieces modules → All HasFewSections modules → length rows ≡ length modules → ((m : ℕ) → m < length modules → length (get_or rows m []) ≡ common_places (module_at modules m).bytes) → k < length pieces → piece ≡ get_or pieces k piece → FIRST_COMMON ≤ piece.number → IsInRows rows piece.«module» (piece.number - FIRST_COMMON)
+common_room modules pieces rows k piece same few for_each long lt read large =
+    let whole = piece_read modules pieces k piece same lt read in
+    elim whole.is [
+      | inl section ↦
+          let total : section_total (module_at modules piece.«module»).bytes < FIRST_COMMON = few piece.«module» no_module whole.within in
+          absurd (omega (arith, large, section.last, total))
+      | inr common ↦
+          let number : piece.number ≡ FIRST_COMMON + common.common.symbol = ap (λ (p : Piece). p.number) common.is in
+          let room = common_place (module_at modules piece.«module»).bytes common.common common.own in
+          record { row = omega (arith, whole.within, for_each); cell = omega (arith, long piece.«module» whole.within, room, number) }
+    ]

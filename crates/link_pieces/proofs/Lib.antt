@@ -1,4 +1,5 @@
 pub mod NamedLemmas
+pub mod CommonLemmas
 pub mod PieceLemmas
 pub mod CallerLemmas
 pub mod IndexLemmas

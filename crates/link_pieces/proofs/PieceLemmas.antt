@@ -1,11 +1,11 @@
 -- Pieces beside what they hold, and their alignments.
-use Rattle.std.proofs.Common.{◌≡◌, ℕ, zero, suc, ◌+◌, ◌-◌, ◌*◌, ◌%◌, ◌^◌, ◌<◌, ◌≤◌, Bool, true, false, cond, not, None, Some, List, [], ◌∷◌, ◌++◌, length, map, filter, take, get_or, refl, sym, ap, subst, ◌∙◌, arith}
+use Rattle.std.proofs.Common.{◌≡◌, ℕ, zero, suc, ◌+◌, ◌-◌, ◌*◌, ◌%◌, ◌^◌, ◌<◌, ◌≤◌, Bool, true, false, cond, not, None, Some, List, [], ◌∷◌, ◌++◌, length, map, filter, take, get_or, refl, sym, ap, subst, ◌∙◌, append_assoc, arith}
 use Rattle.std.specs.Prelude.{unwrap_or}
 use Rattle.std.specs.Bool.{IsTrue}
 use Rattle.std.specs.List.{All, range_with_len, flat_map}
 use Rattle.std.proofs.lemmas.Bool.{false≢true}
 use Rattle.std.proofs.lemmas.List.{length-map, take_more}
-use Rattle.std.proofs.lemmas.List.Elements.{All-push}
+use Rattle.std.proofs.lemmas.List.Elements.{All-nil, All-cons, All-append, All-push}
 use Rattle.std.proofs.Math.ListN.{get_or-map}
 use Rattle.std.proofs.lemmas.Nat.{pow-add, pow_pos}
 use Rattle.std.proofs.Math.Nat.{mul-mod_left}
@@ -20,9 +20,11 @@ use Rattle.address_layout.specs.Layout.{IsAlignment}
 use Rattle.section_group.specs.PieceContents.{piece_contents, HasItsBytes}
 use Rattle.module_view.specs.Module.{ModuleView, no_module, module_at}
 use Rattle.module_view.specs.Opening.{IsOpened}
-use Rattle.module_view.specs.PlacedSection.{is_placed}
+use Rattle.module_view.specs.declared.definition.Common.{Common}
 use Rattle.module_view.proofs.CallerLemmas.{opened_sound}
-use Rattle.link_pieces.specs.Pieces.{piece_of, section_contents, pieces_in, contents_in, link_pieces, link_contents}
+use Rattle.link_pieces.specs.Commons.{meant_commons, common_piece}
+use Rattle.link_pieces.specs.Pieces.{is_linked, linked_sections, piece_of, section_contents, no_contents, pieces_in, contents_in, link_pieces, link_contents}
+use Rattle.link_pieces.proofs.CommonLemmas.{common_aligned}
 
 -- ---- pieces beside what they hold
 
@@ -66,13 +68,21 @@ section_filled : (position : ℕ) (bytes : List ℕ) (section : ℕ) → object_
 section_filled position bytes section sound first last =
     filled (is_uninitialised bytes section) (raw_size_of bytes section) (bytes_at bytes (raw_offset_of bytes section) (raw_size_of bytes section)) (body_length bytes section sound first last)
 
+-- a common is not initialised
+commons_filled : (position : ℕ) (commons : List Common) → Paired IsFilled (map (common_piece position) commons) (map no_contents commons)
+commons_filled position [] = tt
+commons_filled position (common ∷ commons) = (λ e. absurd (false≢true e), commons_filled position commons)
+
 link_filled : (modules : List ModuleView) → ((m : ℕ) → m < length modules → object_fault (module_at modules m).bytes ≡ None) → Paired IsFilled (link_pieces modules) (link_contents modules)
 link_filled modules sound =
-    paired_joined IsFilled (λ m. pieces_in m (module_at modules m).bytes) (λ m. contents_in (module_at modules m).bytes) 0 (length modules) (λ m low high.
+    paired_joined IsFilled (λ m. pieces_in modules m (module_at modules m).bytes) (λ m. contents_in modules m (module_at modules m).bytes) 0 (length modules) (λ m low high.
     let bytes = (module_at modules m).bytes in
     let within : m < length modules = omega arith in
-    paired_kept IsFilled (piece_of m bytes) (section_contents bytes) (is_placed bytes) 1 (section_total bytes) (λ section first last.
+    let commons = meant_commons modules m bytes in
+    paired_append IsFilled (map (piece_of m bytes) (linked_sections modules m bytes)) (map (common_piece m) commons) (map (section_contents bytes) (linked_sections modules m bytes)) (map no_contents commons)
+    (paired_kept IsFilled (piece_of m bytes) (section_contents bytes) (is_linked modules m bytes) 1 (section_total bytes) (λ section first last.
     section_filled m bytes section (sound m within) first (omega arith)))
+    (commons_filled m commons))
 
 filled_at : (pieces : List Piece) (k : ℕ) → Paired IsFilled (map bare pieces) (map piece_contents pieces) → k < length pieces → HasItsBytes pieces k
 filled_at [] k paired lt = absurd (omega arith)
@@ -108,18 +118,31 @@ over_bare P pieces all = λ k d lt.
     let lt' : k < length (map bare pieces) = omega (arith, length-map pieces bare) in
     subst P (get_or-map bare pieces k d) (all k (bare d) lt')
 
+commons_aligned : (position : ℕ) (commons : List Common) → All (λ piece. IsAlignment piece.align) (map (common_piece position) commons)
+commons_aligned position [] = All-nil (λ piece. IsAlignment piece.align)
+commons_aligned position (common ∷ commons) =
+    All-cons (λ (piece : Piece). IsAlignment piece.align) (common_piece position common) (map (common_piece position) commons) (common_aligned common.size) (commons_aligned position commons)
+
 pub aligned : (modules : List ModuleView) (pieces : List Piece) → All IsOpened modules → map bare pieces ≡ link_pieces modules → All (λ piece. IsAlignment piece.align) pieces
 aligned modules pieces sound same =
     over_bare (λ piece. IsAlignment piece.align) pieces
     (subst (All (λ (piece : Piece). IsAlignment piece.align)) (sym same)
-    (all_joined (λ piece. IsAlignment piece.align) (λ m. pieces_in m (module_at modules m).bytes) 0 (length modules) (λ m low high.
+    (all_joined (λ piece. IsAlignment piece.align) (λ m. pieces_in modules m (module_at modules m).bytes) 0 (length modules) (λ m low high.
     let bytes = (module_at modules m).bytes in
     let within : m < length modules = omega arith in
-    all_kept (λ piece. IsAlignment piece.align) (piece_of m bytes) (is_placed bytes) 1 (section_total bytes) (λ section first last placed.
-    alignment (alignment_of (flags_of bytes section)) (section_alignment bytes section (each_sound modules sound m within) first (omega arith))))))
+    All-append (λ (piece : Piece). IsAlignment piece.align) (map (piece_of m bytes) (linked_sections modules m bytes)) (map (common_piece m) (meant_commons modules m bytes))
+    (all_kept (λ piece. IsAlignment piece.align) (piece_of m bytes) (is_linked modules m bytes) 1 (section_total bytes) (λ section first last linked.
+    alignment (alignment_of (flags_of bytes section)) (section_alignment bytes section (each_sound modules sound m within) first (omega arith))))
+    (commons_aligned m (meant_commons modules m bytes)))))
 
 -- ---- modules, one more in a loop
 
-pub opened_more : (modules : List ModuleView) (k : ℕ) (m : ModuleView) → k < length modules → m ≡ get_or modules k m → All IsOpened (take k modules) → IsOpened m → All IsOpened (take (k + 1) modules)
-opened_more modules k m lt read before here =
-    subst (All IsOpened) (sym (take_more modules k m lt ∙ ap (λ (v : ModuleView). take k modules ++ v ∷ []) (sym read))) (All-push IsOpened (take k modules) m before here)
+pub modules_more : (P : ModuleView → Type 0) (modules : List ModuleView) (k : ℕ) (m : ModuleView) → k < length modules → m ≡ get_or modules k m → All P (take k modules) → P m → All P (take (k + 1) modules)
+modules_more P modules k m lt read before here =
+    subst (All P) (sym (take_more modules k m lt ∙ ap (λ (v : ModuleView). take k modules ++ v ∷ []) (sym read))) (All-push P (take k modules) m before here)
+
+-- ---- what is appended in two parts
+
+pub two_parts : {X : Type 0} (old one now first second : List X) → one ≡ old ++ first → now ≡ one ++ second → now ≡ old ++ (first ++ second)
+two_parts {X} old one now first second is then =
+    then ∙ ap (λ (xs : List X). xs ++ second) is ∙ append_assoc old first second

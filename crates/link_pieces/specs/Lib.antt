@@ -1,3 +1,6 @@
+pub mod NameMeaning
+pub mod ChoiceFaults
+pub mod Commons
 pub mod Pieces
 pub mod PieceIndex
 pub mod Steps

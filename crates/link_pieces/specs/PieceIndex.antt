@@ -1,26 +1,54 @@
--- Which piece a section of a module is. Own.
-use Rattle.std.specs.Prelude.{◌≡◌, ℕ, Bool, ◌&&◌, ◌==◌, List, [], length, slice_index_or, Option, None}
+-- Which piece a section or a common of a module is. Own.
+use Rattle.std.specs.Prelude.{◌≡◌, ℕ, ◌+◌, Bool, ◌&&◌, ◌==◌, nat_lt, List, [], length, slice_index_or, Option, None}
 use Rattle.link_base.specs.Bytes.{first_below}
 use Rattle.section_group.specs.declared.piece.Piece.{Piece}
 use Rattle.section_group.specs.SectionOrder.{no_piece}
 use Rattle.module_view.specs.Module.{ModuleView}
+use Rattle.link_pieces.specs.Commons.{FIRST_COMMON}
 use Rattle.link_pieces.specs.Pieces.{link_pieces}
 
-abbrev pub is_piece_of : ℕ → ℕ → Piece → Bool
-is_piece_of position section piece = (piece.«module» == position) && (piece.number == section)
+-- ---- a piece, by its number in its module
 
-abbrev pub holds_section : List Piece → ℕ → ℕ → ℕ → Bool
-holds_section pieces position section k = is_piece_of position section (slice_index_or pieces k no_piece)
+abbrev pub is_numbered : ℕ → ℕ → Piece → Bool
+is_numbered position number piece = (piece.«module» == position) && (piece.number == number)
+
+-- it is a section, whose numbers are below those of commons
+abbrev pub is_section : Piece → Bool
+is_section piece = nat_lt piece.number FIRST_COMMON
+
+abbrev pub is_section_of : ℕ → ℕ → Piece → Bool
+is_section_of position section piece = is_section piece && is_numbered position section piece
+
+abbrev pub is_common_of : ℕ → ℕ → Piece → Bool
+is_common_of position symbol piece = is_numbered position (FIRST_COMMON + symbol) piece
+
+abbrev pub holds : (Piece → Bool) → List Piece → ℕ → Bool
+holds test pieces k = test (slice_index_or pieces k no_piece)
+
+-- ---- among the pieces of a link
 
 -- the piece that is a section of the module at a position, where that comes into the image
 abbrev pub piece_index : List ModuleView → ℕ → ℕ → Option ℕ
 piece_index modules position section =
-    first_below (length (link_pieces modules)) (holds_section (link_pieces modules) position section)
+    first_below (length (link_pieces modules)) (holds (is_section_of position section) (link_pieces modules))
 
--- what rows by modules and by section numbers say of a section: nothing beyond them
+-- the piece that is a common of the module at a position, by the record of its symbol, where some name means it
+abbrev pub common_index : List ModuleView → ℕ → ℕ → Option ℕ
+common_index modules position symbol =
+    first_below (length (link_pieces modules)) (holds (is_common_of position symbol) (link_pieces modules))
+
+-- ---- an index
+
+-- what rows by modules and by numbers say: nothing beyond them
 abbrev pub indexed : List (List (Option ℕ)) → ℕ → ℕ → Option ℕ
-indexed rows position section = slice_index_or (slice_index_or rows position []) section None
+indexed rows position number = slice_index_or (slice_index_or rows position []) number None
 
--- the rows tell the piece of each section
-abbrev pub IsPieceIndex : List ModuleView → List (List (Option ℕ)) → Type 0
-IsPieceIndex modules rows = (position section : ℕ) → indexed rows position section ≡ piece_index modules position section
+-- rows for sections and rows for commons
+pub record IndexView : Type 0 where
+  pub sections : List (List (Option ℕ))
+  pub commons : List (List (Option ℕ))
+
+-- they tell the piece of each
+pub record IsPieceIndex (modules : List ModuleView) (index : IndexView) : Type 0 where
+  pub sections : (position section : ℕ) → indexed index.sections position section ≡ piece_index modules position section
+  pub commons : (position symbol : ℕ) → indexed index.commons position symbol ≡ common_index modules position symbol

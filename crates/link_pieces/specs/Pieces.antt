@@ -1,15 +1,18 @@
--- The pieces of a link: the sections of its modules that come into the image, in the order of the modules and of their
--- section headers, and what they hold. Own.
-use Rattle.std.specs.Prelude.{◌≡◌, ◌<◌, ◌≤◌, ℕ, Bool, true, false, not, ◌==◌, List, [], length, map, filter, None, unwrap_or}
+-- The pieces of a link: the sections of its modules that come into the image and the commons that names mean, in the order
+-- of the modules, and what they hold. Own.
+use Rattle.std.specs.Prelude.{◌≡◌, ◌<◌, ◌≤◌, ◌⊎◌, ℕ, Bool, true, false, not, ◌==◌, ◌&&◌, List, [], ◌++◌, length, map, filter, None, unwrap_or}
 use Rattle.std.specs.List.{range_with_len, flat_map, list_any}
 use Rattle.coff_records.specs.ObjectFile.{section_total, section_name_of, raw_size_of, flags_of, alignment_of, is_uninitialised, body_of}
 use Rattle.section_group.specs.declared.piece.Piece.{Piece}
 use Rattle.module_view.specs.Module.{ModuleView, module_at}
 use Rattle.module_view.specs.PlacedSection.{is_placed}
 use Rattle.module_view.specs.SymbolLists.{definitions_of}
+use Rattle.module_view.specs.declared.definition.Common.{Common}
 use Rattle.module_view.specs.declared.definition.Definition.{Definition}
 use Rattle.module_view.specs.declared.definition.Place.{Place}
 use Rattle.module_view.specs.declared.definition.Place.TheVariants as place
+use Rattle.link_pieces.specs.NameMeaning.{takes_part}
+use Rattle.link_pieces.specs.Commons.{meant_commons, common_piece, IsCommonOf}
 
 -- ---- a section
 
@@ -46,25 +49,44 @@ section_contents bytes section = unwrap_or (body_of bytes section) []
 
 -- ---- all that come into the image
 
-abbrev pub placed_sections : List ℕ → List ℕ
-placed_sections bytes = filter (is_placed bytes) (range_with_len 1 (section_total bytes))
+-- a section that takes part in the link
+abbrev pub is_linked : List ModuleView → ℕ → List ℕ → ℕ → Bool
+is_linked modules position bytes section = takes_part modules position section && is_placed bytes section
 
-abbrev pub pieces_in : ℕ → List ℕ → List Piece
-pieces_in position bytes = map (piece_of position bytes) (placed_sections bytes)
+abbrev pub linked_sections : List ModuleView → ℕ → List ℕ → List ℕ
+linked_sections modules position bytes = filter (is_linked modules position bytes) (range_with_len 1 (section_total bytes))
 
-abbrev pub contents_in : List ℕ → List (List ℕ)
-contents_in bytes = map (section_contents bytes) (placed_sections bytes)
+-- its sections in the order of their headers, then its commons in the order of their symbols
+abbrev pub pieces_in : List ModuleView → ℕ → List ℕ → List Piece
+pieces_in modules position bytes =
+    map (piece_of position bytes) (linked_sections modules position bytes)
+    ++ map (common_piece position) (meant_commons modules position bytes)
+
+-- a common holds nothing
+abbrev pub no_contents : Common → List ℕ
+no_contents common = []
+
+abbrev pub contents_in : List ModuleView → ℕ → List ℕ → List (List ℕ)
+contents_in modules position bytes =
+    map (section_contents bytes) (linked_sections modules position bytes)
+    ++ map no_contents (meant_commons modules position bytes)
 
 abbrev pub link_pieces : List ModuleView → List Piece
-link_pieces modules = flat_map (λ k. pieces_in k (module_at modules k).bytes) (range_with_len 0 (length modules))
+link_pieces modules = flat_map (λ k. pieces_in modules k (module_at modules k).bytes) (range_with_len 0 (length modules))
 
 abbrev pub link_contents : List ModuleView → List (List ℕ)
-link_contents modules = flat_map (λ k. contents_in (module_at modules k).bytes) (range_with_len 0 (length modules))
+link_contents modules = flat_map (λ k. contents_in modules k (module_at modules k).bytes) (range_with_len 0 (length modules))
 
--- a piece of the link is a section of its module, and comes into the image
+-- ---- what a piece is
+
+-- a section of its module that comes into the image
 pub record IsSectionOf (modules : List ModuleView) (piece : Piece) : Type 0 where
-  pub within : piece.«module» < length modules
   pub first : 1 ≤ piece.number
   pub last : piece.number ≤ section_total (module_at modules piece.«module»).bytes
-  pub placed : is_placed (module_at modules piece.«module»).bytes piece.number ≡ true
+  pub linked : is_linked modules piece.«module» (module_at modules piece.«module»).bytes piece.number ≡ true
   pub is : piece ≡ piece_of piece.«module» (module_at modules piece.«module»).bytes piece.number
+
+-- or a common of its module
+pub record IsPieceOf (modules : List ModuleView) (piece : Piece) : Type 0 where
+  pub within : piece.«module» < length modules
+  pub is : IsSectionOf modules piece ⊎ IsCommonOf piece.«module» (module_at modules piece.«module»).bytes piece

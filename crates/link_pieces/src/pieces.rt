@@ -3,38 +3,57 @@
 ghost use Rattle.std.specs.Prelude.{◌≡◌, ◌≤◌, ◌<◌, ◌+◌, ◌++◌, ◌∷◌, ◌^◌, [], ℕ, false, None, length, slice_index_or, is_some, unwrap_or, map, All, IfOk, OnOk, if◌then◌else◌};
 ghost use Rattle.std.specs.Option.{option_copied};
 ghost use Rattle.link_base.specs.Limits as limit;
-ghost use Rattle.coff_records.specs.ObjectFile.{section_total};
+ghost use Rattle.coff_records.specs.ObjectFile.{section_total, record_total};
 ghost use Rattle.section_group.specs.BarePieces.{bare};
 ghost use Rattle.address_layout.specs.Layout.{IsAlignment};
 ghost use Rattle.section_group.specs.PieceContents.{piece_contents, HasItsBytes};
 ghost use Rattle.module_view.specs.Opening.{IsOpened};
 ghost use Rattle.module_view.specs.PlacedSection.{is_placed};
-ghost use Rattle.link_pieces.specs.Pieces.{is_named, piece_of, section_contents, pieces_in, contents_in, link_pieces, link_contents};
+ghost use Rattle.link_pieces.specs.Commons.{is_meant_common, meant_commons, common_piece, HasFewSections, FIRST_COMMON};
+ghost use Rattle.link_pieces.specs.Pieces.{is_named, is_linked, piece_of, section_contents, no_contents, linked_sections, pieces_in, contents_in, link_pieces, link_contents};
 
+use crate::commons::{FIRST_COMMON, common_piece, is_meant};
 use crate::named::named_sections;
+use crate::names::LinkNames;
 use coff_object::{Object, Section};
 use link_base::Memory;
-use module_view::{Module, comes_in};
+use module_view::{Common, Module, comes_in};
 use section_group::Piece;
 use std::alloc::Global;
 
 /// The number of pieces stays below this one.
 const PIECE_LIMIT: usize = 1 << 31;
 
-/// The sections of the modules that come into the image, in the order of the modules and of their section headers. Too
-/// many of them are want of memory.
-pub fn pieces_of<'a>(alloc: Global, modules: &[Module<'a>]) -> Result<Vec<Piece<'a>>, Memory>
-    requires { length modules.now ≤ limit.MODULE_LIMIT }
+/// The number of symbol records of a module with pieces stays below this one.
+const RECORD_LIMIT: u32 = 1 << 31;
+
+/// The sections of the modules that come into the image, and the commons that names mean: module by module, and in each the
+/// sections in the order of their headers before the commons in the order of their symbols. Too many of them are want of
+/// memory, and so are too many sections or symbol records of one module.
+pub fn pieces_of<'a>(
+    alloc: Global,
+    names: &LinkNames<'a>,
+    modules: &[Module<'a>],
+) -> Result<Vec<Piece<'a>>, Memory>
+    requires same { names.now ≡ modules.now }
+    requires few { length modules.now ≤ limit.MODULE_LIMIT }
     ensures pieces { IfOk result (λ pieces. map bare pieces.items ≡ link_pieces modules.now) }
     ensures contents { IfOk result (λ pieces. map piece_contents pieces.items ≡ link_contents modules.now) }
     ensures aligned { IfOk result (λ pieces. All (λ piece. IsAlignment piece.align) pieces.items) }
     ensures bodies { IfOk result (λ pieces. (k : ℕ) → k < length pieces.items → HasItsBytes pieces.items k) }
     ensures count { IfOk result (λ pieces. length pieces.items < 2 ^ 31) }
     ensures opened { OnOk result (All IsOpened modules.now) }
+    ensures few_sections { OnOk result (All HasFewSections modules.now) }
 {
     let mut pieces = Vec::new(alloc);
     for position in 0..modules.len() {
-        push_module(alloc, &mut pieces, position as u32, &modules[position])?;
+        push_module(
+            alloc,
+            &mut pieces,
+            names,
+            position as u32,
+            &modules[position],
+        )?;
     }
     if pieces.len() >= PIECE_LIMIT {
         return Err(Memory);
@@ -46,47 +65,63 @@ pub fn pieces_of<'a>(alloc: Global, modules: &[Module<'a>]) -> Result<Vec<Piece<
 fn push_module<'a>(
     alloc: Global,
     pieces: &mut Vec<Piece<'a>>,
+    names: &LinkNames<'a>,
     position: u32,
     module: &Module<'a>,
 ) -> Result<(), Memory>
     ensures pieces { OnOk result (map bare pieces.new.items
-        ≡ map bare pieces.old.items ++ pieces_in position «module».now.bytes) }
+        ≡ map bare pieces.old.items ++ pieces_in names.now position «module».now.bytes) }
     ensures contents { OnOk result (map piece_contents pieces.new.items
-        ≡ map piece_contents pieces.old.items ++ contents_in «module».now.bytes) }
+        ≡ map piece_contents pieces.old.items ++ contents_in names.now position «module».now.bytes) }
     ensures opened { OnOk result (IsOpened «module».now) }
+    ensures few_sections { OnOk result (HasFewSections «module».now) }
 {
     let Some(object) = module.object() else {
         return Ok(());
     };
     let count = object.section_count();
+    if count >= FIRST_COMMON || object.record_count() >= RECORD_LIMIT {
+        return Err(Memory);
+    }
     pieces.reserve(count as usize)?;
     let named = named_sections(alloc, module, count)?;
-    push_sections(pieces, position, object, &named)
+    push_sections(pieces, names, position, object, &named)?;
+    push_commons(pieces, names, position, module)
 }
 
 /// Appends the pieces of an object's sections, with what is known of each by its number.
 fn push_sections<'a>(
     pieces: &mut Vec<Piece<'a>>,
+    names: &LinkNames<'a>,
     position: u32,
     object: &Object<'a>,
     named: &[bool],
 ) -> Result<(), Memory>
     requires count { length named.now ≡ section_total object.now + 1 }
     requires named { (section : ℕ) → slice_index_or named.now section false ≡ is_named object.now section }
-    ensures pieces { OnOk result (map bare pieces.new.items ≡ map bare pieces.old.items ++ pieces_in position object.now) }
+    ensures pieces { OnOk result (map bare pieces.new.items
+        ≡ map bare pieces.old.items ++ map (piece_of position object.now) (linked_sections names.now position object.now)) }
     ensures contents { OnOk result (map piece_contents pieces.new.items
-        ≡ map piece_contents pieces.old.items ++ contents_in object.now) }
+        ≡ map piece_contents pieces.old.items ++ map (section_contents object.now) (linked_sections names.now position object.now)) }
 {
     for index in 0..object.section_count() {
         let number = index + 1;
-        push_section(pieces, position, object, number, named[number as usize])?;
+        push_section(
+            pieces,
+            names,
+            position,
+            object,
+            number,
+            named[number as usize],
+        )?;
     }
     Ok(())
 }
 
-/// Appends the piece of a section, where it comes into the image.
+/// Appends the piece of a section, where it takes part in the link and comes into the image.
 fn push_section<'a>(
     pieces: &mut Vec<Piece<'a>>,
+    names: &LinkNames<'a>,
     position: u32,
     object: &Object<'a>,
     number: u32,
@@ -96,13 +131,54 @@ fn push_section<'a>(
     requires last { number ≤ section_total object.now }
     requires named { named ≡ is_named object.now number }
     ensures pieces { OnOk result (map bare pieces.new.items ≡ map bare pieces.old.items
-        ++ (if is_placed object.now number then piece_of position object.now number ∷ [] else [])) }
+        ++ (if is_linked names.now position object.now number then piece_of position object.now number ∷ [] else [])) }
     ensures contents { OnOk result (map piece_contents pieces.new.items ≡ map piece_contents pieces.old.items
-        ++ (if is_placed object.now number then section_contents object.now number ∷ [] else [])) }
+        ++ (if is_linked names.now position object.now number then section_contents object.now number ∷ [] else [])) }
 {
+    if !names.takes_part(position, number) {
+        return Ok(());
+    }
     let section = object.section(number);
     if comes_in(section.flags, &section.name) {
         pieces.push(piece_of(position, number, section, named))?;
+    }
+    Ok(())
+}
+
+/// Appends the pieces of the commons of the module at a position that names mean.
+fn push_commons<'a>(
+    pieces: &mut Vec<Piece<'a>>,
+    names: &LinkNames<'a>,
+    position: u32,
+    module: &Module<'a>,
+) -> Result<(), Memory>
+    requires { record_total «module».now.bytes < 2 ^ 31 }
+    ensures pieces { OnOk result (map bare pieces.new.items
+        ≡ map bare pieces.old.items ++ map (common_piece position) (meant_commons names.now position «module».now.bytes)) }
+    ensures contents { OnOk result (map piece_contents pieces.new.items
+        ≡ map piece_contents pieces.old.items ++ map no_contents (meant_commons names.now position «module».now.bytes)) }
+{
+    for common in module.commons() {
+        push_common(pieces, names, position, common)?;
+    }
+    Ok(())
+}
+
+/// Appends the piece of a common, where some name means it.
+fn push_common<'a>(
+    pieces: &mut Vec<Piece<'a>>,
+    names: &LinkNames<'a>,
+    position: u32,
+    common: &Common<'a>,
+) -> Result<(), Memory>
+    requires { common.now.symbol < 2 ^ 31 }
+    ensures pieces { OnOk result (map bare pieces.new.items ≡ map bare pieces.old.items
+        ++ (if is_meant_common names.now position common.now then common_piece position common.now ∷ [] else [])) }
+    ensures contents { OnOk result (map piece_contents pieces.new.items ≡ map piece_contents pieces.old.items
+        ++ (if is_meant_common names.now position common.now then no_contents common.now ∷ [] else [])) }
+{
+    if is_meant(names, position, common) {
+        pieces.push(common_piece(position, common))?;
     }
     Ok(())
 }

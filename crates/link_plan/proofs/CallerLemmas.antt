@@ -22,11 +22,12 @@ use Rattle.module_view.specs.SymbolLists.{is_absolute}
 use Rattle.symbol_table.specs.declared.meaning.Meaning.{Meaning}
 use Rattle.symbol_table.specs.declared.meaning.Meaning.TheVariants as meaning
 use Rattle.symbol_table.specs.declared.meaning.NoMeaning.{NoMeaning}
-use Rattle.link_plan.specs.NameMeaning.{name_meaning, takes_part}
+use Rattle.link_pieces.specs.NameMeaning.{name_meaning, takes_part}
 use Rattle.link_pieces.specs.Pieces.{link_pieces}
-use Rattle.link_pieces.specs.PieceIndex.{piece_index, holds_section}
-use Rattle.link_plan.specs.Targets.{target_in, section_target, own_target, meant_target, has_meaning, local_target, symbol_target, is_record}
-use Rattle.link_plan.specs.Fixes.{fix_of, fixes_from, piece_at, piece_fixes, piece_in, meant_in, is_that, means_piece, mean_piece, is_meant, planned_piece, plan_pieces}
+use Rattle.link_pieces.specs.PieceIndex.{piece_index, common_index, is_section, is_section_of, is_common_of, holds}
+use Rattle.link_words.specs.Outcome.{LinkOptions}
+use Rattle.link_plan.specs.Targets.{target_in, section_target, common_target, own_target, meant_target, has_meaning, local_target, symbol_target, is_record}
+use Rattle.link_plan.specs.Fixes.{fix_of, fixes_from, piece_at, piece_fixes, piece_in, meant_in, is_that, means_piece, mean_piece, is_meant, is_entry, section_fixes, planned_piece, plan_pieces}
 
 kept_one : {A : Type 0} (P : A → Type 0) (b : Bool) (x : A) (rest : List A) → (b ≡ true → P x) → All P rest → All P (cond b (x ∷ rest) rest)
 kept_one P true x rest here later = All-cons P x rest (here refl) later
@@ -47,11 +48,15 @@ numbered_from modules position bytes index (r ∷ rs) (suc k) lt =
     let more = numbered_from modules position bytes (index + 1) rs k (omega arith) in omega (arith, more)
 
 pub fixes_numbered : (modules : List ModuleView) (k : ℕ) → AreNumbered (piece_fixes modules k)
-fixes_numbered modules k i lt =
-    let piece = piece_at modules k in
-    let bytes = (module_at modules piece.«module»).bytes in
-    let number = numbered_from modules piece.«module» bytes 0 (relocations_of bytes piece.number) i lt in
-    omega (arith, number)
+fixes_numbered modules k = by_kind (is_section (piece_at modules k))
+  where
+    by_kind : (section : Bool) → AreNumbered (cond section (section_fixes modules (piece_at modules k).«module» (module_at modules (piece_at modules k).«module»).bytes (piece_at modules k).number) [])
+    by_kind false i lt = absurd (omega arith)
+    by_kind true i lt =
+        let at = piece_at modules k in
+        let held = (module_at modules at.«module»).bytes in
+        let number = numbered_from modules at.«module» held 0 (relocations_of held at.number) i lt in
+        omega (arith, number)
 
 -- ---- targets
 
@@ -68,14 +73,22 @@ OkWithin modules (Err fault) = Unit {0}
 index_within : (modules : List ModuleView) (value : ℕ) (found : Option ℕ) (position section : ℕ) → piece_index modules position section ≡ found → OkWithin modules (target_in value found)
 index_within modules value None position section e = tt
 index_within modules value (Some piece) position section e =
-    (first_below-some (length (link_pieces modules)) piece (holds_section (link_pieces modules) position section) e).0
+    (first_below-some (length (link_pieces modules)) piece (holds (is_section_of position section) (link_pieces modules)) e).0
 
 section_within : (modules : List ModuleView) (position section value : ℕ) → OkWithin modules (section_target modules position section value)
 section_within modules position section value = index_within modules value (piece_index modules position section) position section refl
 
+common_found : (modules : List ModuleView) (found : Option ℕ) (position symbol : ℕ) → common_index modules position symbol ≡ found → OkWithin modules (target_in 0 found)
+common_found modules None position symbol e = tt
+common_found modules (Some piece) position symbol e =
+    (first_below-some (length (link_pieces modules)) piece (holds (is_common_of position symbol) (link_pieces modules)) e).0
+
+common_within : (modules : List ModuleView) (position symbol : ℕ) → OkWithin modules (common_target modules position symbol)
+common_within modules position symbol = common_found modules (common_index modules position symbol) position symbol refl
+
 name_within : (modules : List ModuleView) (r : Result Meaning NoMeaning) → OkWithin modules (meant_target modules r)
 name_within modules (Ok (meaning.Section position section value)) = section_within modules position section value
-name_within modules (Ok (meaning.Common position symbol)) = tt
+name_within modules (Ok (meaning.Common position symbol)) = common_within modules position symbol
 name_within modules (Ok (meaning.Slot position)) = tt
 name_within modules (Ok (meaning.Thunk position)) = tt
 name_within modules (Ok (meaning.LocalSlot name)) = tt
@@ -110,7 +123,8 @@ record_within modules position (Some entry) = by_result (symbol_target modules p
 
 -- a target in a piece: the piece is there, and stands in a section
 abbrev pub Stands : List ModuleView → Target → Type 0
-Stands modules (target.Piece piece value) = (piece < length (link_pieces modules)) × ((planned_piece modules piece).named ≡ true)
+Stands modules (target.Piece piece value) =
+    (piece < length (link_pieces modules)) × ((options : LinkOptions) → (planned_piece options modules piece).named ≡ true)
 Stands modules (target.Absolute value) = Unit {0}
 Stands modules target.ImageBase = Unit {0}
 
@@ -135,7 +149,7 @@ field_stands modules k i d within lt some = by_target (target_of (get_or (piece_
         let count = length-range_with_len 0 (length (link_pieces modules)) in
         let at : get_or (range_with_len 0 (length (link_pieces modules))) k 0 ≡ k = get_or-range_with_len 0 (length (link_pieces modules)) k 0 within ∙ zero_plus k in
         let meant : is_meant modules piece ≡ true = list_any_at (mean_piece modules piece) (range_with_len 0 (length (link_pieces modules))) k 0 (omega (arith, count)) (ap (mean_piece modules piece) at ∙ of_piece) in
-        (inside, ap (λ (b : Bool). (piece_at modules piece).named || b) meant ∙ or_right (piece_at modules piece).named true refl)
+        (inside, λ options. ap (λ (b : Bool). (piece_at modules piece).named || (b || is_entry options modules piece)) meant ∙ or_right (piece_at modules piece).named true refl)
       where
         zero_plus : (n : ℕ) → 0 + n ≡ n
         zero_plus n = omega arith
@@ -144,16 +158,21 @@ field_stands modules k i d within lt some = by_target (target_of (get_or (piece_
 
 pub fields_stand : (modules : List ModuleView) (k : ℕ) → k < length (link_pieces modules) → All (λ fix. Stands modules (target_of fix)) (filter has_field (piece_fixes modules k))
 fields_stand modules k within =
-    let piece = piece_at modules k in
-    let bytes = (module_at modules piece.«module»).bytes in
     kept_all (λ fix. Stands modules (target_of fix)) has_field (piece_fixes modules k) (λ i d lt some.
-    field_stands modules k i d within lt some (all_within modules piece.«module» bytes 0 (relocations_of bytes piece.number) i d lt))
+    field_stands modules k i d within lt some (of_piece (is_section (piece_at modules k)) i d lt))
+  where
+    of_piece : (section : Bool) → All (λ fix. IsWithin modules (target_of fix)) (cond section (section_fixes modules (piece_at modules k).«module» (module_at modules (piece_at modules k).«module»).bytes (piece_at modules k).number) [])
+    of_piece false = All-nil (λ fix. IsWithin modules (target_of fix))
+    of_piece true =
+        let piece = piece_at modules k in
+        let bytes = (module_at modules piece.«module»).bytes in
+        all_within modules piece.«module» bytes 0 (relocations_of bytes piece.number)
 
 -- a piece of a plan
-pub planned_at : (modules : List ModuleView) (k : ℕ) → k < length (link_pieces modules) → get_or (plan_pieces modules) k no_piece ≡ planned_piece modules k
+pub planned_at : (options : LinkOptions) (modules : List ModuleView) (k : ℕ) → k < length (link_pieces modules) → get_or (plan_pieces options modules) k no_piece ≡ planned_piece options modules k
 unfolding plan_pieces
-planned_at modules k lt = get_or-map-range_with_len (planned_piece modules) 0 (length (link_pieces modules)) k k no_piece lt (omega arith)
+planned_at options modules k lt = get_or-map-range_with_len (planned_piece options modules) 0 (length (link_pieces modules)) k k no_piece lt (omega arith)
 
-pub plan_count : (modules : List ModuleView) → length (plan_pieces modules) ≡ length (link_pieces modules)
+pub plan_count : (options : LinkOptions) (modules : List ModuleView) → length (plan_pieces options modules) ≡ length (link_pieces modules)
 unfolding plan_pieces
-plan_count modules = length-map-range_with_len (planned_piece modules) 0 (length (link_pieces modules))
+plan_count options modules = length-map-range_with_len (planned_piece options modules) 0 (length (link_pieces modules))

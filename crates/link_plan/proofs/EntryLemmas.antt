@@ -1,124 +1,104 @@
--- An entry that has a place stands in a piece that is named.
-use Rattle.std.proofs.Common.{◌≡◌, ◌⊎◌, ℕ, Bool, true, false, ◌||◌, cond, List, [], ◌∷◌, length, map, filter, Option, Some, None, Result, Ok, Err, inl, inr, refl, sym, ap, ◌∙◌, subst, true≢false, arith}
-use Rattle.std.specs.Prelude.{option_map}
-use Rattle.std.specs.Option.{option_or}
-use Rattle.std.specs.List.{Contains, list_any}
-use Rattle.std.specs.Option.{ForSome}
+-- An entry that has a place stands in a piece that is named, and inside it.
+use Rattle.std.proofs.Common.{◌≡◌, ℕ, ◌<◌, ◌≤◌, Bool, true, ◌||◌, List, length, map, get_or, Option, Some, None, Result, Ok, Err, inl, inr, refl, sym, ap, ◌∙◌, subst, eq-eqb, arith}
+use Rattle.std.specs.Prelude.{nat_le}
 use Rattle.std.specs.List.{All}
+use Rattle.std.specs.Option.{ForSome}
+use Rattle.std.proofs.lemmas.Bool.{and_parts, leb-true, or_right}
 use Rattle.std.proofs.lemmas.List.{length-map}
+use Rattle.std.proofs.lemmas.List.Elements.{All-contains}
+use Rattle.std.proofs.Math.ListN.{get_or-map}
+use Rattle.coff_aux.specs.Comdats.{is_section_number}
+use Rattle.coff_records.specs.ObjectFile.{section_total, raw_size_of}
 use Rattle.section_group.specs.declared.piece.Piece.{Piece}
 use Rattle.section_group.specs.BarePieces.{bare}
-use Rattle.coff_records.specs.ObjectFile.{SymbolEntry, symbol_entries}
-use Rattle.coff_aux.specs.AuxFaults.{aux_fault}
-use Rattle.link_base.specs.declared.kinds.form.Kind.TheVariants as form
-use Rattle.module_view.specs.declared.error.ModuleError.TheVariants as error
-use Rattle.module_view.specs.declared.reference.Weak.{Weak}
+use Rattle.section_group.specs.SectionOrder.{no_piece}
 use Rattle.module_view.specs.Module.{ModuleView, module_at}
-use Rattle.module_view.specs.SymbolLists.{is_weak, weak_of, weaks_of}
-use Rattle.module_view.specs.Unbuilt.{is_unbuilt_symbol, has_unbuilt_section, has_unbuilt_symbol}
-use Rattle.module_view.specs.Opening.{unsupported, form_error, object_error, has_linker_section, has_long_section_name, has_long_symbol_name, content_error, opening_error, IsOpened}
+use Rattle.module_view.specs.Opening.{IsOpened}
+use Rattle.module_view.specs.SymbolLists.{definitions_of}
+use Rattle.module_view.specs.declared.definition.Definition.{Definition}
+use Rattle.module_view.proofs.CallerLemmas.{IsPlaceIn, definitions_stand}
 use Rattle.symbol_table.specs.declared.meaning.Meaning.{Meaning}
 use Rattle.symbol_table.specs.declared.meaning.Meaning.TheVariants as meaning
 use Rattle.symbol_table.specs.declared.meaning.NoMeaning.{NoMeaning}
-use Rattle.link_plan.specs.NameMeaning.{name_meaning}
-use Rattle.symbol_table.proofs.CallerLemmas.{DefinesPlace, SaysPlace, meaning_stands, module_opens}
+use Rattle.symbol_table.proofs.CallerLemmas.{MeansPlace, meaning_stands, module_opens}
 use Rattle.comdat.specs.Selection.{chosen_sections}
+use Rattle.link_pieces.specs.NameMeaning.{name_meaning}
 use Rattle.link_pieces.specs.Pieces.{link_pieces}
-use Rattle.link_pieces.specs.PieceIndex.{piece_index}
-use Rattle.link_pieces.proofs.CallerLemmas.{bare_at, definition_held}
+use Rattle.link_pieces.specs.PieceIndex.{piece_index, common_index}
+use Rattle.link_pieces.proofs.CallerLemmas.{found_piece, found_common}
+use Rattle.link_words.specs.Outcome.{LinkOptions}
 use Rattle.link_plan.specs.declared.entry.EntryPlace.{EntryPlace}
-use Rattle.link_plan.specs.Entry.{meant, place_in, meant_place, entry_place}
+use Rattle.link_plan.specs.Entry.{meant, place_in, meant_place, entry_place, piece_of_place}
+use Rattle.link_plan.specs.Fixes.{piece_at, is_meant, is_entry, is_that, planned_piece, plan_pieces}
 use Rattle.link_plan.specs.Plan.{StandsNamed}
+use Rattle.link_plan.proofs.CallerLemmas.{planned_at, plan_count}
 
--- ---- a module that opens has no weak external yet
+-- ---- a place that a name means is inside its section
 
-none_kept : {X : Type 0} (test : X → Bool) (xs : List X) → list_any test xs ≡ false → filter test xs ≡ []
-none_kept test [] none = refl
-none_kept {X} test (x ∷ xs) none = go (test x) none (none_kept test xs)
-  where
-    go : (b : Bool) → (b || list_any test xs) ≡ false → (list_any test xs ≡ false → filter test xs ≡ []) → cond b (x ∷ filter test xs) (filter test xs) ≡ []
-    go true none rest = absurd (true≢false none)
-    go false none rest = rest none
+value_inside : (modules : List ModuleView) (chosen : List (List Bool)) (position section value : ℕ) → All IsOpened modules → MeansPlace modules chosen position section value → value ≤ raw_size_of (module_at modules position).bytes section
+value_inside modules chosen position section value opened means =
+    let bytes = (module_at modules position).bytes in
+    let opens = module_opens modules position opened means.within in
+    elim means.stands [
+      | inl defines ↦
+          let stands = subst (IsPlaceIn bytes) defines.stands (All-contains (λ (d : Definition). IsPlaceIn bytes d.place) (definitions_of bytes) defines.definition (definitions_stand bytes opens) defines.own) in
+          stands.value
+      | inr says ↦
+          let parts = and_parts (is_section_number (section_total bytes) section) (nat_le value (raw_size_of bytes section)) says.inside in
+          leb-true value (raw_size_of bytes section) parts.1
+    ]
 
-weaker_none : {X : Type 0} (weak strong : X → Bool) (xs : List X) → ((x : X) → weak x ≡ true → strong x ≡ true) → list_any strong xs ≡ false → list_any weak xs ≡ false
-weaker_none weak strong [] each none = refl
-weaker_none {X} weak strong (x ∷ xs) each none = go (weak x) refl (strong x) refl none (weaker_none weak strong xs each)
-  where
-    go : (a : Bool) → weak x ≡ a → (b : Bool) → strong x ≡ b → (b || list_any strong xs) ≡ false → (list_any strong xs ≡ false → list_any weak xs ≡ false) → (a || list_any weak xs) ≡ false
-    go a e true f none rest = absurd (true≢false none)
-    go true e false f none rest = absurd (true≢false (sym (each x e) ∙ f))
-    go false e false f none rest = rest none
+-- ---- and inside the piece of the link
 
-later_none : {A : Type 0} (first later : Option A) → option_or first later ≡ None → later ≡ None
-later_none None later none = none
-later_none (Some x) later none = absurd cc
+record IsInside (modules : List ModuleView) (place : EntryPlace) : Type 0 where
+  within : place.piece < length (link_pieces modules)
+  inside : place.value ≤ (piece_at modules place.piece).size
 
-first_none : {A : Type 0} (first later : Option A) → option_or first later ≡ None → first ≡ None
-first_none None later none = refl
-first_none (Some x) later none = absurd cc
+section_inside : (modules : List ModuleView) (position section value piece : ℕ) → value ≤ raw_size_of (module_at modules position).bytes section → piece_index modules position section ≡ Some piece → IsInside modules (record { piece = piece; value = value })
+section_inside modules position section value piece inside found =
+    let stands = found_piece modules position section piece found in
+    let size = ap (λ (p : Piece). p.size) stands.is in
+    record { within = stands.within; inside = omega (arith, inside, size) }
 
-not_shown : (a b : Bool) → unsupported (a || b) form.NotBuilt ≡ None → b ≡ false
-not_shown true b none = absurd cc
-not_shown false true none = absurd cc
-not_shown false false none = refl
+common_inside : (modules : List ModuleView) (position symbol piece : ℕ) → common_index modules position symbol ≡ Some piece → IsInside modules (record { piece = piece; value = 0 })
+common_inside modules position symbol piece found =
+    record { within = found_common modules position symbol piece found; inside = omega arith }
 
-built : (bytes : List ℕ) → opening_error bytes ≡ None → has_unbuilt_symbol bytes ≡ false
-unfolding opening_error content_error
-built bytes opened =
-    let last = unsupported (has_unbuilt_section bytes || has_unbuilt_symbol bytes) form.NotBuilt in
-    let content : content_error bytes ≡ None = first_none (content_error bytes) None (later_none (object_error bytes) (option_or (content_error bytes) None) (later_none (form_error bytes) (option_or (object_error bytes) (option_or (content_error bytes) None)) opened)) in
-    not_shown (has_unbuilt_section bytes) (has_unbuilt_symbol bytes)
-    (first_none last None (later_none (option_map error.Object (aux_fault bytes)) (option_or last None)
-    (later_none (unsupported (has_long_section_name bytes || has_long_symbol_name bytes) form.LongName) (option_or (option_map error.Object (aux_fault bytes)) (option_or last None))
-    (later_none (unsupported (has_linker_section bytes) form.LinkerSection) (option_or (unsupported (has_long_section_name bytes || has_long_symbol_name bytes) form.LongName) (option_or (option_map error.Object (aux_fault bytes)) (option_or last None))) content))))
-
-no_weaks : (bytes : List ℕ) → opening_error bytes ≡ None → weaks_of bytes ≡ []
-unfolding weaks_of is_unbuilt_symbol
-no_weaks bytes opened =
-    ap (map (weak_of bytes)) (none_kept (λ (e : SymbolEntry). is_weak e.1) (symbol_entries bytes)
-    (weaker_none (λ (e : SymbolEntry). is_weak e.1) (λ (e : SymbolEntry). is_unbuilt_symbol e.1) (symbol_entries bytes) (λ e weak. rw weak refl) (built bytes opened)))
-
-none_there : (weaks : List Weak) (weak : Weak) → weaks ≡ [] → Contains weaks weak → ⊥
-none_there weaks weak none there = absurd (omega (arith, there.1, ap length none))
-
-defined : (modules : List ModuleView) (position section value : ℕ) → opening_error (module_at modules position).bytes ≡ None → DefinesPlace modules position section value ⊎ SaysPlace modules position section value → DefinesPlace modules position section value
-defined modules position section value opened (inl defines) = defines
-defined modules position section value opened (inr says) =
-    absurd (none_there (weaks_of (module_at modules position).bytes) says.weak (no_weaks (module_at modules position).bytes opened) says.own)
-
--- ---- where an entry stands
-
--- the piece of a section that a name means is named, and holds the place
-held : (modules : List ModuleView) (pieces : List Piece) (name : List ℕ) (position section value piece : ℕ) → map bare pieces ≡ link_pieces modules → All IsOpened modules → name_meaning modules name ≡ Ok (meaning.Section position section value) → piece_index modules position section ≡ Some piece → StandsNamed pieces (record { piece = piece; value = value })
-held modules pieces name position section value piece are opened means found =
-    let place = meaning_stands modules (chosen_sections modules) name position section value means in
-    let opens = module_opens modules position opened place.within in
-    let defines = defined modules position section value opens place.stands in
-    let held = definition_held modules position defines.definition section value piece opens defines.own defines.stands found in
-    let same = bare_at modules pieces piece are in
-    let size = ap (λ (p : Piece). p.size) same in
-    record {
-      within = omega (arith, held.within, length-map pieces bare, ap (λ (ps : List Piece). length ps) are);
-      named = ap (λ (p : Piece). p.named) same ∙ held.named;
-      inside = omega (arith, held.inside, size);
-    }
-
-by_piece : (modules : List ModuleView) (pieces : List Piece) (name : List ℕ) (position section value : ℕ) (place : EntryPlace) (found : Option ℕ) → map bare pieces ≡ link_pieces modules → All IsOpened modules → name_meaning modules name ≡ Ok (meaning.Section position section value) → piece_index modules position section ≡ found → place_in value found ≡ Some place → StandsNamed pieces place
-by_piece modules pieces name position section value place None are opened means is e = absurd cc
-by_piece modules pieces name position section value place (Some piece) are opened means is e =
+by_piece : (modules : List ModuleView) (value : ℕ) (place : EntryPlace) (found : Option ℕ) → ((piece : ℕ) → found ≡ Some piece → IsInside modules (record { piece = piece; value = value })) → place_in value found ≡ Some place → IsInside modules place
+by_piece modules value place None each e = absurd cc
+by_piece modules value place (Some piece) each e =
     let same : record { piece = piece; value = value } ≡ place = cc in
-    subst (StandsNamed pieces) same (held modules pieces name position section value piece are opened means is)
+    subst (IsInside modules) same (each piece refl)
 
-by_meaning : (modules : List ModuleView) (pieces : List Piece) (name : List ℕ) (place : EntryPlace) (r : Result Meaning NoMeaning) → map bare pieces ≡ link_pieces modules → All IsOpened modules → name_meaning modules name ≡ r → meant_place modules (meant r) ≡ Some place → StandsNamed pieces place
-by_meaning modules pieces name place (Ok (meaning.Section position section value)) are opened is e = by_piece modules pieces name position section value place (piece_index modules position section) are opened is refl e
-by_meaning modules pieces name place (Ok (meaning.Common position symbol)) are opened is e = absurd cc
-by_meaning modules pieces name place (Ok (meaning.Slot position)) are opened is e = absurd cc
-by_meaning modules pieces name place (Ok (meaning.Thunk position)) are opened is e = absurd cc
-by_meaning modules pieces name place (Ok (meaning.LocalSlot pointed)) are opened is e = absurd cc
-by_meaning modules pieces name place (Ok (meaning.Absolute value)) are opened is e = absurd cc
-by_meaning modules pieces name place (Ok meaning.ImageBase) are opened is e = absurd cc
-by_meaning modules pieces name place (Err none) are opened is e = absurd cc
+by_meaning : (modules : List ModuleView) (name : List ℕ) (place : EntryPlace) (r : Result Meaning NoMeaning) → All IsOpened modules → name_meaning modules name ≡ r → meant_place modules (meant r) ≡ Some place → IsInside modules place
+by_meaning modules name place (Ok (meaning.Section position section value)) opened is e =
+    let inside = value_inside modules (chosen_sections modules) position section value opened (meaning_stands modules (chosen_sections modules) name position section value is) in
+    by_piece modules value place (piece_index modules position section) (λ piece found. section_inside modules position section value piece inside found) e
+by_meaning modules name place (Ok (meaning.Common position symbol)) opened is e =
+    by_piece modules 0 place (common_index modules position symbol) (λ piece found. common_inside modules position symbol piece found) e
+by_meaning modules name place (Ok (meaning.Slot position)) opened is e = absurd cc
+by_meaning modules name place (Ok (meaning.Thunk position)) opened is e = absurd cc
+by_meaning modules name place (Ok (meaning.LocalSlot pointed)) opened is e = absurd cc
+by_meaning modules name place (Ok (meaning.Absolute value)) opened is e = absurd cc
+by_meaning modules name place (Ok meaning.ImageBase) opened is e = absurd cc
+by_meaning modules name place (Err none) opened is e = absurd cc
 
-pub entry_stands : (modules : List ModuleView) (pieces : List Piece) (entry : Option (List ℕ)) → map bare pieces ≡ link_pieces modules → All IsOpened modules → ForSome (entry_place modules entry) (StandsNamed pieces)
-entry_stands modules pieces None are opened = λ place e. absurd cc
-entry_stands modules pieces (Some name) are opened = λ place e. by_meaning modules pieces name place (name_meaning modules name) are opened refl e
+entry_inside : (modules : List ModuleView) (entry : Option (List ℕ)) (place : EntryPlace) → All IsOpened modules → entry_place modules entry ≡ Some place → IsInside modules place
+entry_inside modules None place opened e = absurd cc
+entry_inside modules (Some name) place opened e = by_meaning modules name place (name_meaning modules name) opened refl e
+
+-- ---- its piece is named
+
+pub entry_stands : (options : LinkOptions) (modules : List ModuleView) (pieces : List Piece) → map bare pieces ≡ plan_pieces options modules → All IsOpened modules → ForSome (entry_place modules options.entry_name) (StandsNamed pieces)
+entry_stands options modules pieces are opened = λ place e.
+    let k = place.piece in
+    let stands = entry_inside modules options.entry_name place opened e in
+    let here : bare (get_or pieces k no_piece) ≡ planned_piece options modules k =
+    sym (get_or-map bare pieces k no_piece) ∙ ap (λ (ps : List Piece). get_or ps k no_piece) are ∙ planned_at options modules k stands.within in
+    let entry : is_entry options modules k ≡ true = ap (λ (p : Option EntryPlace). is_that k (piece_of_place p)) e ∙ eq-eqb k k refl in
+    let size = ap (λ (p : Piece). p.size) here in
+    record {
+      within = omega (arith, stands.within, length-map pieces bare, ap (λ (ps : List Piece). length ps) are, plan_count options modules);
+      named = ap (λ (p : Piece). p.named) here ∙ or_right (piece_at modules k).named (is_meant modules k || is_entry options modules k) (or_right (is_meant modules k) (is_entry options modules k) entry);
+      inside = omega (arith, stands.inside, size);
+    }

@@ -18,7 +18,7 @@ use Rattle.section_group.specs.PieceContents.{piece_contents}
 use Rattle.relocate.specs.declared.fix.Fix.{Fix}
 use Rattle.relocate.specs.Judged.{AreTheFields, ArePatchable}
 use Rattle.module_view.specs.Module.{ModuleView}
-use Rattle.link_pieces.specs.Pieces.{link_pieces, link_contents, IsSectionOf}
+use Rattle.link_pieces.specs.Pieces.{link_pieces, link_contents, IsPieceOf}
 use Rattle.link_pieces.proofs.CallerLemmas.{piece_is, bare_at}
 use Rattle.link_plan.specs.Fixes.{fixes_in, piece_at, piece_fixes, judged_fault, piece_fault, HaveFields, means_piece, mean_piece, is_meant_among}
 
@@ -35,7 +35,7 @@ none_judged piece contents large (fix ∷ fixes) none = absurd (omega (arith, no
 pub record IsRead (modules : List ModuleView) (k : ℕ) (piece : Piece) : Type 0 where
   pub within : k < length (link_pieces modules)
   pub is : bare piece ≡ piece_at modules k
-  pub whole : IsSectionOf modules (bare piece)
+  pub whole : IsPieceOf modules (bare piece)
   pub contents : piece_contents piece ≡ get_or (link_contents modules) k []
 
 pub read_piece : (modules : List ModuleView) (pieces : List Piece) (k : ℕ) (piece : Piece) → map bare pieces ≡ link_pieces modules → map piece_contents pieces ≡ link_contents modules → k < length pieces → piece ≡ get_or pieces k piece → IsRead modules k piece
@@ -46,7 +46,7 @@ read_piece modules pieces k piece are contents lt read =
     record {
       within = within;
       is = is;
-      whole = subst (IsSectionOf modules) (sym is) (piece_is modules k within);
+      whole = subst (IsPieceOf modules) (sym is) (piece_is modules k within);
       contents = ap piece_contents here ∙ sym (get_or-map piece_contents pieces k no_piece) ∙ ap (λ (cs : List (List ℕ)). get_or cs k []) contents;
     }
 

@@ -1,7 +1,6 @@
 -- Pieces that are named are what they were besides.
-use Rattle.std.proofs.Common.{◌≡◌, ℕ, ◌<◌, Bool, true, false, ◌||◌, List, [], length, map, get_or, refl, sym, ap, subst, ◌∙◌, arith}
+use Rattle.std.proofs.Common.{◌≡◌, ℕ, ◌<◌, Bool, true, false, List, [], length, map, get_or, sym, ap, subst, ◌∙◌, arith}
 use Rattle.std.specs.List.{All, range_with_len}
-use Rattle.std.proofs.lemmas.Bool.{false≢true}
 use Rattle.std.proofs.Math.ListN.{get_or-map}
 use Rattle.std.proofs.lemmas.List.{get_or_default, length-map, ext_get_or}
 use Rattle.std.proofs.lemmas.List.FromFn.{get_or-map-range_with_len, length-map-range_with_len}
@@ -9,9 +8,7 @@ use Rattle.address_layout.specs.Layout.{IsAlignment}
 use Rattle.section_group.specs.declared.piece.Piece.{Piece}
 use Rattle.section_group.specs.SectionOrder.{no_piece}
 use Rattle.section_group.specs.PieceContents.{piece_contents, HasItsBytes}
-use Rattle.link_plan.specs.declared.entry.EntryPlace.{EntryPlace}
 use Rattle.link_plan.specs.Fixes.{named_if}
-use Rattle.link_plan.specs.Plan.{StandsNamed}
 
 named_at : List Piece → List Bool → ℕ → Piece
 named_at old meant k = named_if (get_or meant k false) (get_or old k no_piece)
@@ -50,18 +47,3 @@ bodies_named old meant now is bodies k lt =
     let count = count_named old meant now is in
     let within : k < length old = omega arith in
     subst (λ (piece : Piece). piece.init ≡ true → length (piece_contents piece) ≡ piece.size) (sym (piece_named old meant now k is within)) (bodies k within)
-
-named_stays : (a b : Bool) → a ≡ true → (a || b) ≡ true
-named_stays true b e = refl
-named_stays false b e = absurd (false≢true e)
-
-pub stands_named : (old : List Piece) (meant : List Bool) (now : List Piece) (place : EntryPlace) → AreNamed old meant now → StandsNamed old place → StandsNamed now place
-stands_named old meant now place is stands =
-    let count = count_named old meant now is in
-    let here = piece_named old meant now place.piece is stands.within in
-    let size = ap (λ (p : Piece). p.size) here in
-    record {
-      within = omega (arith, stands.within, count);
-      named = ap (λ (p : Piece). p.named) here ∙ named_stays _ _ stands.named;
-      inside = omega (arith, stands.inside, size);
-    }

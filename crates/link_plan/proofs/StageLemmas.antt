@@ -10,7 +10,8 @@ use Rattle.link_words.specs.Outcome.{LinkOptions}
 use Rattle.link_plan.specs.References.{references_fault}
 use Rattle.link_plan.specs.Entry.{entry_meant, entry_meaning_fault, meant_fault}
 use Rattle.link_plan.specs.Fixes.{fixes_fault}
-use Rattle.link_plan.specs.PlanFaults.{conflict_fault, clash_fault, choice_fault, meaning_fault, fields_fault, plan_fault}
+use Rattle.link_pieces.specs.ChoiceFaults.{conflict_fault, clash_fault}
+use Rattle.link_plan.specs.PlanFaults.{choice_fault, meaning_fault, fields_fault, plan_fault}
 
 -- ---- the first stage that has a fault
 

@@ -1,16 +1,16 @@
 -- The entry of an image: what its name means, and where that stands (MSVC linker reference, "/ENTRY"; the refusals are
 -- own).
-use Rattle.std.specs.Prelude.{ℕ, List, Option, Some, None, Result, Ok, Err}
+use Rattle.std.specs.Prelude.{ℕ, List, Option, Some, None, option_map, Result, Ok, Err}
 use Rattle.link_base.specs.declared.fault.Fault.{Fault}
 use Rattle.link_base.specs.declared.fault.Fault.TheVariants as faults
 use Rattle.link_base.specs.declared.kinds.target.TargetFault.{TargetFault}
 use Rattle.link_base.specs.declared.kinds.target.TargetFault.TheVariants.{Unplaced, NoSection}
 use Rattle.module_view.specs.Module.{ModuleView}
 use Rattle.symbol_table.specs.declared.meaning.Meaning.{Meaning}
-use Rattle.symbol_table.specs.declared.meaning.Meaning.TheVariants.{Section, ImageBase}
+use Rattle.symbol_table.specs.declared.meaning.Meaning.TheVariants.{Section, Common, ImageBase}
 use Rattle.symbol_table.specs.declared.meaning.NoMeaning.{NoMeaning}
-use Rattle.link_plan.specs.NameMeaning.{name_meaning}
-use Rattle.link_pieces.specs.PieceIndex.{piece_index}
+use Rattle.link_pieces.specs.NameMeaning.{name_meaning}
+use Rattle.link_pieces.specs.PieceIndex.{piece_index, common_index}
 use Rattle.link_plan.specs.declared.entry.EntryPlace.{EntryPlace}
 use Rattle.link_plan.specs.References.{name_fault}
 
@@ -36,9 +36,10 @@ abbrev pub place_in : ℕ → Option ℕ → Option EntryPlace
 place_in value None = None
 place_in value (Some piece) = Some (record { piece = piece; value = value })
 
--- the place of a meaning: an offset in the piece of its section
+-- the place of a meaning: an offset in the piece of its section, or the start of that of a common
 abbrev pub meant_place : List ModuleView → Option Meaning → Option EntryPlace
 meant_place modules (Some (Section position section value)) = place_in value (piece_index modules position section)
+meant_place modules (Some (Common position symbol)) = place_in 0 (common_index modules position symbol)
 meant_place modules other = None
 
 -- before all modules: no section and no relocation is named
@@ -55,8 +56,12 @@ abbrev pub meant_fault : List ModuleView → Option Meaning → Option Fault
 meant_fault modules None = None
 meant_fault modules (Some ImageBase) = None
 meant_fault modules (Some (Section position section value)) = unplaced_fault (piece_index modules position section)
+meant_fault modules (Some (Common position symbol)) = unplaced_fault (common_index modules position symbol)
 meant_fault modules (Some other) = Some (bad_entry NoSection)
 
 -- where the entry stands
 abbrev pub entry_place : List ModuleView → Option (List ℕ) → Option EntryPlace
 entry_place modules entry = meant_place modules (entry_meant modules entry)
+
+abbrev pub piece_of_place : Option EntryPlace → Option ℕ
+piece_of_place place = option_map (λ stands. stands.piece) place

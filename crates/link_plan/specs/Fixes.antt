@@ -1,4 +1,5 @@
--- The relocations of the pieces of a link, each with what its symbol means, and the first that has a fault. Own.
+-- The relocations of the pieces of a link, each with what its symbol means, the first that has a fault, and the pieces that
+-- stand in a section without bytes. Own.
 use Rattle.std.specs.Prelude.{◌≡◌, ℕ, ◌+◌, ◌<◌, ◌==◌, ◌||◌, Bool, false, if◌then◌else◌, List, [], ◌∷◌, length, map, slice_index_or, Option, Some, None, option_and_then}
 use Rattle.std.specs.List.{range_with_len, list_any}
 use Rattle.link_base.specs.Refusals.{first_refusal_below}
@@ -19,7 +20,10 @@ use Rattle.relocate.specs.Judged.{AreTheFields, ArePatchable}
 use Rattle.relocate.specs.Value.{target_of}
 use Rattle.module_view.specs.Module.{ModuleView, module_at}
 use Rattle.link_pieces.specs.Pieces.{link_pieces, link_contents}
+use Rattle.link_pieces.specs.PieceIndex.{is_section}
+use Rattle.link_words.specs.Outcome.{LinkOptions}
 use Rattle.link_plan.specs.Targets.{record_target}
+use Rattle.link_plan.specs.Entry.{entry_place, piece_of_place}
 
 -- ---- the relocations of a section of the module at a position
 
@@ -45,8 +49,12 @@ section_fixes modules position bytes section = fixes_from modules position bytes
 abbrev pub piece_at : List ModuleView → ℕ → Piece
 piece_at modules k = slice_index_or (link_pieces modules) k no_piece
 
+-- a common has none
 abbrev pub fixes_in : List ModuleView → Piece → List Fix
-fixes_in modules piece = section_fixes modules piece.«module» (module_at modules piece.«module»).bytes piece.number
+fixes_in modules piece =
+    if is_section piece
+    then section_fixes modules piece.«module» (module_at modules piece.«module»).bytes piece.number
+    else []
 
 abbrev pub piece_fixes : List ModuleView → ℕ → List Fix
 piece_fixes modules k = fixes_in modules (piece_at modules k)
@@ -110,12 +118,18 @@ is_meant_among modules count k = list_any (mean_piece modules k) (range_with_len
 abbrev pub is_meant : List ModuleView → ℕ → Bool
 is_meant modules k = is_meant_among modules (length (link_pieces modules)) k
 
--- a piece of the link stands in a section even where it has no bytes, where a definition stands in it or a field means it
+-- ---- pieces that stand in a section even where they have no bytes
+
+-- the entry is there
+abbrev pub is_entry : LinkOptions → List ModuleView → ℕ → Bool
+is_entry options modules k = is_that k (piece_of_place (entry_place modules options.entry_name))
+
 abbrev pub named_if : Bool → Piece → Piece
 named_if meant piece = record piece { named = piece.named || meant }
 
-abbrev pub planned_piece : List ModuleView → ℕ → Piece
-planned_piece modules k = named_if (is_meant modules k) (piece_at modules k)
+-- a definition stands there, a field means it, or the entry is there
+abbrev pub planned_piece : LinkOptions → List ModuleView → ℕ → Piece
+planned_piece options modules k = named_if (is_meant modules k || is_entry options modules k) (piece_at modules k)
 
-unfoldable pub plan_pieces : List ModuleView → List Piece
-plan_pieces modules = map (planned_piece modules) (range_with_len 0 (length (link_pieces modules)))
+unfoldable pub plan_pieces : LinkOptions → List ModuleView → List Piece
+plan_pieces options modules = map (planned_piece options modules) (range_with_len 0 (length (link_pieces modules)))

@@ -1,4 +1,3 @@
-pub mod NameMeaning
 pub mod References
 pub mod Targets
 pub mod Fixes

@@ -28,7 +28,7 @@ pub record IsPlanOf (options : LinkOptions) (modules : List ModuleView) (plan : 
   pub opened : All IsOpened modules
   pub modules_are : plan.modules.items ≡ modules
   pub names_are : plan.names ≡ modules
-  pub pieces_are : map bare plan.pieces.items ≡ plan_pieces modules
+  pub pieces_are : map bare plan.pieces.items ≡ plan_pieces options modules
   pub contents_are : map piece_contents plan.pieces.items ≡ link_contents modules
   pub aligned : All (λ piece. IsAlignment piece.align) plan.pieces.items
   pub bodies : (k : ℕ) → k < length plan.pieces.items → HasItsBytes plan.pieces.items k

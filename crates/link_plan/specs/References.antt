@@ -11,7 +11,7 @@ use Rattle.comdat.specs.Selection.{chosen_sections}
 use Rattle.symbol_table.specs.declared.meaning.Meaning.{Meaning}
 use Rattle.symbol_table.specs.declared.meaning.NoMeaning.{NoMeaning}
 use Rattle.symbol_table.specs.declared.meaning.NoMeaning.TheVariants.{Undefined, WeakCycle}
-use Rattle.link_plan.specs.NameMeaning.{name_meaning}
+use Rattle.link_pieces.specs.NameMeaning.{name_meaning}
 
 abbrev pub no_meaning_fault : List ℕ → Option ℕ → Result Meaning NoMeaning → Option Fault
 no_meaning_fault name at (Ok meaning) = None

@@ -15,8 +15,8 @@ use Rattle.module_view.specs.SymbolLists.{is_absolute}
 use Rattle.symbol_table.specs.declared.meaning.Meaning.{Meaning}
 use Rattle.symbol_table.specs.declared.meaning.Meaning.TheVariants as meaning
 use Rattle.symbol_table.specs.declared.meaning.NoMeaning.{NoMeaning}
-use Rattle.link_plan.specs.NameMeaning.{name_meaning, takes_part}
-use Rattle.link_pieces.specs.PieceIndex.{piece_index}
+use Rattle.link_pieces.specs.NameMeaning.{name_meaning, takes_part}
+use Rattle.link_pieces.specs.PieceIndex.{piece_index, common_index}
 
 -- ---- a place
 
@@ -28,7 +28,11 @@ target_in value (Some piece) = Ok (target.Piece piece value)
 abbrev pub section_target : List ModuleView → ℕ → ℕ → ℕ → Result Target TargetFault
 section_target modules position section value = target_in value (piece_index modules position section)
 
--- the same of a symbol that only its module can name: a section that takes no part in the link has been discarded
+-- a common of the module at a position, by the record of its symbol
+abbrev pub common_target : List ModuleView → ℕ → ℕ → Result Target TargetFault
+common_target modules position symbol = target_in 0 (common_index modules position symbol)
+
+-- an offset in a section, of a symbol that only its module can name: a section that takes no part in the link has been discarded
 abbrev pub own_target : List ModuleView → ℕ → ℕ → ℕ → Result Target TargetFault
 own_target modules position section value =
     if takes_part modules position section then section_target modules position section value else Err fault.Discarded
@@ -38,6 +42,7 @@ own_target modules position section value =
 -- what a meaning is to a relocation; that a name means nothing is refused before
 abbrev pub meant_target : List ModuleView → Result Meaning NoMeaning → Result Target TargetFault
 meant_target modules (Ok (meaning.Section position section value)) = section_target modules position section value
+meant_target modules (Ok (meaning.Common position symbol)) = common_target modules position symbol
 meant_target modules (Ok (meaning.Absolute value)) = Ok (target.Absolute value)
 meant_target modules (Ok meaning.ImageBase) = Ok target.ImageBase
 meant_target modules other = Err fault.NoSection

@@ -5,10 +5,9 @@ ghost use Rattle.module_view.specs.Module.{ModuleView};
 ghost use Rattle.link_pieces.specs.PieceIndex.{IsPieceIndex};
 ghost use Rattle.link_plan.specs.Entry.{entry_meant, entry_meaning_fault, meant_place, meant_fault};
 
-use crate::names::LinkNames;
 use crate::references::name_fault;
 use link_base::{Fault, Name, TargetFault};
-use link_pieces::PieceIndex;
+use link_pieces::{LinkNames, PieceIndex};
 use symbol_table::Meaning;
 
 /// Where an entry stands: its piece, and the offset in it.
@@ -59,6 +58,10 @@ pub(crate) fn entry_place<'a>(
                 piece,
                 value: *value,
             })),
+            None => Err(bad_entry(TargetFault::Unplaced)),
+        },
+        Some(Meaning::Common { module, symbol }) => match index.of_common(*module, *symbol) {
+            Some(piece) => Ok(Some(EntryPlace { piece, value: 0 })),
             None => Err(bad_entry(TargetFault::Unplaced)),
         },
         Some(Meaning::ImageBase) => Ok(None),

@@ -8,11 +8,10 @@ ghost use Rattle.link_plan.specs.Targets.{AreTargets};
 ghost use Rattle.link_plan.specs.Fixes.{section_fixes};
 ghost use Rattle.link_plan.specs.Steps.{HoldsTargets};
 
-use crate::names::LinkNames;
 use crate::targets::{RecordTarget, targets_of};
 use coff_object::Object;
 use link_base::Memory;
-use link_pieces::PieceIndex;
+use link_pieces::{LinkNames, PieceIndex};
 use relocate::Fix;
 use std::alloc::Global;
 

@@ -5,16 +5,15 @@ ghost use Rattle.link_base.specs.Refusals.{RefusesFor};
 ghost use Rattle.section_group.specs.BarePieces.{bare};
 ghost use Rattle.section_group.specs.PieceContents.{piece_contents};
 ghost use Rattle.relocate.specs.Judged.{AreTheFields, ArePatchable, len_of};
-ghost use Rattle.link_pieces.specs.Pieces.{link_pieces, link_contents, IsSectionOf};
+ghost use Rattle.link_pieces.specs.Pieces.{link_pieces, link_contents, IsPieceOf};
 ghost use Rattle.link_pieces.specs.PieceIndex.{IsPieceIndex};
 ghost use Rattle.link_plan.specs.Fixes.{judged_fault, fixes_in, fixes_fault, is_meant, len_if, HaveFields};
 ghost use Rattle.link_plan.specs.Steps.{HoldsTargets};
 
 use crate::fixes::{LastTargets, section_fixes};
 use crate::meant::mark_meant;
-use crate::names::LinkNames;
 use link_base::{Fault, Memory, Refusal};
-use link_pieces::PieceIndex;
+use link_pieces::{FIRST_COMMON, LinkNames, PieceIndex};
 use module_view::Module;
 use relocate::{FieldError, Fix, Fixups, check};
 use section_group::Piece;
@@ -70,7 +69,7 @@ fn keep(fixups: &mut Vec<Fixups>, fields: Fixups) -> Result<(), Memory>
     Ok(())
 }
 
-/// The relocations of a piece.
+/// The relocations of a piece. A common has none.
 fn piece_fixes<'a>(
     alloc: Global,
     last: &mut LastTargets,
@@ -82,10 +81,13 @@ fn piece_fixes<'a>(
     requires same { names.now ≡ modules.now }
     requires indexed { IsPieceIndex modules.now index.now }
     requires held { HoldsTargets modules.now last.old.position last.old.targets.items }
-    requires whole { IsSectionOf modules.now (bare piece.now) }
+    requires whole { IsPieceOf modules.now (bare piece.now) }
     ensures fixes { IfOk result (λ fixes. fixes.items ≡ fixes_in modules.now piece.now) }
     ensures held { OnOk result (HoldsTargets modules.now last.new.position last.new.targets.items) }
 {
+    if piece.number >= FIRST_COMMON {
+        return Ok(Vec::new(alloc));
+    }
     let Some(object) = modules[piece.module as usize].object() else {
         return Ok(Vec::new(alloc));
     };

@@ -9,11 +9,9 @@ mod entry;
 mod fixes;
 mod judge;
 mod meant;
-mod names;
 mod plan;
 mod references;
 mod targets;
 
 pub use entry::EntryPlace;
-pub use names::LinkNames;
 pub use plan::{LinkPlan, plan_of};

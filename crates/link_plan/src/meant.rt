@@ -1,10 +1,12 @@
-//! The pieces that fields mean: these stand in a section even where they have no bytes.
+//! The pieces that fields and the entry mean: these stand in a section even where they have no bytes.
 
 ghost use Rattle.std.specs.Prelude.{◌≡◌, ◌<◌, ◌||◌, ℕ, false, length, map, slice_index_or};
 ghost use Rattle.std.specs.List.{list_any, range_with_len};
 ghost use Rattle.section_group.specs.SectionOrder.{no_piece};
+ghost use Rattle.link_plan.specs.Entry.{piece_of_place};
 ghost use Rattle.link_plan.specs.Fixes.{is_that, means_piece, meant_in, named_if};
 
+use crate::entry::EntryPlace;
 use link_base::pe_format::{REL_AMD64_ABSOLUTE, REL_AMD64_SECREL};
 use relocate::{Fix, Target};
 use section_group::Piece;
@@ -17,6 +19,18 @@ pub(crate) fn mark_meant(meant: &mut Vec<bool>, fixes: &[Fix])
 {
     for fix in fixes {
         mark(meant, meant_piece(fix));
+    }
+}
+
+/// Marks the piece that the entry is in.
+pub(crate) fn mark_entry(meant: &mut Vec<bool>, entry: &Option<EntryPlace>)
+    ensures len { length meant.new.items ≡ length meant.old.items }
+    ensures marked { (k : ℕ) → k < length meant.old.items → slice_index_or meant.new.items k false
+        ≡ (slice_index_or meant.old.items k false || is_that k (piece_of_place entry.now)) }
+{
+    match entry {
+        Some(place) => mark(meant, Some(place.piece)),
+        None => {}
     }
 }
 

@@ -9,11 +9,10 @@ ghost use Rattle.link_plan.specs.Plan.{IsPlanOf};
 
 use crate::entry::{EntryPlace, entry_meaning, entry_place};
 use crate::judge::judge_pieces;
-use crate::meant::name_meant;
-use crate::names::{LinkNames, check_clash, link_names};
+use crate::meant::{mark_entry, name_meant};
 use crate::references::check_references;
 use link_base::Refusal;
-use link_pieces::{PieceIndex, pieces_of};
+use link_pieces::{LinkNames, PieceIndex, check_clash, link_names, pieces_of};
 use link_words::Options;
 use module_view::Module;
 use relocate::Fixups;
@@ -27,7 +26,7 @@ pub struct LinkPlan<'a> {
     pub modules: Vec<Module<'a>>,
     /// What the names of the modules mean.
     pub names: LinkNames<'a>,
-    /// The pieces of the image, in the order of the modules and of their sections.
+    /// The pieces of the image: module by module, and in each its sections before its commons.
     pub pieces: Vec<Piece<'a>>,
     /// The fields of each piece.
     pub fixes: Vec<Fixups>,
@@ -52,10 +51,11 @@ pub fn plan_of<'a>(
     check_clash(&names)?;
     let meaning = entry_meaning(&names, &options.entry)?;
     check_references(&names, &modules)?;
-    let mut pieces = pieces_of(alloc, &modules)?;
+    let mut pieces = pieces_of(alloc, &names, &modules)?;
     let index = PieceIndex::new(alloc, &modules, &pieces)?;
     let entry = entry_place(&index, &meaning)?;
-    let fixes = judge_pieces(alloc, &names, &index, &modules, &pieces, options.large)?;
+    let mut fixes = judge_pieces(alloc, &names, &index, &modules, &pieces, options.large)?;
+    mark_entry(&mut fixes.meant, &entry);
     name_meant(&mut pieces, &fixes.meant);
     Ok(LinkPlan {
         modules,

@@ -4,10 +4,10 @@ ghost use Rattle.std.specs.Prelude.{◌≡◌, ◌≤◌, length, Some, None, Er
 ghost use Rattle.link_base.specs.Limits.{MODULE_LIMIT};
 ghost use Rattle.link_plan.specs.References.{no_meaning_fault, name_fault, asks, symbol_fault, object_fault_among, references_fault};
 
-use crate::names::LinkNames;
 use coff_object::{Object, SymbolRecord};
 use link_base::pe_format::{SYM_CLASS_EXTERNAL, SYM_CLASS_WEAK_EXTERNAL, SYM_UNDEFINED};
 use link_base::{Fault, Name};
+use link_pieces::LinkNames;
 use module_view::Module;
 use symbol_table::NoMeaning;
 

@@ -4,16 +4,15 @@ ghost use Rattle.std.specs.Prelude.{◌≡◌, ◌==◌, ◌<◌, ℕ, List, Non
 ghost use Rattle.std.specs.Option.{option_or};
 ghost use Rattle.module_view.specs.Module.{ModuleView};
 ghost use Rattle.link_pieces.specs.PieceIndex.{IsPieceIndex};
-ghost use Rattle.link_plan.specs.Targets.{section_target, own_target, meant_target, has_meaning, local_target, symbol_target, AreTargets};
-ghost use Rattle.link_plan.specs.NameMeaning.{name_meaning};
+ghost use Rattle.link_plan.specs.Targets.{section_target, common_target, own_target, meant_target, has_meaning, local_target, symbol_target, AreTargets};
+ghost use Rattle.link_pieces.specs.NameMeaning.{name_meaning};
 
-use crate::names::LinkNames;
 use coff_object::{Object, SymbolRecord};
 use link_base::pe_format::{
     SYM_ABSOLUTE, SYM_CLASS_EXTERNAL, SYM_CLASS_WEAK_EXTERNAL, SYM_DEBUG, SYM_UNDEFINED,
 };
 use link_base::{Memory, Name, TargetFault};
-use link_pieces::PieceIndex;
+use link_pieces::{LinkNames, PieceIndex};
 use relocate::Target;
 use std::alloc::Global;
 use symbol_table::Meaning;
@@ -108,6 +107,7 @@ fn name_target<'a>(
                 value,
             },
         ) => section_target(index, module, section, value),
+        Ok(Meaning::Common { module, symbol }) => common_target(index, module, symbol),
         Ok(Meaning::Absolute(value)) => Ok(Target::Absolute(value)),
         Ok(Meaning::ImageBase) => Ok(Target::ImageBase),
         _ => Err(TargetFault::NoSection),
@@ -163,6 +163,16 @@ fn section_target(
 {
     match index.of(position, section) {
         Some(piece) => Ok(Target::Piece { piece, value }),
+        None => Err(TargetFault::Unplaced),
+    }
+}
+
+/// A common of the module at a position, by the record of its symbol.
+fn common_target(index: &PieceIndex, position: u32, symbol: u32) -> Result<Target, TargetFault>
+    ensures { (modules : List ModuleView) → IsPieceIndex modules index.now → result ≡ common_target modules position symbol }
+{
+    match index.of_common(position, symbol) {
+        Some(piece) => Ok(Target::Piece { piece, value: 0 }),
         None => Err(TargetFault::Unplaced),
     }
 }

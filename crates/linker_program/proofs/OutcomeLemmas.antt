@@ -61,7 +61,7 @@ no_bad_merge options pieces sections fault x grouped = grouped.merges x.named.pl
 
 -- ---- one layout
 
-counts : (options : LinkOptions) (modules : List ModuleView) (reloc : Bool) (xs ys : List OutSection) → AreGrouped options (plan_pieces modules) xs → AreGrouped options (plan_pieces modules) ys → section_count xs reloc ≡ section_count ys reloc
+counts : (options : LinkOptions) (modules : List ModuleView) (reloc : Bool) (xs ys : List OutSection) → AreGrouped options (plan_pieces options modules) xs → AreGrouped options (plan_pieces options modules) ys → section_count xs reloc ≡ section_count ys reloc
 counts options modules reloc xs ys x y =
     let rows = same_rows options modules xs ys x y in
     ap (λ (n : ℕ). n + cond reloc 1 0) (sym (length-map xs row_of) ∙ ap length rows ∙ length-map ys row_of)
@@ -71,14 +71,14 @@ has_size pieces sections reloc layout is =
     record { headers = layout.headers; placed = placed_at layout.sections.items; place = is.standing.place; arranged = is.standing.arranged }
 
 -- grouped in two ways, the image of the pieces has one size
-sizes : (options : LinkOptions) (modules : List ModuleView) (reloc : Bool) (xs ys : List OutSection) (size other : ℕ) → AreGrouped options (plan_pieces modules) xs → AreGrouped options (plan_pieces modules) ys → HasImageSize (plan_pieces modules) xs reloc size → HasImageSize (plan_pieces modules) ys reloc other → size ≡ other
+sizes : (options : LinkOptions) (modules : List ModuleView) (reloc : Bool) (xs ys : List OutSection) (size other : ℕ) → AreGrouped options (plan_pieces options modules) xs → AreGrouped options (plan_pieces options modules) ys → HasImageSize (plan_pieces options modules) xs reloc size → HasImageSize (plan_pieces options modules) ys reloc other → size ≡ other
 sizes options modules reloc xs ys size other x y has has_other =
-    one_image_size (plan_pieces modules) ys reloc size other (size_same_rows (plan_pieces modules) xs ys reloc size (same_rows options modules xs ys x y) has) has_other
+    one_image_size (plan_pieces options modules) ys reloc size other (size_same_rows (plan_pieces options modules) xs ys reloc size (same_rows options modules xs ys x y) has) has_other
 
 -- the pieces of a placement fit
-fits : (options : LinkOptions) (modules : List ModuleView) (sections : List OutSection) (size : ℕ) (rows : List SectionRow) (layout : Layout) (tables : List (List ℕ)) → AreGrouped options (plan_pieces modules) sections → HasImageSize (plan_pieces modules) sections (is_relocated options modules) size → IsPlacement options modules rows layout tables → size ≤ IMAGE_LIMIT
+fits : (options : LinkOptions) (modules : List ModuleView) (sections : List OutSection) (size : ℕ) (rows : List SectionRow) (layout : Layout) (tables : List (List ℕ)) → AreGrouped options (plan_pieces options modules) sections → HasImageSize (plan_pieces options modules) sections (is_relocated options modules) size → IsPlacement options modules rows layout tables → size ≤ IMAGE_LIMIT
 fits options modules sections size rows layout tables grouped has y =
-    let same = sizes options modules (is_relocated options modules) sections y.sections size y.before.image grouped y.grouped has (has_size (plan_pieces modules) y.sections (is_relocated options modules) y.before y.placed.layout_of) in
+    let same = sizes options modules (is_relocated options modules) sections y.sections size y.before.image grouped y.grouped has (has_size (plan_pieces options modules) y.sections (is_relocated options modules) y.before y.placed.layout_of) in
     omega (arith, same, y.placed.within)
 
 -- ---- one fault of what is built
@@ -89,16 +89,16 @@ same_many options modules f g x y =
     x.is ∙ ap (λ (n : ℕ). faults.TooManySections n) (x.refused.0 ∙ count ∙ sym y.refused.0) ∙ sym y.is
 
 -- the pieces are too large, or fit before the table does not
-pieces_or_table : (options : LinkOptions) (modules : List ModuleView) (xs ys : List OutSection) (size other : ℕ) → AreGrouped options (plan_pieces modules) xs → AreGrouped options (plan_pieces modules) ys → IsPlaceRefusal (plan_pieces modules) xs (is_relocated options modules) (bad.ImageTooLarge size) → HasLargeTable options modules ys other → ⊥
+pieces_or_table : (options : LinkOptions) (modules : List ModuleView) (xs ys : List OutSection) (size other : ℕ) → AreGrouped options (plan_pieces options modules) xs → AreGrouped options (plan_pieces options modules) ys → IsPlaceRefusal (plan_pieces options modules) xs (is_relocated options modules) (bad.ImageTooLarge size) → HasLargeTable options modules ys other → ⊥
 pieces_or_table options modules xs ys size other gx gy x y =
-    let has = subst (λ (r : Bool). HasImageSize (plan_pieces modules) xs r size) y.relocated x.1 in
-    let same = sizes options modules true xs ys size y.layout.image gx gy has (has_size (plan_pieces modules) ys true y.layout y.placed.layout_of) in
+    let has = subst (λ (r : Bool). HasImageSize (plan_pieces options modules) xs r size) y.relocated x.1 in
+    let same = sizes options modules true xs ys size y.layout.image gx gy has (has_size (plan_pieces options modules) ys true y.layout y.placed.layout_of) in
     omega (arith, same, x.2, y.placed.within)
 
 -- two sizes that are refused
-same_size : (options : LinkOptions) (modules : List ModuleView) (xs ys : List OutSection) (size other : ℕ) → AreGrouped options (plan_pieces modules) xs → AreGrouped options (plan_pieces modules) ys
-    → IsPlaceRefusal (plan_pieces modules) xs (is_relocated options modules) (bad.ImageTooLarge size) ⊎ HasLargeTable options modules xs size
-    → IsPlaceRefusal (plan_pieces modules) ys (is_relocated options modules) (bad.ImageTooLarge other) ⊎ HasLargeTable options modules ys other → size ≡ other
+same_size : (options : LinkOptions) (modules : List ModuleView) (xs ys : List OutSection) (size other : ℕ) → AreGrouped options (plan_pieces options modules) xs → AreGrouped options (plan_pieces options modules) ys
+    → IsPlaceRefusal (plan_pieces options modules) xs (is_relocated options modules) (bad.ImageTooLarge size) ⊎ HasLargeTable options modules xs size
+    → IsPlaceRefusal (plan_pieces options modules) ys (is_relocated options modules) (bad.ImageTooLarge other) ⊎ HasLargeTable options modules ys other → size ≡ other
 same_size options modules xs ys size other gx gy (inl x) (inl y) = sizes options modules (is_relocated options modules) xs ys size other gx gy x.1 y.1
 same_size options modules xs ys size other gx gy (inl x) (inr y) = absurd (pieces_or_table options modules xs ys size other gx gy x y)
 same_size options modules xs ys size other gx gy (inr x) (inl y) = absurd (pieces_or_table options modules ys xs other size gy gx y x)
@@ -116,7 +116,7 @@ many_or_large options modules f g x y =
     let count = counts options modules (is_relocated options modules) x.sections y.sections x.grouped y.grouped in
     by count y.refused
   where
-    by : section_count x.sections (is_relocated options modules) ≡ section_count y.sections (is_relocated options modules) → IsPlaceRefusal (plan_pieces modules) y.sections (is_relocated options modules) (bad.ImageTooLarge y.size) ⊎ HasLargeTable options modules y.sections y.size → ⊥
+    by : section_count x.sections (is_relocated options modules) ≡ section_count y.sections (is_relocated options modules) → IsPlaceRefusal (plan_pieces options modules) y.sections (is_relocated options modules) (bad.ImageTooLarge y.size) ⊎ HasLargeTable options modules y.sections y.size → ⊥
     by count (inl pieces) = omega (arith, x.refused.0, x.refused.1, count, pieces.0)
     by count (inr table) = omega (arith, x.refused.0, x.refused.1, count, subst (λ (r : Bool). section_count y.sections r ≤ SECTION_LIMIT) (sym table.relocated) table.placed.few)
 
@@ -128,7 +128,7 @@ many_or_placement options modules f rows layout tables x y =
 large_or_placement : (options : LinkOptions) (modules : List ModuleView) (f : Fault) (rows : List SectionRow) (layout : Layout) (tables : List (List ℕ)) → IsTooLarge options modules f → IsPlacement options modules rows layout tables → ⊥
 large_or_placement options modules f rows layout tables x y = by x.refused
   where
-    table : (reloc : Bool) → reloc ≡ true → (large : HasLargeTable options modules x.sections x.size) → ArePlaced (plan_pieces modules) y.sections reloc y.before → IsWhole reloc modules (rows_of y.sections) y.before rows layout tables → ⊥
+    table : (reloc : Bool) → reloc ≡ true → (large : HasLargeTable options modules x.sections x.size) → ArePlaced (plan_pieces options modules) y.sections reloc y.before → IsWhole reloc modules (rows_of y.sections) y.before rows layout tables → ⊥
     table false e large placed whole = false≢true e
     table true e large placed whole =
         let same = same_layout options modules x.sections y.sections true large.layout y.before x.grouped y.grouped large.placed placed in
@@ -136,7 +136,7 @@ large_or_placement options modules f rows layout tables x y = by x.refused
         let size = one_grown_size large.layout y.before layout (length (blocks_of whole.fields)) x.size same (subst (λ (fs : List BaseField). HasGrownSize large.layout (length (blocks_of fs)) x.size) fields large.refused.0) whole.added in
         omega (arith, size, large.refused.1, whole.within)
 
-    by : IsPlaceRefusal (plan_pieces modules) x.sections (is_relocated options modules) (bad.ImageTooLarge x.size) ⊎ HasLargeTable options modules x.sections x.size → ⊥
+    by : IsPlaceRefusal (plan_pieces options modules) x.sections (is_relocated options modules) (bad.ImageTooLarge x.size) ⊎ HasLargeTable options modules x.sections x.size → ⊥
     by (inl pieces) = omega (arith, fits options modules x.sections x.size rows layout tables x.grouped pieces.1 y, pieces.2)
     by (inr large) = table (is_relocated options modules) large.relocated large y.placed y.whole
 
@@ -163,8 +163,8 @@ same_range options modules f g x y =
     some_same e = cc
 
 -- no bad merge stands where the pieces are grouped
-merge_or : (options : LinkOptions) (modules : List ModuleView) (fault : Fault) (sections : List OutSection) → IsBadMerge options fault → AreGrouped options (plan_pieces modules) sections → ⊥
-merge_or options modules fault sections x grouped = no_bad_merge options (plan_pieces modules) sections fault x grouped
+merge_or : (options : LinkOptions) (modules : List ModuleView) (fault : Fault) (sections : List OutSection) → IsBadMerge options fault → AreGrouped options (plan_pieces options modules) sections → ⊥
+merge_or options modules fault sections x grouped = no_bad_merge options (plan_pieces options modules) sections fault x grouped
 
 same_fault : (options : LinkOptions) (modules : List ModuleView) (f g : Fault) → IsBuildFault options modules f → IsBuildFault options modules g → f ≡ g
 same_fault options modules f g (inl x) (inl y) = same_merge options f g x y

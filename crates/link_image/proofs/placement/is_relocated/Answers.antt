@@ -3,6 +3,7 @@ use Rattle.std.proofs.lemmas.List.{length-map}
 use Rattle.section_group.specs.declared.piece.Piece.{Piece}
 use Rattle.section_group.specs.BarePieces.{bare}
 use Rattle.link_pieces.specs.Pieces.{link_pieces}
+use Rattle.link_words.specs.Outcome.{options_said}
 use Rattle.link_plan.proofs.CallerLemmas.{plan_count}
 use Rattle.link_image.specs.BaseFields.{holds_address}
 use Rattle.link_image.proofs.AddressLemmas.{held_addresses}
@@ -12,7 +13,7 @@ pub returns-then-not-options : goal.returns-then-not-options
 returns-then-not-options c =
     let modules = c.args.plan.now.modules.items in
     let pieces = c.args.plan.now.pieces.items in
-    let count : length pieces ≡ length (link_pieces modules) = sym (length-map pieces bare) ∙ ap (λ (ps : List Piece). length ps) c.requires.pieces_are ∙ plan_count modules in
+    let count : length pieces ≡ length (link_pieces modules) = sym (length-map pieces bare) ∙ ap (λ (ps : List Piece). length ps) c.requires.pieces_are ∙ plan_count (options_said c.args.options.now) modules in
     c.hold_address.ensures
     ∙ rw (c.deref.ensures.value) (held_addresses modules c.args.plan.now.fixes.items (length pieces) count c.requires.fields)
     ∙ sym (ap (λ (b : Bool). not b && holds_address modules) c.if-not-options.true)

@@ -9,12 +9,12 @@ pub returns-clause-noted : goal.returns-clause-noted
 returns-clause-noted c = λ m s.
     let rows = c.args.rows.now in
     let within : c.args.position < length (items_of rows) = omega (arith, c.requires.row, length-map rows (λ v. v.items)) in
-    ap (λ (rs : List (List (Option ℕ))). indexed rs m s) (put_items rows c.args.position c.args.section c.args.index c.index-rows-position.result c.put_first.new.row c.requires.row c.put_first.ensures)
-    ∙ noted_at (items_of rows) c.args.position c.args.section c.args.index m s within c.requires.cell
+    ap (λ (rs : List (List (Option ℕ))). indexed rs m s) (put_items rows c.args.position c.args.number c.args.index c.index-rows-position.result c.put_first.new.row c.requires.row c.put_first.ensures)
+    ∙ noted_at (items_of rows) c.args.position c.args.number c.args.index m s within c.requires.cell
 
 pub returns-clause-shape : goal.returns-clause-shape
 returns-clause-shape c = λ m.
     let rows = c.args.rows.now in
     let within : c.args.position < length (items_of rows) = omega (arith, c.requires.row, length-map rows (λ v. v.items)) in
-    ap (λ (rs : List (List (Option ℕ))). length (get_or rs m [])) (put_items rows c.args.position c.args.section c.args.index c.index-rows-position.result c.put_first.new.row c.requires.row c.put_first.ensures)
-    ∙ shape_at (items_of rows) c.args.position c.args.section c.args.index m within
+    ap (λ (rs : List (List (Option ℕ))). length (get_or rs m [])) (put_items rows c.args.position c.args.number c.args.index c.index-rows-position.result c.put_first.new.row c.requires.row c.put_first.ensures)
+    ∙ shape_at (items_of rows) c.args.position c.args.number c.args.index m within

@@ -1,4 +1,4 @@
-use Rattle.std.proofs.Common.{◌≡◌, ◌<◌, ℕ, length, map, ap, subst, ◌∙◌, arith}
+use Rattle.std.proofs.Common.{◌≡◌, ◌<◌, ℕ, List, length, map, ap, subst, ◌∙◌, arith}
 use Rattle.std.specs.List.{All, range_with_len, flat_map}
 use Rattle.std.proofs.lemmas.List.{get_or_default, take_all}
 use Rattle.std.proofs.lemmas.List.Elements.{All-nil}
@@ -6,9 +6,10 @@ use Rattle.section_group.specs.BarePieces.{bare}
 use Rattle.section_group.specs.PieceContents.{piece_contents}
 use Rattle.module_view.specs.Module.{ModuleView, no_module, module_at}
 use Rattle.module_view.specs.Opening.{IsOpened}
+use Rattle.link_pieces.specs.Commons.{HasFewSections}
 use Rattle.link_pieces.specs.Pieces.{pieces_in, contents_in}
 use Rattle.link_base.proofs.RangeLemmas.{joined_grows}
-use Rattle.link_pieces.proofs.PieceLemmas.{aligned, bodies, opened_more}
+use Rattle.link_pieces.proofs.PieceLemmas.{aligned, bodies, modules_more}
 use Rattle.link_pieces.proofs.pieces.pieces_of.Goals as goal
 
 pub loop-position-init : goal.loop-position-init
@@ -16,6 +17,7 @@ loop-position-init c = record {
   pieces = ap (map bare) c.new-pieces.ensures.items;
   contents = ap (map piece_contents) c.new-pieces.ensures.items;
   opened = All-nil IsOpened;
+  few_sections = All-nil HasFewSections;
 }
 
 pub loop-position-preserved : goal.loop-position-preserved
@@ -28,9 +30,10 @@ loop-position-preserved c =
     let now = c.loop-position.pieces.items in
     let after = c.push_module.new.pieces.items in
     record {
-      pieces = joined_grows (λ n. pieces_in n (module_at modules n).bytes) 0 k k (map bare now) (map bare after) (pieces_in k m.bytes) (omega arith) c.loop-position.invariant.pieces c.in_ok-push_module.ensures.pieces (ap (λ (view : ModuleView). pieces_in k view.bytes) read);
-      contents = joined_grows (λ n. contents_in (module_at modules n).bytes) 0 k k (map piece_contents now) (map piece_contents after) (contents_in m.bytes) (omega arith) c.loop-position.invariant.contents c.in_ok-push_module.ensures.contents (ap (λ (view : ModuleView). contents_in view.bytes) read);
-      opened = opened_more modules k m lt c.index-modules-position.is c.loop-position.invariant.opened c.in_ok-push_module.ensures.opened;
+      pieces = joined_grows (λ n. pieces_in modules n (module_at modules n).bytes) 0 k k (map bare now) (map bare after) (pieces_in c.args.names.now k m.bytes) (omega arith) c.loop-position.invariant.pieces c.in_ok-push_module.ensures.pieces (ap (λ (ms : List ModuleView). pieces_in ms k m.bytes) c.requires.same ∙ ap (λ (view : ModuleView). pieces_in modules k view.bytes) read);
+      contents = joined_grows (λ n. contents_in modules n (module_at modules n).bytes) 0 k k (map piece_contents now) (map piece_contents after) (contents_in c.args.names.now k m.bytes) (omega arith) c.loop-position.invariant.contents c.in_ok-push_module.ensures.contents (ap (λ (ms : List ModuleView). contents_in ms k m.bytes) c.requires.same ∙ ap (λ (view : ModuleView). contents_in modules k view.bytes) read);
+      opened = modules_more IsOpened modules k m lt c.index-modules-position.is c.loop-position.invariant.opened c.in_ok-push_module.ensures.opened;
+      few_sections = modules_more HasFewSections modules k m lt c.index-modules-position.is c.loop-position.invariant.few_sections c.in_ok-push_module.ensures.few_sections;
     }
 
 pub returns-clause-aligned : goal.returns-clause-aligned
@@ -39,7 +42,7 @@ returns-clause-aligned c =
     let all : c.loop-position.position ≡ length modules = omega arith in
     aligned modules c.loop-position.pieces.items
     (subst (All IsOpened) (take_all c.loop-position.position modules (omega arith)) c.loop-position.invariant.opened)
-    (c.loop-position.invariant.pieces ∙ ap (λ (n : ℕ). flat_map (λ k. pieces_in k (module_at modules k).bytes) (range_with_len 0 n)) all)
+    (c.loop-position.invariant.pieces ∙ ap (λ (n : ℕ). flat_map (λ k. pieces_in modules k (module_at modules k).bytes) (range_with_len 0 n)) all)
 
 pub returns-clause-bodies : goal.returns-clause-bodies
 returns-clause-bodies c =
@@ -47,9 +50,13 @@ returns-clause-bodies c =
     let all : c.loop-position.position ≡ length modules = omega arith in
     bodies modules c.loop-position.pieces.items
     (subst (All IsOpened) (take_all c.loop-position.position modules (omega arith)) c.loop-position.invariant.opened)
-    (c.loop-position.invariant.pieces ∙ ap (λ (n : ℕ). flat_map (λ k. pieces_in k (module_at modules k).bytes) (range_with_len 0 n)) all)
-    (c.loop-position.invariant.contents ∙ ap (λ (n : ℕ). flat_map (λ k. contents_in (module_at modules k).bytes) (range_with_len 0 n)) all)
+    (c.loop-position.invariant.pieces ∙ ap (λ (n : ℕ). flat_map (λ k. pieces_in modules k (module_at modules k).bytes) (range_with_len 0 n)) all)
+    (c.loop-position.invariant.contents ∙ ap (λ (n : ℕ). flat_map (λ k. contents_in modules k (module_at modules k).bytes) (range_with_len 0 n)) all)
 
 pub returns-clause-opened : goal.returns-clause-opened
 returns-clause-opened c =
     subst (All IsOpened) (take_all c.loop-position.position c.args.modules.now (omega arith)) c.loop-position.invariant.opened
+
+pub returns-clause-few_sections : goal.returns-clause-few_sections
+returns-clause-few_sections c =
+    subst (All HasFewSections) (take_all c.loop-position.position c.args.modules.now (omega arith)) c.loop-position.invariant.few_sections

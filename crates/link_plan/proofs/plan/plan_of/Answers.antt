@@ -1,4 +1,4 @@
-use Rattle.std.proofs.Common.{◌<◌, ℕ, Bool, false, length, get_or, arith, List, refl, sym, ap, ◌∙◌, subst}
+use Rattle.std.proofs.Common.{◌<◌, ◌||◌, ℕ, Bool, false, length, get_or, arith, List, Option, refl, sym, ap, ◌∙◌, subst}
 use Rattle.std.proofs.lemmas.Result.{err_from_is_err_and}
 use Rattle.std.specs.List.{All}
 use Rattle.link_base.specs.Refusals.{RefusesFor}
@@ -7,13 +7,14 @@ use Rattle.module_view.specs.Opening.{IsOpened}
 use Rattle.link_pieces.specs.Pieces.{link_pieces, link_contents}
 use Rattle.link_words.specs.Outcome.{options_said}
 use Rattle.link_plan.specs.References.{references_fault}
-use Rattle.link_plan.specs.Entry.{entry_meant, entry_meaning_fault, meant_fault, meant_place}
-use Rattle.link_plan.specs.Fixes.{HaveFields, is_meant, fixes_fault}
-use Rattle.link_plan.specs.PlanFaults.{conflict_fault, clash_fault}
+use Rattle.link_plan.specs.Entry.{entry_meant, entry_meaning_fault, meant_fault, meant_place, piece_of_place}
+use Rattle.link_plan.specs.Fixes.{HaveFields, is_meant, is_that, fixes_fault}
+use Rattle.link_plan.specs.declared.entry.EntryPlace.{EntryPlace}
+use Rattle.link_pieces.specs.ChoiceFaults.{conflict_fault, clash_fault}
 use Rattle.link_plan.proofs.EntryLemmas.{entry_stands}
 use Rattle.link_plan.proofs.StageLemmas.{conflict_stage, clash_stage, chosen_well, entry_stage, references_stage, place_stage, fields_stage}
 use Rattle.link_plan.proofs.MeantLemmas.{planned}
-use Rattle.link_plan.proofs.NamedLemmas.{count_named, contents_named, aligned_named, bodies_named, stands_named}
+use Rattle.link_plan.proofs.NamedLemmas.{count_named, contents_named, aligned_named, bodies_named}
 use Rattle.link_plan.proofs.plan.plan_of.Goals as goal
 
 pub returns-in_err-names-clause-refused : goal.returns-in_err-names-clause-refused
@@ -117,20 +118,26 @@ returns-clause-planned c =
     let opened = subst (All IsOpened) c.deref-3.ensures.value c.in_ok-pieces.ensures.opened in
     let entry_is = placed ∙ ap (meant_place modules) meant in
     let judged = c.deref-6.ensures.value in
-    let marked = λ (k : ℕ) (lt : k < length old). ap (λ (ms : List Bool). get_or ms k false) c.deref-8.ensures.value ∙ c.in_ok-fixes.ensures.meant k (omega (arith, lt, ap length c.deref-7.ensures.value)) ∙ ap (λ (ms : List ModuleView). is_meant ms k) judged in
+    let entry = c.in_ok-entry.entry in
+    let marked = λ (k : ℕ) (lt : k < length old).
+    ap (λ (ms : List Bool). get_or ms k false) c.deref-8.ensures.value
+    ∙ c.mark_entry.ensures.marked k (omega (arith, lt, ap length c.deref-7.ensures.value, c.in_ok-fixes.ensures.len))
+    ∙ ap (λ (b : Bool). b || is_that k (piece_of_place entry)) (c.in_ok-fixes.ensures.meant k (omega (arith, lt, ap length c.deref-7.ensures.value)) ∙ ap (λ (ms : List ModuleView). is_meant ms k) judged)
+    ∙ ap (λ (place : Option EntryPlace). is_meant modules k || is_that k (piece_of_place place)) entry_is in
     let fields = subst (λ (ms : List ModuleView). HaveFields ms (length c.deref-7.result.now) c.in_ok-fixes.fixes.fixups.items) judged c.in_ok-fixes.ensures.fields in
+    let planned_are = planned options modules old marks now pieces_are marked named in
     record {
       opened = opened;
       modules_are = refl;
       names_are = names_are;
-      pieces_are = planned modules old marks now pieces_are marked named;
+      pieces_are = planned_are;
       contents_are = contents_named old marks now named ∙ c.in_ok-pieces.ensures.contents ∙ ap link_contents c.deref-3.ensures.value;
       aligned = aligned_named old marks now named c.in_ok-pieces.ensures.aligned;
       bodies = bodies_named old marks now named c.in_ok-pieces.ensures.bodies;
       few = let count = count_named old marks now named in omega (arith, c.in_ok-pieces.ensures.count, count);
       fields = subst (λ (n : ℕ). HaveFields modules n c.in_ok-fixes.fixes.fixups.items) (ap length c.deref-7.ensures.value ∙ sym (count_named old marks now named)) fields;
       entry_is = entry_is;
-      stands = rw entry_is (λ place e. stands_named old marks now place named (entry_stands modules old options.entry_name pieces_are opened place e));
+      stands = rw entry_is (entry_stands options modules now planned_are opened);
       no_fault =
           fields_stage options modules
           chosen

@@ -1,51 +1,113 @@
-use Rattle.std.proofs.Common.{◌≡◌, ℕ, List, [], Option, Vec, length, get_or, take, drop, ◌++◌, ap, ◌∙◌, arith}
+use Rattle.std.proofs.Common.{◌≡◌, ◌≤◌, ◌+◌, ◌-◌, ℕ, ◌&&◌, cond, eqb, List, [], Option, None, Some, Vec, length, map, get_or, take, drop, ◌++◌, sym, ap, subst, ◌∙◌, arith}
+use Rattle.std.specs.Option.{option_or}
 use Rattle.std.specs.Global.{Global}
 use Rattle.std.proofs.lemmas.List.{length-map}
+use Rattle.section_group.specs.declared.piece.Piece.{Piece}
+use Rattle.section_group.specs.BarePieces.{bare}
 use Rattle.link_base.specs.Bytes.{first_below}
-use Rattle.link_pieces.specs.PieceIndex.{indexed}
-use Rattle.link_pieces.specs.Rows.{items_of}
+use Rattle.link_pieces.specs.Commons.{FIRST_COMMON}
+use Rattle.link_pieces.specs.PieceIndex.{indexed, holds, is_section_of, is_common_of}
+use Rattle.link_pieces.specs.Rows.{items_of, section_places, common_places}
 use Rattle.link_pieces.proofs.NamedLemmas.{written}
-use Rattle.link_pieces.proofs.IndexLemmas.{in_rows, index_more}
+use Rattle.link_pieces.proofs.IndexLemmas.{AreNoted, none_noted, noted_more, noted_same, of_section, no_section, of_common, no_common, section_room, common_room}
 use Rattle.link_pieces.proofs.piece_index.PieceIndex.new.Goals as goal
+use Rattle.link_pieces.proofs.piece_index.PieceIndex.new.Goals.{then-piece-lt-FIRST_COMMON, else-piece-lt-FIRST_COMMON}
 
 pub loop-index-init : goal.loop-index-init
-unfolding first_below
 loop-index-init c = record {
-  for_each = omega (arith, c.in_ok-rows.ensures.for_each, length-map c.in_ok-rows.rows.items (λ v. v.items));
-  long = c.in_ok-rows.ensures.long;
-  noted = c.in_ok-rows.ensures.empty;
+  sections = none_noted section_places c.args.modules.now is_section_of c.args.pieces.now (items_of c.in_ok-sections.sections.items) c.in_ok-sections.ensures;
+  commons = none_noted common_places c.args.modules.now is_common_of c.args.pieces.now (items_of c.in_ok-commons.commons.items) c.in_ok-commons.ensures;
 }
 
 pub note-requires-clause-row : goal.note-requires-clause-row
 note-requires-clause-row c =
-    let rows = items_of c.loop-index.rows.items in
-    let inside = in_rows c.args.modules.now c.args.pieces.now rows c.loop-index.index c.index-pieces-index.result c.requires.pieces (omega (arith, c.loop-index.invariant.for_each, length-map c.loop-index.rows.items (λ v. v.items))) c.loop-index.invariant.long (omega arith) c.index-pieces-index.is in
-    omega (arith, inside.row, length-map c.loop-index.rows.items (λ v. v.items), c.deref_mut.ensures.len, ap length c.deref_mut.ensures.value)
+    let rows = c.loop-index.sections.items in
+    let room = section_room c.args.modules.now c.args.pieces.now (items_of rows) c.loop-index.index c.index-pieces-index.result c.requires.pieces c.loop-index.invariant.sections.for_each c.loop-index.invariant.sections.long (omega arith) c.index-pieces-index.is (omega arith) in
+    omega (arith, room.row, length-map rows (λ v. v.items), c.deref_mut.ensures.len, ap length c.deref_mut.ensures.value)
 
 pub note-requires-clause-cell : goal.note-requires-clause-cell
 note-requires-clause-cell c =
-    let rows = items_of c.loop-index.rows.items in
-    let inside = in_rows c.args.modules.now c.args.pieces.now rows c.loop-index.index c.index-pieces-index.result c.requires.pieces (omega (arith, c.loop-index.invariant.for_each, length-map c.loop-index.rows.items (λ v. v.items))) c.loop-index.invariant.long (omega arith) c.index-pieces-index.is in
-    let same = ap (λ (vs : List (Vec (Option ℕ) Global)). length (get_or (items_of vs) c.index-pieces-index.result.«module» [])) c.deref_mut.ensures.value in
-    omega (arith, inside.cell, same)
+    let piece = c.index-pieces-index.result in
+    let room = section_room c.args.modules.now c.args.pieces.now (items_of c.loop-index.sections.items) c.loop-index.index piece c.requires.pieces c.loop-index.invariant.sections.for_each c.loop-index.invariant.sections.long (omega arith) c.index-pieces-index.is (omega arith) in
+    let same = ap (λ (vs : List (Vec (Option ℕ) Global)). length (get_or (items_of vs) piece.«module» [])) c.deref_mut.ensures.value in
+    omega (arith, room.cell, same)
+
+pub note-requires-else-piece-lt-FIRST_COMMON-clause-row :
+    goal.note-requires-else-piece-lt-FIRST_COMMON-clause-row
+note-requires-else-piece-lt-FIRST_COMMON-clause-row c =
+    let rows = c.loop-index.commons.items in
+    let deref = c.deref_mut-else-piece-lt-FIRST_COMMON in
+    let room = common_room c.args.modules.now c.args.pieces.now (items_of rows) c.loop-index.index c.index-pieces-index.result c.requires.pieces c.requires.few_sections c.loop-index.invariant.commons.for_each c.loop-index.invariant.commons.long (omega arith) c.index-pieces-index.is (omega arith) in
+    omega (arith, room.row, length-map rows (λ v. v.items), deref.ensures.len, ap length deref.ensures.value)
+
+pub note-requires-else-piece-lt-FIRST_COMMON-clause-cell :
+    goal.note-requires-else-piece-lt-FIRST_COMMON-clause-cell
+note-requires-else-piece-lt-FIRST_COMMON-clause-cell c =
+    let piece = c.index-pieces-index.result in
+    let room = common_room c.args.modules.now c.args.pieces.now (items_of c.loop-index.commons.items) c.loop-index.index piece c.requires.pieces c.requires.few_sections c.loop-index.invariant.commons.for_each c.loop-index.invariant.commons.long (omega arith) c.index-pieces-index.is (omega arith) in
+    let same = ap (λ (vs : List (Vec (Option ℕ) Global)). length (get_or (items_of vs) piece.«module» [])) c.deref_mut-else-piece-lt-FIRST_COMMON.ensures.value in
+    omega (arith, room.cell, same)
 
 pub loop-index-preserved : goal.loop-index-preserved
 loop-index-preserved c =
+    let modules = c.args.modules.now in
     let pieces = c.args.pieces.now in
-    let i = c.loop-index.index in
+    let k = c.loop-index.index in
     let piece = c.index-pieces-index.result in
-    let before = c.loop-index.rows.items in
-    let new = c.note.new.rows in
-    let value = c.deref_mut.ensures.value in
-    let whole : take c.loop-index.rows.len (new ++ drop (length new) before) ≡ new = written c.loop-index.rows.len new (drop (length new) before) (omega (arith, c.loop-index.rows.ok.0, c.note.auto.rows, c.deref_mut.ensures.len)) in
+    let read = c.index-pieces-index.is in
+    let was = c.loop-index.invariant in
+    elim c.if-piece-lt-FIRST_COMMON.branch [
+      | then-piece-lt-FIRST_COMMON w ↦
+          let before = c.loop-index.sections in
+          let new = w.note.new.rows in
+          let value = w.deref_mut.ensures.value in
+          let whole : take before.len (new ++ drop (length new) before.items) ≡ new = written before.len new (drop (length new) before.items) (omega (arith, before.ok.0, w.note.auto.rows, w.deref_mut.ensures.len)) in
+          record {
+            sections =
+                subst (λ (vs : List (Vec (Option ℕ) Global)). AreNoted section_places modules is_section_of pieces (k + 1) (items_of vs)) (sym (ap (λ (v : Vec (Vec (Option ℕ) Global) Global). v.items) w.sections-is ∙ whole))
+                (noted_more section_places modules is_section_of pieces k piece piece.number (items_of before.items) (items_of new) (omega arith) read (λ m s. of_section m s (bare piece) w.if-piece-lt-FIRST_COMMON.true)
+                (omega (arith, length-map new (λ v. v.items), length-map before.items (λ v. v.items), w.note.auto.rows, ap length value))
+                (λ m. w.note.ensures.shape m ∙ ap (λ (vs : List (Vec (Option ℕ) Global)). length (get_or (items_of vs) m [])) value)
+                (λ m s. w.note.ensures.noted m s ∙ ap (λ (vs : List (Vec (Option ℕ) Global)). option_or (indexed (items_of vs) m s) (cond (eqb piece.«module» m && eqb piece.number s) (Some k) None)) value)
+                was.sections);
+            commons =
+                subst (λ (v : Vec (Vec (Option ℕ) Global) Global). AreNoted common_places modules is_common_of pieces (k + 1) (items_of v.items)) (sym w.commons-is)
+                (noted_same common_places modules is_common_of pieces k piece (items_of c.loop-index.commons.items) (omega arith) read (λ m j. no_common m j (bare piece) w.if-piece-lt-FIRST_COMMON.true) was.commons);
+          }
+      | else-piece-lt-FIRST_COMMON w ↦
+          let before = c.loop-index.commons in
+          let note = w.note-else-piece-lt-FIRST_COMMON in
+          let deref = w.deref_mut-else-piece-lt-FIRST_COMMON in
+          let new = note.new.rows in
+          let value = deref.ensures.value in
+          let large : FIRST_COMMON ≤ piece.number = omega (arith, w.if-piece-lt-FIRST_COMMON.false) in
+          let whole : take before.len (new ++ drop (length new) before.items) ≡ new = written before.len new (drop (length new) before.items) (omega (arith, before.ok.0, note.auto.rows, deref.ensures.len)) in
+          record {
+            sections =
+                subst (λ (v : Vec (Vec (Option ℕ) Global) Global). AreNoted section_places modules is_section_of pieces (k + 1) (items_of v.items)) (sym w.sections-is)
+                (noted_same section_places modules is_section_of pieces k piece (items_of c.loop-index.sections.items) (omega arith) read (λ m s. no_section m s (bare piece) large) was.sections);
+            commons =
+                subst (λ (vs : List (Vec (Option ℕ) Global)). AreNoted common_places modules is_common_of pieces (k + 1) (items_of vs)) (sym (ap (λ (v : Vec (Vec (Option ℕ) Global) Global). v.items) w.commons-is ∙ whole))
+                (noted_more common_places modules is_common_of pieces k piece (piece.number - FIRST_COMMON) (items_of before.items) (items_of new) (omega arith) read (λ m j. of_common m j (bare piece) large)
+                (omega (arith, length-map new (λ v. v.items), length-map before.items (λ v. v.items), note.auto.rows, ap length value))
+                (λ m. note.ensures.shape m ∙ ap (λ (vs : List (Vec (Option ℕ) Global)). length (get_or (items_of vs) m [])) value)
+                (λ m j. note.ensures.noted m j ∙ ap (λ (vs : List (Vec (Option ℕ) Global)). option_or (indexed (items_of vs) m j) (cond (eqb piece.«module» m && eqb (piece.number - FIRST_COMMON) j) (Some k) None)) value)
+                was.commons);
+          }
+    ]
+
+pub returns : goal.returns
+returns c =
+    let modules = c.args.modules.now in
+    let pieces = c.args.pieces.now in
+    let all : c.loop-index.index ≡ length (map bare pieces) = omega (arith, length-map pieces bare) in
     record {
-      for_each = ap length whole ∙ c.note.auto.rows ∙ ap length value ∙ c.loop-index.invariant.for_each;
-      long = λ m lt.
-          ap (λ (vs : List (Vec (Option ℕ) Global)). length (get_or (items_of vs) m [])) whole
-          ∙ c.note.ensures.shape m
-          ∙ ap (λ (vs : List (Vec (Option ℕ) Global)). length (get_or (items_of vs) m [])) value
-          ∙ c.loop-index.invariant.long m lt;
-      noted = λ m s.
-          ap (λ (vs : List (Vec (Option ℕ) Global)). indexed (items_of vs) m s) whole
-          ∙ index_more pieces i m s piece (indexed (items_of c.deref_mut.result.now) m s) (indexed (items_of new) m s) (omega arith) c.index-pieces-index.is (ap (λ (vs : List (Vec (Option ℕ) Global)). indexed (items_of vs) m s) value ∙ c.loop-index.invariant.noted m s) (c.note.ensures.noted m s);
+      sections = λ m s.
+          c.loop-index.invariant.sections.noted m s
+          ∙ ap (λ (n : ℕ). first_below n (holds (is_section_of m s) (map bare pieces))) all
+          ∙ ap (λ (ps : List Piece). first_below (length ps) (holds (is_section_of m s) ps)) c.requires.pieces;
+      commons = λ m j.
+          c.loop-index.invariant.commons.noted m j
+          ∙ ap (λ (n : ℕ). first_below n (holds (is_common_of m j) (map bare pieces))) all
+          ∙ ap (λ (ps : List Piece). first_below (length ps) (holds (is_common_of m j) ps)) c.requires.pieces;
     }

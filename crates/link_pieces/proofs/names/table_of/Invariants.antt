@@ -1,5 +1,5 @@
 use Rattle.std.proofs.Common.{◌≡◌, take}
-use Rattle.link_plan.proofs.names.table_of.Given as goal
+use Rattle.link_pieces.proofs.names.table_of.Given as goal
 
 abbrev pub invariant-loop-module : goal.invariant-loop-module
 invariant-loop-module l = l.table ≡ take l.module-index l.modules

@@ -5,8 +5,8 @@ ghost use Rattle.link_base.specs.Limits.{MODULE_LIMIT};
 ghost use Rattle.link_base.specs.Refusals.{RefusesFor};
 ghost use Rattle.symbol_table.specs.Passes.{rows_of};
 ghost use Rattle.comdat.specs.Selection.{chosen_sections};
-ghost use Rattle.link_plan.specs.NameMeaning.{name_meaning, takes_part};
-ghost use Rattle.link_plan.specs.PlanFaults.{conflict_fault, clash_fault};
+ghost use Rattle.link_pieces.specs.NameMeaning.{name_meaning, takes_part};
+ghost use Rattle.link_pieces.specs.ChoiceFaults.{conflict_fault, clash_fault};
 
 use comdat::{ChooseError, choose_all};
 use link_base::{Fault, Memory, Name, Refusal};
@@ -49,11 +49,8 @@ impl<'a> LinkNames<'a> {
     }
 }
 
-/// The names of the modules. COMDAT sections that conflict are refused.
-pub(crate) fn link_names<'a>(
-    alloc: Global,
-    modules: &[Module<'a>],
-) -> Result<LinkNames<'a>, Refusal<'a>>
+/// The names of the modules. COMDAT sections that conflict are refused (`ComdatConflict`).
+pub fn link_names<'a>(alloc: Global, modules: &[Module<'a>]) -> Result<LinkNames<'a>, Refusal<'a>>
     requires { length modules.now ≤ MODULE_LIMIT }
     ensures names { IfOk result (λ names. names ≡ modules.now) }
     ensures accepted { OnOk result (conflict_fault modules.now ≡ None) }
@@ -101,8 +98,8 @@ fn table_of<'a>(alloc: Global, modules: &[Module<'a>]) -> Result<SymbolTable<'a>
     Ok(table)
 }
 
-/// That no name is defined twice.
-pub(crate) fn check_clash<'a>(names: &LinkNames<'a>) -> Result<(), Fault<'a>>
+/// That no name is defined twice: else the input is refused (`Duplicate`).
+pub fn check_clash<'a>(names: &LinkNames<'a>) -> Result<(), Fault<'a>>
     ensures accepted { OnOk result (clash_fault names.now ≡ None) }
     ensures refused { IfErr result (λ fault. clash_fault names.now ≡ Some fault) }
 {
