@@ -6,7 +6,7 @@ ghost use Rattle.link_base.specs.NameText.{same_name};
 ghost use Rattle.link_base.specs.SectionName.{base_name};
 ghost use Rattle.coff_records.specs.ObjectFile.{section_total, section_name_of, flags_of, raw_size_of, body_of, name_in};
 ghost use Rattle.module_view.specs.PlacedSection.{comes_in};
-ghost use Rattle.module_view.specs.Unbuilt.{is_unbuilt_form, holds_directives, is_special_section, is_loader_name, is_in_comdat, is_import_reference, is_external_name, is_unbuilt_symbol};
+ghost use Rattle.module_view.specs.Unbuilt.{is_unbuilt_form, holds_directives, is_special_section, is_loader_name, is_in_no_section, is_in_comdat, is_external_name, is_unbuilt_symbol};
 
 use crate::base_name::has_base_name;
 use crate::placed_section::comes_in;
@@ -38,20 +38,27 @@ fn is_special_section(section: &Section<'_>) -> bool
         || has_base_name(&section.name, b".rsrc")
 }
 
-/// Whether a symbol has a form that is not linked yet. Its name is read only where its class and its section ask
-/// for it.
+/// Whether a symbol has a form that is not linked yet: it names an entry of the import address table and may refer to that
+/// of another module, or it is external or weak and one that the loader of a program looks for. Its name is read once, and
+/// only where its class or its section asks for it.
 #[tactic(auto, unfolding(crate::specs::Unbuilt::is_unbuilt_symbol))]
 pub(crate) fn is_unbuilt_symbol(object: &Object<'_>, symbol: &SymbolRecord<'_>) -> bool
     ensures { result ≡ is_unbuilt_symbol object.now symbol.now }
 {
-    is_import_reference(object, symbol) || is_loader_symbol(symbol)
+    let may_refer = may_refer(object, symbol);
+    let is_external = is_external_name(symbol);
+    if !may_refer && !is_external {
+        return false;
+    }
+    let name = symbol.name();
+    (may_refer && name.is_import()) || (is_external && is_loader_name(&name))
 }
 
-/// Whether a symbol names an entry of the import address table, and may refer to that of another module.
-fn is_import_reference(object: &Object<'_>, symbol: &SymbolRecord<'_>) -> bool
-    ensures { result ≡ is_import_reference object.now symbol.now }
+/// Whether a symbol stands in no section, or in a COMDAT section.
+fn may_refer(object: &Object<'_>, symbol: &SymbolRecord<'_>) -> bool
+    ensures { result ≡ (is_in_no_section symbol.now || is_in_comdat object.now symbol.now) }
 {
-    (symbol.section() == SYM_UNDEFINED || is_in_comdat(object, symbol)) && symbol.name().is_import()
+    symbol.section() == SYM_UNDEFINED || is_in_comdat(object, symbol)
 }
 
 /// Whether a symbol stands in a COMDAT section.
@@ -67,13 +74,12 @@ fn is_in_comdat(object: &Object<'_>, symbol: &SymbolRecord<'_>) -> bool
     is_section_number(object.section_count(), number) && is_comdat(object.section_flags(number))
 }
 
-/// Whether an external or weak name is one that the loader of a program looks for.
-fn is_loader_symbol(symbol: &SymbolRecord<'_>) -> bool
-    ensures { result ≡ (is_external_name symbol.now && is_loader_name (name_in symbol.now)) }
+/// Whether a symbol is external or weak.
+fn is_external_name(symbol: &SymbolRecord<'_>) -> bool
+    ensures { result ≡ is_external_name symbol.now }
 {
     let class = symbol.class();
-    (class == SYM_CLASS_EXTERNAL || class == SYM_CLASS_WEAK_EXTERNAL)
-        && is_loader_name(&symbol.name())
+    class == SYM_CLASS_EXTERNAL || class == SYM_CLASS_WEAK_EXTERNAL
 }
 
 fn is_loader_name(name: &Name<'_>) -> bool
