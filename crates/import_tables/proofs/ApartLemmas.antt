@@ -1,6 +1,6 @@
 -- No two imports share a slot, and each lies in the table of its DLL, before the entry that ends it.
-use Rattle.std.proofs.Common.{◌≡◌, ℕ, suc, ◌+◌, ◌*◌, ◌<◌, ◌≤◌, ◌⊎◌, Bool, true, false, cond, ◌||◌, List, [], ◌∷◌, ◌++◌, length, take, drop, get_or, refl, sym, ap, ◌∙◌, inl, inr, arith}
-use Rattle.std.specs.List.{list_any, sum_by, before_first, position_or_len}
+use Rattle.std.proofs.Common.{◌≡◌, ℕ, suc, ◌+◌, ◌*◌, ◌<◌, ◌≤◌, ◌⊎◌, Bool, true, false, cond, ◌||◌, List, [], ◌∷◌, length, take, drop, refl, sym, ap, ◌∙◌, inl, inr, arith}
+use Rattle.std.specs.List.{list_any, before_first, position_or_len}
 use Rattle.std.proofs.lemmas.Bool.{cases_Bool, false≢true}
 use Rattle.std.proofs.Math.Numerals.{one-add}
 use Rattle.std.proofs.lemmas.List.{take-append-drop, take-take}
@@ -13,18 +13,18 @@ use Rattle.import_tables.proofs.TallyLemmas.{count_more_row, any_more_row}
 
 -- ---- the tables of DLLs
 
-start_among : List ImportRow → List (List ℕ) → List ℕ → ℕ
+unfoldable pub start_among : List ImportRow → List (List ℕ) → List ℕ → ℕ
 start_among rows dlls name = entry_count rows (before_first (same_name name) dlls)
 
-count_front : (rows : List ImportRow) (name : List ℕ) (dlls : List (List ℕ)) → entry_count rows (name ∷ dlls) ≡ count_of name rows + 1 + entry_count rows dlls
+pub count_front : (rows : List ImportRow) (name : List ℕ) (dlls : List (List ℕ)) → entry_count rows (name ∷ dlls) ≡ count_of name rows + 1 + entry_count rows dlls
 unfolding entry_count
 count_front rows name dlls = sum_by-cons (λ (dll : List ℕ). count_of dll rows + 1) name dlls
 
-start_here : (rows : List ImportRow) (first : List ℕ) (dlls : List (List ℕ)) (name : List ℕ) → same_name name first ≡ true → start_among rows (first ∷ dlls) name ≡ 0
+pub start_here : (rows : List ImportRow) (first : List ℕ) (dlls : List (List ℕ)) (name : List ℕ) → same_name name first ≡ true → start_among rows (first ∷ dlls) name ≡ 0
 unfolding start_among entry_count
 start_here rows first dlls name same = rw same refl
 
-start_later : (rows : List ImportRow) (first : List ℕ) (dlls : List (List ℕ)) (name : List ℕ) → same_name name first ≡ false → start_among rows (first ∷ dlls) name ≡ count_of first rows + 1 + start_among rows dlls name
+pub start_later : (rows : List ImportRow) (first : List ℕ) (dlls : List (List ℕ)) (name : List ℕ) → same_name name first ≡ false → start_among rows (first ∷ dlls) name ≡ count_of first rows + 1 + start_among rows dlls name
 unfolding start_among
 start_later rows first dlls name other =
     ap (λ (n : ℕ). entry_count rows (take n (first ∷ dlls))) (first_place other) ∙ count_front rows first (before_first (same_name name) dlls)
@@ -32,7 +32,7 @@ start_later rows first dlls name other =
     first_place : same_name name first ≡ false → position_or_len (same_name name) (first ∷ dlls) ≡ suc (position_or_len (same_name name) dlls)
     first_place e = rw e (one-add (position_or_len (same_name name) dlls))
 
-any_later : (name first : List ℕ) (dlls : List (List ℕ)) → same_name name first ≡ false → list_any (same_name name) (first ∷ dlls) ≡ true → list_any (same_name name) dlls ≡ true
+pub any_later : (name first : List ℕ) (dlls : List (List ℕ)) → same_name name first ≡ false → list_any (same_name name) (first ∷ dlls) ≡ true → list_any (same_name name) dlls ≡ true
 any_later name first dlls other any = ap (λ (b : Bool). b || list_any (same_name name) dlls) (sym other) ∙ any
 
 -- a table ends within all
@@ -72,7 +72,7 @@ some_more : (name : List ℕ) (rows : List ImportRow) (k : ℕ) → list_any (is
 some_more name rows k some =
     ap (list_any (is_of name)) (sym (take-append-drop k rows)) ∙ (list_any-append (is_of name) (take k rows) (drop k rows) ∙ ap (λ (b : Bool). b || list_any (is_of name) (drop k rows)) some)
 
-listed : (rows : List ImportRow) (k : ℕ) → k < length rows → list_any (same_name (dll_at rows k)) (dlls_of rows) ≡ true
+pub listed : (rows : List ImportRow) (k : ℕ) → k < length rows → list_any (same_name (dll_at rows k)) (dlls_of rows) ≡ true
 listed rows k lt =
     any_dll (dll_at rows k) rows
     ∙ some_more (dll_at rows k) rows (k + 1) (any_more_row rows k (dll_at rows k) lt ∙ (ap (λ (b : Bool). list_any (is_of (dll_at rows k)) (take k rows) || b) (same_refl (dll_at rows k)) ∙ or_there (list_any (is_of (dll_at rows k)) (take k rows))))
@@ -81,11 +81,11 @@ listed rows k lt =
     or_there true = refl
     or_there false = refl
 
-count_grows : (name : List ℕ) (rows : List ImportRow) (k : ℕ) → count_of name (take k rows) ≤ count_of name rows
+pub count_grows : (name : List ℕ) (rows : List ImportRow) (k : ℕ) → count_of name (take k rows) ≤ count_of name rows
 unfolding count_of
 count_grows name rows k = sum_by-take-le (λ (row : ImportRow). cond (is_of name row) 1 0) rows k
 
-counts_itself : (rows : List ImportRow) (k : ℕ) → k < length rows → count_of (dll_at rows k) (take (k + 1) rows) ≡ count_of (dll_at rows k) (take k rows) + 1
+pub counts_itself : (rows : List ImportRow) (k : ℕ) → k < length rows → count_of (dll_at rows k) (take (k + 1) rows) ≡ count_of (dll_at rows k) (take k rows) + 1
 counts_itself rows k lt =
     count_more_row rows k (dll_at rows k) lt ∙ ap (λ (b : Bool). count_of (dll_at rows k) (take k rows) + cond b 1 0) (same_refl (dll_at rows k))
 

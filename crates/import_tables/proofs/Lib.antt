@@ -4,4 +4,8 @@ pub mod DllLemmas
 pub mod TallyLemmas
 pub mod SlotLemmas
 mod WorkedShapes
+mod WorkedTables
 pub mod ApartLemmas
+pub mod EntryLemmas
+pub mod FillLemmas
+pub mod DirectoryLemmas

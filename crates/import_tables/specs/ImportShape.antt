@@ -52,6 +52,9 @@ no_row = record { dll = []; by = Ordinal 0 }
 abbrev pub dll_at : List ImportRow → ℕ → List ℕ
 dll_at rows index = (slice_index_or rows index no_row).dll
 
+abbrev pub by_at : List ImportRow → ℕ → ImportBy
+by_at rows index = (slice_index_or rows index no_row).by
+
 -- the offset of an import's slot, by its index
 unfoldable pub slot_offset : List ImportRow → ℕ → ℕ
 slot_offset rows index = SIZEOF_LOOKUP_ENTRY * entry_behind rows (take index rows) (dll_at rows index)

@@ -1,4 +1,5 @@
 pub mod Constants
 pub mod ImportDirectory
 pub mod ImportShape
+pub mod ImportTables
 pub mod Tallies

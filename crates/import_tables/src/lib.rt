@@ -1,11 +1,12 @@
 //! The import tables of an image, by which a loader finds what each import stands for in its DLL. It takes the bytes of a
-//! mapped image and gives the imports that its directory names; and it takes imports and gives the sizes of their tables
-//! and where each slot stands, to the crates that make images. Its contracts promise that all imports are read, in order,
-//! that a directory is refused exactly where it leaves the memory, and that the imports of a DLL stand together. The bytes
-//! of the tables are left to others.
+//! mapped image and gives the imports that its directory names; and it takes imports and gives the sizes of their tables,
+//! where each slot stands, and the bytes of the tables, to the crates that make images. Its contracts promise that all
+//! imports are read, in order, that a directory is refused exactly where it leaves the memory, and each byte of the tables,
+//! where the imports of a DLL stand together. Which imports an image has, and where its tables stand, is left to others.
 #![tactic(auto)]
 
 mod extent;
+mod filling;
 mod format;
 mod found;
 mod laws;
@@ -14,6 +15,7 @@ mod reading;
 mod row;
 mod shaping;
 
+pub use filling::fill;
 pub use found::{ImportFound, TableError};
 pub use laws::{more_is_never_read, slots_stand_apart};
 pub use reading::read_imports;
