@@ -77,16 +77,16 @@ names_grow rows k = omega (arith, ap names_size (all_dlls rows k), names_fold (d
 
 pub lookups_below : (rows : List ImportRow) (rvas : List ℕ) (k slot : ℕ) → EndBelow4G rvas (sizes_of rows) → k < length rows → slot ≡ slot_offset rows k → slice_index rvas 1 + slot < 2 ^ 32
 unfolding sizes_of extent_of slot_offset
-lookups_below rows rvas k slot below lt is = omega (arith, is, below 1 (omega arith), entry_in_order rows k lt)
+lookups_below rows rvas k slot below lt is = omega (arith, is, below.lookups, entry_in_order rows k lt)
 
 pub slots_below : (rows : List ImportRow) (rvas : List ℕ) (k slot : ℕ) → EndBelow4G rvas (sizes_of rows) → k < length rows → slot ≡ slot_offset rows k → slice_index rvas 2 + slot < 2 ^ 32
 unfolding sizes_of extent_of slot_offset
-slots_below rows rvas k slot below lt is = omega (arith, is, below 2 (omega arith), entry_in_order rows k lt)
+slots_below rows rvas k slot below lt is = omega (arith, is, below.slots, entry_in_order rows k lt)
 
 pub names_below : (rows : List ImportRow) (rvas names : List ℕ) (k : ℕ) → EndBelow4G rvas (sizes_of rows) → names ≡ name_table (dlls_of (take k rows)) → slice_index rvas 4 + length names < 2 ^ 32
 unfolding sizes_of extent_of
 names_below rows rvas names k below is =
-    omega (arith, ap length is, length_names (dlls_of (take k rows)), names_grow rows k, below 4 (omega arith))
+    omega (arith, ap length is, length_names (dlls_of (take k rows)), names_grow rows k, below.names)
 
 -- ---- descriptors
 

@@ -9,3 +9,4 @@ pub mod ApartLemmas
 pub mod EntryLemmas
 pub mod FillLemmas
 pub mod DirectoryLemmas
+pub mod SizeLemmas

@@ -27,8 +27,12 @@ abbrev pub names_rva : List ℕ → ℕ
 names_rva rvas = slice_index rvas 4
 
 -- each table ends below 2^32
-abbrev pub EndBelow4G : List ℕ → List ℕ → Type 0
-EndBelow4G rvas sizes = (table : ℕ) → table < 5 → slice_index rvas table + slice_index sizes table < 2 ^ 32
+pub record EndBelow4G (rvas sizes : List ℕ) : Type 0 where
+  pub directory : slice_index rvas 0 + slice_index sizes 0 < 2 ^ 32
+  pub lookups : lookups_rva rvas + slice_index sizes 1 < 2 ^ 32
+  pub slots : slots_rva rvas + slice_index sizes 2 < 2 ^ 32
+  pub hints : hints_rva rvas + slice_index sizes 3 < 2 ^ 32
+  pub names : names_rva rvas + slice_index sizes 4 < 2 ^ 32
 
 -- ---- texts
 

@@ -1,7 +1,8 @@
-//! The imports of a small mapped image, where others leave the memory, and the sizes of tables.
+//! The imports of a small mapped image, where others leave the memory, and the sizes of tables and their bytes.
 
 ghost use Rattle.import_tables.specs.ImportShape.{AreWithinLimits};
 
+use crate::filling::fill;
 use crate::found::TableError;
 use crate::reading::read_imports;
 use crate::row::ImportRow;
@@ -130,5 +131,54 @@ fn imports_of_one_dll_stand_together(rt: HostRuntime) -> Result<(), Fail> {
     let none = shape(rt.alloc(), &[]).map_err(|_| "no memory")?;
     assert_eq!(rt; none.lengths, [0; 5]);
     assert!(rt; none.slots.is_empty());
+    Ok(())
+}
+
+/// Where the tables of the imports of two DLLs are to stand: in 60, 40, 40, 10 and 12 bytes.
+const RVAS: [u32; 5] = [0x10, 0x50, 0x80, 0xb0, 0xc0];
+
+/// A mapped image that holds the tables alone.
+fn image_of_two_dlls(alloc: Global) -> Result<Vec<u8>, Fail> {
+    let rows = two_dlls();
+    let sizes = shape(alloc, &rows).map_err(|_| "no memory")?;
+    let [directory, lookups, slots, hints, names] = sizes.lengths;
+    if directory > 60 || lookups > 40 || slots > 40 {
+        return Err("no room".into());
+    }
+    if hints > 10 || names > 12 {
+        return Err("no room".into());
+    }
+    let tables = fill(alloc, &rows, &sizes, RVAS).map_err(|_| "no memory")?;
+    let mut memory = Vec::new(alloc);
+    for (rva, table) in RVAS.iter().zip(tables.iter()) {
+        memory.resize(*rva as usize, 0).map_err(|_| "no memory")?;
+        memory.extend_from_slice(table).map_err(|_| "no memory")?;
+    }
+    Ok(memory)
+}
+
+/// A table is read back at its RVA, and the imports of one DLL follow one another.
+#[test]
+fn tables_are_read_back(rt: HostRuntime) -> Result<(), Fail> {
+    let memory = image_of_two_dlls(rt.alloc())?;
+    assert_eq!(rt; memory.len(), 0xcc);
+    let found = read_imports(rt.alloc(), &memory, RVAS[0]).map_err(|_| "refused")?;
+    let wanted: [(&[u8], Option<&[u8]>, u32); 3] = [
+        (b"a.dll", Some(b"f"), 0x80),
+        (b"a.dll", Some(b"gg"), 0x88),
+        (b"k.dll", None, 0x98),
+    ];
+    assert_eq!(rt; found.len(), wanted.len());
+    for ((dll, name, slot), import) in wanted.iter().zip(found.iter()) {
+        assert!(rt; import.dll == Name::of(dll));
+        assert_eq!(rt; import.slot, *slot);
+        match (&import.by, name) {
+            (ImportBy::Ordinal(number), None) => assert_eq!(rt; *number, 7),
+            (ImportBy::Named { name: found, .. }, Some(name)) => assert!(rt;
+                *found == Name::of(name)
+            ),
+            _ => return Err("another kind".into()),
+        }
+    }
     Ok(())
 }
