@@ -10,3 +10,6 @@ pub mod EntryLemmas
 pub mod FillLemmas
 pub mod DirectoryLemmas
 pub mod SizeLemmas
+pub mod HeldLemmas
+pub mod ReadBackLemmas
+pub mod DirectoryReadLemmas

@@ -25,7 +25,7 @@ length_descriptor : (lookups name slots : ℕ) → length (descriptor lookups na
 unfolding descriptor number_bytes
 length_descriptor lookups name slots = refl
 
-length_dll_descriptor : (rows : List ImportRow) (rvas dll : List ℕ) → length (dll_descriptor rows rvas dll) ≡ 20
+pub length_dll_descriptor : (rows : List ImportRow) (rvas dll : List ℕ) → length (dll_descriptor rows rvas dll) ≡ 20
 unfolding dll_descriptor
 length_dll_descriptor rows rvas dll = length_descriptor _ _ _
 
@@ -66,7 +66,7 @@ length_numbers (number ∷ numbers) =
       length_numbers numbers,
     )
 
-length_entries : (rows : List ImportRow) → length (entries_in_order rows) ≡ entry_count rows (dlls_of rows)
+pub length_entries : (rows : List ImportRow) → length (entries_in_order rows) ≡ entry_count rows (dlls_of rows)
 length_entries rows =
     ap length (sym (all_so_far rows (length rows) (omega arith))) ∙ length_so_far rows (length rows) (dlls_of rows)
 
@@ -206,7 +206,7 @@ sum_all dlls (row ∷ rows) all =
       sum_all dlls rows all.1,
     )
 
-length_hints : (rows : List ImportRow) → length (hint_table (entries_in_order rows)) ≡ hints_size rows
+pub length_hints : (rows : List ImportRow) → length (hint_table (entries_in_order rows)) ≡ hints_size rows
 unfolding entries_in_order hints_size size_in
 length_hints rows =
     length_among rows (dlls_of rows) (dlls_distinct rows)

@@ -4,8 +4,10 @@ use Rattle.std.specs.Prelude.{codes}
 use Rattle.link_base.specs.Bytes.{number_bytes}
 use Rattle.short_import.specs.declared.import.ImportBy.TheVariants as by
 use Rattle.import_tables.specs.declared.row.ImportRow.{ImportRow}
+use Rattle.import_tables.specs.ImportDirectory.{import_of}
 use Rattle.import_tables.specs.ImportShape.{dlls_of, count_of, entry_count, table_start, slot_offset, slots_of, names_size, extent_of, hints_size, sizes_of}
 use Rattle.import_tables.specs.ImportTables.{entries_in_order, hint_table, number_at_place, entry_numbers, number_table, name_start, descriptor, dll_descriptor, directory_table, name_table, tables_of}
+use Rattle.import_tables.specs.ReadBack.{found_of}
 
 imports : List ImportRow
 imports =
@@ -27,7 +29,11 @@ imports-tables : tables_of imports (0x2000 ∷ 0x2028 ∷ 0x2040 ∷ 0x2058 ∷ 
 unfolding imports zeros numbers directory number_bytes dlls_of count_of entry_count table_start names_size entries_in_order hint_table number_at_place entry_numbers number_table name_start descriptor dll_descriptor directory_table name_table tables_of
 imports-tables = refl
 
--- the slots at 0x2040 and 0x2048
+-- their slots are found at 0x2040 and 0x2048
+imports-found : found_of imports (0x2000 ∷ 0x2028 ∷ 0x2040 ∷ 0x2058 ∷ 0x205c ∷ []) ≡ import_of (codes "k.dll") (by.Ordinal 7) 0x2040 ∷ import_of (codes "k.dll") (by.Named 3 (codes "f")) 0x2048 ∷ []
+unfolding imports dlls_of count_of entry_count table_start found_of
+imports-found = refl
+
 imports-slots : slots_of imports ≡ 0 ∷ 8 ∷ []
 unfolding imports dlls_of count_of entry_count table_start slot_offset slots_of
 imports-slots = refl

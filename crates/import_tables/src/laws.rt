@@ -1,8 +1,10 @@
 //! Laws of the definitions, each the contract of a function that does nothing.
 
-ghost use Rattle.std.specs.Prelude.{◌≡◌, ◌<◌, ◌≤◌, ◌+◌, ◌*◌, ◌⊎◌, ℕ, List, length};
-ghost use Rattle.import_tables.specs.ImportDirectory.{entries_from, entries_of, descriptors_from};
-ghost use Rattle.import_tables.specs.ImportShape.{dlls_of, dll_at, count_of, entry_count, table_start, slot_offset};
+ghost use Rattle.std.specs.Prelude.{◌≡◌, ◌<◌, ◌≤◌, ◌+◌, ◌*◌, ◌⊎◌, ℕ, List, length, slice_index};
+ghost use Rattle.import_tables.specs.ImportDirectory.{Imports, entries_from, entries_of, descriptors_from, imports_of};
+ghost use Rattle.import_tables.specs.ImportShape.{dlls_of, dll_at, count_of, entry_count, table_start, slot_offset, sizes_of};
+ghost use Rattle.import_tables.specs.ImportTables.{EndBelow4G};
+ghost use Rattle.import_tables.specs.ReadBack.{HoldsTables, StandAboveZero, AreReadable, found_of};
 
 use crate::row::ImportRow;
 
@@ -27,4 +29,12 @@ pub fn slots_stand_apart()
         × (slot_offset rows k + 8 ≤ 8 * (table_start rows (dll_at rows k) + count_of (dll_at rows k) rows)) }
     ensures tables { (rows : List ImportRow) (k : ℕ) → k < length rows
         → 8 * (table_start rows (dll_at rows k) + count_of (dll_at rows k) rows) + 8 ≤ 8 * entry_count rows (dlls_of rows) }
+{}
+
+/// What is found in a mapped image that holds the tables of some imports is these imports, DLL by DLL, each with its slot. No
+/// name has a NUL, ordinals and hints fit their fields, the tables end below 2^32, and none that has bytes stands at RVA 0.
+#[tactic(auto, using(crate::proofs::DirectoryReadLemmas::tables_read_back))]
+pub fn filled_tables_are_read_back()
+    ensures { (rows : List ImportRow) (rvas memory : List ℕ) → 0 < length rows → AreReadable rows → EndBelow4G rvas (sizes_of rows) → StandAboveZero rows rvas
+        → HoldsTables memory rows rvas → imports_of memory (slice_index rvas 0) ≡ Imports (found_of rows rvas) }
 {}

@@ -17,7 +17,7 @@ mod shaping;
 
 pub use filling::fill;
 pub use found::{ImportFound, TableError};
-pub use laws::{more_is_never_read, slots_stand_apart};
+pub use laws::{filled_tables_are_read_back, more_is_never_read, slots_stand_apart};
 pub use reading::read_imports;
 pub use row::{ImportRow, ImportShape};
 pub use shaping::shape;
