@@ -5,3 +5,9 @@ pub mod OrdinalLemmas
 pub mod AssignedLemmas
 pub mod WorkedDirectory
 pub mod WorkedOrdinals
+pub mod SortLemmas
+pub mod TargetLemmas
+pub mod EntryLemmas
+pub mod FillLemmas
+pub mod WorkedTable
+pub mod LengthLemmas

@@ -6,7 +6,7 @@ ghost use Rattle.export_tables.specs.ExportDirectory.{directory_in, is_forwarder
 use link_base::{field_u32, u32_in};
 
 /// The bytes of a directory (PE Format, "Export Directory Table").
-const SIZEOF_EXPORT_DIRECTORY: usize = 40;
+pub(crate) const SIZEOF_EXPORT_DIRECTORY: usize = 40;
 
 /// A directory: where it stands, the least ordinal, the numbers of addresses and names, and the RVAs of the addresses, of the
 /// RVAs of names, and of the indexes of their addresses.

@@ -1,4 +1,5 @@
-//! Small directories and the ordinals of a few exports.
+//! Small directories, read and written, and the ordinals of a few exports.
 
+mod filling;
 mod lookup;
 mod ordinals;

@@ -1,0 +1,38 @@
+-- The table of a DLL `c.dll` at RVA 0x2000, which exports what stands at 0x1000 as `api` and by the ordinal 1; and that of
+-- `a.dll`, which exports a forwarder by the name `a` and the ordinal 6, and what stands at 0x1000 by the ordinal 5 alone.
+use Rattle.std.proofs.Common.{◌≡◌, List, [], ◌∷◌, ◌++◌, Some, None, true, false, refl, codes}
+use Rattle.link_base.specs.Bytes.{number_bytes}
+use Rattle.export_tables.specs.declared.row.ExportRow.{ExportRow}
+use Rattle.export_tables.specs.declared.row.ExportTo.TheVariants.{Rva, Forward}
+use Rattle.export_tables.specs.Order.{inserted, in_order}
+use Rattle.export_tables.specs.ExportTable.{target_in, targets_in, entries_before, names_of, rows_size, table_size, text_rva, addresses, name_rvas, tables_bytes, texts_bytes, export_table}
+
+one : List ExportRow
+one = record { name = codes "api"; ordinal = None; noname = false; what = Rva 0x1000 } ∷ []
+
+one_size : table_size one (1 ∷ []) (codes "c.dll") ≡ 0x3C
+unfolding one rows_size table_size
+one_size = refl
+
+one_table : export_table one (1 ∷ []) (codes "c.dll") 0x2000
+    ≡ 0 ∷ 0 ∷ 0 ∷ 0 ∷ 0 ∷ 0 ∷ 0 ∷ 0 ∷ 0 ∷ 0 ∷ 0 ∷ 0 ∷ 0x32 ∷ 0x20 ∷ 0 ∷ 0 ∷ 1 ∷ 0 ∷ 0 ∷ 0 ∷
+    1 ∷ 0 ∷ 0 ∷ 0 ∷ 1 ∷ 0 ∷ 0 ∷ 0 ∷ 0x28 ∷ 0x20 ∷ 0 ∷ 0 ∷ 0x2C ∷ 0x20 ∷ 0 ∷ 0 ∷ 0x30 ∷ 0x20 ∷ 0 ∷ 0 ∷
+    0x00 ∷ 0x10 ∷ 0 ∷ 0 ∷ 0x38 ∷ 0x20 ∷ 0 ∷ 0 ∷ 0 ∷ 0 ∷ codes "c.dll" ++ 0 ∷ codes "api" ++ 0 ∷ []
+unfolding one target_in targets_in inserted in_order entries_before names_of rows_size table_size text_rva number_bytes addresses name_rvas tables_bytes texts_bytes export_table
+one_table = refl
+
+two : List ExportRow
+two =
+    record { name = codes "a"; ordinal = None; noname = false; what = Forward (codes "k.f") }
+    ∷ record { name = codes "main"; ordinal = Some 5; noname = true; what = Rva 0x1000 } ∷ []
+
+two_size : table_size two (6 ∷ 5 ∷ []) (codes "a.dll") ≡ 0x42
+unfolding two rows_size table_size
+two_size = refl
+
+two_table : export_table two (6 ∷ 5 ∷ []) (codes "a.dll") 0x2000
+    ≡ 0 ∷ 0 ∷ 0 ∷ 0 ∷ 0 ∷ 0 ∷ 0 ∷ 0 ∷ 0 ∷ 0 ∷ 0 ∷ 0 ∷ 0x36 ∷ 0x20 ∷ 0 ∷ 0 ∷ 5 ∷ 0 ∷ 0 ∷ 0 ∷
+    2 ∷ 0 ∷ 0 ∷ 0 ∷ 1 ∷ 0 ∷ 0 ∷ 0 ∷ 0x28 ∷ 0x20 ∷ 0 ∷ 0 ∷ 0x30 ∷ 0x20 ∷ 0 ∷ 0 ∷ 0x34 ∷ 0x20 ∷ 0 ∷ 0 ∷
+    0x00 ∷ 0x10 ∷ 0 ∷ 0 ∷ 0x3E ∷ 0x20 ∷ 0 ∷ 0 ∷ 0x3C ∷ 0x20 ∷ 0 ∷ 0 ∷ 1 ∷ 0 ∷ codes "a.dll" ++ 0 ∷ codes "a" ++ 0 ∷ codes "k.f" ++ 0 ∷ []
+unfolding two target_in targets_in inserted in_order entries_before names_of rows_size table_size text_rva number_bytes addresses name_rvas tables_bytes texts_bytes export_table
+two_table = refl
