@@ -4,3 +4,5 @@ pub mod SectionLemmas
 pub mod SymbolLemmas
 pub mod OpeningLemmas
 pub mod AuxLemmas
+pub mod DirectiveLemmas
+pub mod CountLemmas

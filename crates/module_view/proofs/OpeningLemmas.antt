@@ -9,28 +9,37 @@ use Rattle.coff_object.specs.ObjectFaults.{object_fault}
 use Rattle.coff_object.specs.declared.error.ObjError.{ObjError}
 use Rattle.module_view.specs.declared.error.ModuleError.{ModuleError}
 use Rattle.module_view.specs.declared.error.ModuleError.TheVariants as error
-use Rattle.module_view.specs.Unbuilt.{has_unbuilt_section, has_unbuilt_symbol}
-use Rattle.module_view.specs.Opening.{opening_error, form_error, content_error, unsupported, has_linker_section, has_long_section_name, has_long_symbol_name, RefusesToOpen}
+use Rattle.directives.specs.declared.item.BadDirective.{BadDirective}
+use Rattle.module_view.specs.ModuleDirectives.{bad_directive}
+use Rattle.module_view.specs.Unbuilt.{has_unbuilt_section, has_unbuilt_symbol, has_unbuilt_directive}
+use Rattle.module_view.specs.Opening.{opening_error, form_error, content_error, unsupported, has_linker_section, has_long_section_name, has_long_symbol_name, bad_directive_error, directive_error, RefusesToOpen}
 use Rattle.coff_aux.specs.AuxFaults.{aux_fault}
 use Rattle.module_view.specs.Steps.{section_form}
 use Rattle.link_base.proofs.RefusalLemmas.{or_none}
 
 -- ---- sections, then symbols
 
-in_stages : (linker long_section long_symbol unbuilt : Bool) (fault : Option ModuleError) → first_standing (unsupported linker form.LinkerSection ∷ unsupported (long_section || long_symbol) form.LongName ∷ fault ∷ unsupported unbuilt form.NotBuilt ∷ []) ≡ option_or (option_map error.Unsupported (first_standing (shown linker form.LinkerSection ∷ shown long_section form.LongName ∷ []))) (first_standing (unsupported long_symbol form.LongName ∷ fault ∷ unsupported unbuilt form.NotBuilt ∷ []))
-in_stages true long_section long_symbol unbuilt fault = refl
-in_stages false true long_symbol unbuilt fault = refl
-in_stages false false long_symbol unbuilt fault = refl
+in_stages : (linker long_section long_symbol : Bool) (later : List (Option ModuleError)) → first_standing (unsupported linker form.LinkerSection ∷ unsupported (long_section || long_symbol) form.LongName ∷ later) ≡ option_or (option_map error.Unsupported (first_standing (shown linker form.LinkerSection ∷ shown long_section form.LongName ∷ []))) (first_standing (unsupported long_symbol form.LongName ∷ later))
+in_stages true long_section long_symbol later = refl
+in_stages false true long_symbol later = refl
+in_stages false false long_symbol later = refl
+
+abbrev unbuilt_error : List ℕ → Option ModuleError
+unbuilt_error bytes =
+    unsupported (has_unbuilt_section bytes || (has_unbuilt_symbol bytes || has_unbuilt_directive bytes)) form.NotBuilt
+
+-- what is shown after names
+abbrev last_errors : List ℕ → List (Option ModuleError)
+last_errors bytes = option_map error.Object (aux_fault bytes) ∷ directive_error bytes ∷ unbuilt_error bytes ∷ []
 
 -- what is shown after sections
 abbrev later_error : List ℕ → Option ModuleError
-later_error bytes =
-    first_standing (unsupported (has_long_symbol_name bytes) form.LongName ∷ option_map error.Object (aux_fault bytes) ∷ unsupported (has_unbuilt_section bytes || has_unbuilt_symbol bytes) form.NotBuilt ∷ [])
+later_error bytes = first_standing (unsupported (has_long_symbol_name bytes) form.LongName ∷ last_errors bytes)
 
 content_by : (bytes : List ℕ) → content_error bytes ≡ option_or (option_map error.Unsupported (section_form bytes)) (later_error bytes)
 unfolding content_error section_form
 content_by bytes =
-    in_stages (has_linker_section bytes) (has_long_section_name bytes) (has_long_symbol_name bytes) (has_unbuilt_section bytes || has_unbuilt_symbol bytes) (option_map error.Object (aux_fault bytes))
+    in_stages (has_linker_section bytes) (has_long_section_name bytes) (has_long_symbol_name bytes) (last_errors bytes)
 
 -- ---- the stages
 
@@ -58,36 +67,52 @@ by_later bytes form sound sections =
     by_contents bytes form sound ∙ content_by bytes
     ∙ ap (λ (o : Option Kind). option_or (option_map error.Unsupported o) (later_error bytes)) sections
 
-refuses_earlier : (stands : Bool) (later : Option ModuleError) (e : ModuleError) → RefusesToOpen (unsupported stands form.LongName) e → RefusesToOpen (option_or (unsupported stands form.LongName) later) e
-refuses_earlier true later e h = h
-refuses_earlier false later (error.Object fault) h = absurd cc
-refuses_earlier false later (error.Unsupported kind) h = absurd cc
-refuses_earlier false later error.Memory h = tt
+refuses_earlier : (earlier later : Option ModuleError) (e : ModuleError) → RefusesToOpen earlier e → RefusesToOpen (option_or earlier later) e
+refuses_earlier earlier later (error.Object fault) h = rw h refl
+refuses_earlier earlier later (error.Directive at) h = rw h refl
+refuses_earlier earlier later (error.Unsupported kind) h = rw h refl
+refuses_earlier earlier later error.Memory h = tt
 
 pub refused_symbols : (bytes : List ℕ) (e : ModuleError) → None ≡ form_error bytes → object_fault bytes ≡ None → section_form bytes ≡ None → RefusesToOpen (unsupported (has_long_symbol_name bytes) form.LongName) e → RefusesToOpen (opening_error bytes) e
 refused_symbols bytes e read sound sections h =
     subst (λ (o : Option ModuleError). RefusesToOpen o e) (sym (by_later bytes read sound sections))
-    (refuses_earlier (has_long_symbol_name bytes) (first_standing (option_map error.Object (aux_fault bytes) ∷ unsupported (has_unbuilt_section bytes || has_unbuilt_symbol bytes) form.NotBuilt ∷ [])) e h)
+    (refuses_earlier (unsupported (has_long_symbol_name bytes) form.LongName) (first_standing (last_errors bytes)) e h)
 
--- no name is too long: a fault of auxiliary records stands, or what is not linked yet
-by_aux : (bytes : List ℕ) → None ≡ form_error bytes → object_fault bytes ≡ None → section_form bytes ≡ None → has_long_symbol_name bytes ≡ false → opening_error bytes ≡ option_or (option_map error.Object (aux_fault bytes)) (unsupported (has_unbuilt_section bytes || has_unbuilt_symbol bytes) form.NotBuilt)
+-- no name is too long: a fault of auxiliary records stands, or what is shown after them
+by_aux : (bytes : List ℕ) → None ≡ form_error bytes → object_fault bytes ≡ None → section_form bytes ≡ None → has_long_symbol_name bytes ≡ false → opening_error bytes ≡ first_standing (last_errors bytes)
 by_aux bytes read sound sections short =
-    by_later bytes read sound sections ∙ rw short (ap (option_or (option_map error.Object (aux_fault bytes))) (or_none (unsupported (has_unbuilt_section bytes || has_unbuilt_symbol bytes) form.NotBuilt)))
-
-refuses_fault : (fault : Option ObjError) (later : Option ModuleError) (e : ModuleError) → RefusesToOpen (option_map error.Object fault) e → RefusesToOpen (option_or (option_map error.Object fault) later) e
-refuses_fault (Some fault) later e h = h
-refuses_fault None later (error.Object fault) h = absurd cc
-refuses_fault None later (error.Unsupported kind) h = absurd cc
-refuses_fault None later error.Memory h = tt
+    by_later bytes read sound sections
+    ∙ ap (λ (b : Bool). option_or (unsupported b form.LongName) (first_standing (last_errors bytes))) short
 
 pub refused_aux : (bytes : List ℕ) (e : ModuleError) → None ≡ form_error bytes → object_fault bytes ≡ None → section_form bytes ≡ None → has_long_symbol_name bytes ≡ false → RefusesToOpen (option_map error.Object (aux_fault bytes)) e → RefusesToOpen (opening_error bytes) e
 refused_aux bytes e read sound sections short h =
     subst (λ (o : Option ModuleError). RefusesToOpen o e) (sym (by_aux bytes read sound sections short))
-    (refuses_fault (aux_fault bytes) (unsupported (has_unbuilt_section bytes || has_unbuilt_symbol bytes) form.NotBuilt) e h)
+    (refuses_earlier (option_map error.Object (aux_fault bytes)) (first_standing (directive_error bytes ∷ unbuilt_error bytes ∷ [])) e h)
 
--- the auxiliary records are well formed: only what is not linked yet is refused
-pub by_unbuilt : (bytes : List ℕ) (sections symbols unbuilt : Bool) → None ≡ form_error bytes → object_fault bytes ≡ None → section_form bytes ≡ None → has_long_symbol_name bytes ≡ false → aux_fault bytes ≡ None → sections ≡ has_unbuilt_section bytes → symbols ≡ has_unbuilt_symbol bytes → (sections || symbols) ≡ unbuilt → opening_error bytes ≡ unsupported unbuilt form.NotBuilt
-by_unbuilt bytes sections symbols unbuilt read sound shown_none short aux first second is =
-    by_aux bytes read sound shown_none short
-    ∙ ap (λ (o : Option ObjError). option_or (option_map error.Object o) (unsupported (has_unbuilt_section bytes || has_unbuilt_symbol bytes) form.NotBuilt)) aux
-    ∙ ap (λ (b : Bool). unsupported b form.NotBuilt) (ap (λ (b : Bool). b || has_unbuilt_symbol bytes) (sym first) ∙ ap (λ (b : Bool). sections || b) (sym second) ∙ is)
+-- the auxiliary records are well formed: a malformed directive stands, or what is not linked yet
+by_directives : (bytes : List ℕ) → None ≡ form_error bytes → object_fault bytes ≡ None → section_form bytes ≡ None → has_long_symbol_name bytes ≡ false → aux_fault bytes ≡ None → opening_error bytes ≡ option_or (directive_error bytes) (unbuilt_error bytes)
+by_directives bytes read sound sections short aux =
+    by_aux bytes read sound sections short
+    ∙ ap (λ (o : Option ObjError). option_or (option_map error.Object o) (first_standing (directive_error bytes ∷ unbuilt_error bytes ∷ []))) aux
+    ∙ ap (option_or (directive_error bytes)) (or_none (unbuilt_error bytes))
+
+pub refused_directive : (bytes : List ℕ) (e : ModuleError) → None ≡ form_error bytes → object_fault bytes ≡ None → section_form bytes ≡ None → has_long_symbol_name bytes ≡ false → aux_fault bytes ≡ None → RefusesToOpen (directive_error bytes) e → RefusesToOpen (opening_error bytes) e
+refused_directive bytes e read sound sections short aux h =
+    subst (λ (o : Option ModuleError). RefusesToOpen o e) (sym (by_directives bytes read sound sections short aux))
+    (refuses_earlier (directive_error bytes) (unbuilt_error bytes) e h)
+
+or_or : (a b c : Bool) → (a || (b || c)) ≡ ((a || b) || c)
+or_or true b c = refl
+or_or false b c = refl
+
+-- the directives are well formed: only what is not linked yet is refused
+pub by_unbuilt : (bytes : List ℕ) (sections symbols directives unbuilt : Bool) → None ≡ form_error bytes → object_fault bytes ≡ None → section_form bytes ≡ None → has_long_symbol_name bytes ≡ false → aux_fault bytes ≡ None → bad_directive bytes ≡ None → sections ≡ has_unbuilt_section bytes → symbols ≡ has_unbuilt_symbol bytes → directives ≡ has_unbuilt_directive bytes → ((sections || symbols) || directives) ≡ unbuilt → opening_error bytes ≡ unsupported unbuilt form.NotBuilt
+by_unbuilt bytes sections symbols directives unbuilt read sound shown_none short aux well first second third is =
+    by_directives bytes read sound shown_none short aux
+    ∙ ap (λ (o : Option BadDirective). option_or (option_map bad_directive_error o) (unbuilt_error bytes)) well
+    ∙ ap (λ (b : Bool). unsupported b form.NotBuilt)
+    (ap (λ (b : Bool). b || (has_unbuilt_symbol bytes || has_unbuilt_directive bytes)) (sym first)
+    ∙ ap (λ (b : Bool). sections || (b || has_unbuilt_directive bytes)) (sym second)
+    ∙ ap (λ (b : Bool). sections || (symbols || b)) (sym third)
+    ∙ or_or sections symbols directives
+    ∙ is)

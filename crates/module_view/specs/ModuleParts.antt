@@ -1,5 +1,5 @@
 -- What a module keeps beside its bytes. Own.
-use Rattle.std.specs.Prelude.{◌≡◌, ℕ, false, List, slice_index_or, None}
+use Rattle.std.specs.Prelude.{◌≡◌, ℕ, false, List, map, slice_index_or, None}
 use Rattle.coff_records.specs.ObjectFile.{starts_symbol}
 use Rattle.coff_aux.specs.declared.comdat.SectionSymbols.{SectionSymbols}
 use Rattle.coff_aux.specs.Steps.{KeepsSymbols}
@@ -7,13 +7,16 @@ use Rattle.module_view.specs.declared.input_module.Origin.{Origin}
 use Rattle.module_view.specs.declared.symbols.SymbolLists.{SymbolLists}
 use Rattle.module_view.specs.Module.{ModuleView}
 use Rattle.module_view.specs.SymbolLists.{definitions_of, references_of, weaks_of, commons_of}
+use Rattle.directives.specs.Said.{said}
+use Rattle.directives.specs.declared.item.Directive.{Directive}
+use Rattle.module_view.specs.ModuleDirectives.{module_directives}
 use Rattle.module_view.specs.Opening.{opening_error}
 
 abbrev pub view_of : Origin → List ℕ → ModuleView
 view_of origin bytes = record { file = origin.file; member = origin.member; bytes = bytes }
 
 -- the bytes open, and the object and the lists are those of the bytes
-pub record KeepsLists (bytes object : List ℕ) (lists : SymbolLists) (symbols : List SectionSymbols) : Type 0 where
+pub record KeepsLists (bytes object : List ℕ) (lists : SymbolLists) (symbols : List SectionSymbols) (directives : List Directive) : Type 0 where
   pub opened : opening_error bytes ≡ None
   pub viewed : object ≡ bytes
   pub defined : lists.definitions.items ≡ definitions_of bytes
@@ -22,3 +25,4 @@ pub record KeepsLists (bytes object : List ℕ) (lists : SymbolLists) (symbols :
   pub common : lists.commons.items ≡ commons_of bytes
   pub started : (symbol : ℕ) → slice_index_or lists.starts.items symbol false ≡ starts_symbol bytes symbol
   pub comdats : KeepsSymbols bytes symbols
+  pub said_are : map said directives ≡ module_directives bytes

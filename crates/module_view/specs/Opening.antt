@@ -1,6 +1,6 @@
 -- Which bytes do not open as a module, and why: the forms that the first bytes show, then the faults of the object, then
--- the forms that its names show, then the faults of auxiliary records, then the forms that are not linked yet. The order is
--- own.
+-- the forms that its names show, then the faults of auxiliary records, then malformed directives, then the forms that are not
+-- linked yet. The order is own.
 use Rattle.std.specs.Prelude.{◌≡◌, ℕ, Bool, ◌||◌, ◌&&◌, not, ◌==◌, nat_lt, List, [], ◌∷◌, length, Option, Some, None, option_map, codes}
 use Rattle.std.specs.List.{list_any}
 use Rattle.link_base.specs.Bytes.{u16_at, has_bytes}
@@ -16,7 +16,9 @@ use Rattle.module_view.specs.declared.error.ModuleError.{ModuleError}
 use Rattle.module_view.specs.declared.error.ModuleError.TheVariants as error
 use Rattle.module_view.specs.Module.{ModuleView}
 use Rattle.coff_aux.specs.AuxFaults.{aux_fault}
-use Rattle.module_view.specs.Unbuilt.{is_unread_form, sections_in, has_unbuilt_section, has_unbuilt_symbol}
+use Rattle.directives.specs.declared.item.BadDirective.{BadDirective}
+use Rattle.module_view.specs.ModuleDirectives.{sections_in, bad_directive}
+use Rattle.module_view.specs.Unbuilt.{is_unread_form, has_unbuilt_section, has_unbuilt_symbol, has_unbuilt_directive}
 
 -- ---- the first bytes
 
@@ -67,7 +69,7 @@ form_error bytes =
 abbrev pub object_error : List ℕ → Option ModuleError
 object_error bytes = option_map error.Object (object_fault bytes)
 
--- ---- its names, its auxiliary records, and what is not linked yet
+-- ---- its names, its auxiliary records, its directives, and what is not linked yet
 
 -- a section that the linker makes itself: a part of the import tables, or the base relocations (PE Format, "The
 -- .idata Section" and "The .reloc Section (Image Only)"); that it is refused is own
@@ -86,6 +88,12 @@ has_long_section_name bytes = list_any (λ section. is_long (section_name_of byt
 abbrev pub has_long_symbol_name : List ℕ → Bool
 has_long_symbol_name bytes = list_any (λ entry. is_long (name_in entry.1)) (symbol_entries bytes)
 
+abbrev pub bad_directive_error : BadDirective → ModuleError
+bad_directive_error bad = error.Directive bad.at
+
+abbrev pub directive_error : List ℕ → Option ModuleError
+directive_error bytes = option_map bad_directive_error (bad_directive bytes)
+
 -- of a well formed object
 unfoldable pub content_error : List ℕ → Option ModuleError
 content_error bytes =
@@ -93,7 +101,8 @@ content_error bytes =
     (unsupported (has_linker_section bytes) form.LinkerSection
     ∷ unsupported (has_long_section_name bytes || has_long_symbol_name bytes) form.LongName
     ∷ option_map error.Object (aux_fault bytes)
-    ∷ unsupported (has_unbuilt_section bytes || has_unbuilt_symbol bytes) form.NotBuilt
+    ∷ directive_error bytes
+    ∷ unsupported (has_unbuilt_section bytes || (has_unbuilt_symbol bytes || has_unbuilt_directive bytes)) form.NotBuilt
     ∷ [])
 
 -- ---- the error
@@ -108,5 +117,6 @@ IsOpened view = opening_error view.bytes ≡ None
 -- of want of memory nothing is said; any other error is the one that stands
 abbrev pub RefusesToOpen : Option ModuleError → ModuleError → Type 0
 RefusesToOpen standing (error.Object fault) = standing ≡ Some (error.Object fault)
+RefusesToOpen standing (error.Directive at) = standing ≡ Some (error.Directive at)
 RefusesToOpen standing (error.Unsupported kind) = standing ≡ Some (error.Unsupported kind)
 RefusesToOpen standing error.Memory = Unit {0}

@@ -1,14 +1,17 @@
 -- Forms of files that are not linked yet. Own.
-use Rattle.std.specs.Prelude.{ℕ, Bool, ◌&&◌, ◌||◌, not, ◌==◌, nat_lt, List, [], ◌∷◌, ◌++◌, codes}
-use Rattle.std.specs.List.{list_any, range_with_len}
+use Rattle.std.specs.Prelude.{ℕ, Bool, true, false, ◌&&◌, ◌||◌, ◌==◌, List, [], ◌∷◌, ◌++◌, codes}
+use Rattle.std.specs.List.{list_any}
 use Rattle.std.specs.Int.Signed.{lt_z}
 use Rattle.std.specs.Ordering.{int_eq}
 use Rattle.link_base.specs.NameText.{same_name, begins, begins_import}
 use Rattle.link_base.specs.SectionName.{base_name}
 use Rattle.link_base.specs.PeFormat.{SYM_CLASS_EXTERNAL, SYM_CLASS_WEAK_EXTERNAL, SYM_UNDEFINED}
-use Rattle.coff_records.specs.ObjectFile.{section_total, section_name_of, raw_size_of, flags_of, is_uninitialised, SymbolView, name_in, section_number_in, section_of_number, class_in, symbol_entries}
+use Rattle.coff_records.specs.ObjectFile.{section_total, section_name_of, flags_of, SymbolView, name_in, section_number_in, section_of_number, class_in, symbol_entries}
 use Rattle.coff_aux.specs.Comdats.{is_section_number, is_comdat}
 use Rattle.module_view.specs.PlacedSection.{comes_in}
+use Rattle.module_view.specs.ModuleDirectives.{sections_in, module_directives}
+use Rattle.directives.specs.Said.{Said}
+use Rattle.directives.specs.Said as says
 
 -- ---- files that have no reader yet
 
@@ -25,23 +28,13 @@ is_unread_form bytes = begins bytes library_start || begins bytes short_import_s
 
 -- ---- sections
 
--- directives for the linker, of at least one byte
-abbrev pub holds_directives : (name : List ℕ) → (size : ℕ) → (has_bytes : Bool) → Bool
-holds_directives name size has_bytes = same_name name (codes ".drectve") && (has_bytes && nat_lt 0 size)
-
 -- the exception table, or resources
-abbrev pub is_special_section : (name : List ℕ) → (flags : ℕ) → Bool
-is_special_section name flags =
+unfoldable pub is_unbuilt_form : (name : List ℕ) → (flags : ℕ) → Bool
+is_unbuilt_form name flags =
     (same_name (base_name name) (codes ".pdata") && comes_in flags name) || same_name (base_name name) (codes ".rsrc")
 
--- a form that is not linked yet: directives, or a table that the linker reads
-unfoldable pub is_unbuilt_form : (name : List ℕ) → (flags : ℕ) → (size : ℕ) → (has_bytes : Bool) → Bool
-is_unbuilt_form name flags size has_bytes =
-    holds_directives name size has_bytes || is_special_section name flags
-
 abbrev pub is_unbuilt_section : List ℕ → ℕ → Bool
-is_unbuilt_section bytes section =
-    is_unbuilt_form (section_name_of bytes section) (flags_of bytes section) (raw_size_of bytes section) (not (is_uninitialised bytes section))
+is_unbuilt_section bytes section = is_unbuilt_form (section_name_of bytes section) (flags_of bytes section)
 
 -- ---- symbols
 
@@ -72,14 +65,29 @@ unfoldable pub is_unbuilt_symbol : List ℕ → SymbolView → Bool
 is_unbuilt_symbol bytes symbol =
     is_import_reference bytes symbol || (is_external_name symbol && is_loader_name (name_in symbol))
 
--- ---- objects
+-- ---- directives
 
--- the sections by their numbers, from 1
-abbrev pub sections_in : List ℕ → List ℕ
-sections_in bytes = range_with_len 1 (section_total bytes)
+-- a name that means an entry of the import address table, or that the loader of a program looks for
+abbrev pub is_unbuilt_name : List ℕ → Bool
+is_unbuilt_name name = begins_import name || is_loader_name name
+
+-- a library to search, a row of the export table, or such a name
+abbrev pub is_unbuilt_directive : Said → Bool
+is_unbuilt_directive (says.DefaultLib text) = true
+is_unbuilt_directive (says.Exports row) = true
+is_unbuilt_directive (says.Include name) = is_unbuilt_name name
+is_unbuilt_directive (says.AlternateName left right) = is_unbuilt_name left || is_unbuilt_name right
+is_unbuilt_directive (says.AlignComm name log) = false
+is_unbuilt_directive (says.FailIfMismatch key value) = false
+is_unbuilt_directive (says.Merge left right) = false
+
+-- ---- objects
 
 abbrev pub has_unbuilt_section : List ℕ → Bool
 has_unbuilt_section bytes = list_any (is_unbuilt_section bytes) (sections_in bytes)
+
+abbrev pub has_unbuilt_directive : List ℕ → Bool
+has_unbuilt_directive bytes = list_any is_unbuilt_directive (module_directives bytes)
 
 abbrev pub has_unbuilt_symbol : List ℕ → Bool
 has_unbuilt_symbol bytes = list_any (λ entry. is_unbuilt_symbol bytes entry.1) (symbol_entries bytes)

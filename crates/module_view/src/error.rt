@@ -9,6 +9,8 @@ use std::alloc::AllocError;
 pub enum ModuleError {
     /// They are a malformed object.
     Object(ObjError),
+    /// One of their directives is malformed, by an offset in the data of its section.
+    Directive { at: usize },
     /// They have a form that is not linked: one that the first bytes show, or one that the names or the contents of a well
     /// formed object show.
     Unsupported(Kind),

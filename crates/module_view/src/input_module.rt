@@ -1,10 +1,12 @@
 //! A module, as its lists beside a view of its bytes.
 
-ghost use Rattle.std.specs.Prelude.{◌≡◌, None, Some, option_map};
+ghost use Rattle.std.specs.Prelude.{◌≡◌, Some, map};
 ghost use Rattle.std.specs.Option.{option_copied};
 ghost use Rattle.coff_records.specs.ObjectFile.{starts_symbol};
 ghost use Rattle.module_view.specs.SymbolLists.{definitions_of, references_of, weaks_of, commons_of};
 ghost use Rattle.coff_aux.specs.Comdats.{comdat_of};
+ghost use Rattle.directives.specs.Said.{said};
+ghost use Rattle.module_view.specs.ModuleDirectives.{module_directives};
 ghost use Rattle.module_view.specs.Opening.{IsOpened};
 
 use crate::definition::{Common, Definition};
@@ -12,6 +14,7 @@ use crate::reference::{Reference, Weak};
 use crate::symbols::SymbolLists;
 use coff_aux::{Comdat, SectionSymbols, comdat_in, is_section_number};
 use coff_object::Object;
+use directives::Directive;
 use link_base::Name;
 use std::marker::Model;
 
@@ -31,6 +34,7 @@ pub struct Module<'a> {
     pub(crate) lists: SymbolLists<'a>,
     /// The first two symbols of each section, where one is a COMDAT.
     pub(crate) comdats: Vec<SectionSymbols>,
+    pub(crate) directives: Vec<Directive<'a>>,
 }
 
 impl<'a> Model for Module<'a> {
@@ -42,7 +46,7 @@ impl<'a> Model for Module<'a> {
 
     ghost view = { λ m. view_of m.origin m.bytes.now };
 
-    ghost invariant = { λ m. KeepsLists m.bytes.now m.object m.lists m.comdats.items };
+    ghost invariant = { λ m. KeepsLists m.bytes.now m.object m.lists m.comdats.items m.directives.items };
 }
 
 impl<'a> Module<'a> {
@@ -106,6 +110,14 @@ impl<'a> Module<'a> {
         ensures opened { IsOpened self.now }
     {
         &self.lists.commons
+    }
+
+    /// Its directives, in the order of its sections and of their texts.
+    pub fn directives(&self) -> &[Directive<'a>]
+        ensures directives { map said result.now ≡ module_directives self.now.bytes }
+        ensures opened { IsOpened self.now }
+    {
+        &self.directives
     }
 
     /// As which COMDAT a section goes, by its number: none where there is no such section, or it is no COMDAT.

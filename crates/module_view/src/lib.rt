@@ -1,12 +1,13 @@
-//! A module of a link: an object file that was opened, and the lists that a link reads of it. It takes the bytes of a file,
-//! which `coff_object` reads, and gives modules to symbol resolution and to layout. Its contracts promise that a file is
-//! refused exactly for the first error of a table, and that each list holds what the format says, in order. What names
-//! mean across modules is left to others.
+//! A module of a link: an object file that was opened, and the lists that a link reads of it, of its symbols and of its
+//! directives. It takes the bytes of a file, which `coff_object` and `directives` read, and gives modules to symbol resolution
+//! and to layout. Its contracts promise that a file is refused exactly for the first error of a table, and that each list
+//! holds what the format says, in order. What names and directives mean across modules is left to others.
 #![tactic(auto)]
 
 mod aux_faults;
 mod base_name;
 mod definition;
+mod directive_list;
 mod error;
 mod first_bytes;
 mod input_module;
@@ -26,6 +27,7 @@ pub use laws::modules_are_shared;
 pub use opening::open_module;
 pub use placed_section::comes_in;
 pub use reference::{Reference, Weak};
+pub use unbuilt::is_unbuilt_name;
 
 #[cfg(test)]
 mod tests;

@@ -5,18 +5,20 @@ ghost use Rattle.module_view.specs.ModuleParts.{view_of};
 ghost use Rattle.module_view.specs.Opening.{opening_error, RefusesToOpen};
 
 use crate::aux_faults::judge_aux;
+use crate::directive_list::read_directives;
 use crate::error::ModuleError;
 use crate::first_bytes::form_shown;
 use crate::input_module::{Module, Origin};
 use crate::sections::judge_sections;
 use crate::symbols::read_symbols;
+use crate::unbuilt::has_unbuilt_directive;
 use coff_object::{LongTexts, Object};
 use link_base::Kind;
 use std::alloc::Global;
 
 /// The module with these bytes. They are refused for the first of: a form that the first bytes show (`Unsupported`), a fault
 /// of the object (`Object`), a section that the linker makes itself, a name of more than 32,000 bytes (`Unsupported`), a fault
-/// of an auxiliary record (`Object`), and a form that is not linked yet (`Unsupported`).
+/// of an auxiliary record (`Object`), a malformed directive (`Directive`), and a form that is not linked yet (`Unsupported`).
 pub fn open_module<'a>(
     alloc: Global,
     origin: Origin<'a>,
@@ -47,7 +49,11 @@ pub fn open_module<'a>(
         Ok(comdats) => comdats,
         Err(error) => return Err(error),
     };
-    let is_unbuilt = sections.is_unbuilt | lists.is_unbuilt;
+    let directives = match read_directives(alloc, &object, sections.has_directives) {
+        Ok(directives) => directives,
+        Err(error) => return Err(error),
+    };
+    let is_unbuilt = sections.is_unbuilt | lists.is_unbuilt | has_unbuilt_directive(&directives);
     if is_unbuilt {
         return Err(ModuleError::Unsupported(Kind::NotBuilt));
     }
@@ -57,5 +63,6 @@ pub fn open_module<'a>(
         object,
         lists,
         comdats,
+        directives,
     })
 }

@@ -2,7 +2,6 @@
 
 ghost use Rattle.std.specs.Prelude.{◌≡◌, codes};
 ghost use Rattle.link_base.specs.NameText.{begins};
-ghost use Rattle.link_base.specs.SectionName.{base_name};
 ghost use Rattle.module_view.specs.PlacedSection.{is_linker_table, is_debug_section, is_left_out, comes_in};
 
 use link_base::Name;

@@ -4,11 +4,14 @@ ghost use Rattle.std.specs.Prelude.{◌≡◌, ◌≤◌, false, None, Some, IfO
 ghost use Rattle.link_base.specs.NameText.{begins};
 ghost use Rattle.coff_records.specs.ObjectFile.{section_total, section_name_of, string_table};
 ghost use Rattle.coff_aux.specs.Comdats.{is_comdat, has_comdat};
+ghost use Rattle.std.specs.List.{list_any};
+ghost use Rattle.module_view.specs.ModuleDirectives.{sections_in, holds_directives};
 ghost use Rattle.module_view.specs.Unbuilt.{is_unbuilt_section, has_unbuilt_section};
 ghost use Rattle.module_view.specs.Opening.{is_linker_section, is_long};
 ghost use Rattle.module_view.specs.Steps.{section_form};
 
 use crate::base_name::has_base_name;
+use crate::directive_list::holds_directives;
 use crate::unbuilt::is_unbuilt_section;
 use coff_aux::is_comdat;
 use coff_object::{LongTexts, Object};
@@ -24,6 +27,7 @@ struct SectionForm {
     is_long: bool,
     is_unbuilt: bool,
     is_comdat: bool,
+    holds_directives: bool,
 }
 
 /// What the sections of an object show.
@@ -33,6 +37,8 @@ pub(crate) struct SectionForms {
     pub(crate) is_unbuilt: bool,
     /// One of them is a COMDAT.
     pub(crate) has_comdat: bool,
+    /// One of them holds directives.
+    pub(crate) has_directives: bool,
 }
 
 /// Judges the sections of an object. It is refused where one is a section that the linker makes itself, and else where one
@@ -45,12 +51,14 @@ pub(crate) fn judge_sections(
     requires { texts.now ≡ string_table object.now }
     ensures unbuilt { IfOk result (λ forms. forms.is_unbuilt ≡ has_unbuilt_section object.now) }
     ensures comdat { IfOk result (λ forms. forms.has_comdat ≡ has_comdat object.now) }
+    ensures directives { IfOk result (λ forms. forms.has_directives ≡ list_any (holds_directives object.now) (sections_in object.now)) }
     ensures accepted { OnOk result (section_form object.now ≡ None) }
     ensures refused { IfErr result (λ kind. section_form object.now ≡ Some kind) }
 {
     let mut long = false;
     let mut is_unbuilt = false;
     let mut has_comdat = false;
+    let mut has_directives = false;
     for index in 0..object.section_count() {
         let form = section_form(object, texts, index + 1);
         if form.is_linker {
@@ -59,6 +67,7 @@ pub(crate) fn judge_sections(
         long |= form.is_long;
         is_unbuilt |= form.is_unbuilt;
         has_comdat |= form.is_comdat;
+        has_directives |= form.holds_directives;
     }
     if long {
         return Err(Kind::LongName);
@@ -66,6 +75,7 @@ pub(crate) fn judge_sections(
     Ok(SectionForms {
         is_unbuilt,
         has_comdat,
+        has_directives,
     })
 }
 
@@ -78,6 +88,7 @@ fn section_form(object: &Object<'_>, texts: &LongTexts<'_>, number: u32) -> Sect
     ensures long { result.is_long ≡ is_long (section_name_of object.now number) }
     ensures unbuilt { result.is_long ≡ false → result.is_unbuilt ≡ is_unbuilt_section object.now number }
     ensures comdat { result.is_long ≡ false → result.is_comdat ≡ is_comdat object.now number }
+    ensures directives { result.is_long ≡ false → result.holds_directives ≡ holds_directives object.now number }
 {
     if texts.is_long_section(object, number) {
         let name = object.section_name_start(number, LINKER_NAME_START);
@@ -86,14 +97,16 @@ fn section_form(object: &Object<'_>, texts: &LongTexts<'_>, number: u32) -> Sect
             is_long: true,
             is_unbuilt: false,
             is_comdat: false,
+            holds_directives: false,
         };
     }
     let section = object.section(number);
     SectionForm {
         is_linker: is_linker_section(&section.name),
         is_long: false,
-        is_unbuilt: is_unbuilt_section(&section),
+        is_unbuilt: is_unbuilt_section(&section.name, section.flags),
         is_comdat: is_comdat(section.flags),
+        holds_directives: holds_directives(&section),
     }
 }
 

@@ -1,9 +1,12 @@
-//! Files that do not open as modules, and one that does.
+//! Files that do not open as modules, and some that do.
+
+mod aux_records;
+mod directive_sections;
 
 use crate::error::ModuleError;
 use crate::input_module::Origin;
 use crate::opening::open_module;
-use link_base::{Kind, Memory, Name, ObjFault};
+use link_base::{Kind, Memory, Name};
 use std::alloc::Global;
 use std::test::Fail;
 
@@ -44,7 +47,7 @@ const SYMBOL: &[u8] = b"\0\0\0\0\x01\0\x20\0\x02\0";
 
 /// The name fields of the section and the symbol, how long the one name of the string table is, and the form that they
 /// show; with none the object opens.
-const NAMES: [(&[u8], &[u8], u16, Option<Kind>); 11] = [
+const NAMES: [(&[u8], &[u8], u16, Option<Kind>); 10] = [
     (b".text\0\0\0", b"main\0\0\0\0", 0, None),
     (b".idata$2", b"main\0\0\0\0", 0, Some(Kind::LinkerSection)),
     (b".reloc$x", b"main\0\0\0\0", 0, Some(Kind::LinkerSection)),
@@ -63,7 +66,6 @@ const NAMES: [(&[u8], &[u8], u16, Option<Kind>); 11] = [
         32_001,
         Some(Kind::LinkerSection),
     ),
-    (b".drectve", b"main\0\0\0\0", 0, Some(Kind::NotBuilt)),
     (b".rsrc$01", b"main\0\0\0\0", 0, Some(Kind::NotBuilt)),
     (
         b".pdata\0\0",
@@ -86,147 +88,6 @@ fn object(alloc: Global, section: &[u8], symbol: &[u8], len: u16) -> Result<Vec<
     let name = vec![in alloc; b'a'; usize::from(len)]?;
     bytes.extend_from_slice(&name)?;
     bytes.push(0)?;
-    Ok(bytes)
-}
-
-/// What is wrong with auxiliary records: whether the section is a COMDAT (by a byte of its flags), how many symbol records there
-/// are, these, and the fault with its place; with none the object opens.
-const AUX_RECORDS: [(u8, u8, &[u8], Option<(ObjFault, u32)>); 16] = [
-    // a COMDAT that says all it has to
-    (
-        0x10,
-        3,
-        b".text\0\0\0\0\0\0\0\x01\0\0\0\x03\x01\
-        \x03\0\0\0\0\0\0\0\0\0\0\0\0\0\x02\0\0\0\
-        f\0\0\0\0\0\0\0\0\0\0\0\x01\0\x20\0\x02\0",
-        None,
-    ),
-    // no symbol; one that is external; one without an auxiliary record
-    (0x10, 0, b"", Some((ObjFault::Aux, 1))),
-    (
-        0x10,
-        2,
-        b".text\0\0\0\0\0\0\0\x01\0\0\0\x02\x01\
-        \x03\0\0\0\0\0\0\0\0\0\0\0\0\0\x02\0\0\0",
-        Some((ObjFault::Aux, 3)),
-    ),
-    (
-        0x10,
-        2,
-        b".text\0\0\0\0\0\0\0\x01\0\0\0\x03\0\
-        f\0\0\0\0\0\0\0\0\0\0\0\x01\0\x20\0\x02\0",
-        Some((ObjFault::Aux, 3)),
-    ),
-    // a selection below and above those of the format
-    (
-        0x10,
-        3,
-        b".text\0\0\0\0\0\0\0\x01\0\0\0\x03\x01\
-        \x03\0\0\0\0\0\0\0\0\0\0\0\0\0\0\0\0\0\
-        f\0\0\0\0\0\0\0\0\0\0\0\x01\0\x20\0\x02\0",
-        Some((ObjFault::Selection, 1)),
-    ),
-    (
-        0x10,
-        3,
-        b".text\0\0\0\0\0\0\0\x01\0\0\0\x03\x01\
-        \x03\0\0\0\0\0\0\0\0\0\0\0\0\0\x07\0\0\0\
-        f\0\0\0\0\0\0\0\0\0\0\0\x01\0\x20\0\x02\0",
-        Some((ObjFault::Selection, 1)),
-    ),
-    // no parent, itself, and one that is no section
-    (
-        0x10,
-        2,
-        b".text\0\0\0\0\0\0\0\x01\0\0\0\x03\x01\
-        \x03\0\0\0\0\0\0\0\0\0\0\0\0\0\x05\0\0\0",
-        Some((ObjFault::Associative, 1)),
-    ),
-    (
-        0x10,
-        2,
-        b".text\0\0\0\0\0\0\0\x01\0\0\0\x03\x01\
-        \x03\0\0\0\0\0\0\0\0\0\0\0\x01\0\x05\0\0\0",
-        Some((ObjFault::Associative, 1)),
-    ),
-    (
-        0x10,
-        2,
-        b".text\0\0\0\0\0\0\0\x01\0\0\0\x03\x01\
-        \x03\0\0\0\0\0\0\0\0\0\0\0\x02\0\x05\0\0\0",
-        Some((ObjFault::Associative, 1)),
-    ),
-    // a weak external; its tag is its own auxiliary record; it searches in no known way, has no record, stands in a section
-    (
-        0,
-        3,
-        b"f\0\0\0\0\0\0\0\0\0\0\0\x01\0\x20\0\x02\0\
-        w\0\0\0\0\0\0\0\0\0\0\0\0\0\0\0i\x01\
-        \0\0\0\0\x03\0\0\0\0\0\0\0\0\0\0\0\0\0",
-        None,
-    ),
-    (
-        0,
-        3,
-        b"f\0\0\0\0\0\0\0\0\0\0\0\x01\0\x20\0\x02\0\
-        w\0\0\0\0\0\0\0\0\0\0\0\0\0\0\0i\x01\
-        \x02\0\0\0\x03\0\0\0\0\0\0\0\0\0\0\0\0\0",
-        Some((ObjFault::Aux, 1)),
-    ),
-    (
-        0,
-        3,
-        b"f\0\0\0\0\0\0\0\0\0\0\0\x01\0\x20\0\x02\0\
-        w\0\0\0\0\0\0\0\0\0\0\0\0\0\0\0i\x01\
-        \0\0\0\0\x04\0\0\0\0\0\0\0\0\0\0\0\0\0",
-        Some((ObjFault::Aux, 1)),
-    ),
-    (
-        0,
-        3,
-        b"f\0\0\0\0\0\0\0\0\0\0\0\x01\0\x20\0\x02\0\
-        w\0\0\0\0\0\0\0\0\0\0\0\0\0\0\0i\x01\
-        \0\0\0\0\0\0\0\0\0\0\0\0\0\0\0\0\0\0",
-        Some((ObjFault::Aux, 1)),
-    ),
-    (
-        0,
-        2,
-        b"f\0\0\0\0\0\0\0\0\0\0\0\x01\0\x20\0\x02\0\
-        w\0\0\0\0\0\0\0\0\0\0\0\0\0\0\0i\0",
-        Some((ObjFault::Aux, 1)),
-    ),
-    (
-        0,
-        3,
-        b"f\0\0\0\0\0\0\0\0\0\0\0\x01\0\x20\0\x02\0\
-        w\0\0\0\0\0\0\0\0\0\0\0\x01\0\0\0i\x01\
-        \0\0\0\0\x03\0\0\0\0\0\0\0\0\0\0\0\0\0",
-        Some((ObjFault::Aux, 1)),
-    ),
-    // weak externals are judged before sections
-    (
-        0x10,
-        4,
-        b".text\0\0\0\0\0\0\0\x01\0\0\0\x03\x01\
-        \x03\0\0\0\0\0\0\0\0\0\0\0\0\0\0\0\0\0\
-        w\0\0\0\0\0\0\0\0\0\0\0\0\0\0\0i\x01\
-        \x09\0\0\0\x03\0\0\0\0\0\0\0\0\0\0\0\0\0",
-        Some((ObjFault::Aux, 2)),
-    ),
-];
-
-/// An object with a section of these flags and these symbol records.
-fn with_records(alloc: Global, flags: u8, count: u8, records: &[u8]) -> Result<Vec<u8>, Memory> {
-    let mut bytes = Vec::new(alloc);
-    bytes.extend_from_slice(b"\x64\x86\x01\0\0\0\0\0\x3f\0\0\0")?;
-    bytes.push(count)?;
-    bytes.extend_from_slice(b"\0\0\0\0\0\0\0.text\0\0\0")?;
-    bytes.extend_from_slice(b"\0\0\0\0\0\0\0\0\x03\0\0\0\x3c\0\0\0")?;
-    bytes.extend_from_slice(b"\0\0\0\0\0\0\0\0\0\0\0\0\x20")?;
-    bytes.push(flags)?;
-    bytes.extend_from_slice(b"\x50\x60\x31\xc0\xc3")?;
-    bytes.extend_from_slice(records)?;
     Ok(bytes)
 }
 
@@ -253,6 +114,7 @@ fn opening_of(alloc: Global, bytes: &[u8]) -> Result<Opened, Memory> {
         Ok(module) => Ok(Opened::Module(module.definitions().len())),
         Err(ModuleError::Unsupported(kind)) => Ok(Opened::Form(kind)),
         Err(ModuleError::Object(_)) => Ok(Opened::Malformed),
+        Err(ModuleError::Directive { .. }) => Ok(Opened::Malformed),
         Err(ModuleError::Memory) => Err(Memory),
     }
 }
@@ -267,30 +129,6 @@ fn opens_or_names_the_form(rt: HostRuntime) -> Result<(), Fail> {
         let bytes = object(rt.alloc(), section, symbol, len)?;
         let expected = form.map_or(Opened::Module(1), Opened::Form);
         assert_eq!(rt; opening_of(rt.alloc(), &bytes)?, expected);
-    }
-    Ok(())
-}
-
-fn fault_of(alloc: Global, bytes: &[u8]) -> Result<Option<(ObjFault, u32)>, Memory> {
-    if bytes.len() >= 0xffff_ffff {
-        return Err(Memory);
-    }
-    let origin = Origin {
-        file: Name::of(b"a.obj"),
-        member: None,
-    };
-    match open_module(alloc, origin, bytes) {
-        Err(ModuleError::Object(error)) => Ok(Some((error.kind, error.index))),
-        Err(ModuleError::Memory) => Err(Memory),
-        _ => Ok(None),
-    }
-}
-
-#[test]
-fn judges_auxiliary_records(rt: HostRuntime) -> Result<(), Fail> {
-    for (flags, count, records, fault) in AUX_RECORDS {
-        let bytes = with_records(rt.alloc(), flags, count, records)?;
-        assert_eq!(rt; fault_of(rt.alloc(), &bytes)?, fault);
     }
     Ok(())
 }

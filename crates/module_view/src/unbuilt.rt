@@ -1,41 +1,55 @@
-//! Which sections and symbols have a form that is not linked yet.
+//! Which sections, symbols and directives have a form that is not linked yet.
 
-ghost use Rattle.std.specs.Prelude.{◌≡◌, ◌≤◌, ◌||◌, ◌&&◌, nat_lt, is_some, codes};
-ghost use Rattle.std.specs.Option.{option_copied};
-ghost use Rattle.link_base.specs.NameText.{same_name};
-ghost use Rattle.link_base.specs.SectionName.{base_name};
-ghost use Rattle.coff_records.specs.ObjectFile.{section_total, section_name_of, flags_of, raw_size_of, body_of, name_in};
-ghost use Rattle.module_view.specs.PlacedSection.{comes_in};
-ghost use Rattle.module_view.specs.Unbuilt.{is_unbuilt_form, holds_directives, is_special_section, is_loader_name, is_in_no_section, is_in_comdat, is_external_name, is_unbuilt_symbol};
+ghost use Rattle.std.specs.Prelude.{◌≡◌, ◌||◌, map};
+ghost use Rattle.std.specs.List.{list_any};
+ghost use Rattle.directives.specs.Said.{said};
+ghost use Rattle.module_view.specs.Unbuilt.{is_unbuilt_form, is_unbuilt_directive, is_unbuilt_name, is_loader_name, is_in_no_section, is_in_comdat, is_external_name, is_unbuilt_symbol};
 
 use crate::base_name::has_base_name;
 use crate::placed_section::comes_in;
 use coff_aux::{is_comdat, is_section_number};
-use coff_object::{Object, Section, SymbolRecord};
+use coff_object::{Object, SymbolRecord};
+use directives::Directive;
 use link_base::Name;
 use link_base::pe_format::{SYM_CLASS_EXTERNAL, SYM_CLASS_WEAK_EXTERNAL, SYM_UNDEFINED};
 
-/// Whether a section has a form that is not linked yet.
+/// Whether a section has a form that is not linked yet: it is an exception table that comes into the image, or holds
+/// resources.
 #[tactic(auto, unfolding(crate::specs::Unbuilt::is_unbuilt_form))]
-pub(crate) fn is_unbuilt_section(section: &Section<'_>) -> bool
-    ensures { result ≡ is_unbuilt_form section.now.name section.now.flags section.now.size (is_some section.now.body) }
+pub(crate) fn is_unbuilt_section(name: &Name<'_>, flags: u32) -> bool
+    ensures { result ≡ is_unbuilt_form name.now flags }
 {
-    holds_directives(section) || is_special_section(section)
+    (has_base_name(name, b".pdata") && comes_in(flags, name)) || has_base_name(name, b".rsrc")
 }
 
-/// Whether a section holds directives for the linker.
-fn holds_directives(section: &Section<'_>) -> bool
-    ensures { result ≡ holds_directives section.now.name section.now.size (is_some section.now.body) }
+/// Whether one of the directives has a form that is not linked yet.
+pub(crate) fn has_unbuilt_directive(directives: &[Directive<'_>]) -> bool
+    ensures { result ≡ list_any is_unbuilt_directive (map said directives.now) }
 {
-    section.name == Name::of(b".drectve") && section.body.is_some() && section.size > 0
+    directives
+        .iter()
+        .any(|directive| is_unbuilt_directive(directive))
 }
 
-/// Whether a section is an exception table that comes into the image, or holds resources.
-fn is_special_section(section: &Section<'_>) -> bool
-    ensures { result ≡ is_special_section section.now.name section.now.flags }
+/// Whether a directive has a form that is not linked yet: it names a library to search, exports a name, or names an entry of
+/// the import address table or what the loader of a program looks for.
+fn is_unbuilt_directive(directive: &Directive<'_>) -> bool
+    ensures { result ≡ is_unbuilt_directive (said directive.now) }
 {
-    (has_base_name(&section.name, b".pdata") && comes_in(section.flags, &section.name))
-        || has_base_name(&section.name, b".rsrc")
+    match directive {
+        Directive::DefaultLib(_) | Directive::Export(_) => true,
+        Directive::Include(name) => is_unbuilt_name(name),
+        Directive::AlternateName { left, right } => is_unbuilt_name(left) || is_unbuilt_name(right),
+        Directive::AlignComm { .. } | Directive::FailIfMismatch { .. } | Directive::Merge { .. } =>
+            false,
+    }
+}
+
+/// Whether a name is not linked yet: it means an entry of the import address table, or the loader of a program looks for it.
+pub fn is_unbuilt_name(name: &Name<'_>) -> bool
+    ensures { result ≡ is_unbuilt_name name.now }
+{
+    name.is_import() || is_loader_name(name)
 }
 
 /// Whether a symbol has a form that is not linked yet: it names an entry of the import address table and may refer to that
