@@ -12,11 +12,11 @@ use Rattle.link_base.specs.Refusals.{first_standing}
 use Rattle.link_base.specs.declared.kinds.form.Kind.TheVariants as form
 use Rattle.link_base.specs.declared.kinds.object.ObjFault.TheVariants as kind
 use Rattle.module_view.specs.declared.error.ModuleError.TheVariants as error
-use Rattle.module_view.specs.Unbuilt.{has_unbuilt_section, has_unbuilt_symbol}
+use Rattle.module_view.specs.Unbuilt.{has_unbuilt_section, has_unbuilt_symbol, has_unbuilt_directive}
 use Rattle.module_view.specs.Module.{ModuleView, module_at}
 use Rattle.coff_aux.specs.AuxFaults.{has_no_selection, has_no_parent, first_comdat, aux_place, parent_place, aux_fault}
 use Rattle.coff_aux.specs.Comdats.{comdat_record_of, parent_in, parents_of}
-use Rattle.module_view.specs.Opening.{unsupported, has_linker_section, has_long_section_name, has_long_symbol_name, form_error, object_error, content_error, opening_error}
+use Rattle.module_view.specs.Opening.{unsupported, directive_error, has_linker_section, has_long_section_name, has_long_symbol_name, form_error, object_error, content_error, opening_error}
 use Rattle.coff_aux.specs.Parents.{comes_back, AreParents}
 use Rattle.coff_aux.specs.Steps.{all_comdat_records, parents_in}
 use Rattle.coff_aux.proofs.CallerLemmas.{are_parents}
@@ -54,7 +54,7 @@ contents_stand bytes opened = third_none (form_error bytes) (object_error bytes)
 no_aux_fault : (bytes : List ℕ) → content_error bytes ≡ None → aux_fault bytes ≡ None
 unfolding content_error
 no_aux_fault bytes stand =
-    none_mapped error.Object (aux_fault bytes) (third_none (unsupported (has_linker_section bytes) form.LinkerSection) (unsupported (has_long_section_name bytes || has_long_symbol_name bytes) form.LongName) (option_map error.Object (aux_fault bytes)) (unsupported (has_unbuilt_section bytes || has_unbuilt_symbol bytes) form.NotBuilt ∷ []) stand)
+    none_mapped error.Object (aux_fault bytes) (third_none (unsupported (has_linker_section bytes) form.LinkerSection) (unsupported (has_long_section_name bytes || has_long_symbol_name bytes) form.LongName) (option_map error.Object (aux_fault bytes)) (directive_error bytes ∷ unsupported (has_unbuilt_section bytes || (has_unbuilt_symbol bytes || has_unbuilt_directive bytes)) form.NotBuilt ∷ []) stand)
 
 no_parent_place : (bytes : List ℕ) → aux_fault bytes ≡ None → parent_place bytes ≡ None
 unfolding aux_fault

@@ -6,7 +6,7 @@ use Rattle.std.specs.List.{position_or_len, All, AllZip, find}
 use Rattle.std.specs.Option.{option_or, ok_or}
 use Rattle.std.proofs.lemmas.Bool.{true≢false}
 use Rattle.std.proofs.lemmas.Option.{slice_get_within, get_or_from_slice_get, slice_get-get_or}
-use Rattle.std.proofs.lemmas.List.Elements.{All-filter, All-map}
+use Rattle.std.proofs.lemmas.List.Elements.{All-append, All-filter, All-map}
 use Rattle.std.proofs.lemmas.List.Quantifiers.{position-Some}
 use Rattle.std.proofs.lemmas.List.Sums.{fails_before_first}
 use Rattle.std.proofs.lemmas.List.{length-map}
@@ -21,10 +21,14 @@ use Rattle.module_view.specs.declared.reference.Weak.{Weak}
 use Rattle.symbol_table.specs.declared.meaning.Meaning.{Meaning}
 use Rattle.symbol_table.specs.declared.meaning.NoMeaning.TheVariants.{Undefined}
 use Rattle.symbol_table.specs.declared.noted.ModuleNames.{ModuleNames}
+use Rattle.symbol_table.specs.declared.noted.NotedAlternate.{NotedAlternate}
+use Rattle.symbol_table.specs.declared.alternates.GivenAlternates.{GivenAlternates}
+use Rattle.symbol_table.specs.Alternates.{alternates_by, all_alternates, is_left, alternate_named}
+use Rattle.symbol_table.specs.TableParts.{link_view}
 use Rattle.symbol_table.specs.LinkerNames.{linker_meaning}
-use Rattle.symbol_table.specs.Lists.{Provided, provided, provided_by, has_name, is_live, all_definitions, live_definitions, Offered, offered, offered_by, offers, all_commons, Said, said, said_by, says, all_weaks}
-use Rattle.symbol_table.specs.Resolution.{defined_meaning, common_meaning, definition_named, common_named, weak_named, greatest_of, Ends, own_or, weak_step, at_end, step, meaning_if, meaning_within, meaning_of}
-use Rattle.symbol_table.specs.Interning.{Numbers, NotesDefinition, NotesCommon, NotesWeak, NotesModule}
+use Rattle.symbol_table.specs.Lists.{of_all, Provided, provided, provided_by, has_name, is_live, all_definitions, live_definitions, Offered, offered, offered_by, offers, all_commons, Said, said, said_by, says, all_weaks}
+use Rattle.symbol_table.specs.Resolution.{defined_meaning, common_meaning, definition_named, common_named, weak_named, greatest_of, Ends, own_or, alternate_step, weak_step, at_end, step, meaning_if, meaning_within, most_steps, meaning_of}
+use Rattle.symbol_table.specs.Interning.{Numbers, NotesDefinition, NotesCommon, NotesAlternate, NotesWeak, NotesModule}
 use Rattle.symbol_table.specs.Passes.{noted_view}
 
 -- ---- where a test finds nothing
@@ -94,29 +98,46 @@ module _ (names : List (List ℕ)) (kept : List ModuleNames) (noted : All (Notes
       subst (λ (v : ModuleView). All (λ entry. says name entry ≡ false) (said_by k v.bytes)) (sym found.1.1)
       (All-map (λ entry. says name entry ≡ false) (said k found.0.bytes.now) own each))
 
-  step_ends : (chosen : List (List Bool)) → step (map noted_view kept) chosen name ≡ Ends (meaning_if (linker_meaning name))
+  no_alternate : (given : GivenAlternates) → AllZip (NotesAlternate names) given.pairs.items given.noted.items → All (λ pair. is_left name pair ≡ false) (all_alternates (link_view given kept))
+  no_alternate given pairs =
+      All-append (λ pair. is_left name pair ≡ false) given.pairs.items (of_all alternates_by (map noted_view kept))
+      (lefts_differ given.pairs.items given.noted.items pairs)
+      (all_joined (λ pair. is_left name pair ≡ false) (λ k. alternates_by k (module_at (map noted_view kept) k).bytes) 0 (length (map noted_view kept)) (λ k low high.
+      let found = module_noted names kept k noted (omega (arith, length-map kept noted_view)) in
+      subst (λ (v : ModuleView). All (λ pair. is_left name pair ≡ false) (alternates_by k v.bytes)) (sym found.1.1)
+      (lefts_differ (alternates_by k found.0.bytes.now) found.0.alternates.items found.1.0.alternates)))
+    where
+      lefts_differ : (pairs : List (List ℕ × List ℕ)) (notes : List NotedAlternate) → AllZip (NotesAlternate names) pairs notes → All (λ pair. is_left name pair ≡ false) pairs
+      lefts_differ pairs notes zipped =
+          zip_left (NotesAlternate names) (λ (p : List ℕ × List ℕ). same_name p.0 name ≡ false) pairs notes zipped (λ p m is. differs names name p.0 m.left absent is.left)
+
+  step_ends : (given : GivenAlternates) (chosen : List (List Bool)) → AllZip (NotesAlternate names) given.pairs.items given.noted.items → step (link_view given kept) chosen name ≡ Ends (meaning_if (linker_meaning name))
   unfolding step
-  step_ends chosen =
+  step_ends given chosen pairs =
+      let view = link_view given kept in
       let modules = map noted_view kept in
+      let behind = λ (found : Option Said) (pair : Option (List ℕ × List ℕ)). weak_step chosen found (alternate_step pair) in
       let defined : definition_named modules chosen name ≡ None =
       none_found (has_name name) (live_definitions modules chosen) (All-filter (is_live chosen) (λ entry. has_name name entry ≡ false) (all_definitions modules) no_definition) in
       let common : common_named modules name ≡ None = ap greatest_of (none_kept (offers name) (all_commons modules) no_common) in
       let weak : weak_named modules name ≡ None = none_found (says name) (all_weaks modules) no_weak in
-      ap (λ (found : Option Provided). own_or (option_or (option_map defined_meaning found) (option_or (option_map common_meaning (common_named modules name)) (linker_meaning name))) (weak_step chosen (weak_named modules name))) defined
-      ∙ ap (λ (found : Option Offered). own_or (option_or (option_map common_meaning found) (linker_meaning name)) (weak_step chosen (weak_named modules name))) common
-      ∙ ap (λ (found : Option Said). own_or (linker_meaning name) (weak_step chosen found)) weak
+      let alternate : alternate_named view name ≡ None = none_found (is_left name) (all_alternates view) (no_alternate given pairs) in
+      ap (λ (found : Option Provided). own_or (option_or (option_map defined_meaning found) (option_or (option_map common_meaning (common_named modules name)) (linker_meaning name))) (behind (weak_named modules name) (alternate_named view name))) defined
+      ∙ ap (λ (found : Option Offered). own_or (option_or (option_map common_meaning found) (linker_meaning name)) (behind (weak_named modules name) (alternate_named view name))) common
+      ∙ ap (λ (found : Option Said). own_or (linker_meaning name) (behind found (alternate_named view name))) weak
+      ∙ ap (λ (pair : Option (List ℕ × List ℕ)). own_or (linker_meaning name) (behind None pair)) alternate
       ∙ ends (linker_meaning name)
     where
       ends : (own : Option Meaning) → own_or own (Ends (Err Undefined)) ≡ Ends (meaning_if own)
       ends None = refl
       ends (Some m) = refl
 
-  pub absent_means : (chosen : List (List Bool)) → meaning_of (map noted_view kept) chosen name ≡ meaning_if (linker_meaning name)
+  pub absent_means : (given : GivenAlternates) (chosen : List (List Bool)) → AllZip (NotesAlternate names) given.pairs.items given.noted.items → meaning_of (link_view given kept) chosen name ≡ meaning_if (linker_meaning name)
   unfolding meaning_of meaning_within
-  absent_means chosen =
-      let modules = map noted_view kept in
-      ap (λ (n : ℕ). meaning_within modules chosen n name) (add-one (length (all_weaks modules)))
-      ∙ ap (at_end (meaning_within modules chosen (length (all_weaks modules)))) (step_ends chosen)
+  absent_means given chosen pairs =
+      let view = link_view given kept in
+      ap (λ (n : ℕ). meaning_within view chosen n name) (add-one (most_steps view))
+      ∙ ap (at_end (meaning_within view chosen (most_steps view))) (step_ends given chosen pairs)
 
 -- ---- the number of a name
 

@@ -24,8 +24,10 @@ use Rattle.symbol_table.specs.declared.weak_default.WeakDefault.{WeakDefault}
 use Rattle.symbol_table.specs.declared.weak_default.WeakDefault.TheVariants as default
 use Rattle.symbol_table.specs.LinkerNames.{image_base_name, zero_names, linker_meaning}
 use Rattle.symbol_table.specs.Defaults.{is_inside, place_default, local_default, symbol_default, default_of, is_global}
+use Rattle.symbol_table.specs.LinkView.{LinkView}
+use Rattle.symbol_table.specs.Alternates.{alternate_named}
 use Rattle.symbol_table.specs.Lists.{Provided, provided, provided_by, has_name, is_chosen_in, is_live_at, is_live, all_definitions, live_definitions, Offered, Said, said, said_by, says, all_weaks}
-use Rattle.symbol_table.specs.Resolution.{definition_named, common_named, weak_named, meaning_at, defined_meaning, common_meaning, place_meaning, Step, Ends, Leads, default_step, weak_step, own_or, own_meaning, step, at_end, meaning_within, meaning_of}
+use Rattle.symbol_table.specs.Resolution.{definition_named, common_named, weak_named, meaning_at, defined_meaning, common_meaning, place_meaning, Step, Ends, Leads, default_step, alternate_step, weak_step, own_or, own_meaning, step, at_end, meaning_within, most_steps, meaning_of}
 
 -- ---- a place
 
@@ -192,18 +194,19 @@ ends_are a b e = ap ended e
     ended (Ends r) = r
     ended (Leads n) = a
 
+leads_nowhere : (name : List ℕ) (end : Result Meaning NoMeaning) → Leads name ≡ Ends end → ⊥
+leads_nowhere name end e = cc
+
 default_place : (modules : List ModuleView) (chosen : List (List Bool)) (at : ℕ) (d : WeakDefault) (position section value : ℕ) (weak : Weak) → at < length modules → Contains (weaks_of (module_at modules at).bytes) weak → ((s v : ℕ) → d ≡ default.Place s v → is_inside (module_at modules at).bytes s v ≡ true) → default_step chosen at d ≡ Ends (Ok (meaning.Section position section value)) → MeansPlace modules chosen position section value
-default_place modules chosen at (default.Name name) position section value weak within own inside e = absurd (leads_end e)
-  where
-    leads_end : Leads name ≡ Ends (Ok (meaning.Section position section value)) → ⊥
-    leads_end e = cc
+default_place modules chosen at (default.Name name) position section value weak within own inside e = absurd (leads_nowhere name (Ok (meaning.Section position section value)) e)
 default_place modules chosen at (default.Place s v) position section value weak within own inside e = chosen_place modules chosen at s v position section value weak within own (inside s v refl) (ends_are (place_meaning chosen at s v) (Ok (meaning.Section position section value)) e)
 default_place modules chosen at (default.Absolute v) position section value weak within own inside e = let same = ends_are (Ok (meaning.Absolute v)) (Ok (meaning.Section position section value)) e in absurd cc
 default_place modules chosen at default.Nothing position section value weak within own inside e = let same = ends_are (Err Undefined) (Ok (meaning.Section position section value)) e in absurd cc
 
-weak_place : (modules : List ModuleView) (chosen : List (List Bool)) (found : Option Said) (position section value : ℕ) → ((entry : Said) → found ≡ Some entry → IsSaid modules entry) → weak_step chosen found ≡ Ends (Ok (meaning.Section position section value)) → MeansPlace modules chosen position section value
-weak_place modules chosen None position section value each e = let same = ends_are (Err Undefined) (Ok (meaning.Section position section value)) e in absurd cc
-weak_place modules chosen (Some entry) position section value each e =
+weak_place : (modules : List ModuleView) (chosen : List (List Bool)) (found : Option Said) (pair : Option (List ℕ × List ℕ)) (position section value : ℕ) → ((entry : Said) → found ≡ Some entry → IsSaid modules entry) → weak_step chosen found (alternate_step pair) ≡ Ends (Ok (meaning.Section position section value)) → MeansPlace modules chosen position section value
+weak_place modules chosen None None position section value each e = let same = ends_are (Err Undefined) (Ok (meaning.Section position section value)) e in absurd cc
+weak_place modules chosen None (Some pair) position section value each e = absurd (leads_nowhere pair.1 (Ok (meaning.Section position section value)) e)
+weak_place modules chosen (Some entry) pair position section value each e =
     let is = each entry refl in
     default_place modules chosen entry.«module» entry.default position section value is.weak is.within is.own is.inside e
 
@@ -218,36 +221,36 @@ own_place modules chosen name (Some entry) common position section value each e 
 own_place modules chosen name None (Some entry) position section value each e = absurd cc
 own_place modules chosen name None None position section value each e = absurd (linker_places_nothing name position section value e)
 
-step_place : (modules : List ModuleView) (chosen : List (List Bool)) (name : List ℕ) (position section value : ℕ) → step modules chosen name ≡ Ends (Ok (meaning.Section position section value)) → MeansPlace modules chosen position section value
+step_place : (view : LinkView) (chosen : List (List Bool)) (name : List ℕ) (position section value : ℕ) → step view chosen name ≡ Ends (Ok (meaning.Section position section value)) → MeansPlace view.modules chosen position section value
 unfolding step
-step_place modules chosen name position section value e = go (own_meaning modules chosen name) refl e
+step_place view chosen name position section value e = go (own_meaning view.modules chosen name) refl e
   where
-    go : (own : Option Meaning) → own_meaning modules chosen name ≡ own → own_or own (weak_step chosen (weak_named modules name)) ≡ Ends (Ok (meaning.Section position section value)) → MeansPlace modules chosen position section value
+    go : (own : Option Meaning) → own_meaning view.modules chosen name ≡ own → own_or own (weak_step chosen (weak_named view.modules name) (alternate_step (alternate_named view name))) ≡ Ends (Ok (meaning.Section position section value)) → MeansPlace view.modules chosen position section value
     go None is e =
-        weak_place modules chosen (weak_named modules name) position section value (λ entry found. found_is (IsSaid modules) (says name) (all_weaks modules) entry (weaks_are modules) found) e
+        weak_place view.modules chosen (weak_named view.modules name) (alternate_named view name) position section value (λ entry found. found_is (IsSaid view.modules) (says name) (all_weaks view.modules) entry (weaks_are view.modules) found) e
     go (Some m) is e =
         let means : Ok m ≡ Ok (meaning.Section position section value) = ends_are (Ok m) (Ok (meaning.Section position section value)) e in
         let same : Some m ≡ Some (meaning.Section position section value) = cc in
-        own_place modules chosen name (definition_named modules chosen name) (common_named modules name) position section value
-        (λ entry found. found_is (λ x. IsProvided modules x × (is_live chosen x ≡ true)) (has_name name) (live_definitions modules chosen) entry (passing (IsProvided modules) (is_live chosen) (all_definitions modules) (definitions_are modules)) found)
+        own_place view.modules chosen name (definition_named view.modules chosen name) (common_named view.modules name) position section value
+        (λ entry found. found_is (λ x. IsProvided view.modules x × (is_live chosen x ≡ true)) (has_name name) (live_definitions view.modules chosen) entry (passing (IsProvided view.modules) (is_live chosen) (all_definitions view.modules) (definitions_are view.modules)) found)
         (is ∙ same)
 
 -- ---- a name
 
-within_place : (modules : List ModuleView) (chosen : List (List Bool)) (steps : ℕ) (name : List ℕ) (position section value : ℕ) → meaning_within modules chosen steps name ≡ Ok (meaning.Section position section value) → MeansPlace modules chosen position section value
+within_place : (view : LinkView) (chosen : List (List Bool)) (steps : ℕ) (name : List ℕ) (position section value : ℕ) → meaning_within view chosen steps name ≡ Ok (meaning.Section position section value) → MeansPlace view.modules chosen position section value
 unfolding meaning_within
-within_place modules chosen zero name position section value e = absurd cc
-within_place modules chosen (suc steps) name position section value e =
-    go (step modules chosen name) refl e (λ other later. within_place modules chosen steps other position section value later)
+within_place view chosen zero name position section value e = absurd cc
+within_place view chosen (suc steps) name position section value e =
+    go (step view chosen name) refl e (λ other later. within_place view chosen steps other position section value later)
   where
-    go : (s : Step) → step modules chosen name ≡ s → at_end (meaning_within modules chosen steps) s ≡ Ok (meaning.Section position section value) → ((other : List ℕ) → meaning_within modules chosen steps other ≡ Ok (meaning.Section position section value) → MeansPlace modules chosen position section value) → MeansPlace modules chosen position section value
-    go (Ends end) is e later = step_place modules chosen name position section value (is ∙ ap Ends e)
+    go : (s : Step) → step view chosen name ≡ s → at_end (meaning_within view chosen steps) s ≡ Ok (meaning.Section position section value) → ((other : List ℕ) → meaning_within view chosen steps other ≡ Ok (meaning.Section position section value) → MeansPlace view.modules chosen position section value) → MeansPlace view.modules chosen position section value
+    go (Ends end) is e later = step_place view chosen name position section value (is ∙ ap Ends e)
     go (Leads other) is e later = later other e
 
-pub meaning_stands : (modules : List ModuleView) (chosen : List (List Bool)) (name : List ℕ) (position section value : ℕ) → meaning_of modules chosen name ≡ Ok (meaning.Section position section value) → MeansPlace modules chosen position section value
+pub meaning_stands : (view : LinkView) (chosen : List (List Bool)) (name : List ℕ) (position section value : ℕ) → meaning_of view chosen name ≡ Ok (meaning.Section position section value) → MeansPlace view.modules chosen position section value
 unfolding meaning_of
-meaning_stands modules chosen name position section value e =
-    within_place modules chosen (length (all_weaks modules) + 1) name position section value e
+meaning_stands view chosen name position section value e =
+    within_place view chosen (most_steps view + 1) name position section value e
 
 -- each of the modules opens
 pub module_opens : (modules : List ModuleView) (position : ℕ) → All IsOpened modules → position < length modules → opening_error (module_at modules position).bytes ≡ None

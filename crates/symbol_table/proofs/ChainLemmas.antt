@@ -8,7 +8,7 @@ use Rattle.std.proofs.lemmas.List.Elements.{All-append}
 use Rattle.std.proofs.lemmas.Option.{same_Some}
 use Rattle.std.proofs.lemmas.List.Folds.{list_any-append}
 use Rattle.std.proofs.lemmas.List.Sums.{sum_by-set}
-use Rattle.module_view.specs.Module.{ModuleView}
+use Rattle.symbol_table.specs.LinkView.{LinkView}
 use Rattle.symbol_table.specs.declared.meaning.Meaning.{Meaning}
 use Rattle.symbol_table.specs.declared.meaning.NoMeaning.{NoMeaning}
 use Rattle.symbol_table.specs.declared.meaning.NoMeaning.TheVariants.{WeakCycle}
@@ -146,49 +146,49 @@ path_more start now path more number at next below is some parts =
 -- ---- what is known of a chain
 
 -- a name has the end of the name that it leads to
-stays_before : (modules : List ModuleView) (chosen : List (List Bool)) (name other : List ℕ) (end : Result Meaning NoMeaning) → step modules chosen name ≡ Leads other → (settles : Settles modules chosen other end) → (more : ℕ) → suc settles.steps < more → meaning_within modules chosen more name ≡ end
+stays_before : (view : LinkView) (chosen : List (List Bool)) (name other : List ℕ) (end : Result Meaning NoMeaning) → step view chosen name ≡ Leads other → (settles : Settles view chosen other end) → (more : ℕ) → suc settles.steps < more → meaning_within view chosen more name ≡ end
 unfolding meaning_within
-stays_before modules chosen name other end leads settles zero less = absurd (omega arith)
-stays_before modules chosen name other end leads settles (suc more) less =
-    ap (at_end (meaning_within modules chosen more)) leads ∙ settles.stays more (omega (arith, less))
+stays_before view chosen name other end leads settles zero less = absurd (omega arith)
+stays_before view chosen name other end leads settles (suc more) less =
+    ap (at_end (meaning_within view chosen more)) leads ∙ settles.stays more (omega (arith, less))
 
-settles_before : (modules : List ModuleView) (chosen : List (List Bool)) (name other : List ℕ) (end : Result Meaning NoMeaning) → step modules chosen name ≡ Leads other → Settles modules chosen other end → Settles modules chosen name end
-settles_before modules chosen name other end leads settles = record {
+settles_before : (view : LinkView) (chosen : List (List Bool)) (name other : List ℕ) (end : Result Meaning NoMeaning) → step view chosen name ≡ Leads other → Settles view chosen other end → Settles view chosen name end
+settles_before view chosen name other end leads settles = record {
   steps = suc settles.steps;
-  stays = stays_before modules chosen name other end leads settles;
+  stays = stays_before view chosen name other end leads settles;
 }
 
 -- what is known of a link that leads on, and of one that has an end
-leads_known : (modules : List ModuleView) (chosen : List (List Bool)) (names : List (List ℕ)) (links : List Link) (number next : ℕ) (name : List ℕ) → AreKnown modules chosen names links → Numbers names number name → link_at links number ≡ link.Leads next → LeadsOn modules chosen names name next
-leads_known modules chosen names links number next name known numbered leads =
-    subst (IsKnown modules chosen names name) leads (known.each number name numbered)
+leads_known : (view : LinkView) (chosen : List (List Bool)) (names : List (List ℕ)) (links : List Link) (number next : ℕ) (name : List ℕ) → AreKnown view chosen names links → Numbers names number name → link_at links number ≡ link.Leads next → LeadsOn view chosen names name next
+leads_known view chosen names links number next name known numbered leads =
+    subst (IsKnown view chosen names name) leads (known.each number name numbered)
 
-ends_known : (modules : List ModuleView) (chosen : List (List Bool)) (names : List (List ℕ)) (links : List Link) (number : ℕ) (end : Result Meaning NoMeaning) (name : List ℕ) → AreKnown modules chosen names links → Numbers names number name → link_at links number ≡ link.Ends end → Settles modules chosen name end
-ends_known modules chosen names links number end name known numbered ends =
-    subst (IsKnown modules chosen names name) ends (known.each number name numbered)
+ends_known : (view : LinkView) (chosen : List (List Bool)) (names : List (List ℕ)) (links : List Link) (number : ℕ) (end : Result Meaning NoMeaning) (name : List ℕ) → AreKnown view chosen names links → Numbers names number name → link_at links number ≡ link.Ends end → Settles view chosen name end
+ends_known view chosen names links number end name known numbered ends =
+    subst (IsKnown view chosen names name) ends (known.each number name numbered)
 
 -- the names of a number have an end
-abbrev SettlesAt : List ModuleView → List (List Bool) → List (List ℕ) → Result Meaning NoMeaning → ℕ → Type 0
-SettlesAt modules chosen names end number = (name : List ℕ) → Numbers names number name → Settles modules chosen name end
+abbrev SettlesAt : LinkView → List (List Bool) → List (List ℕ) → Result Meaning NoMeaning → ℕ → Type 0
+SettlesAt view chosen names end number = (name : List ℕ) → Numbers names number name → Settles view chosen name end
 
 -- ---- a path to a number whose end is known
 
-settles_first : (modules : List ModuleView) (chosen : List (List Bool)) (names : List (List ℕ)) (links : List Link) (end : Result Meaning NoMeaning) (number : ℕ) (path : List ℕ) (at : ℕ) → AreKnown modules chosen names links → LeadAlong links number path at → SettlesAt modules chosen names end at → SettlesAt modules chosen names end number
-settles_first modules chosen names links end number [] at known along settles = subst (SettlesAt modules chosen names end) (sym along) settles
-settles_first modules chosen names links end number (first ∷ rest) at known along settles = λ name numbered.
+settles_first : (view : LinkView) (chosen : List (List Bool)) (names : List (List ℕ)) (links : List Link) (end : Result Meaning NoMeaning) (number : ℕ) (path : List ℕ) (at : ℕ) → AreKnown view chosen names links → LeadAlong links number path at → SettlesAt view chosen names end at → SettlesAt view chosen names end number
+settles_first view chosen names links end number [] at known along settles = subst (SettlesAt view chosen names end) (sym along) settles
+settles_first view chosen names links end number (first ∷ rest) at known along settles = λ name numbered.
     let numbered_first : Numbers names first name = subst (λ (k : ℕ). Numbers names k name) along.0 numbered in
-    let leads = leads_known modules chosen names links first along.1 name known numbered_first along.2 in
-    settles_before modules chosen name leads.other end leads.leads
-    (settles_first modules chosen names links end along.1 rest at known along.3 settles leads.other leads.numbered)
+    let leads = leads_known view chosen names links first along.1 name known numbered_first along.2 in
+    settles_before view chosen name leads.other end leads.leads
+    (settles_first view chosen names links end along.1 rest at known along.3 settles leads.other leads.numbered)
 
-settles_on : (modules : List ModuleView) (chosen : List (List Bool)) (names : List (List ℕ)) (links : List Link) (end : Result Meaning NoMeaning) (number : ℕ) (path : List ℕ) (at : ℕ) → AreKnown modules chosen names links → LeadAlong links number path at → SettlesAt modules chosen names end at → (one : ℕ) → list_any (nat_eq one) path ≡ true → SettlesAt modules chosen names end one
-settles_on modules chosen names links end number [] at known along settles one on = absurd (false≢true on)
-settles_on modules chosen names links end number (first ∷ rest) at known along settles one on =
+settles_on : (view : LinkView) (chosen : List (List Bool)) (names : List (List ℕ)) (links : List Link) (end : Result Meaning NoMeaning) (number : ℕ) (path : List ℕ) (at : ℕ) → AreKnown view chosen names links → LeadAlong links number path at → SettlesAt view chosen names end at → (one : ℕ) → list_any (nat_eq one) path ≡ true → SettlesAt view chosen names end one
+settles_on view chosen names links end number [] at known along settles one on = absurd (false≢true on)
+settles_on view chosen names links end number (first ∷ rest) at known along settles one on =
     elim (or_cases (nat_eq one first) (list_any (nat_eq one) rest) on) [
       | inl here ↦
-          subst (SettlesAt modules chosen names end) (along.0 ∙ sym (eqb-true one first here))
-          (settles_first modules chosen names links end number (first ∷ rest) at known along settles)
-      | inr later ↦ settles_on modules chosen names links end along.1 rest at known along.3 settles one later
+          subst (SettlesAt view chosen names end) (along.0 ∙ sym (eqb-true one first here))
+          (settles_first view chosen names links end number (first ∷ rest) at known along settles)
+      | inr later ↦ settles_on view chosen names links end along.1 rest at known along.3 settles one later
     ]
 
 -- ---- a path that comes back to itself
@@ -217,14 +217,14 @@ goes_on links whole number (first ∷ rest) at along part back one on =
     next_on links number (first ∷ rest) at along part back = part number (or_left (nat_eq number first) _ (eq-eqb number first along.0))
 
 -- within any number of steps a name on the path has no end
-no_end_within : (modules : List ModuleView) (chosen : List (List Bool)) (names : List (List ℕ)) (links : List Link) (number : ℕ) (path : List ℕ) (at : ℕ) → AreKnown modules chosen names links → LeadAlong links number path at → list_any (nat_eq at) path ≡ true → (steps one : ℕ) (name : List ℕ) → list_any (nat_eq one) path ≡ true → Numbers names one name → meaning_within modules chosen steps name ≡ cycle
+no_end_within : (view : LinkView) (chosen : List (List Bool)) (names : List (List ℕ)) (links : List Link) (number : ℕ) (path : List ℕ) (at : ℕ) → AreKnown view chosen names links → LeadAlong links number path at → list_any (nat_eq at) path ≡ true → (steps one : ℕ) (name : List ℕ) → list_any (nat_eq one) path ≡ true → Numbers names one name → meaning_within view chosen steps name ≡ cycle
 unfolding meaning_within
-no_end_within modules chosen names links number path at known along back zero one name on numbered = refl
-no_end_within modules chosen names links number path at known along back (suc steps) one name on numbered =
+no_end_within view chosen names links number path at known along back zero one name on numbered = refl
+no_end_within view chosen names links number path at known along back (suc steps) one name on numbered =
     let more = goes_on links path number path at along (λ k e. e) back one on in
-    let leads = leads_known modules chosen names links one more.next name known numbered more.leads in
-    ap (at_end (meaning_within modules chosen steps)) leads.leads
-    ∙ no_end_within modules chosen names links number path at known along back steps more.next leads.other more.again leads.numbered
+    let leads = leads_known view chosen names links one more.next name known numbered more.leads in
+    ap (at_end (meaning_within view chosen steps)) leads.leads
+    ∙ no_end_within view chosen names links number path at known along back steps more.next leads.other more.again leads.numbered
 
 -- ---- what a path ends with
 
@@ -232,52 +232,52 @@ first_on : (links : List Link) (number : ℕ) (path : List ℕ) (at : ℕ) → L
 first_on links number [] at along back = absurd (false≢true back)
 first_on links number (first ∷ rest) at along back = or_left (nat_eq number first) _ (eq-eqb number first along.0)
 
-pub record PathSettles (modules : List ModuleView) (chosen : List (List Bool)) (names : List (List ℕ)) (path : List ℕ) (number : ℕ) (end : Result Meaning NoMeaning) : Type 0 where
-  pub first : (name : List ℕ) → Numbers names number name → Settles modules chosen name end
-  pub on : (one : ℕ) (name : List ℕ) → list_any (nat_eq one) path ≡ true → Numbers names one name → Settles modules chosen name end
+pub record PathSettles (view : LinkView) (chosen : List (List Bool)) (names : List (List ℕ)) (path : List ℕ) (number : ℕ) (end : Result Meaning NoMeaning) : Type 0 where
+  pub first : (name : List ℕ) → Numbers names number name → Settles view chosen name end
+  pub on : (one : ℕ) (name : List ℕ) → list_any (nat_eq one) path ≡ true → Numbers names one name → Settles view chosen name end
 
-pub path_settles : (modules : List ModuleView) (chosen : List (List Bool)) (names : List (List ℕ)) (start now : List Link) (path : List ℕ) (number at : ℕ) (end : Result Meaning NoMeaning) → AreKnown modules chosen names start → IsPath start now path number at → next_of (link_at now at) ≡ None → end ≡ end_of (link_at now at) → PathSettles modules chosen names path number end
-path_settles modules chosen names start now path number at end known is none same = go (list_any (nat_eq at) path) refl
+pub path_settles : (view : LinkView) (chosen : List (List Bool)) (names : List (List ℕ)) (start now : List Link) (path : List ℕ) (number at : ℕ) (end : Result Meaning NoMeaning) → AreKnown view chosen names start → IsPath start now path number at → next_of (link_at now at) ≡ None → end ≡ end_of (link_at now at) → PathSettles view chosen names path number end
+path_settles view chosen names start now path number at end known is none same = go (list_any (nat_eq at) path) refl
   where
     ends : link_at now at ≡ link.Ends end
     ends = ends_with (link_at now at) none ∙ ap link.Ends (sym same)
 
-    go : (b : Bool) → list_any (nat_eq at) path ≡ b → PathSettles modules chosen names path number end
+    go : (b : Bool) → list_any (nat_eq at) path ≡ b → PathSettles view chosen names path number end
     go true back =
         let is_cycle : end ≡ cycle = same ∙ ap end_of (is.ended.on at back) in
-        let settles : (one : ℕ) (name : List ℕ) → list_any (nat_eq one) path ≡ true → Numbers names one name → Settles modules chosen name end =
+        let settles : (one : ℕ) (name : List ℕ) → list_any (nat_eq one) path ≡ true → Numbers names one name → Settles view chosen name end =
         λ one name on numbered. record {
           steps = 0;
-          stays = λ more less. no_end_within modules chosen names start number path at known is.along back more one name on numbered ∙ sym is_cycle;
+          stays = λ more less. no_end_within view chosen names start number path at known is.along back more one name on numbered ∙ sym is_cycle;
         } in
         record {
           first = λ name numbered. settles number name (first_on start number path at is.along back) numbered;
           on = settles;
         }
     go false off =
-        let there : SettlesAt modules chosen names end at =
-        λ name numbered. ends_known modules chosen names start at end name known numbered (sym (is.ended.off at off) ∙ ends) in
+        let there : SettlesAt view chosen names end at =
+        λ name numbered. ends_known view chosen names start at end name known numbered (sym (is.ended.off at off) ∙ ends) in
         record {
-          first = settles_first modules chosen names start end number path at known is.along there;
-          on = λ one name on numbered. settles_on modules chosen names start end number path at known is.along there one on name numbered;
+          first = settles_first view chosen names start end number path at known is.along there;
+          on = λ one name on numbered. settles_on view chosen names start end number path at known is.along there one on name numbered;
         }
 
 -- the links are known again, once the end is noted
-pub known_again : (modules : List ModuleView) (chosen : List (List Bool)) (names : List (List ℕ)) (start now after : List Link) (path : List ℕ) (number at : ℕ) (end : Result Meaning NoMeaning) → AreKnown modules chosen names start → IsPath start now path number at → next_of (link_at now at) ≡ None → end ≡ end_of (link_at now at) → length after ≡ length now → AreEnded path end now after → AreKnown modules chosen names after
-known_again modules chosen names start now after path number at end known is none same long noted = record {
+pub known_again : (view : LinkView) (chosen : List (List Bool)) (names : List (List ℕ)) (start now after : List Link) (path : List ℕ) (number at : ℕ) (end : Result Meaning NoMeaning) → AreKnown view chosen names start → IsPath start now path number at → next_of (link_at now at) ≡ None → end ≡ end_of (link_at now at) → length after ≡ length now → AreEnded path end now after → AreKnown view chosen names after
+known_again view chosen names start now after path number at end known is none same long noted = record {
   long = long ∙ is.long ∙ known.long;
   each = λ one name numbered. go one name numbered (list_any (nat_eq one) path) refl;
 }
   where
-    settles : PathSettles modules chosen names path number end
-    settles = path_settles modules chosen names start now path number at end known is none same
+    settles : PathSettles view chosen names path number end
+    settles = path_settles view chosen names start now path number at end known is none same
 
     whole : AreEnded path end start after
     whole = ended_again path cycle end start now after is.ended noted
 
-    go : (one : ℕ) (name : List ℕ) → Numbers names one name → (b : Bool) → list_any (nat_eq one) path ≡ b → IsKnown modules chosen names name (link_at after one)
-    go one name numbered true on = subst (IsKnown modules chosen names name) (sym (whole.on one on)) (settles.on one name on numbered)
-    go one name numbered false off = subst (IsKnown modules chosen names name) (sym (whole.off one off)) (known.each one name numbered)
+    go : (one : ℕ) (name : List ℕ) → Numbers names one name → (b : Bool) → list_any (nat_eq one) path ≡ b → IsKnown view chosen names name (link_at after one)
+    go one name numbered true on = subst (IsKnown view chosen names name) (sym (whole.on one on)) (settles.on one name on numbered)
+    go one name numbered false off = subst (IsKnown view chosen names name) (sym (whole.off one off)) (known.each one name numbered)
 
 -- and no link leads further than the links go
 pub below_again : (start now after : List Link) (path : List ℕ) (number at : ℕ) (end : Result Meaning NoMeaning) → All (LeadsBelow (length start)) start → IsPath start now path number at → length after ≡ length now → AreEnded path end now after → All (LeadsBelow (length start)) after
@@ -293,19 +293,19 @@ below_again start now after path number at end below is long noted = λ one d le
 
 -- ---- the steps of names are known
 
-ends_at_once : (modules : List ModuleView) (chosen : List (List Bool)) (name : List ℕ) (other end : Result Meaning NoMeaning) → step modules chosen name ≡ Ends end → other ≡ end → (more : ℕ) → 0 < more → meaning_within modules chosen more name ≡ other
+ends_at_once : (view : LinkView) (chosen : List (List Bool)) (name : List ℕ) (other end : Result Meaning NoMeaning) → step view chosen name ≡ Ends end → other ≡ end → (more : ℕ) → 0 < more → meaning_within view chosen more name ≡ other
 unfolding meaning_within
-ends_at_once modules chosen name other end e same zero less = absurd (omega arith)
-ends_at_once modules chosen name other end e same (suc more) less = ap (at_end (meaning_within modules chosen more)) e ∙ sym same
+ends_at_once view chosen name other end e same zero less = absurd (omega arith)
+ends_at_once view chosen name other end e same (suc more) less = ap (at_end (meaning_within view chosen more)) e ∙ sym same
 
-pub steps_known : (modules : List ModuleView) (chosen : List (List Bool)) (names : List (List ℕ)) (links : List Link) → AreSteps modules chosen names links → AreKnown modules chosen names links
-steps_known modules chosen names links are = record {
+pub steps_known : (view : LinkView) (chosen : List (List Bool)) (names : List (List ℕ)) (links : List Link) → AreSteps view chosen names links → AreKnown view chosen names links
+steps_known view chosen names links are = record {
   long = are.long;
-  each = λ number name numbered. one_known name (link_at links number) (step modules chosen name) refl (are.each number name numbered);
+  each = λ number name numbered. one_known name (link_at links number) (step view chosen name) refl (are.each number name numbered);
 }
   where
-    one_known : (name : List ℕ) (one : Link) (made : Step) → step modules chosen name ≡ made → IsStep names made one → IsKnown modules chosen names name one
-    one_known name (link.Ends other) (Ends end) e same = record { steps = 0; stays = ends_at_once modules chosen name other end e same }
+    one_known : (name : List ℕ) (one : Link) (made : Step) → step view chosen name ≡ made → IsStep names made one → IsKnown view chosen names name one
+    one_known name (link.Ends other) (Ends end) e same = record { steps = 0; stays = ends_at_once view chosen name other end e same }
     one_known name (link.Leads number) (Leads other) e numbered = record { other = other; numbered = numbered; leads = e }
     one_known name (link.Leads number) (Ends end) e never = absurd never
     one_known name (link.Ends end) (Leads other) e never = absurd never

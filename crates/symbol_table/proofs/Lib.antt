@@ -1,4 +1,5 @@
 pub mod AbsentLemmas
+pub mod AlternateLemmas
 pub mod CallerLemmas
 pub mod ChainLemmas
 pub mod EndLemmas

@@ -13,11 +13,12 @@ use Rattle.module_view.specs.declared.reference.Weak.{Weak}
 use Rattle.symbol_table.specs.declared.noted.NotedDefinition.{NotedDefinition}
 use Rattle.symbol_table.specs.declared.noted.NotedCommon.{NotedCommon}
 use Rattle.symbol_table.specs.declared.noted.NotedWeak.{NotedWeak}
+use Rattle.symbol_table.specs.declared.noted.NotedAlternate.{NotedAlternate}
 use Rattle.symbol_table.specs.declared.noted.NotedDefault.{NotedDefault}
 use Rattle.symbol_table.specs.declared.noted.NotedDefault.TheVariants as noted
 use Rattle.symbol_table.specs.declared.weak_default.WeakDefault.{WeakDefault}
 use Rattle.symbol_table.specs.declared.weak_default.WeakDefault.TheVariants as default
-use Rattle.symbol_table.specs.Interning.{Numbers, KeepsNumbers, NotesDefinition, NotesCommon, NotesDefault, NotesWeak}
+use Rattle.symbol_table.specs.Interning.{Numbers, KeepsNumbers, NotesDefinition, NotesCommon, NotesDefault, NotesWeak, NotesAlternate}
 
 -- ---- names that are one text
 
@@ -113,3 +114,6 @@ default_kept before after kept default.Nothing said is = is
 
 pub weak_kept : (before after : List (List ℕ)) → KeepsNumbers before after → (bytes : List ℕ) (weak : Weak) (noted : NotedWeak) → NotesWeak before bytes weak noted → NotesWeak after bytes weak noted
 weak_kept before after kept bytes weak noted is = record { named = kept _ _ is.named; default_is = default_kept before after kept _ _ is.default_is }
+
+pub alternate_kept : (before after : List (List ℕ)) → KeepsNumbers before after → (pair : List ℕ × List ℕ) (noted : NotedAlternate) → NotesAlternate before pair noted → NotesAlternate after pair noted
+alternate_kept before after kept pair noted is = record { left = kept _ _ is.left; right = kept _ _ is.right }

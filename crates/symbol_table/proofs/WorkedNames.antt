@@ -6,13 +6,15 @@ use Rattle.link_base.specs.Refusals.{first_refusal_below}
 use Rattle.module_view.specs.declared.definition.Place.{Place}
 use Rattle.module_view.specs.declared.definition.Place.TheVariants as place
 use Rattle.symbol_table.specs.declared.meaning.Meaning.TheVariants as meaning
-use Rattle.symbol_table.specs.declared.meaning.NoMeaning.TheVariants.{Undefined}
+use Rattle.symbol_table.specs.declared.meaning.NoMeaning.TheVariants.{Undefined, WeakCycle}
 use Rattle.symbol_table.specs.declared.weak_default.WeakDefault.{WeakDefault}
 use Rattle.symbol_table.specs.declared.weak_default.WeakDefault.TheVariants as default
 use Rattle.symbol_table.specs.LinkerNames.{linker_meaning}
 use Rattle.symbol_table.specs.Lists.{Provided, provided, is_chosen_in, is_live, Offered, offered, offers, Said, says}
+use Rattle.symbol_table.specs.LinkView.{LinkView}
+use Rattle.symbol_table.specs.Alternates.{is_left}
 use Rattle.symbol_table.specs.Clash.{clash_in}
-use Rattle.symbol_table.specs.Resolution.{Ends, Leads, greatest_of, own_or, default_step, weak_step}
+use Rattle.symbol_table.specs.Resolution.{Ends, Leads, greatest_of, own_or, default_step, alternate_step, weak_step, step, meaning_within, meaning_of}
 
 -- ---- sections
 
@@ -66,7 +68,7 @@ weakly : ℕ → ℕ → WeakDefault → Said
 weakly name position said = record { «module» = position; name = name ∷ []; default = said }
 
 -- `a` of the module 0 leads to `b`, though that of the module 1 is a number
-first_weak : weak_step rows (find (says (97 ∷ [])) (weakly 97 0 (default.Name (98 ∷ [])) ∷ weakly 97 1 (default.Absolute 7) ∷ [])) ≡ Leads (98 ∷ [])
+first_weak : weak_step rows (find (says (97 ∷ [])) (weakly 97 0 (default.Name (98 ∷ [])) ∷ weakly 97 1 (default.Absolute 7) ∷ [])) (Ends (Err Undefined)) ≡ Leads (98 ∷ [])
 unfolding weakly
 first_weak = refl
 
@@ -85,3 +87,33 @@ place_of_lost = refl
 before_its_default : own_or (linker_meaning (codes "__ImageBase")) (Leads (98 ∷ [])) ≡ Ends (Ok meaning.ImageBase)
 unfolding linker_meaning
 before_its_default = refl
+
+-- ---- alternates
+
+-- of two alternates of `a`, the first
+first_alternate : alternate_step (find (is_left (97 ∷ [])) ((97 ∷ [], 98 ∷ []) ∷ (97 ∷ [], 99 ∷ []) ∷ [])) ≡ Leads (98 ∷ [])
+first_alternate = refl
+
+-- none is looked at where a weak external is there, though it means nothing
+behind_its_weak : weak_step rows (Some (weakly 97 0 default.Nothing)) (Leads (98 ∷ [])) ≡ Ends (Err Undefined)
+unfolding weakly
+behind_its_weak = refl
+
+-- no modules, and alternates that lead from `a` to `b` and on to the image's address, and from `c` to `d` and back
+standing : LinkView
+standing = record {
+  alternates = (97 ∷ [], 98 ∷ []) ∷ (98 ∷ [], codes "__ImageBase") ∷ (99 ∷ [], 100 ∷ []) ∷ (100 ∷ [], 99 ∷ []) ∷ [];
+  modules = [];
+}
+
+along_alternates : meaning_of standing [] (97 ∷ []) ≡ Ok meaning.ImageBase
+unfolding meaning_of meaning_within step linker_meaning standing
+along_alternates = refl
+
+back_again : meaning_of standing [] (99 ∷ []) ≡ Err WeakCycle
+unfolding meaning_of meaning_within step linker_meaning standing
+back_again = refl
+
+without_any : meaning_of standing [] (101 ∷ []) ≡ Err Undefined
+unfolding meaning_of meaning_within step linker_meaning standing
+without_any = refl

@@ -9,10 +9,12 @@ use Rattle.symbol_table.specs.declared.noted.ModuleNames.{ModuleNames}
 use Rattle.symbol_table.specs.declared.noted.NotedDefinition.{NotedDefinition}
 use Rattle.symbol_table.specs.declared.noted.NotedCommon.{NotedCommon}
 use Rattle.symbol_table.specs.declared.noted.NotedWeak.{NotedWeak}
+use Rattle.symbol_table.specs.declared.noted.NotedAlternate.{NotedAlternate}
 use Rattle.symbol_table.specs.declared.noted.NotedDefault.{NotedDefault}
 use Rattle.symbol_table.specs.declared.noted.NotedDefault.TheVariants as noted
 use Rattle.symbol_table.specs.declared.weak_default.WeakDefault.{WeakDefault}
 use Rattle.symbol_table.specs.declared.weak_default.WeakDefault.TheVariants as default
+use Rattle.symbol_table.specs.Alternates.{alternates_by}
 use Rattle.symbol_table.specs.Defaults.{default_of}
 
 -- a name has a number
@@ -44,6 +46,10 @@ NotesDefault names (default.Name name) (noted.Place section value) = ⊥
 NotesDefault names (default.Name name) (noted.Absolute value) = ⊥
 NotesDefault names (default.Name name) noted.Nothing = ⊥
 
+pub record NotesAlternate (names : List (List ℕ)) (pair : List ℕ × List ℕ) (noted : NotedAlternate) : Type 0 where
+  pub left : Numbers names noted.left pair.0
+  pub right : Numbers names noted.right pair.1
+
 pub record NotesWeak (names : List (List ℕ)) (bytes : List ℕ) (weak : Weak) (noted : NotedWeak) : Type 0 where
   pub named : Numbers names noted.name weak.name
   pub default_is : NotesDefault names (default_of bytes weak.tag) noted.default
@@ -55,3 +61,4 @@ pub record NotesModule (names : List (List ℕ)) (noted : ModuleNames) : Type 0 
   pub definitions : AllZip (NotesDefinition names) (definitions_of noted.bytes.now) noted.definitions.items
   pub commons : AllZip (NotesCommon names) (commons_of noted.bytes.now) noted.commons.items
   pub weaks : AllZip (NotesWeak names noted.bytes.now) (weaks_of noted.bytes.now) noted.weaks.items
+  pub alternates : AllZip (NotesAlternate names) (alternates_by 0 noted.bytes.now) noted.alternates.items

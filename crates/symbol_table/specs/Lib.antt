@@ -1,6 +1,8 @@
 pub mod LinkerNames
 pub mod Defaults
+pub mod LinkView
 pub mod Lists
+pub mod Alternates
 pub mod Resolution
 pub mod Clash
 pub mod Interning

@@ -1,12 +1,12 @@
 -- Steps of chains by the numbers of names, and how a chain ends. Own.
 use Rattle.std.specs.Prelude.{◌≡◌, ℕ, ◌<◌, nat_eq, Bool, true, false, List, length, slice_index_or, Option, Some, None, Result, Err}
 use Rattle.std.specs.List.{list_any}
-use Rattle.module_view.specs.Module.{ModuleView}
 use Rattle.symbol_table.specs.declared.meaning.Meaning.{Meaning}
 use Rattle.symbol_table.specs.declared.meaning.NoMeaning.{NoMeaning}
 use Rattle.symbol_table.specs.declared.meaning.NoMeaning.TheVariants.{Undefined, WeakCycle}
 use Rattle.symbol_table.specs.declared.link.Link.{Link}
 use Rattle.symbol_table.specs.declared.link.Link.TheVariants as link
+use Rattle.symbol_table.specs.LinkView.{LinkView}
 use Rattle.symbol_table.specs.Resolution.{Step, Ends, Leads, step, meaning_within}
 use Rattle.symbol_table.specs.Interning.{Numbers}
 
@@ -39,30 +39,30 @@ LeadsBelow count (link.Ends end) = Unit {0}
 LeadsBelow count (link.Leads number) = number < count
 
 -- the steps of all names
-pub record AreSteps (modules : List ModuleView) (chosen : List (List Bool)) (names : List (List ℕ)) (links : List Link) : Type 0 where
+pub record AreSteps (view : LinkView) (chosen : List (List Bool)) (names : List (List ℕ)) (links : List Link) : Type 0 where
   pub long : length links ≡ length names
-  pub each : (number : ℕ) (name : List ℕ) → Numbers names number name → IsStep names (step modules chosen name) (link_at links number)
+  pub each : (number : ℕ) (name : List ℕ) → Numbers names number name → IsStep names (step view chosen name) (link_at links number)
 
 -- ---- ends
 
 -- a chain has this end however many steps are made, from some number on
-pub record Settles (modules : List ModuleView) (chosen : List (List Bool)) (name : List ℕ) (end : Result Meaning NoMeaning) : Type 0 where
+pub record Settles (view : LinkView) (chosen : List (List Bool)) (name : List ℕ) (end : Result Meaning NoMeaning) : Type 0 where
   pub steps : ℕ
-  pub stays : (more : ℕ) → steps < more → meaning_within modules chosen more name ≡ end
+  pub stays : (more : ℕ) → steps < more → meaning_within view chosen more name ≡ end
 
 -- a name still leads to another, or the end of its chain is known
-pub record LeadsOn (modules : List ModuleView) (chosen : List (List Bool)) (names : List (List ℕ)) (name : List ℕ) (number : ℕ) : Type 0 where
+pub record LeadsOn (view : LinkView) (chosen : List (List Bool)) (names : List (List ℕ)) (name : List ℕ) (number : ℕ) : Type 0 where
   pub other : List ℕ
   pub numbered : Numbers names number other
-  pub leads : step modules chosen name ≡ Leads other
+  pub leads : step view chosen name ≡ Leads other
 
-abbrev pub IsKnown : List ModuleView → List (List Bool) → List (List ℕ) → List ℕ → Link → Type 0
-IsKnown modules chosen names name (link.Ends end) = Settles modules chosen name end
-IsKnown modules chosen names name (link.Leads number) = LeadsOn modules chosen names name number
+abbrev pub IsKnown : LinkView → List (List Bool) → List (List ℕ) → List ℕ → Link → Type 0
+IsKnown view chosen names name (link.Ends end) = Settles view chosen name end
+IsKnown view chosen names name (link.Leads number) = LeadsOn view chosen names name number
 
-pub record AreKnown (modules : List ModuleView) (chosen : List (List Bool)) (names : List (List ℕ)) (links : List Link) : Type 0 where
+pub record AreKnown (view : LinkView) (chosen : List (List Bool)) (names : List (List ℕ)) (links : List Link) : Type 0 where
   pub long : length links ≡ length names
-  pub each : (number : ℕ) (name : List ℕ) → Numbers names number name → IsKnown modules chosen names name (link_at links number)
+  pub each : (number : ℕ) (name : List ℕ) → Numbers names number name → IsKnown view chosen names name (link_at links number)
 
 -- the names on a path have this end, and the others what they had
 pub record AreEnded (path : List ℕ) (end : Result Meaning NoMeaning) (before after : List Link) : Type 0 where
@@ -70,6 +70,6 @@ pub record AreEnded (path : List ℕ) (end : Result Meaning NoMeaning) (before a
   pub off : (number : ℕ) → list_any (nat_eq number) path ≡ false → link_at after number ≡ link_at before number
 
 -- the ends of the chains of all names
-pub record AreMeanings (modules : List ModuleView) (chosen : List (List Bool)) (names : List (List ℕ)) (meanings : List (Result Meaning NoMeaning)) : Type 0 where
+pub record AreMeanings (view : LinkView) (chosen : List (List Bool)) (names : List (List ℕ)) (meanings : List (Result Meaning NoMeaning)) : Type 0 where
   pub long : length meanings ≡ length names
-  pub each : (number : ℕ) (name : List ℕ) → Numbers names number name → Settles modules chosen name (slice_index_or meanings number (Err Undefined))
+  pub each : (number : ℕ) (name : List ℕ) → Numbers names number name → Settles view chosen name (slice_index_or meanings number (Err Undefined))

@@ -12,6 +12,7 @@ use Rattle.symbol_table.specs.declared.first_weak.FirstWeak.{FirstWeak}
 use Rattle.symbol_table.specs.declared.meaning.Clash.{Clash}
 use Rattle.symbol_table.specs.declared.meaning.Meaning.{Meaning}
 use Rattle.symbol_table.specs.declared.meaning.Meaning.TheVariants as meaning
+use Rattle.symbol_table.specs.Alternates.{is_left}
 use Rattle.symbol_table.specs.Lists.{Provided, has_name, Offered, offers, Said, says}
 use Rattle.symbol_table.specs.Clash.{clash_between, clash_in}
 use Rattle.symbol_table.specs.Resolution.{greatest_of, meaning_at}
@@ -85,3 +86,16 @@ pub record AreWeaks (names : List (List ℕ)) (entries : List Said) (weaks : Lis
   pub long : length weaks ≡ length names
   pub first :
       (number : ℕ) (name : List ℕ) → Numbers names number name → KeepsWeak names (find (says name) entries) (slice_index_or weaks number None)
+
+-- ---- alternates
+
+abbrev pub KeepsAlternate : List (List ℕ) → Option (List ℕ × List ℕ) → Option ℕ → Type 0
+KeepsAlternate names None number = number ≡ None
+KeepsAlternate names (Some pair) (Some number) = Numbers names number pair.1
+KeepsAlternate names (Some pair) None = ⊥
+
+-- the first of these alternates that has a name on its left
+pub record AreAlternates (names : List (List ℕ)) (entries : List (List ℕ × List ℕ)) (alternates : List (Option ℕ)) : Type 0 where
+  pub long : length alternates ≡ length names
+  pub first :
+      (number : ℕ) (name : List ℕ) → Numbers names number name → KeepsAlternate names (find (is_left name) entries) (slice_index_or alternates number None)

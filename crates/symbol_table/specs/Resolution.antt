@@ -1,5 +1,5 @@
 -- What a name means in a list of modules, by their positions, where rows tell which of their sections are chosen (PE Format,
--- "COFF Symbol Table" and "Weak Externals"; the order among commons and among defaults is own).
+-- "COFF Symbol Table" and "Weak Externals"; alternates, and the order among commons and among defaults, are own).
 use Rattle.std.specs.Prelude.{ℕ, suc, zero, ◌+◌, Bool, nat_le, if◌then◌else◌, List, length, filter, Option, Some, None, Result, Ok, Err, option_map}
 use Rattle.std.specs.List.{find, list_all}
 use Rattle.std.specs.Option.{option_or}
@@ -13,6 +13,8 @@ use Rattle.symbol_table.specs.declared.meaning.NoMeaning.TheVariants.{Undefined,
 use Rattle.symbol_table.specs.declared.weak_default.WeakDefault.{WeakDefault}
 use Rattle.symbol_table.specs.declared.weak_default.WeakDefault.TheVariants as default
 use Rattle.symbol_table.specs.LinkerNames.{linker_meaning}
+use Rattle.symbol_table.specs.LinkView.{LinkView}
+use Rattle.symbol_table.specs.Alternates.{all_alternates, alternate_named}
 use Rattle.symbol_table.specs.Lists.{Provided, has_name, is_chosen_in, live_definitions, Offered, offers, all_commons, Said, says, all_weaks}
 
 -- ---- what stands behind a name
@@ -74,22 +76,29 @@ default_step chosen position (default.Place section value) = Ends (place_meaning
 default_step chosen position (default.Absolute value) = Ends (Ok (meaning.Absolute value))
 default_step chosen position default.Nothing = Ends (Err Undefined)
 
-abbrev pub weak_step : List (List Bool) → Option Said → Step
-weak_step chosen None = Ends (Err Undefined)
-weak_step chosen (Some entry) = default_step chosen entry.«module» entry.default
+-- a name without a weak external means what its alternate means
+abbrev pub alternate_step : Option (List ℕ × List ℕ) → Step
+alternate_step None = Ends (Err Undefined)
+alternate_step (Some pair) = Leads pair.1
+
+abbrev pub weak_step : List (List Bool) → Option Said → Step → Step
+weak_step chosen None step = step
+weak_step chosen (Some entry) step = default_step chosen entry.«module» entry.default
 
 abbrev pub own_or : Option Meaning → Step → Step
 own_or None step = step
 own_or (Some meaning) step = Ends (Ok meaning)
 
--- what a name means without its default: its live definition, its greatest common, or what the linker means by it
+-- what a name means without its default and its alternate: its live definition, its greatest common, or what the linker means by it
 abbrev pub own_meaning : List ModuleView → List (List Bool) → List ℕ → Option Meaning
 own_meaning modules chosen name =
     option_or (option_map defined_meaning (definition_named modules chosen name))
     (option_or (option_map common_meaning (common_named modules name)) (linker_meaning name))
 
-unfoldable pub step : List ModuleView → List (List Bool) → List ℕ → Step
-step modules chosen name = own_or (own_meaning modules chosen name) (weak_step chosen (weak_named modules name))
+unfoldable pub step : LinkView → List (List Bool) → List ℕ → Step
+step link chosen name =
+    own_or (own_meaning link.modules chosen name)
+    (weak_step chosen (weak_named link.modules name) (alternate_step (alternate_named link name)))
 
 -- ---- a chain
 
@@ -98,11 +107,15 @@ at_end means (Ends end) = end
 at_end means (Leads name) = means name
 
 -- the end of a chain within a number of steps
-unfoldable pub meaning_within : List ModuleView → List (List Bool) → ℕ → List ℕ → Result Meaning NoMeaning
-meaning_within modules chosen zero name = Err WeakCycle
-meaning_within modules chosen (suc steps) name = at_end (meaning_within modules chosen steps) (step modules chosen name)
+unfoldable pub meaning_within : LinkView → List (List Bool) → ℕ → List ℕ → Result Meaning NoMeaning
+meaning_within link chosen zero name = Err WeakCycle
+meaning_within link chosen (suc steps) name = at_end (meaning_within link chosen steps) (step link chosen name)
 
--- what a name means is the end of its chain. Each name that leads to another is that of a weak external, so that a chain
--- that has not ended after one step more than there are of these has come to a name twice
-unfoldable pub meaning_of : List ModuleView → List (List Bool) → List ℕ → Result Meaning NoMeaning
-meaning_of modules chosen name = meaning_within modules chosen (length (all_weaks modules) + 1) name
+-- how many weak externals and alternates there are
+abbrev pub most_steps : LinkView → ℕ
+most_steps link = length (all_weaks link.modules) + length (all_alternates link)
+
+-- what a name means is the end of its chain. Each name that leads to another is that of a weak external or the left one of an
+-- alternate, so that a chain that has not ended after one step more than there are of these has come to a name twice
+unfoldable pub meaning_of : LinkView → List (List Bool) → List ℕ → Result Meaning NoMeaning
+meaning_of link chosen name = meaning_within link chosen (most_steps link + 1) name

@@ -1,15 +1,16 @@
 -- What a table of names keeps of the modules that were added, and of what their names mean. Own.
 use Rattle.std.specs.Prelude.{◌≡◌, ◌≤◌, ℕ, Bool, List, length, map, Option, Result}
-use Rattle.std.specs.List.{All}
+use Rattle.std.specs.List.{All, AllZip}
 use Rattle.link_base.specs.Limits.{MODULE_LIMIT}
-use Rattle.module_view.specs.Module.{ModuleView}
 use Rattle.module_view.specs.Opening.{IsOpened}
 use Rattle.symbol_table.specs.declared.meaning.Meaning.{Meaning}
 use Rattle.symbol_table.specs.declared.meaning.NoMeaning.{NoMeaning}
 use Rattle.symbol_table.specs.declared.meaning.Clash.{Clash}
+use Rattle.symbol_table.specs.declared.alternates.GivenAlternates.{GivenAlternates}
 use Rattle.symbol_table.specs.declared.noted.ModuleNames.{ModuleNames}
+use Rattle.symbol_table.specs.LinkView.{LinkView}
 use Rattle.symbol_table.specs.Clash.{clash_of}
-use Rattle.symbol_table.specs.Interning.{NotesModule}
+use Rattle.symbol_table.specs.Interning.{NotesAlternate, NotesModule}
 use Rattle.symbol_table.specs.Passes.{noted_view}
 use Rattle.symbol_table.specs.Links.{AreMeanings}
 
@@ -18,12 +19,20 @@ pub record KeepsModules (names : List (List ℕ)) (kept : List ModuleNames) : Ty
   pub opened : All IsOpened (map noted_view kept)
   pub few : length kept ≤ MODULE_LIMIT
 
+-- what takes part in a link, by what is kept of it
+abbrev pub link_view : GivenAlternates → List ModuleNames → LinkView
+link_view given kept = record { alternates = given.pairs.items; modules = map noted_view kept }
+
+pub record KeepsLink (names : List (List ℕ)) (given : GivenAlternates) (kept : List ModuleNames) : Type 0 where
+  pub alternates : AllZip (NotesAlternate names) given.pairs.items given.noted.items
+  pub modules : KeepsModules names kept
+
 -- what names mean in modules of which some sections are chosen
 pub record ResolvedView : Type 0 where
-  pub modules : List ModuleView
+  pub link : LinkView
   pub chosen : List (List Bool)
 
-pub record KeepsMeanings (names : List (List ℕ)) (kept : List ModuleNames) (chosen : List (List Bool)) (meanings : List (Result Meaning NoMeaning)) (clash : Option Clash) : Type 0 where
-  pub modules : KeepsModules names kept
-  pub meant : AreMeanings (map noted_view kept) chosen names meanings
+pub record KeepsMeanings (names : List (List ℕ)) (given : GivenAlternates) (kept : List ModuleNames) (chosen : List (List Bool)) (meanings : List (Result Meaning NoMeaning)) (clash : Option Clash) : Type 0 where
+  pub whole : KeepsLink names given kept
+  pub meant : AreMeanings (link_view given kept) chosen names meanings
   pub clash_is : clash ≡ clash_of (map noted_view kept) chosen

@@ -2,7 +2,7 @@
 
 ghost use Rattle.std.specs.Prelude.{◌≡◌, ◌<◌, ℕ, Bool, List, length, IfOk, OnOk};
 ghost use Rattle.std.specs.List.{All};
-ghost use Rattle.module_view.specs.Module.{ModuleView};
+ghost use Rattle.symbol_table.specs.LinkView.{LinkView};
 ghost use Rattle.symbol_table.specs.Interning.{Numbers};
 ghost use Rattle.symbol_table.specs.Links.{link_at, next_of, end_of, LeadsBelow, AreSteps, Settles, AreKnown, AreMeanings, AreEnded};
 
@@ -17,8 +17,8 @@ pub(crate) fn meanings<'a>(
     links: &mut Vec<Link<'a>>,
 ) -> Result<Vec<Result<Meaning<'a>, NoMeaning>>, Memory>
     requires { All (LeadsBelow (length links.old.items)) links.old.items }
-    ensures { IfOk result (λ meanings. (modules : List ModuleView) (chosen : List (List Bool)) (names : List (List ℕ))
-        → AreSteps modules chosen names links.old.items → AreMeanings modules chosen names meanings.items) }
+    ensures { IfOk result (λ meanings. (view : LinkView) (chosen : List (List Bool)) (names : List (List ℕ))
+        → AreSteps view chosen names links.old.items → AreMeanings view chosen names meanings.items) }
 {
     let mut path = Vec::new(alloc);
     let mut meanings = Vec::with_capacity(alloc, links.len())?;
@@ -39,10 +39,10 @@ fn follow<'a>(
     requires below { All (LeadsBelow (length links.old.items)) links.old.items }
     ensures long { OnOk result (length links.new.items ≡ length links.old.items) }
     ensures below { OnOk result (All (LeadsBelow (length links.old.items)) links.new.items) }
-    ensures known { OnOk result ((modules : List ModuleView) (chosen : List (List Bool)) (names : List (List ℕ))
-        → AreKnown modules chosen names links.old.items → AreKnown modules chosen names links.new.items) }
-    ensures end { IfOk result (λ end. (modules : List ModuleView) (chosen : List (List Bool)) (names : List (List ℕ)) (name : List ℕ)
-        → AreKnown modules chosen names links.old.items → Numbers names number name → Settles modules chosen name end) }
+    ensures known { OnOk result ((view : LinkView) (chosen : List (List Bool)) (names : List (List ℕ))
+        → AreKnown view chosen names links.old.items → AreKnown view chosen names links.new.items) }
+    ensures end { IfOk result (λ end. (view : LinkView) (chosen : List (List Bool)) (names : List (List ℕ)) (name : List ℕ)
+        → AreKnown view chosen names links.old.items → Numbers names number name → Settles view chosen name end) }
 {
     path.clear();
     let mut at = number;

@@ -2,11 +2,12 @@
 
 ghost use Rattle.std.specs.Prelude.{◌≡◌, ℕ, List, Option, length, option_map, IfOk};
 ghost use Rattle.std.specs.Option.{option_or};
-ghost use Rattle.module_view.specs.Module.{ModuleView};
+ghost use Rattle.symbol_table.specs.Alternates.{all_alternates};
+ghost use Rattle.symbol_table.specs.LinkView.{LinkView};
 ghost use Rattle.symbol_table.specs.LinkerNames.{linker_meaning};
 ghost use Rattle.symbol_table.specs.Lists.{Said, live_definitions, all_commons, all_weaks};
-ghost use Rattle.symbol_table.specs.Resolution.{meaning_at, place_meaning, own_or, weak_step};
-ghost use Rattle.symbol_table.specs.Passes.{rows_of, first_meaning, kept_meaning, AreFirst, AreGreatest, KeepsWeak, AreWeaks};
+ghost use Rattle.symbol_table.specs.Resolution.{meaning_at, place_meaning, default_step, alternate_step, own_or, weak_step};
+ghost use Rattle.symbol_table.specs.Passes.{rows_of, first_meaning, kept_meaning, AreFirst, AreGreatest, KeepsSaid, KeepsWeak, AreWeaks, KeepsAlternate, AreAlternates};
 ghost use Rattle.symbol_table.specs.Links.{IsStep, AreSteps};
 
 use crate::chosen::is_chosen;
@@ -38,38 +39,50 @@ pub(crate) fn links<'a>(
     firsts: &[Option<FirstLive>],
     commons: &[Option<GreatestCommon>],
     weaks: &[Option<FirstWeak>],
+    alternates: &[Option<usize>],
     chosen: &[Vec<bool>],
 ) -> Result<Vec<Link<'a>>, Memory>
     requires firsts { length firsts.now ≡ length names.now.keys }
     requires commons { length commons.now ≡ length names.now.keys }
     requires weaks { length weaks.now ≡ length names.now.keys }
-    ensures { IfOk result (λ links. (modules : List ModuleView)
-        → AreFirst names.now.keys (live_definitions modules (rows_of chosen.now)) firsts.now
-        → AreGreatest names.now.keys (all_commons modules) commons.now
-        → AreWeaks names.now.keys (all_weaks modules) weaks.now
-        → AreSteps modules (rows_of chosen.now) names.now.keys links.items) }
+    requires alternates { length alternates.now ≡ length names.now.keys }
+    ensures { IfOk result (λ links. (view : LinkView)
+        → AreFirst names.now.keys (live_definitions view.modules (rows_of chosen.now)) firsts.now
+        → AreGreatest names.now.keys (all_commons view.modules) commons.now
+        → AreWeaks names.now.keys (all_weaks view.modules) weaks.now
+        → AreAlternates names.now.keys (all_alternates view) alternates.now
+        → AreSteps view (rows_of chosen.now) names.now.keys links.items) }
 {
     let mut links = Vec::with_capacity(alloc, names.len())?;
     for number in 0..names.len() {
         let name = name_at(names, number);
         let own = own_meaning(&name, firsts[number], commons[number]);
-        links.push(link_of(own, weaks[number], chosen))?;
+        links.push(link_of(own, weaks[number], alternates[number], chosen))?;
     }
     Ok(links)
 }
 
-/// Where a name leads, by what it means without its default.
-fn link_of<'a>(own: Option<Meaning<'a>>, weak: Option<FirstWeak>, chosen: &[Vec<bool>]) -> Link<'a>
-    ensures { (names : List (List ℕ)) (entry : Option Said) → KeepsWeak names entry weak
-        → IsStep names (own_or own.entry (weak_step (rows_of chosen.now) entry)) result }
+/// Where a name leads, by what it means without its default and its alternate.
+fn link_of<'a>(
+    own: Option<Meaning<'a>>,
+    weak: Option<FirstWeak>,
+    alternate: Option<usize>,
+    chosen: &[Vec<bool>],
+) -> Link<'a>
+    ensures { (names : List (List ℕ)) (entry : Option Said) (pair : Option (List ℕ × List ℕ)) → KeepsWeak names entry weak
+        → KeepsAlternate names pair alternate
+        → IsStep names (own_or own.entry (weak_step (rows_of chosen.now) entry (alternate_step pair))) result }
 {
-    match own {
-        Some(meaning) => Link::Ends(Ok(meaning)),
-        None => weak_link(weak, chosen),
+    if let Some(meaning) = own {
+        return Link::Ends(Ok(meaning));
+    }
+    match weak {
+        Some(weak) => weak_link(weak, chosen),
+        None => alternate_link(alternate),
     }
 }
 
-/// What a name means without its default.
+/// What a name means without its default and its alternate.
 fn own_meaning<'a>(
     name: &Name<'_>,
     first: Option<FirstLive>,
@@ -106,13 +119,10 @@ fn meaning_at<'a>(module: u32, place: Place) -> Meaning<'a>
 }
 
 /// Where a name leads by its first weak external.
-fn weak_link<'a>(weak: Option<FirstWeak>, chosen: &[Vec<bool>]) -> Link<'a>
-    ensures { (names : List (List ℕ)) (entry : Option Said) → KeepsWeak names entry weak
-        → IsStep names (weak_step (rows_of chosen.now) entry) result }
+fn weak_link<'a>(weak: FirstWeak, chosen: &[Vec<bool>]) -> Link<'a>
+    ensures { (names : List (List ℕ)) (entry : Said) → KeepsSaid names entry weak
+        → IsStep names (default_step (rows_of chosen.now) entry.«module» entry.default) result }
 {
-    let Some(weak) = weak else {
-        return Link::Ends(Err(NoMeaning::Undefined));
-    };
     match weak.default {
         NotedDefault::Name(number) => Link::Leads(number),
         NotedDefault::Place { section, value } => {
@@ -120,6 +130,17 @@ fn weak_link<'a>(weak: Option<FirstWeak>, chosen: &[Vec<bool>]) -> Link<'a>
         }
         NotedDefault::Absolute(value) => Link::Ends(Ok(Meaning::Absolute(value))),
         NotedDefault::Nothing => Link::Ends(Err(NoMeaning::Undefined)),
+    }
+}
+
+/// Where a name leads by its first alternate.
+fn alternate_link<'a>(alternate: Option<usize>) -> Link<'a>
+    ensures { (names : List (List ℕ)) (pair : Option (List ℕ × List ℕ)) → KeepsAlternate names pair alternate
+        → IsStep names (alternate_step pair) result }
+{
+    match alternate {
+        Some(number) => Link::Leads(number),
+        None => Link::Ends(Err(NoMeaning::Undefined)),
     }
 }
 

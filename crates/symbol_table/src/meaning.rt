@@ -67,7 +67,7 @@ impl<'a> Meaning<'a> {
 pub enum NoMeaning {
     /// Nothing defines it.
     Undefined,
-    /// Its default leads back to it.
+    /// Defaults and alternates lead from it to a name that they lead back to.
     WeakCycle,
 }
 

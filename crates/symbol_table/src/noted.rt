@@ -10,6 +10,7 @@ pub(crate) struct ModuleNames<'a> {
     pub(crate) definitions: Vec<NotedDefinition>,
     pub(crate) commons: Vec<NotedCommon>,
     pub(crate) weaks: Vec<NotedWeak>,
+    pub(crate) alternates: Vec<NotedAlternate>,
 }
 
 /// A definition, by the number of its name.
@@ -32,6 +33,13 @@ pub(crate) struct NotedCommon {
 pub(crate) struct NotedWeak {
     pub(crate) name: usize,
     pub(crate) default: NotedDefault,
+}
+
+/// An alternate, by the numbers of its names.
+#[derive(Clone, Copy)]
+pub(crate) struct NotedAlternate {
+    pub(crate) left: usize,
+    pub(crate) right: usize,
 }
 
 /// What a weak external means where nothing defines its name.

@@ -7,6 +7,7 @@ ghost use Rattle.symbol_table.specs.Lists.{is_chosen_in};
 ghost use Rattle.symbol_table.specs.Clash.{clash_of};
 ghost use Rattle.symbol_table.specs.Resolution.{meaning_of};
 
+use crate::alternates::GivenAlternates;
 use crate::chains::again;
 use crate::chosen::{Chosen, is_chosen};
 use crate::linker_names::linker_meaning;
@@ -16,10 +17,11 @@ use indexmap::IndexSet;
 use link_base::Name;
 use std::marker::Model;
 
-/// What the names of modules mean, some of whose sections are chosen.
+/// What names mean by the alternates of the command line and by modules, some of whose sections are chosen.
 #[derive(Drop)]
 pub struct ResolvedNames<'a> {
     pub(crate) names: IndexSet<Name<'a>>,
+    pub(crate) given: GivenAlternates<'a>,
     pub(crate) modules: Vec<ModuleNames<'a>>,
     pub(crate) chosen: Chosen,
     /// What each name means, by its number.
@@ -28,15 +30,14 @@ pub struct ResolvedNames<'a> {
 }
 
 impl<'a> Model for ResolvedNames<'a> {
-    ghost use Rattle.std.specs.Prelude.{map};
-    ghost use Rattle.symbol_table.specs.Passes.{rows_of, noted_view};
-    ghost use Rattle.symbol_table.specs.TableParts.{ResolvedView, KeepsMeanings};
+    ghost use Rattle.symbol_table.specs.Passes.{rows_of};
+    ghost use Rattle.symbol_table.specs.TableParts.{link_view, ResolvedView, KeepsMeanings};
 
     ghost Value = { ResolvedView };
 
-    ghost view = { λ t. record { modules = map noted_view t.modules.items; chosen = rows_of t.chosen.items } };
+    ghost view = { λ t. record { link = link_view t.given t.modules.items; chosen = rows_of t.chosen.items } };
 
-    ghost invariant = { λ t. KeepsMeanings t.names.keys t.modules.items (rows_of t.chosen.items) t.meanings.items t.clash };
+    ghost invariant = { λ t. KeepsMeanings t.names.keys t.given t.modules.items (rows_of t.chosen.items) t.meanings.items t.clash };
 }
 
 impl<'a> ResolvedNames<'a> {
@@ -49,8 +50,8 @@ impl<'a> ResolvedNames<'a> {
 
     /// The first live definition whose name has an earlier one, with the modules of both, unless they are one number.
     pub fn clash(&self) -> Option<Clash<'a>>
-        ensures clash { result ≡ clash_of self.now.modules self.now.chosen }
-        ensures opened { All IsOpened self.now.modules }
+        ensures clash { result ≡ clash_of self.now.link.modules self.now.chosen }
+        ensures opened { All IsOpened self.now.link.modules }
     {
         match &self.clash {
             Some(clash) => Some(Clash {
@@ -62,11 +63,11 @@ impl<'a> ResolvedNames<'a> {
         }
     }
 
-    /// What a name means: its first live definition, its greatest common, what the linker means by it, or what its first
-    /// weak external does by default.
+    /// What a name means: its first live definition, its greatest common, what the linker means by it, what its first weak
+    /// external does by default, or what the name does that its first alternate stands for.
     pub fn resolve(&self, name: Name<'a>) -> Result<Meaning<'a>, NoMeaning>
-        ensures meaning { result ≡ meaning_of self.now.modules self.now.chosen name.entry }
-        ensures opened { All IsOpened self.now.modules }
+        ensures meaning { result ≡ meaning_of self.now.link self.now.chosen name.entry }
+        ensures opened { All IsOpened self.now.link.modules }
     {
         match self.names.get_index_of(&name) {
             Some(number) => again(&self.meanings[number]),

@@ -57,7 +57,7 @@ returns-clause-below c =
     below_again c.args.links.now.items c.loop-next.links.items c.note_end.new.links.items c.loop-next.path.items c.args.number c.loop-next.at c.end_of-end.result c.requires.below before c.note_end.ensures.long noted
 
 pub returns-clause-known : goal.returns-clause-known
-returns-clause-known c = λ modules chosen names known.
+returns-clause-known c = λ view chosen names known.
     let before = c.loop-next.invariant in
     let now = c.loop-next.links.items in
     let at = c.loop-next.at in
@@ -65,14 +65,14 @@ returns-clause-known c = λ modules chosen names known.
     let read = same_there now at c.index.result.now start before.within before.long c.index.ensures in
     let again = same_there now at c.index-2.result.now start before.within before.long c.index-2.ensures in
     let noted = subst (λ (path : List ℕ). AreEnded path c.end_of-end.result now c.note_end.new.links.items) c.deref.ensures.value c.note_end.ensures.noted in
-    known_again modules chosen names start now c.note_end.new.links.items c.loop-next.path.items c.args.number at c.end_of-end.result known before (none_after now at c.index.result.now c.next_of.result read c.next_of.ensures c.in_default.not-Some) (c.end_of-end.ensures ∙ ap end_of again) c.note_end.ensures.long noted
+    known_again view chosen names start now c.note_end.new.links.items c.loop-next.path.items c.args.number at c.end_of-end.result known before (none_after now at c.index.result.now c.next_of.result read c.next_of.ensures c.in_default.not-Some) (c.end_of-end.ensures ∙ ap end_of again) c.note_end.ensures.long noted
 
 pub returns-clause-end : goal.returns-clause-end
-returns-clause-end c = λ modules chosen names name known numbered.
+returns-clause-end c = λ view chosen names name known numbered.
     let before = c.loop-next.invariant in
     let now = c.loop-next.links.items in
     let at = c.loop-next.at in
     let start = c.args.links.now.items in
     let read = same_there now at c.index.result.now start before.within before.long c.index.ensures in
     let again = same_there now at c.index-2.result.now start before.within before.long c.index-2.ensures in
-    (path_settles modules chosen names start now c.loop-next.path.items c.args.number at c.end_of-end.result known before (none_after now at c.index.result.now c.next_of.result read c.next_of.ensures c.in_default.not-Some) (c.end_of-end.ensures ∙ ap end_of again)).first name numbered
+    (path_settles view chosen names start now c.loop-next.path.items c.args.number at c.end_of-end.result known before (none_after now at c.index.result.now c.next_of.result read c.next_of.ensures c.in_default.not-Some) (c.end_of-end.ensures ∙ ap end_of again)).first name numbered

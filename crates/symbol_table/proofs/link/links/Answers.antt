@@ -23,18 +23,18 @@ loop-number-preserved c =
     let long = c.loop-number.invariant.long in
     record {
       long = omega (arith, ap length c.in_ok-push.ensures.items, length-append links (link ∷ []), long);
-      each = λ modules k name first greatest weak lt.
-          below_more (λ (j : ℕ). Numbers names j name → IsStep names (step modules chosen name) (link_at c.push.new.self.items j)) number
+      each = λ view k name first greatest weak alternate lt.
+          below_more (λ (j : ℕ). Numbers names j name → IsStep names (step view chosen name) (link_at c.push.new.self.items j)) number
           (λ j below numbered.
-          subst (IsStep names (step modules chosen name)) (sym (get_or_append_left links (link ∷ []) no_link j (omega (arith, long))) ∙ ap (λ (ls : List Link). link_at ls j) (sym c.in_ok-push.ensures.items)) (c.loop-number.invariant.each modules j name first greatest weak below numbered))
+          subst (IsStep names (step view chosen name)) (sym (get_or_append_left links (link ∷ []) no_link j (omega (arith, long))) ∙ ap (λ (ls : List Link). link_at ls j) (sym c.in_ok-push.ensures.items)) (c.loop-number.invariant.each view j name first greatest weak alternate below numbered))
           (λ numbered.
-          subst (IsStep names (step modules chosen name)) (sym (get_or_push links link no_link number long) ∙ ap (λ (ls : List Link). link_at ls number) (sym c.in_ok-push.ensures.items))
-          (step_is modules chosen names c.args.firsts.now c.args.commons.now c.args.weaks.now number name c.own_meaning-own.result link first greatest weak numbered (c.own_meaning-own.ensures ∙ ap (λ (n : List ℕ). option_or (option_map first_meaning (get_or c.args.firsts.now number None)) (option_or (option_map kept_meaning (get_or c.args.commons.now number None)) (linker_meaning n))) (same_number names number c.name_at-name.result name c.name_at-name.ensures numbered)) (λ entry keeps. c.link_of.ensures names entry keeps)))
+          subst (IsStep names (step view chosen name)) (sym (get_or_push links link no_link number long) ∙ ap (λ (ls : List Link). link_at ls number) (sym c.in_ok-push.ensures.items))
+          (step_is view chosen names c.args.firsts.now c.args.commons.now c.args.weaks.now c.args.alternates.now number name c.own_meaning-own.result link first greatest weak alternate numbered (c.own_meaning-own.ensures ∙ ap (λ (n : List ℕ). option_or (option_map first_meaning (get_or c.args.firsts.now number None)) (option_or (option_map kept_meaning (get_or c.args.commons.now number None)) (linker_meaning n))) (same_number names number c.name_at-name.result name c.name_at-name.ensures numbered)) (λ entry pair keeps stands. c.link_of.ensures names entry pair keeps stands)))
           k lt;
     }
 
 pub returns : goal.returns
-returns c = λ modules first greatest weak. record {
+returns c = λ view first greatest weak alternate. record {
   long = omega (arith, c.loop-number.invariant.long, c.len-number-end.ensures.len, c.loop-number-test.false);
-  each = λ k name numbered. c.loop-number.invariant.each modules k name first greatest weak (omega (arith, slice_get_within c.args.names.now.keys k name numbered, c.len-number-end.ensures.len, c.loop-number-test.false)) numbered;
+  each = λ k name numbered. c.loop-number.invariant.each view k name first greatest weak alternate (omega (arith, slice_get_within c.args.names.now.keys k name numbered, c.len-number-end.ensures.len, c.loop-number-test.false)) numbered;
 }

@@ -1,9 +1,9 @@
-use Rattle.std.proofs.Common.{map, sym, ap, ◌∙◌, arith}
-use Rattle.symbol_table.specs.Passes.{rows_of, noted_view}
+use Rattle.std.proofs.Common.{sym, ap, ◌∙◌, arith}
+use Rattle.symbol_table.specs.Passes.{rows_of}
 use Rattle.symbol_table.proofs.EndLemmas.{settles_means}
 use Rattle.symbol_table.proofs.AbsentLemmas.{absent_means, ok_or_is, position_numbers, position_absent}
 use Rattle.std.proofs.lemmas.List.{get_or_default}
-use Rattle.symbol_table.specs.TableParts.{ResolvedView}
+use Rattle.symbol_table.specs.TableParts.{link_view, ResolvedView}
 use Rattle.symbol_table.specs.Resolution.{meaning_if, meaning_of}
 use Rattle.symbol_table.specs.declared.meaning.NoMeaning.TheVariants.{Undefined}
 use Rattle.std.specs.Prelude.{Err}
@@ -19,8 +19,8 @@ returns-in-Some-clause-meaning c =
     let numbered = position_numbers names name number (sym c.in-Some.ensures.index) in
     c.again.ensures ∙ c.index.ensures
     ∙ get_or_default c.self.inside.meanings.items number c.index.result.now (Err Undefined) (omega (arith, c.in-Some.ensures.within, c.self.invariant.meant.long))
-    ∙ sym (settles_means (map noted_view kept) chosen name _ (c.self.invariant.meant.each number name numbered))
-    ∙ ap (λ (v : ResolvedView). meaning_of v.modules v.chosen name) c.self.view_is
+    ∙ sym (settles_means (link_view c.self.inside.given kept) chosen name _ (c.self.invariant.meant.each number name numbered))
+    ∙ ap (λ (v : ResolvedView). meaning_of v.link v.chosen name) c.self.view_is
 
 pub returns-in-None-clause-meaning : goal.returns-in-None-clause-meaning
 returns-in-None-clause-meaning c =
@@ -28,5 +28,5 @@ returns-in-None-clause-meaning c =
     let chosen = rows_of c.self.inside.chosen.items in
     let names = c.self.inside.names.keys in
     c.ok_or.ensures.value ∙ ok_or_is c.linker_meaning.result ∙ ap meaning_if c.linker_meaning.ensures
-    ∙ sym (absent_means names kept c.self.invariant.modules.noted c.args.name (position_absent names c.args.name (sym c.in-None.ensures.index)) chosen)
-    ∙ ap (λ (v : ResolvedView). meaning_of v.modules v.chosen c.args.name) c.self.view_is
+    ∙ sym (absent_means names kept c.self.invariant.whole.modules.noted c.args.name (position_absent names c.args.name (sym c.in-None.ensures.index)) c.self.inside.given chosen c.self.invariant.whole.alternates)
+    ∙ ap (λ (v : ResolvedView). meaning_of v.link v.chosen c.args.name) c.self.view_is
