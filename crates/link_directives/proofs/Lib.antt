@@ -1,0 +1,5 @@
+pub mod AlignmentLemmas
+pub mod CallerLemmas
+pub mod FirstLemmas
+pub mod NameLemmas
+pub mod PassLemmas

@@ -1,0 +1,3 @@
+pub mod LinkDirectives
+pub mod Alignments
+pub mod Passes
