@@ -9,7 +9,7 @@ use Rattle.relocate.specs.Judged.{AreTheFields}
 use Rattle.relocate.specs.PatchedBytes.{is_based}
 use Rattle.relocate.proofs.OrderLemmas.{IsAmong}
 use Rattle.relocate.proofs.CallerLemmas.{based_width, field_among, among_fields}
-use Rattle.module_view.specs.Module.{ModuleView}
+use Rattle.symbol_table.specs.LinkView.{LinkView}
 use Rattle.link_pieces.specs.Pieces.{link_pieces}
 use Rattle.link_plan.specs.Fixes.{piece_fixes, HaveFields}
 use Rattle.link_image.specs.BaseFields.{piece_holds_address, holds_address}
@@ -72,11 +72,11 @@ any_from test at (x ∷ xs) d start same =
     one_more : (n k : ℕ) → n + suc k ≡ n + 1 + k
     one_more n k = omega arith
 
-pub held_addresses : (modules : List ModuleView) (fixups : List (List Fix)) (count : ℕ) → count ≡ length (link_pieces modules) → HaveFields modules count fixups → list_any (λ fixes. list_any is_based fixes) fixups ≡ holds_address modules
+pub held_addresses : (link : LinkView) (fixups : List (List Fix)) (count : ℕ) → count ≡ length (link_pieces link) → HaveFields link count fixups → list_any (λ fixes. list_any is_based fixes) fixups ≡ holds_address link
 unfolding holds_address
-held_addresses modules fixups count same fields =
-    any_from (λ fixes. list_any is_based fixes) (piece_holds_address modules) fixups [] 0 (λ k lt. same_piece (piece_fixes modules k) (get_or fixups k []) (fields.fields k (omega (arith, lt, fields.for_each))) ∙ ap (piece_holds_address modules) (none_more k))
-    ∙ ap (λ (n : ℕ). list_any (piece_holds_address modules) (range_with_len 0 n)) (fields.for_each ∙ same)
+held_addresses link fixups count same fields =
+    any_from (λ fixes. list_any is_based fixes) (piece_holds_address link) fixups [] 0 (λ k lt. same_piece (piece_fixes link k) (get_or fixups k []) (fields.fields k (omega (arith, lt, fields.for_each))) ∙ ap (piece_holds_address link) (none_more k))
+    ∙ ap (λ (n : ℕ). list_any (piece_holds_address link) (range_with_len 0 n)) (fields.for_each ∙ same)
   where
     none_more : (k : ℕ) → k ≡ 0 + k
     none_more k = omega arith

@@ -16,7 +16,7 @@ use Rattle.relocate.specs.declared.fix.Fix.{Fix}
 use Rattle.relocate.specs.Field.{field_end, has_field, no_fix, fix_at}
 use Rattle.relocate.specs.PatchedBytes.{is_based}
 use Rattle.relocate.proofs.CallerLemmas.{ends_within, based_width, among_fields}
-use Rattle.module_view.specs.Module.{ModuleView}
+use Rattle.symbol_table.specs.LinkView.{LinkView}
 use Rattle.link_pieces.specs.Pieces.{link_pieces}
 use Rattle.link_plan.specs.Fixes.{HaveFields, piece_fixes}
 use Rattle.link_image.specs.BaseFields.{base_field, IsBaseField, AreBaseFields}
@@ -75,10 +75,10 @@ has_its_field fix based =
 
 -- ---- the fields of a link
 
-module _ (modules : List ModuleView) (pieces : List Piece) (fixups : List (List Fix)) (sections : List OutSection) (reloc : Bool) (layout : Layout)
-    (count : length pieces ≡ length (link_pieces modules))
-    (fields : HaveFields modules (length pieces) fixups)
-    (sizes : (k : ℕ) → k < length pieces → length (contents_at modules k) ≤ (get_or pieces k no_piece).size)
+module _ (link : LinkView) (pieces : List Piece) (fixups : List (List Fix)) (sections : List OutSection) (reloc : Bool) (layout : Layout)
+    (count : length pieces ≡ length (link_pieces link))
+    (fields : HaveFields link (length pieces) fixups)
+    (sizes : (k : ℕ) → k < length pieces → length (contents_at link k) ≤ (get_or pieces k no_piece).size)
     (standing : HoldsArrangement pieces sections reloc layout)
     (once : StandOnce pieces sections)
     (stands : (k : ℕ) → k < length pieces → 0 < (get_or pieces k no_piece).size → Contains (all_pieces sections) k)
@@ -88,7 +88,7 @@ module _ (modules : List ModuleView) (pieces : List Piece) (fixups : List (List 
   -- each field ends inside its piece
   end_inside : (k i : ℕ) → k < length pieces → i < length (get_or fixups k []) → field_end (fix_at (get_or fixups k []) i) ≤ (get_or pieces k no_piece).size
   end_inside k i lt within =
-      let end = ends_within (length (contents_at modules k)) (get_or fixups k []) i (fields.patchable k lt) within in
+      let end = ends_within (length (contents_at link k)) (get_or fixups k []) i (fields.patchable k lt) within in
       omega (arith, end, sizes k lt)
 
   -- a piece that has a field has a byte
@@ -101,7 +101,7 @@ module _ (modules : List ModuleView) (pieces : List Piece) (fixups : List (List 
   fields_inside : (k : ℕ) → k < length pieces → FieldsInside pieces layout.pieces.items fixups k
   fields_inside k lt =
       let rva = get_or layout.pieces.items k 0 in
-      let len = length (contents_at modules k) in
+      let len = length (contents_at link k) in
       let up = piece_climbs rva len 0 (get_or fixups k []) (fields.patchable k lt) (omega arith) (λ i d within. omega arith) in
       climb_lower rva (rva + 0) (fields_at layout.pieces.items fixups k) (rva + (get_or pieces k no_piece).size) (omega arith)
       (climb_higher (rva + 0) (fields_at layout.pieces.items fixups k) (rva + len) (rva + (get_or pieces k no_piece).size) (omega (arith, sizes k lt)) up)
@@ -153,11 +153,11 @@ module _ (modules : List ModuleView) (pieces : List Piece) (fixups : List (List 
 
   -- ---- each is a field of a relocation that holds an address
 
-  is_listed : (k : ℕ) → k < length pieces → All (IsBaseField modules layout.pieces.items) (fields_at layout.pieces.items fixups k)
+  is_listed : (k : ℕ) → k < length pieces → All (IsBaseField link layout.pieces.items) (fields_at layout.pieces.items fixups k)
   is_listed k lt =
       let rva = get_or layout.pieces.items k 0 in
-      let P : Fix → Type 0 = λ fix. is_based fix ≡ true → IsBaseField modules layout.pieces.items (base_field rva fix) in
-      let each : All P (piece_fixes modules k) = All-from_get_or P (piece_fixes modules k) no_fix (λ i within based. record {
+      let P : Fix → Type 0 = λ fix. is_based fix ≡ true → IsBaseField link layout.pieces.items (base_field rva fix) in
+      let each : All P (piece_fixes link k) = All-from_get_or P (piece_fixes link k) no_fix (λ i within based. record {
         piece = k;
         index = i;
         there = omega (arith, count);
@@ -166,19 +166,19 @@ module _ (modules : List ModuleView) (pieces : List Piece) (fixups : List (List 
         is = refl;
       })
       in
-      let kept : All P (get_or fixups k []) = All-permutation P (filter has_field (piece_fixes modules k)) (get_or fixups k []) (fields.fields k lt) (All-filter has_field P (piece_fixes modules k) each) in
-      All-map (IsBaseField modules layout.pieces.items) (base_field rva) (filter is_based (get_or fixups k []))
-      (all_passing is_based (λ fix. IsBaseField modules layout.pieces.items (base_field rva fix)) (get_or fixups k []) kept)
+      let kept : All P (get_or fixups k []) = All-permutation P (filter has_field (piece_fixes link k)) (get_or fixups k []) (fields.fields k lt) (All-filter has_field P (piece_fixes link k) each) in
+      All-map (IsBaseField link layout.pieces.items) (base_field rva) (filter is_based (get_or fixups k []))
+      (all_passing is_based (λ fix. IsBaseField link layout.pieces.items (base_field rva fix)) (get_or fixups k []) kept)
 
-  listed : All (IsBaseField modules layout.pieces.items) (all_fields layout.pieces.items fixups sections)
+  listed : All (IsBaseField link layout.pieces.items) (all_fields layout.pieces.items fixups sections)
   listed =
-      subst (All (IsBaseField modules layout.pieces.items)) (sym (fields_are layout.pieces.items fixups sections))
-      (all_flat (IsBaseField modules layout.pieces.items) (fields_at layout.pieces.items fixups) (all_pieces sections)
+      subst (All (IsBaseField link layout.pieces.items)) (sym (fields_are layout.pieces.items fixups sections))
+      (all_flat (IsBaseField link layout.pieces.items) (fields_at layout.pieces.items fixups) (all_pieces sections)
       (λ n d lt. is_listed (get_or (all_pieces sections) n d) (once.within n d lt)))
 
   -- ---- and all of them are there
 
-  contains_here : (k i : ℕ) → k < length pieces → i < length (piece_fixes modules k) → is_based (fix_at (piece_fixes modules k) i) ≡ true → Contains (fields_at layout.pieces.items fixups k) (base_field (get_or layout.pieces.items k 0) (fix_at (piece_fixes modules k) i))
+  contains_here : (k i : ℕ) → k < length pieces → i < length (piece_fixes link k) → is_based (fix_at (piece_fixes link k) i) ≡ true → Contains (fields_at layout.pieces.items fixups k) (base_field (get_or layout.pieces.items k 0) (fix_at (piece_fixes link k) i))
   contains_here k i lt within based =
       let rva = get_or layout.pieces.items k 0 in
       let kept = get_or fixups k [] in
@@ -186,25 +186,25 @@ module _ (modules : List ModuleView) (pieces : List Piece) (fixups : List (List 
       let each : All P kept = All-from_get_or P kept no_fix (λ n below here.
       contains_map (base_field rva) (filter is_based kept) (get_or kept n no_fix) (contains_passing is_based kept (get_or kept n no_fix) (Contains-get_or kept n no_fix below) here))
       in
-      among_fields P (piece_fixes modules k) kept i (fields.fields k lt) each within (has_its_field (fix_at (piece_fixes modules k) i) based) based
+      among_fields P (piece_fixes link k) kept i (fields.fields k lt) each within (has_its_field (fix_at (piece_fixes link k) i) based) based
 
-  has_bytes : (k i : ℕ) → k < length pieces → i < length (piece_fixes modules k) → is_based (fix_at (piece_fixes modules k) i) ≡ true → 0 < (get_or pieces k no_piece).size
+  has_bytes : (k i : ℕ) → k < length pieces → i < length (piece_fixes link k) → is_based (fix_at (piece_fixes link k) i) ≡ true → 0 < (get_or pieces k no_piece).size
   has_bytes k i lt within based =
       let P : Fix → Type 0 = λ fix. 0 < (get_or pieces k no_piece).size in
       let each : All P (get_or fixups k []) = All-from_get_or P (get_or fixups k []) no_fix (λ n below. size_positive k n lt below) in
-      among_fields P (piece_fixes modules k) (get_or fixups k []) i (fields.fields k lt) each within (has_its_field (fix_at (piece_fixes modules k) i) based)
+      among_fields P (piece_fixes link k) (get_or fixups k []) i (fields.fields k lt) each within (has_its_field (fix_at (piece_fixes link k) i) based)
 
-  contained : (field : BaseField) → IsBaseField modules layout.pieces.items field → Contains (all_fields layout.pieces.items fixups sections) field
+  contained : (field : BaseField) → IsBaseField link layout.pieces.items field → Contains (all_fields layout.pieces.items fixups sections) field
   contained field at =
       let k = at.piece in
       let lt : k < length pieces = omega (arith, count, at.there) in
       let there = stands k lt (has_bytes k at.index lt at.within at.based) in
       let here = contains_here k at.index lt at.within at.based in
       subst (Contains (all_fields layout.pieces.items fixups sections)) (sym at.is)
-      (subst (λ (all : List BaseField). Contains all (base_field (get_or layout.pieces.items k 0) (fix_at (piece_fixes modules k) at.index))) (sym (fields_are layout.pieces.items fixups sections))
-      (contains_flat (fields_at layout.pieces.items fixups) (all_pieces sections) k (base_field (get_or layout.pieces.items k 0) (fix_at (piece_fixes modules k) at.index)) there here))
+      (subst (λ (all : List BaseField). Contains all (base_field (get_or layout.pieces.items k 0) (fix_at (piece_fixes link k) at.index))) (sym (fields_are layout.pieces.items fixups sections))
+      (contains_flat (fields_at layout.pieces.items fixups) (all_pieces sections) k (base_field (get_or layout.pieces.items k 0) (fix_at (piece_fixes link k) at.index)) there here))
 
-  pub base_fields_are : AreBaseFields modules layout.pieces.items (all_fields layout.pieces.items fixups sections)
+  pub base_fields_are : AreBaseFields link layout.pieces.items (all_fields layout.pieces.items fixups sections)
   base_fields_are =
       let all = all_fields layout.pieces.items fixups sections in
       let end = end_before layout.headers (placed_at layout.sections.items) (length sections) in

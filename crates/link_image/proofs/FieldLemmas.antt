@@ -26,7 +26,7 @@ use Rattle.relocate.specs.PatchedBytes.{patched_bytes, range_fault}
 use Rattle.relocate.specs.Value.{fits}
 use Rattle.relocate.proofs.PatchLemmas.{within_at}
 use Rattle.relocate.proofs.CallerLemmas.{bytes_in_any_order, range_in_any_order, no_range_in_any_order, nothing_patched}
-use Rattle.module_view.specs.Module.{ModuleView}
+use Rattle.symbol_table.specs.LinkView.{LinkView}
 use Rattle.link_pieces.specs.Pieces.{link_pieces}
 use Rattle.link_plan.specs.Fixes.{piece_fixes}
 use Rattle.link_plan.specs.Fixes.{piece_at as link_piece_at, planned_piece}
@@ -40,30 +40,30 @@ pub above_zero : (n : ℕ) → eqb n 0 ≡ false → 0 < n
 above_zero zero none = absurd (false≢true (sym none))
 above_zero (suc n) some = omega arith
 
-module _ (modules : List ModuleView) (pieces : List Piece) (fixups : List (List Fix)) (sections : List OutSection) (layout : Layout) (owner : List ℕ) (tables : List (List ℕ)) (ready : IsReady modules pieces fixups sections layout owner tables) where
+module _ (link : LinkView) (pieces : List Piece) (fixups : List (List Fix)) (sections : List OutSection) (layout : Layout) (owner : List ℕ) (tables : List (List ℕ)) (ready : IsReady link pieces fixups sections layout owner tables) where
   -- ---- a piece
 
-  pub contents_here : (k : ℕ) → contents_at modules k ≡ piece_contents (get_or pieces k no_piece)
+  pub contents_here : (k : ℕ) → contents_at link k ≡ piece_contents (get_or pieces k no_piece)
   contents_here k = ap (λ (cs : List (List ℕ)). get_or cs k []) (sym ready.contents_are) ∙ get_or-map piece_contents pieces k no_piece
 
-  pub size_here : (k : ℕ) → k < length pieces → (get_or pieces k no_piece).init ≡ true → length (contents_at modules k) ≡ (get_or pieces k no_piece).size
+  pub size_here : (k : ℕ) → k < length pieces → (get_or pieces k no_piece).init ≡ true → length (contents_at link k) ≡ (get_or pieces k no_piece).size
   size_here k lt init = ap length (contents_here k) ∙ ready.bodies k lt init
 
-  pub total_is : length pieces ≡ length (link_pieces modules)
-  total_is = pieces_count modules pieces fixups sections layout owner tables ready
+  pub total_is : length pieces ≡ length (link_pieces link)
+  total_is = pieces_count link pieces fixups sections layout owner tables ready
 
   -- its section
   pub owned : (k : ℕ) → k < length pieces → 0 < (get_or pieces k no_piece).size → OwnerAt sections k
   owned k lt some = owner_at sections k (ready.stands k lt (inl some))
 
   pub owner_here : (k : ℕ) → k < length pieces → get_or owner k 0 ≡ section_of (rows_of sections) k
-  owner_here k lt = owner_at_piece modules pieces fixups sections layout owner tables ready k lt
+  owner_here k lt = owner_at_piece link pieces fixups sections layout owner tables ready k lt
 
   pub rva_here : (k : ℕ) → k < length pieces → k < length layout.pieces.items
-  rva_here k lt = rva_there modules pieces fixups sections layout owner tables ready k lt
+  rva_here k lt = rva_there link pieces fixups sections layout owner tables ready k lt
 
   pub owners_there : (k : ℕ) → k < length pieces → k < length owner
-  owners_there k lt = let same = length_owner modules pieces fixups sections layout owner tables ready in omega (arith, rva_here k lt, same)
+  owners_there k lt = let same = length_owner link pieces fixups sections layout owner tables ready in omega (arith, rva_here k lt, same)
 
   -- ---- its bytes in the file
 
@@ -91,81 +91,81 @@ module _ (modules : List ModuleView) (pieces : List Piece) (fixups : List (List 
   filled = λ i d lt. whole_bodies (get_or (all_pieces sections) i d)
 
   module _ (headers : Headers) (directories : length headers.directories ≡ 16) where
-    room : (count : ℕ) → HaveRoom (pieces ++ ready.rest) sections (mixed_contents modules (rows_of sections) layout headers.base count ++ tables)
+    room : (count : ℕ) → HaveRoom (pieces ++ ready.rest) sections (mixed_contents link (rows_of sections) layout headers.base count ++ tables)
     room count =
-        subst (λ (ts : List (List ℕ)). HaveRoom (pieces ++ ready.rest) sections (mixed_contents modules (rows_of sections) layout headers.base count ++ ts)) ready.holds.contents
-        (mixed_room modules (rows_of sections) layout headers.base pieces ready.rest sections count ready.contents_are total_is (have_room (pieces ++ ready.rest) sections filled))
+        subst (λ (ts : List (List ℕ)). HaveRoom (pieces ++ ready.rest) sections (mixed_contents link (rows_of sections) layout headers.base count ++ ts)) ready.holds.contents
+        (mixed_room link (rows_of sections) layout headers.base pieces ready.rest sections count ready.contents_are total_is (have_room (pieces ++ ready.rest) sections filled))
 
-    read_here : (k : ℕ) → k < length pieces → get_or (mixed_contents modules (rows_of sections) layout headers.base k ++ tables) k [] ≡ contents_at modules k
+    read_here : (k : ℕ) → k < length pieces → get_or (mixed_contents link (rows_of sections) layout headers.base k ++ tables) k [] ≡ contents_at link k
     read_here k lt =
-        mixed_front modules (rows_of sections) layout headers.base tables k k (omega (arith, lt, total_is)) ∙ unpatched_at modules (rows_of sections) layout headers.base k k (omega arith)
+        mixed_front link (rows_of sections) layout headers.base tables k k (omega (arith, lt, total_is)) ∙ unpatched_at link (rows_of sections) layout headers.base k k (omega arith)
 
-    read_after : (k : ℕ) → k < length pieces → get_or (mixed_contents modules (rows_of sections) layout headers.base (k + 1) ++ tables) k [] ≡ linked_bytes modules (rows_of sections) layout headers.base k
+    read_after : (k : ℕ) → k < length pieces → get_or (mixed_contents link (rows_of sections) layout headers.base (k + 1) ++ tables) k [] ≡ linked_bytes link (rows_of sections) layout headers.base k
     read_after k lt =
-        mixed_front modules (rows_of sections) layout headers.base tables (k + 1) k (omega (arith, lt, total_is)) ∙ patched_at modules (rows_of sections) layout headers.base (k + 1) k (omega arith)
+        mixed_front link (rows_of sections) layout headers.base tables (k + 1) k (omega (arith, lt, total_is)) ∙ patched_at link (rows_of sections) layout headers.base (k + 1) k (omega arith)
 
-    pub in_file : (k : ℕ) → k < length pieces → (get_or pieces k no_piece).init ≡ true → 0 < (get_or pieces k no_piece).size → IsInFile headers sections layout (at_each_base (mixed_contents modules (rows_of sections) layout headers.base k ++ tables)) (section_of (rows_of sections) k) k
+    pub in_file : (k : ℕ) → k < length pieces → (get_or pieces k no_piece).init ≡ true → 0 < (get_or pieces k no_piece).size → IsInFile headers sections layout (at_each_base (mixed_contents link (rows_of sections) layout headers.base k ++ tables)) (section_of (rows_of sections) k) k
     in_file k lt init some =
         let at = owned k lt some in
         let i = section_of (rows_of sections) k in
-        let contents = at_each_base (mixed_contents modules (rows_of sections) layout headers.base k ++ tables) in
+        let contents = at_each_base (mixed_contents link (rows_of sections) layout headers.base k ++ tables) in
         let len : length (get_or (contents headers.base) k []) ≡ (get_or pieces k no_piece).size = ap length (read_here k lt) ∙ size_here k lt init in
         let there : 0 < length (get_or (contents headers.base) k []) = omega (arith, len, some) in
         subst (IsInFile headers sections layout contents i) at.is
         (piece_inside headers (pieces ++ ready.rest) sections layout contents i at.number ready.laid (room k) directories at.there at.within (subst (λ (n : ℕ). 0 < length (get_or (contents headers.base) n [])) (sym at.is) there))
 
-    pub bytes_here : (k : ℕ) → k < length pieces → 0 < (get_or pieces k no_piece).size → bytes_at (mixed_file modules headers sections layout tables k) (piece_place layout (section_of (rows_of sections) k) k) (length (contents_at modules k)) ≡ contents_at modules k
+    pub bytes_here : (k : ℕ) → k < length pieces → 0 < (get_or pieces k no_piece).size → bytes_at (mixed_file link headers sections layout tables k) (piece_place layout (section_of (rows_of sections) k) k) (length (contents_at link k)) ≡ contents_at link k
     bytes_here k lt some =
         let at = owned k lt some in
         let i = section_of (rows_of sections) k in
-        let contents = at_each_base (mixed_contents modules (rows_of sections) layout headers.base k ++ tables) in
+        let contents = at_each_base (mixed_contents link (rows_of sections) layout headers.base k ++ tables) in
         let stands = piece_stands headers (pieces ++ ready.rest) sections layout contents i at.number ready.laid (room k) directories at.there at.within in
-        let here = subst (λ (n : ℕ). bytes_at (mixed_file modules headers sections layout tables k) (piece_place layout i n) (length (get_or (contents headers.base) n [])) ≡ get_or (contents headers.base) n []) at.is stands in
-        subst (λ (bytes : List ℕ). bytes_at (mixed_file modules headers sections layout tables k) (piece_place layout i k) (length bytes) ≡ bytes) (read_here k lt) here
+        let here = subst (λ (n : ℕ). bytes_at (mixed_file link headers sections layout tables k) (piece_place layout i n) (length (get_or (contents headers.base) n [])) ≡ get_or (contents headers.base) n []) at.is stands in
+        subst (λ (bytes : List ℕ). bytes_at (mixed_file link headers sections layout tables k) (piece_place layout i k) (length bytes) ≡ bytes) (read_here k lt) here
 
-    pub file_after : (k : ℕ) → k < length pieces → 0 < (get_or pieces k no_piece).size → patched (piece_place layout (section_of (rows_of sections) k) k) (linked_bytes modules (rows_of sections) layout headers.base k) (mixed_file modules headers sections layout tables k) ≡ mixed_file modules headers sections layout tables (k + 1)
+    pub file_after : (k : ℕ) → k < length pieces → 0 < (get_or pieces k no_piece).size → patched (piece_place layout (section_of (rows_of sections) k) k) (linked_bytes link (rows_of sections) layout headers.base k) (mixed_file link headers sections layout tables k) ≡ mixed_file link headers sections layout tables (k + 1)
     file_after k lt some =
         let at = owned k lt some in
         let i = section_of (rows_of sections) k in
-        let old = at_each_base (mixed_contents modules (rows_of sections) layout headers.base k ++ tables) in
-        let new = at_each_base (mixed_contents modules (rows_of sections) layout headers.base (k + 1) ++ tables) in
-        let differs = tables_differ modules (rows_of sections) layout headers.base tables k (omega (arith, lt, total_is)) in
+        let old = at_each_base (mixed_contents link (rows_of sections) layout headers.base k ++ tables) in
+        let new = at_each_base (mixed_contents link (rows_of sections) layout headers.base (k + 1) ++ tables) in
+        let differs = tables_differ link (rows_of sections) layout headers.base tables k (omega (arith, lt, total_is)) in
         let file = patched_file headers (pieces ++ ready.rest) sections layout old new i at.number ready.laid (room k) directories at.there at.within (subst (λ (n : ℕ). DiffersAt n (old headers.base) (new headers.base)) (sym at.is) differs) in
-        let here = subst (λ (n : ℕ). patched (piece_place layout i n) (get_or (new headers.base) n []) (mixed_file modules headers sections layout tables k) ≡ mixed_file modules headers sections layout tables (k + 1)) at.is file in
-        subst (λ (bytes : List ℕ). patched (piece_place layout i k) bytes (mixed_file modules headers sections layout tables k) ≡ mixed_file modules headers sections layout tables (k + 1)) (read_after k lt) here
+        let here = subst (λ (n : ℕ). patched (piece_place layout i n) (get_or (new headers.base) n []) (mixed_file link headers sections layout tables k) ≡ mixed_file link headers sections layout tables (k + 1)) at.is file in
+        subst (λ (bytes : List ℕ). patched (piece_place layout i k) bytes (mixed_file link headers sections layout tables k) ≡ mixed_file link headers sections layout tables (k + 1)) (read_after k lt) here
 
   -- ---- its fields, in the order of their places
 
-  pub same_bytes : (base k : ℕ) (fields : List Fix) → k < length pieces → AreTheFields (piece_fixes modules k) fields → ArePatchable (length (contents_at modules k)) fields → patched_bytes base (get_or layout.pieces.items k 0) layout owner fields (contents_at modules k) ≡ linked_bytes modules (rows_of sections) layout base k
+  pub same_bytes : (base k : ℕ) (fields : List Fix) → k < length pieces → AreTheFields (piece_fixes link k) fields → ArePatchable (length (contents_at link k)) fields → patched_bytes base (get_or layout.pieces.items k 0) layout owner fields (contents_at link k) ≡ linked_bytes link (rows_of sections) layout base k
   same_bytes base k fields lt are patchable =
-      bytes_in_any_order base (get_or layout.pieces.items k 0) layout owner (piece_fixes modules k) fields (contents_at modules k) (length (contents_at modules k)) are patchable
-      ∙ ap (λ (os : List ℕ). patched_bytes base (get_or layout.pieces.items k 0) layout os (piece_fixes modules k) (contents_at modules k)) ready.owner_is
+      bytes_in_any_order base (get_or layout.pieces.items k 0) layout owner (piece_fixes link k) fields (contents_at link k) (length (contents_at link k)) are patchable
+      ∙ ap (λ (os : List ℕ). patched_bytes base (get_or layout.pieces.items k 0) layout os (piece_fixes link k) (contents_at link k)) ready.owner_is
 
-  same_place : (k : ℕ) (range : RelocRange) → k < length pieces → out_of_range (get_or pieces k no_piece) range ≡ out_of_range (link_piece_at modules k) range
+  same_place : (k : ℕ) (range : RelocRange) → k < length pieces → out_of_range (get_or pieces k no_piece) range ≡ out_of_range (link_piece_at link k) range
   same_place k range lt =
-      let within : k < length (link_pieces modules) = omega (arith, lt, total_is) in
-      let is : bare (get_or pieces k no_piece) ≡ planned_piece ready.options modules k =
-      sym (get_or-map bare pieces k no_piece) ∙ ap (λ (ps : List Piece). get_or ps k no_piece) ready.pieces_are ∙ planned_at ready.options modules k within in
+      let within : k < length (link_pieces link) = omega (arith, lt, total_is) in
+      let is : bare (get_or pieces k no_piece) ≡ planned_piece ready.options link k =
+      sym (get_or-map bare pieces k no_piece) ∙ ap (λ (ps : List Piece). get_or ps k no_piece) ready.pieces_are ∙ planned_at ready.options link k within in
       ap (λ (p : Piece). out_of_range p range) is
 
-  pub range_here : (base k : ℕ) (fields : List Fix) (fault : Fault) → k < length pieces → AreTheFields (piece_fixes modules k) fields → RefusesRange base (get_or layout.pieces.items k 0) layout owner fields (contents_at modules k) (get_or pieces k no_piece) fault → piece_range_fault modules (rows_of sections) layout base k ≡ Some fault
+  pub range_here : (base k : ℕ) (fields : List Fix) (fault : Fault) → k < length pieces → AreTheFields (piece_fixes link k) fields → RefusesRange base (get_or layout.pieces.items k 0) layout owner fields (contents_at link k) (get_or pieces k no_piece) fault → piece_range_fault link (rows_of sections) layout base k ≡ Some fault
   range_here base k fields fault lt are refuses =
       let rva = get_or layout.pieces.items k 0 in
-      let range = range_in_any_order base rva layout owner (piece_fixes modules k) fields (contents_at modules k) refuses.range are (fixes_numbered modules k) refuses.least in
-      ap (option_map (out_of_range (link_piece_at modules k))) (ap (λ (os : List ℕ). range_fault base rva layout os (piece_fixes modules k) (contents_at modules k)) (sym ready.owner_is) ∙ range)
+      let range = range_in_any_order base rva layout owner (piece_fixes link k) fields (contents_at link k) refuses.range are (fixes_numbered link k) refuses.least in
+      ap (option_map (out_of_range (link_piece_at link k))) (ap (λ (os : List ℕ). range_fault base rva layout os (piece_fixes link k) (contents_at link k)) (sym ready.owner_is) ∙ range)
       ∙ ap (λ (f : Fault). Some f) (sym (same_place k refuses.range lt) ∙ sym refuses.is)
 
-  pub no_range_here : (base k : ℕ) (fields : List Fix) → k < length pieces → AreTheFields (piece_fixes modules k) fields → All (λ fix. fits base (get_or layout.pieces.items k 0) layout owner (contents_at modules k) fix ≡ true) fields → piece_range_fault modules (rows_of sections) layout base k ≡ None
+  pub no_range_here : (base k : ℕ) (fields : List Fix) → k < length pieces → AreTheFields (piece_fixes link k) fields → All (λ fix. fits base (get_or layout.pieces.items k 0) layout owner (contents_at link k) fix ≡ true) fields → piece_range_fault link (rows_of sections) layout base k ≡ None
   no_range_here base k fields lt are all =
       let rva = get_or layout.pieces.items k 0 in
-      ap (option_map (out_of_range (link_piece_at modules k))) (ap (λ (os : List ℕ). range_fault base rva layout os (piece_fixes modules k) (contents_at modules k)) (sym ready.owner_is) ∙ no_range_in_any_order base rva layout owner (piece_fixes modules k) fields (contents_at modules k) are all)
+      ap (option_map (out_of_range (link_piece_at link k))) (ap (λ (os : List ℕ). range_fault base rva layout os (piece_fixes link k) (contents_at link k)) (sym ready.owner_is) ∙ no_range_in_any_order base rva layout owner (piece_fixes link k) fields (contents_at link k) are all)
 
   -- a piece without fields has the bytes of its section, at each base
-  pub nothing_linked : (base k : ℕ) (fields : List Fix) → k < length pieces → AreTheFields (piece_fixes modules k) fields → ArePatchable (length (contents_at modules k)) fields → length fields ≡ 0 → linked_bytes modules (rows_of sections) layout base k ≡ contents_at modules k
+  pub nothing_linked : (base k : ℕ) (fields : List Fix) → k < length pieces → AreTheFields (piece_fixes link k) fields → ArePatchable (length (contents_at link k)) fields → length fields ≡ 0 → linked_bytes link (rows_of sections) layout base k ≡ contents_at link k
   nothing_linked base k fields lt are patchable none =
       sym (same_bytes base k fields lt are patchable)
-      ∙ ap (λ (fs : List Fix). patched_bytes base (get_or layout.pieces.items k 0) layout owner fs (contents_at modules k)) (empty_is fields none)
-      ∙ nothing_patched base (get_or layout.pieces.items k 0) layout owner (contents_at modules k)
+      ∙ ap (λ (fs : List Fix). patched_bytes base (get_or layout.pieces.items k 0) layout owner fs (contents_at link k)) (empty_is fields none)
+      ∙ nothing_patched base (get_or layout.pieces.items k 0) layout owner (contents_at link k)
     where
       empty_is : {X : Type 0} (xs : List X) → length xs ≡ 0 → xs ≡ []
       empty_is [] e = refl
@@ -176,14 +176,14 @@ module _ (modules : List ModuleView) (pieces : List Piece) (fixups : List (List 
   no_field base rva bytes fields none = λ i d lt. absurd (omega (arith, lt, none))
 
   -- one with a field has bytes
-  pub some_bytes : (k : ℕ) (fields : List Fix) → ArePatchable (length (contents_at modules k)) fields → 0 < length fields → 0 < length (contents_at modules k)
+  pub some_bytes : (k : ℕ) (fields : List Fix) → ArePatchable (length (contents_at link k)) fields → 0 < length fields → 0 < length (contents_at link k)
   some_bytes k fields patchable some =
       let each = patchable.each 0 (get_or fields 0 no_fix) some in
-      let inside = within_at (length (contents_at modules k)) (get_or fields 0 (get_or fields 0 no_fix)) each in
+      let inside = within_at (length (contents_at link k)) (get_or fields 0 (get_or fields 0 no_fix)) each in
       let wide = each.some in
       omega (arith, inside, wide)
 
-  pub initialised : (k : ℕ) → k < length pieces → 0 < length (contents_at modules k) → ((get_or pieces k no_piece).init ≡ true) × (0 < (get_or pieces k no_piece).size)
+  pub initialised : (k : ℕ) → k < length pieces → 0 < length (contents_at link k) → ((get_or pieces k no_piece).init ≡ true) × (0 < (get_or pieces k no_piece).size)
   initialised k lt some = by_init (get_or pieces k no_piece) (ready.bodies k lt) (subst (λ (bytes : List ℕ). 0 < length bytes) (contents_here k) some)
     where
       by_init : (piece : Piece) → (piece.init ≡ true → length (piece_contents piece) ≡ piece.size) → 0 < length (piece_contents piece) → (piece.init ≡ true) × (0 < piece.size)
@@ -198,18 +198,18 @@ module _ (modules : List ModuleView) (pieces : List Piece) (fixups : List (List 
 
   module _ (headers : Headers) (directories : length headers.directories ≡ 16) where
     -- the file stays where a piece has no fields
-    pub file_same : (k : ℕ) (fields : List Fix) → k < length pieces → AreTheFields (piece_fixes modules k) fields → ArePatchable (length (contents_at modules k)) fields → length fields ≡ 0 → mixed_file modules headers sections layout tables k ≡ mixed_file modules headers sections layout tables (k + 1)
+    pub file_same : (k : ℕ) (fields : List Fix) → k < length pieces → AreTheFields (piece_fixes link k) fields → ArePatchable (length (contents_at link k)) fields → length fields ≡ 0 → mixed_file link headers sections layout tables k ≡ mixed_file link headers sections layout tables (k + 1)
     file_same k fields lt are patchable none =
-        sym (ap (λ (contents : List (List ℕ)). file_of headers sections layout contents tables) (mixed_same modules (rows_of sections) layout headers.base k (nothing_linked headers.base k fields lt are patchable none)))
+        sym (ap (λ (contents : List (List ℕ)). file_of headers sections layout contents tables) (mixed_same link (rows_of sections) layout headers.base k (nothing_linked headers.base k fields lt are patchable none)))
 
     -- a piece that has bytes, as it was read
     pub record IsHere (k : ℕ) (piece : Piece) : Type 0 where
       pub section : get_or owner k 0 < length layout.sections.items
       pub above : (placed_at layout.sections.items (get_or owner k 0)).rva ≤ get_or layout.pieces.items k 0
-      pub size : length (contents_at modules k) ≡ piece.size
-      pub inside : piece_place layout (get_or owner k 0) k + piece.size ≤ length (mixed_file modules headers sections layout tables k)
-      pub bytes : bytes_at (mixed_file modules headers sections layout tables k) (piece_place layout (get_or owner k 0) k) piece.size ≡ contents_at modules k
-      pub after : patched (piece_place layout (get_or owner k 0) k) (linked_bytes modules (rows_of sections) layout headers.base k) (mixed_file modules headers sections layout tables k) ≡ mixed_file modules headers sections layout tables (k + 1)
+      pub size : length (contents_at link k) ≡ piece.size
+      pub inside : piece_place layout (get_or owner k 0) k + piece.size ≤ length (mixed_file link headers sections layout tables k)
+      pub bytes : bytes_at (mixed_file link headers sections layout tables k) (piece_place layout (get_or owner k 0) k) piece.size ≡ contents_at link k
+      pub after : patched (piece_place layout (get_or owner k 0) k) (linked_bytes link (rows_of sections) layout headers.base k) (mixed_file link headers sections layout tables k) ≡ mixed_file link headers sections layout tables (k + 1)
       pub is : piece ≡ get_or pieces k no_piece
 
     pub piece_here : (k : ℕ) (piece : Piece) → k < length pieces → piece ≡ get_or pieces k piece → piece.init ≡ true → 0 < piece.size → IsHere k piece
@@ -223,28 +223,28 @@ module _ (modules : List ModuleView) (pieces : List Piece) (fixups : List (List 
         let own = owner_here k lt in
         let file = in_file headers directories k lt on above_zero in
         let i = section_of (rows_of sections) k in
-        let held : length (get_or (mixed_contents modules (rows_of sections) layout headers.base k ++ tables) k []) ≡ piece.size = ap length (read_here headers directories k lt) ∙ len ∙ size in
+        let held : length (get_or (mixed_contents link (rows_of sections) layout headers.base k ++ tables) k []) ≡ piece.size = ap length (read_here headers directories k lt) ∙ len ∙ size in
         record {
           section = omega (arith, own, at.there, ready.laid.section_for_each);
           above = subst (λ (s : ℕ). (placed_at layout.sections.items s).rva ≤ get_or layout.pieces.items k 0) (sym own) file.lies.above;
           size = len ∙ size;
-          inside = subst (λ (s : ℕ). piece_place layout s k + piece.size ≤ length (mixed_file modules headers sections layout tables k)) (sym own) (subst (λ (n : ℕ). piece_place layout i k + n ≤ length (mixed_file modules headers sections layout tables k)) held file.inside);
-          bytes = subst (λ (s : ℕ). bytes_at (mixed_file modules headers sections layout tables k) (piece_place layout s k) piece.size ≡ contents_at modules k) (sym own) (subst (λ (n : ℕ). bytes_at (mixed_file modules headers sections layout tables k) (piece_place layout i k) n ≡ contents_at modules k) (len ∙ size) (bytes_here headers directories k lt above_zero));
-          after = subst (λ (s : ℕ). patched (piece_place layout s k) (linked_bytes modules (rows_of sections) layout headers.base k) (mixed_file modules headers sections layout tables k) ≡ mixed_file modules headers sections layout tables (k + 1)) (sym own) (file_after headers directories k lt above_zero);
+          inside = subst (λ (s : ℕ). piece_place layout s k + piece.size ≤ length (mixed_file link headers sections layout tables k)) (sym own) (subst (λ (n : ℕ). piece_place layout i k + n ≤ length (mixed_file link headers sections layout tables k)) held file.inside);
+          bytes = subst (λ (s : ℕ). bytes_at (mixed_file link headers sections layout tables k) (piece_place layout s k) piece.size ≡ contents_at link k) (sym own) (subst (λ (n : ℕ). bytes_at (mixed_file link headers sections layout tables k) (piece_place layout i k) n ≡ contents_at link k) (len ∙ size) (bytes_here headers directories k lt above_zero));
+          after = subst (λ (s : ℕ). patched (piece_place layout s k) (linked_bytes link (rows_of sections) layout headers.base k) (mixed_file link headers sections layout tables k) ≡ mixed_file link headers sections layout tables (k + 1)) (sym own) (file_after headers directories k lt above_zero);
           is = is;
         }
 
     -- its fields, as they were read
     pub record HasFields (k : ℕ) (list : List Fix) : Type 0 where
-      pub fields : AreTheFields (piece_fixes modules k) list
-      pub patchable : ArePatchable (length (contents_at modules k)) list
+      pub fields : AreTheFields (piece_fixes link k) list
+      pub patchable : ArePatchable (length (contents_at link k)) list
 
     pub fields_here : (k : ℕ) (fields : List Fix) → k < length pieces → fields ≡ get_or fixups k fields → HasFields k fields
     fields_here k fields lt read =
         let is : fields ≡ get_or fixups k [] = read ∙ get_or_default fixups k fields [] (omega (arith, lt, ready.fields.for_each)) in
         record {
-          fields = subst (AreTheFields (piece_fixes modules k)) (sym is) (ready.fields.fields k lt);
-          patchable = subst (ArePatchable (length (contents_at modules k))) (sym is) (ready.fields.patchable k lt);
+          fields = subst (AreTheFields (piece_fixes link k)) (sym is) (ready.fields.fields k lt);
+          patchable = subst (ArePatchable (length (contents_at link k))) (sym is) (ready.fields.patchable k lt);
         }
 
     -- a piece with fields, as it was read
@@ -255,38 +255,38 @@ module _ (modules : List ModuleView) (pieces : List Piece) (fixups : List (List 
         piece_here k piece lt read (ap (λ (p : Piece). p.init) is ∙ both.0) (omega (arith, both.1, ap (λ (p : Piece). p.size) is))
 
     -- what patching them in the file gives
-    pub file_patched : (k place rva base : ℕ) (piece : Piece) (fields : List Fix) (before after : List ℕ) → k < length pieces → IsHere k piece → HasFields k fields → before ≡ mixed_file modules headers sections layout tables k → place ≡ piece_place layout (get_or owner k 0) k → rva ≡ get_or layout.pieces.items k 0 → base ≡ headers.base
-        → after ≡ patched place (patched_bytes base rva layout owner fields (bytes_at before place piece.size)) before → after ≡ mixed_file modules headers sections layout tables (k + 1)
+    pub file_patched : (k place rva base : ℕ) (piece : Piece) (fields : List Fix) (before after : List ℕ) → k < length pieces → IsHere k piece → HasFields k fields → before ≡ mixed_file link headers sections layout tables k → place ≡ piece_place layout (get_or owner k 0) k → rva ≡ get_or layout.pieces.items k 0 → base ≡ headers.base
+        → after ≡ patched place (patched_bytes base rva layout owner fields (bytes_at before place piece.size)) before → after ≡ mixed_file link headers sections layout tables (k + 1)
     file_patched k place rva base piece fields before after lt here has was at here_rva own is =
         is
         ∙ ap (λ (xs : List ℕ). patched place (patched_bytes base rva layout owner fields (bytes_at xs place piece.size)) xs) was
-        ∙ ap (λ (p : ℕ). patched p (patched_bytes base rva layout owner fields (bytes_at (mixed_file modules headers sections layout tables k) p piece.size)) (mixed_file modules headers sections layout tables k)) at
-        ∙ ap (λ (bytes : List ℕ). patched (piece_place layout (get_or owner k 0) k) (patched_bytes base rva layout owner fields bytes) (mixed_file modules headers sections layout tables k)) here.bytes
-        ∙ ap (λ (r : ℕ). patched (piece_place layout (get_or owner k 0) k) (patched_bytes base r layout owner fields (contents_at modules k)) (mixed_file modules headers sections layout tables k)) here_rva
-        ∙ ap (λ (b : ℕ). patched (piece_place layout (get_or owner k 0) k) (patched_bytes b (get_or layout.pieces.items k 0) layout owner fields (contents_at modules k)) (mixed_file modules headers sections layout tables k)) own
-        ∙ ap (λ (bytes : List ℕ). patched (piece_place layout (get_or owner k 0) k) bytes (mixed_file modules headers sections layout tables k)) (same_bytes headers.base k fields lt has.fields has.patchable)
+        ∙ ap (λ (p : ℕ). patched p (patched_bytes base rva layout owner fields (bytes_at (mixed_file link headers sections layout tables k) p piece.size)) (mixed_file link headers sections layout tables k)) at
+        ∙ ap (λ (bytes : List ℕ). patched (piece_place layout (get_or owner k 0) k) (patched_bytes base rva layout owner fields bytes) (mixed_file link headers sections layout tables k)) here.bytes
+        ∙ ap (λ (r : ℕ). patched (piece_place layout (get_or owner k 0) k) (patched_bytes base r layout owner fields (contents_at link k)) (mixed_file link headers sections layout tables k)) here_rva
+        ∙ ap (λ (b : ℕ). patched (piece_place layout (get_or owner k 0) k) (patched_bytes b (get_or layout.pieces.items k 0) layout owner fields (contents_at link k)) (mixed_file link headers sections layout tables k)) own
+        ∙ ap (λ (bytes : List ℕ). patched (piece_place layout (get_or owner k 0) k) bytes (mixed_file link headers sections layout tables k)) (same_bytes headers.base k fields lt has.fields has.patchable)
         ∙ here.after
 
-    bytes_read : (k place : ℕ) (piece : Piece) (before : List ℕ) → IsHere k piece → before ≡ mixed_file modules headers sections layout tables k → place ≡ piece_place layout (get_or owner k 0) k → bytes_at before place piece.size ≡ contents_at modules k
+    bytes_read : (k place : ℕ) (piece : Piece) (before : List ℕ) → IsHere k piece → before ≡ mixed_file link headers sections layout tables k → place ≡ piece_place layout (get_or owner k 0) k → bytes_at before place piece.size ≡ contents_at link k
     bytes_read k place piece before here was at =
         ap (λ (xs : List ℕ). bytes_at xs place piece.size) was
-        ∙ ap (λ (p : ℕ). bytes_at (mixed_file modules headers sections layout tables k) p piece.size) at
+        ∙ ap (λ (p : ℕ). bytes_at (mixed_file link headers sections layout tables k) p piece.size) at
         ∙ here.bytes
 
     -- a value that does not fit
-    pub range_refused : (k place rva base : ℕ) (piece : Piece) (fields : List Fix) (before : List ℕ) (fault : Fault) → k < length pieces → IsHere k piece → HasFields k fields → before ≡ mixed_file modules headers sections layout tables k → place ≡ piece_place layout (get_or owner k 0) k → rva ≡ get_or layout.pieces.items k 0 → base ≡ headers.base
-        → RefusesRange base rva layout owner fields (bytes_at before place piece.size) piece fault → piece_range_fault modules (rows_of sections) layout headers.base k ≡ Some fault
+    pub range_refused : (k place rva base : ℕ) (piece : Piece) (fields : List Fix) (before : List ℕ) (fault : Fault) → k < length pieces → IsHere k piece → HasFields k fields → before ≡ mixed_file link headers sections layout tables k → place ≡ piece_place layout (get_or owner k 0) k → rva ≡ get_or layout.pieces.items k 0 → base ≡ headers.base
+        → RefusesRange base rva layout owner fields (bytes_at before place piece.size) piece fault → piece_range_fault link (rows_of sections) layout headers.base k ≡ Some fault
     range_refused k place rva base piece fields before fault lt here has was at here_rva own refused =
         range_here headers.base k fields fault lt has.fields
-        (subst (λ (b : ℕ). RefusesRange b (get_or layout.pieces.items k 0) layout owner fields (contents_at modules k) (get_or pieces k no_piece) fault) own
-        (subst (λ (r : ℕ). RefusesRange base r layout owner fields (contents_at modules k) (get_or pieces k no_piece) fault) here_rva
-        (subst (λ (p : Piece). RefusesRange base rva layout owner fields (contents_at modules k) p fault) here.is
+        (subst (λ (b : ℕ). RefusesRange b (get_or layout.pieces.items k 0) layout owner fields (contents_at link k) (get_or pieces k no_piece) fault) own
+        (subst (λ (r : ℕ). RefusesRange base r layout owner fields (contents_at link k) (get_or pieces k no_piece) fault) here_rva
+        (subst (λ (p : Piece). RefusesRange base rva layout owner fields (contents_at link k) p fault) here.is
         (subst (λ (bytes : List ℕ). RefusesRange base rva layout owner fields bytes piece fault) (bytes_read k place piece before here was at) refused))))
 
-    pub range_accepted : (k place rva base : ℕ) (piece : Piece) (fields : List Fix) (before : List ℕ) → k < length pieces → IsHere k piece → HasFields k fields → before ≡ mixed_file modules headers sections layout tables k → place ≡ piece_place layout (get_or owner k 0) k → rva ≡ get_or layout.pieces.items k 0 → base ≡ headers.base
-        → All (λ fix. fits base rva layout owner (bytes_at before place piece.size) fix ≡ true) fields → piece_range_fault modules (rows_of sections) layout headers.base k ≡ None
+    pub range_accepted : (k place rva base : ℕ) (piece : Piece) (fields : List Fix) (before : List ℕ) → k < length pieces → IsHere k piece → HasFields k fields → before ≡ mixed_file link headers sections layout tables k → place ≡ piece_place layout (get_or owner k 0) k → rva ≡ get_or layout.pieces.items k 0 → base ≡ headers.base
+        → All (λ fix. fits base rva layout owner (bytes_at before place piece.size) fix ≡ true) fields → piece_range_fault link (rows_of sections) layout headers.base k ≡ None
     range_accepted k place rva base piece fields before lt here has was at here_rva own all =
         no_range_here headers.base k fields lt has.fields
-        (subst (λ (b : ℕ). All (λ fix. fits b (get_or layout.pieces.items k 0) layout owner (contents_at modules k) fix ≡ true) fields) own
-        (subst (λ (r : ℕ). All (λ fix. fits base r layout owner (contents_at modules k) fix ≡ true) fields) here_rva
+        (subst (λ (b : ℕ). All (λ fix. fits b (get_or layout.pieces.items k 0) layout owner (contents_at link k) fix ≡ true) fields) own
+        (subst (λ (r : ℕ). All (λ fix. fits base r layout owner (contents_at link k) fix ≡ true) fields) here_rva
         (subst (λ (bytes : List ℕ). All (λ fix. fits base rva layout owner bytes fix ≡ true) fields) (bytes_read k place piece before here was at) all)))

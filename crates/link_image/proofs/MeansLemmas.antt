@@ -26,7 +26,7 @@ use Rattle.image_writer.proofs.PieceInFileLemmas.{pieces_link}
 use Rattle.image_writer.proofs.TableLemmas.{length-section_rows}
 use Rattle.image_writer.proofs.CallerLemmas.{stays_means, moves_means}
 use Rattle.relocate.specs.Field.{fix_at}
-use Rattle.module_view.specs.Module.{ModuleView}
+use Rattle.symbol_table.specs.LinkView.{LinkView}
 use Rattle.link_pieces.specs.Pieces.{link_pieces}
 use Rattle.link_words.specs.Outcome.{LinkOptions}
 use Rattle.link_plan.specs.declared.entry.EntryPlace.{EntryPlace}
@@ -84,30 +84,30 @@ grown len = go (eqb len 0) refl
 
 -- ---- fields by RVAs that agree
 
-fields_agree : (modules : List ModuleView) (rvas other : List ℕ) (fields : List BaseField) → ((k : ℕ) → k < length (link_pieces modules) → get_or rvas k 0 ≡ get_or other k 0) → AreBaseFields modules rvas fields → AreBaseFields modules other fields
-fields_agree modules rvas other fields same are = record {
+fields_agree : (link : LinkView) (rvas other : List ℕ) (fields : List BaseField) → ((k : ℕ) → k < length (link_pieces link) → get_or rvas k 0 ≡ get_or other k 0) → AreBaseFields link rvas fields → AreBaseFields link other fields
+fields_agree link rvas other fields same are = record {
   ascending = are.ascending;
   apart = are.apart;
   listed = λ n d lt. moved rvas other same (get_or fields n d) (are.listed n d lt);
   all = λ field is. are.all field (moved other rvas (λ k lt. sym (same k lt)) field is);
 }
   where
-    moved : (xs ys : List ℕ) → ((k : ℕ) → k < length (link_pieces modules) → get_or xs k 0 ≡ get_or ys k 0) → (field : BaseField) → IsBaseField modules xs field → IsBaseField modules ys field
+    moved : (xs ys : List ℕ) → ((k : ℕ) → k < length (link_pieces link) → get_or xs k 0 ≡ get_or ys k 0) → (field : BaseField) → IsBaseField link xs field → IsBaseField link ys field
     moved xs ys same field is = record {
       piece = is.piece;
       index = is.index;
       there = is.there;
       within = is.within;
       based = is.based;
-      is = is.is ∙ ap (λ (rva : ℕ). base_field rva (fix_at (piece_fixes modules is.piece) is.index)) (same is.piece is.there);
+      is = is.is ∙ ap (λ (rva : ℕ). base_field rva (fix_at (piece_fixes link is.piece) is.index)) (same is.piece is.there);
     }
 
 -- ---- the image of a plan
 
-module _ (options : LinkOptions) (plan : LinkPlan) (placement : Placement) (owner : List ℕ) (planned : IsPlanOf options plan.modules.items plan) (placed : IsPlaced options plan placement)
-    (ready : IsReady plan.modules.items plan.pieces.items plan.fixes.items placement.sections.items placement.layout owner (tables_of placement.table)) where
-  abbrev modules : List ModuleView
-  modules = plan.modules.items
+module _ (options : LinkOptions) (plan : LinkPlan) (placement : Placement) (owner : List ℕ) (planned : IsPlanOf options plan.names plan) (placed : IsPlaced options plan placement)
+    (ready : IsReady plan.names plan.pieces.items plan.fixes.items placement.sections.items placement.layout owner (tables_of placement.table)) where
+  abbrev link : LinkView
+  link = plan.names
 
   abbrev sections : List OutSection
   sections = placement.sections.items
@@ -122,7 +122,7 @@ module _ (options : LinkOptions) (plan : LinkPlan) (placement : Placement) (owne
   headers = headers_of options (entry_rva placement.layout.pieces.items plan.entry) (table_directory placement.layout (tables_of placement.table))
 
   abbrev contents : ℕ → List (List ℕ)
-  contents base = image_contents plan.modules.items (rows_of placement.sections.items) placement.layout (tables_of placement.table) base
+  contents base = image_contents plan.names (rows_of placement.sections.items) placement.layout (tables_of placement.table) base
 
   abbrev image : ImagePlan
   image = layout_plan headers placement.sections.items placement.layout contents
@@ -134,11 +134,11 @@ module _ (options : LinkOptions) (plan : LinkPlan) (placement : Placement) (owne
   whole : List Piece
   whole = plan.pieces.items ++ ready.rest
 
-  total : length plan.pieces.items ≡ length (link_pieces plan.modules.items)
-  total = total_is plan.modules.items plan.pieces.items plan.fixes.items placement.sections.items placement.layout owner (tables_of placement.table) ready
+  total : length plan.pieces.items ≡ length (link_pieces plan.names)
+  total = total_is plan.names plan.pieces.items plan.fixes.items placement.sections.items placement.layout owner (tables_of placement.table) ready
 
   -- without a table
-  stays : is_relocated options plan.modules.items ≡ false → tables ≡ [] → Stay headers sections layout contents
+  stays : is_relocated options plan.names ≡ false → tables ≡ [] → Stay headers sections layout contents
   stays alone none = record {
     directory = ap (λ (ts : List (List ℕ)). slice_get (slice_set (replicate 16 (0, 0)) 5 (table_directory layout ts)) 5) none;
     same = λ base allowed. by options.fixed refl base (sym (permits_are base) ∙ allowed);
@@ -147,15 +147,15 @@ module _ (options : LinkOptions) (plan : LinkPlan) (placement : Placement) (owne
       by : (b : Bool) → options.fixed ≡ b → (base : ℕ) → is_permitted (base_rule options) placement.layout.image base ≡ true → contents base ≡ contents options.base
       by true fixed base allowed = ap contents (own_base (base_rule options) placement.layout.image base fixed allowed)
       by false moves base allowed =
-          contents_stay plan.modules.items plan.pieces.items plan.fixes.items placement.sections.items placement.layout owner (tables_of placement.table) ready
-          (sym (ap (λ (b : Bool). not b && holds_address plan.modules.items) moves) ∙ alone) base options.base
+          contents_stay plan.names plan.pieces.items plan.fixes.items placement.sections.items placement.layout owner (tables_of placement.table) ready
+          (sym (ap (λ (b : Bool). not b && holds_address plan.names) moves) ∙ alone) base options.base
 
   -- with one
-  moves : (piece_rows : List OutRow) (before : Layout) → length before.pieces.items ≡ length plan.pieces.items → is_permitted (base_rule options) placement.layout.image options.base ≡ true → (table : HasTable plan.modules.items piece_rows before (rows_of placement.sections.items) placement.layout (tables_of placement.table)) → Move headers sections layout contents table.fields
+  moves : (piece_rows : List OutRow) (before : Layout) → length before.pieces.items ≡ length plan.pieces.items → is_permitted (base_rule options) placement.layout.image options.base ≡ true → (table : HasTable plan.names piece_rows before (rows_of placement.sections.items) placement.layout (tables_of placement.table)) → Move headers sections layout contents table.fields
   moves piece_rows before count permitted table = record {
     ascending = table.based.ascending;
     apart = table.based.apart;
-    moved = λ base allowed. contents_moved plan.modules.items plan.pieces.items plan.fixes.items placement.sections.items placement.layout owner (tables_of placement.table) ready options.base base table.fields (low_base (base_rule options) placement.layout.image options.base permitted) based;
+    moved = λ base allowed. contents_moved plan.names plan.pieces.items plan.fixes.items placement.sections.items placement.layout owner (tables_of placement.table) ready options.base base table.fields (low_base (base_rule options) placement.layout.image options.base permitted) based;
     section = length piece_rows;
     number = 0;
     there = omega (arith, ap length table.rows_are, length-append piece_rows (table_row k ∷ []), length-map placement.sections.items row_of);
@@ -179,8 +179,8 @@ module _ (options : LinkOptions) (plan : LinkPlan) (placement : Placement) (owne
 
       last_contents : get_or (contents options.base) (length before.pieces.items) [] ≡ blocks_of table.fields
       last_contents =
-          let len = length_linked plan.modules.items (rows_of placement.sections.items) placement.layout options.base in
-          get_or-append_right (linked_contents plan.modules.items (rows_of placement.sections.items) placement.layout options.base) (tables_of placement.table) (length before.pieces.items) (length before.pieces.items) [] (omega (arith, len, count, total)) (omega arith)
+          let len = length_linked plan.names (rows_of placement.sections.items) placement.layout options.base in
+          get_or-append_right (linked_contents plan.names (rows_of placement.sections.items) placement.layout options.base) (tables_of placement.table) (length before.pieces.items) (length before.pieces.items) [] (omega (arith, len, count, total)) (omega arith)
           ∙ ap (λ (i : ℕ). get_or (tables_of placement.table) i []) (nothing (length before.pieces.items))
           ∙ ap (λ (ts : List (List ℕ)). get_or ts 0 []) table.tables_are
         where
@@ -193,27 +193,27 @@ module _ (options : LinkOptions) (plan : LinkPlan) (placement : Placement) (owne
       last_rva : get_or placement.layout.pieces.items (length before.pieces.items) 0 ≡ table.added.placed.rva
       last_rva = ap (λ (rvas : List ℕ). get_or rvas (length before.pieces.items) 0) table.added.pieces ∙ get_or-append_seam before.pieces.items table.added.placed.rva [] 0
 
-      based : AreBaseFields plan.modules.items placement.layout.pieces.items table.fields
+      based : AreBaseFields plan.names placement.layout.pieces.items table.fields
       based =
-          fields_agree plan.modules.items before.pieces.items placement.layout.pieces.items table.fields (λ i lt. sym (ap (λ (rvas : List ℕ). get_or rvas i 0) table.added.pieces ∙ get_or_append_left before.pieces.items (table.added.placed.rva ∷ []) 0 i (omega (arith, lt, count, total)))) table.based
+          fields_agree plan.names before.pieces.items placement.layout.pieces.items table.fields (λ i lt. sym (ap (λ (rvas : List ℕ). get_or rvas i 0) table.added.pieces ∙ get_or_append_left before.pieces.items (table.added.placed.rva ∷ []) 0 i (omega (arith, lt, count, total)))) table.based
 
   means : is_permitted (base_rule options) placement.layout.image options.base ≡ true → MeansPlan image (image_file image)
-  means permitted = by (is_relocated options plan.modules.items) refl placed.means.whole
+  means permitted = by (is_relocated options plan.names) refl placed.means.whole
     where
       before_count : length placed.means.before.pieces.items ≡ length plan.pieces.items
-      before_count = placed.means.placed.layout_of.standing.rva_for_each ∙ plan_count options plan.modules.items ∙ sym total
+      before_count = placed.means.placed.layout_of.standing.rva_for_each ∙ plan_count options plan.names ∙ sym total
 
-      by : (b : Bool) → is_relocated options plan.modules.items ≡ b → IsWhole b plan.modules.items (rows_of placed.means.sections) placed.means.before (rows_of placement.sections.items) placement.layout (tables_of placement.table) → MeansPlan image (image_file image)
+      by : (b : Bool) → is_relocated options plan.names ≡ b → IsWhole b plan.names (rows_of placed.means.sections) placed.means.before (rows_of placement.sections.items) placement.layout (tables_of placement.table) → MeansPlan image (image_file image)
       by true relocated table =
-          moves_means headers (plan.pieces.items ++ ready.rest) placement.sections.items placement.layout contents table.fields ready.laid (contents_room plan.modules.items plan.pieces.items plan.fixes.items placement.sections.items placement.layout owner (tables_of placement.table) ready) (one_length plan.modules.items plan.pieces.items plan.fixes.items placement.sections.items placement.layout owner (tables_of placement.table) ready) refl (permits_are options.base ∙ permitted)
+          moves_means headers (plan.pieces.items ++ ready.rest) placement.sections.items placement.layout contents table.fields ready.laid (contents_room plan.names plan.pieces.items plan.fixes.items placement.sections.items placement.layout owner (tables_of placement.table) ready) (one_length plan.names plan.pieces.items plan.fixes.items placement.sections.items placement.layout owner (tables_of placement.table) ready) refl (permits_are options.base ∙ permitted)
           (moves (rows_of placed.means.sections) placed.means.before before_count permitted table)
       by false alone same =
-          stays_means headers (plan.pieces.items ++ ready.rest) placement.sections.items placement.layout contents ready.laid (contents_room plan.modules.items plan.pieces.items plan.fixes.items placement.sections.items placement.layout owner (tables_of placement.table) ready options.base) (one_length plan.modules.items plan.pieces.items plan.fixes.items placement.sections.items placement.layout owner (tables_of placement.table) ready) refl (permits_are options.base ∙ permitted)
+          stays_means headers (plan.pieces.items ++ ready.rest) placement.sections.items placement.layout contents ready.laid (contents_room plan.names plan.pieces.items plan.fixes.items placement.sections.items placement.layout owner (tables_of placement.table) ready options.base) (one_length plan.names plan.pieces.items plan.fixes.items placement.sections.items placement.layout owner (tables_of placement.table) ready) refl (permits_are options.base ∙ permitted)
           (stays alone same.2)
 
   -- what is written of the plan means it
-  pub built : (made : Built) → is_permitted (base_rule options) placement.layout.image options.base ≡ true → fields_range_fault plan.modules.items (rows_of placement.sections.items) placement.layout options.base ≡ None
-      → made.image.items ≡ file_of headers placement.sections.items placement.layout (linked_contents plan.modules.items (rows_of placement.sections.items) placement.layout options.base) (tables_of placement.table) → made.sections ≡ length placement.sections.items → IsBuilt options plan.modules.items made
+  pub built : (made : Built) → is_permitted (base_rule options) placement.layout.image options.base ≡ true → fields_range_fault plan.names (rows_of placement.sections.items) placement.layout options.base ≡ None
+      → made.image.items ≡ file_of headers placement.sections.items placement.layout (linked_contents plan.names (rows_of placement.sections.items) placement.layout options.base) (tables_of placement.table) → made.sections ≡ length placement.sections.items → IsBuilt options plan.names made
   unfolding written_plan
   built made permitted in_range is count =
       let file : made.image.items ≡ image_file image = is ∙ same_file headers placement.sections.items placement.layout (at_each_base (contents options.base)) contents refl in

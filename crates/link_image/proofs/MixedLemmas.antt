@@ -13,21 +13,21 @@ use Rattle.address_layout.specs.Layout.{all_pieces}
 use Rattle.relocate.proofs.CallerLemmas.{length_patched}
 use Rattle.image_writer.specs.WrittenImage.{HaveRoom}
 use Rattle.image_writer.specs.PieceInFile.{DiffersAt}
-use Rattle.module_view.specs.Module.{ModuleView}
+use Rattle.symbol_table.specs.LinkView.{LinkView}
 use Rattle.link_pieces.specs.Pieces.{link_pieces, link_contents}
 use Rattle.link_plan.specs.Fixes.{piece_fixes}
 use Rattle.link_image.specs.LinkedBytes.{owners_in, contents_at, linked_bytes, linked_contents}
 use Rattle.link_image.specs.Steps.{mixed_at, mixed_contents}
 
-module _ (modules : List ModuleView) (rows : List SectionRow) (layout : Layout) (base : ℕ) where
+module _ (link : LinkView) (rows : List SectionRow) (layout : Layout) (base : ℕ) where
   abbrev total : ℕ
-  total = length (link_pieces modules)
+  total = length (link_pieces link)
 
   abbrev mixed : ℕ → List (List ℕ)
-  mixed count = mixed_contents modules rows layout base count
+  mixed count = mixed_contents link rows layout base count
 
   abbrev at : ℕ → ℕ → List ℕ
-  at count k = mixed_at modules rows layout base count k
+  at count k = mixed_at link rows layout base count k
 
   pub mixed_read : (count k : ℕ) → k < total → get_or (mixed count) k [] ≡ at count k
   unfolding mixed_contents
@@ -38,16 +38,16 @@ module _ (modules : List ModuleView) (rows : List SectionRow) (layout : Layout) 
   length-mixed count = length-map-range_with_len (at count) 0 total
 
   -- a piece that is patched, and one that is not yet
-  pub patched_at : (count k : ℕ) → k < count → at count k ≡ linked_bytes modules rows layout base k
+  pub patched_at : (count k : ℕ) → k < count → at count k ≡ linked_bytes link rows layout base k
   patched_at count k lt = rw (lt-ltb k count lt) refl
 
-  pub unpatched_at : (count k : ℕ) → count ≤ k → at count k ≡ contents_at modules k
+  pub unpatched_at : (count k : ℕ) → count ≤ k → at count k ≡ contents_at link k
   unpatched_at count k le = rw (le-ltb k count le) refl
 
-  length_linked : (k : ℕ) → length (linked_bytes modules rows layout base k) ≡ length (contents_at modules k)
-  length_linked k = length_patched base (get_or layout.pieces.items k 0) layout (owners_in rows layout) (piece_fixes modules k) (contents_at modules k)
+  length_linked : (k : ℕ) → length (linked_bytes link rows layout base k) ≡ length (contents_at link k)
+  length_linked k = length_patched base (get_or layout.pieces.items k 0) layout (owners_in rows layout) (piece_fixes link k) (contents_at link k)
 
-  pub length_at : (count k : ℕ) → length (at count k) ≡ length (contents_at modules k)
+  pub length_at : (count k : ℕ) → length (at count k) ≡ length (contents_at link k)
   length_at count k =
       elim (cases_lt k count) [
         | inl lt ↦ ap length (patched_at count k lt) ∙ length_linked k
@@ -55,18 +55,18 @@ module _ (modules : List ModuleView) (rows : List SectionRow) (layout : Layout) 
       ]
 
   -- at first none is patched
-  pub mixed_none : length (link_contents modules) ≡ total → mixed 0 ≡ link_contents modules
+  pub mixed_none : length (link_contents link) ≡ total → mixed 0 ≡ link_contents link
   mixed_none same =
-      ext_get_or [] (mixed 0) (link_contents modules) (length-mixed 0 ∙ sym same) (λ k lt.
+      ext_get_or [] (mixed 0) (link_contents link) (length-mixed 0 ∙ sym same) (λ k lt.
       mixed_read 0 k (let n = length-mixed 0 in omega (arith, n)) ∙ unpatched_at 0 k (omega arith))
 
   -- in the end all are
-  pub mixed_all : (count : ℕ) → total ≤ count → mixed count ≡ linked_contents modules rows layout base
+  pub mixed_all : (count : ℕ) → total ≤ count → mixed count ≡ linked_contents link rows layout base
   unfolding linked_contents
   mixed_all count le =
-      ext_get_or [] (mixed count) (map (linked_bytes modules rows layout base) (range_with_len 0 total)) (length-mixed count ∙ sym (length-map-range_with_len (linked_bytes modules rows layout base) 0 total)) (λ k lt.
+      ext_get_or [] (mixed count) (map (linked_bytes link rows layout base) (range_with_len 0 total)) (length-mixed count ∙ sym (length-map-range_with_len (linked_bytes link rows layout base) 0 total)) (λ k lt.
       let within : k < total = let n = length-mixed count in omega (arith, n) in
-      mixed_read count k within ∙ patched_at count k (omega arith) ∙ sym (get_or-map-range_with_len (linked_bytes modules rows layout base) 0 total k k [] within (omega arith)))
+      mixed_read count k within ∙ patched_at count k (omega arith) ∙ sym (get_or-map-range_with_len (linked_bytes link rows layout base) 0 total k k [] within (omega arith)))
 
   -- one piece more is patched
   beside : (count other : ℕ) → other ≢ count → at (count + 1) other ≡ at count other
@@ -84,7 +84,7 @@ module _ (modules : List ModuleView) (rows : List SectionRow) (layout : Layout) 
           ]
 
   -- a piece whose bytes are not changed is as it was
-  pub mixed_same : (count : ℕ) → linked_bytes modules rows layout base count ≡ contents_at modules count → mixed (count + 1) ≡ mixed count
+  pub mixed_same : (count : ℕ) → linked_bytes link rows layout base count ≡ contents_at link count → mixed (count + 1) ≡ mixed count
   mixed_same count same =
       ext_get_or [] (mixed (count + 1)) (mixed count) (length-mixed (count + 1) ∙ sym (length-mixed count)) (λ k lt.
       let within : k < total = let n = length-mixed (count + 1) in omega (arith, n) in
@@ -92,9 +92,9 @@ module _ (modules : List ModuleView) (rows : List SectionRow) (layout : Layout) 
       ∙ elim (cases_eq k count) [
         | inl here ↦
             patched_at (count + 1) k (omega (arith, here))
-            ∙ ap (linked_bytes modules rows layout base) here
+            ∙ ap (linked_bytes link rows layout base) here
             ∙ same
-            ∙ sym (ap (contents_at modules) here)
+            ∙ sym (ap (contents_at link) here)
             ∙ sym (unpatched_at count k (omega (arith, here)))
         | inr apart ↦ beside count k apart
       ]
@@ -119,7 +119,7 @@ module _ (modules : List ModuleView) (rows : List SectionRow) (layout : Layout) 
       behind n other past = get_or-append_right (mixed n) tables total other [] (length-mixed n) past
 
   -- room stays
-  pub mixed_room : (pieces rest : List Piece) (sections : List OutSection) (count : ℕ) → map piece_contents pieces ≡ link_contents modules → length pieces ≡ total → HaveRoom (pieces ++ rest) sections (map piece_contents (pieces ++ rest)) → HaveRoom (pieces ++ rest) sections (mixed count ++ map piece_contents rest)
+  pub mixed_room : (pieces rest : List Piece) (sections : List OutSection) (count : ℕ) → map piece_contents pieces ≡ link_contents link → length pieces ≡ total → HaveRoom (pieces ++ rest) sections (map piece_contents (pieces ++ rest)) → HaveRoom (pieces ++ rest) sections (mixed count ++ map piece_contents rest)
   mixed_room pieces rest sections count are same room = λ i d lt.
       let k = get_or (all_pieces sections) i d in
       let old = room i d lt in

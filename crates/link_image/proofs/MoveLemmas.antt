@@ -30,7 +30,7 @@ use Rattle.image_writer.specs.WrittenImage.{HaveRoom, HasContents}
 use Rattle.image_writer.specs.MovedContents.{HaveOneLength, IsMoved, AreMoved}
 use Rattle.image_writer.specs.PieceInFile.{piece_at}
 use Rattle.image_writer.proofs.CallerLemmas.{have_room}
-use Rattle.module_view.specs.Module.{ModuleView}
+use Rattle.symbol_table.specs.LinkView.{LinkView}
 use Rattle.link_pieces.specs.Pieces.{link_pieces, link_contents}
 use Rattle.link_plan.specs.Fixes.{piece_fixes, HaveFields}
 use Rattle.link_plan.proofs.CallerLemmas.{plan_count}
@@ -92,49 +92,49 @@ outside_fix rva t fix based (inr behind) = inr (let w = width_is rva fix based i
 
 -- ---- what is ready
 
-module _ (modules : List ModuleView) (pieces : List Piece) (fixups : List (List Fix)) (sections : List OutSection) (layout : Layout) (owner : List ℕ) (tables : List (List ℕ)) (ready : IsReady modules pieces fixups sections layout owner tables) where
+module _ (link : LinkView) (pieces : List Piece) (fixups : List (List Fix)) (sections : List OutSection) (layout : Layout) (owner : List ℕ) (tables : List (List ℕ)) (ready : IsReady link pieces fixups sections layout owner tables) where
   abbrev rows : List SectionRow
   rows = rows_of sections
 
   abbrev count : ℕ
-  count = length (link_pieces modules)
+  count = length (link_pieces link)
 
   abbrev contents : ℕ → List (List ℕ)
-  contents base = image_contents modules rows layout tables base
+  contents base = image_contents link rows layout tables base
 
   abbrev bytes_of : ℕ → ℕ → List ℕ
-  bytes_of base k = linked_bytes modules rows layout base k
+  bytes_of base k = linked_bytes link rows layout base k
 
   count_is : length pieces ≡ count
-  count_is = sym (length-map pieces bare) ∙ ap (λ (ps : List Piece). length ps) ready.pieces_are ∙ plan_count ready.options modules
+  count_is = sym (length-map pieces bare) ∙ ap (λ (ps : List Piece). length ps) ready.pieces_are ∙ plan_count ready.options link
 
-  length_at : (base k : ℕ) → k < count → length (get_or (contents base) k []) ≡ length (contents_at modules k)
-  length_at base k lt = ap length (piece_read modules rows layout base tables k lt) ∙ length_piece modules rows layout base k
+  length_at : (base k : ℕ) → k < count → length (get_or (contents base) k []) ≡ length (contents_at link k)
+  length_at base k lt = ap length (piece_read link rows layout base tables k lt) ∙ length_piece link rows layout base k
 
   -- each piece and each table has one length
   pub one_length : HaveOneLength contents
   one_length base other k =
       elim (cases_lt k count) [
         | inl lt ↦ length_at base k lt ∙ sym (length_at other k lt)
-        | inr le ↦ ap length (table_read modules rows layout base tables k le) ∙ sym (ap length (table_read modules rows layout other tables k le))
+        | inr le ↦ ap length (table_read link rows layout base tables k le) ∙ sym (ap length (table_read link rows layout other tables k le))
       ]
 
   -- ---- room
 
-  held_are : map piece_contents (pieces ++ ready.rest) ≡ link_contents modules ++ tables
+  held_are : map piece_contents (pieces ++ ready.rest) ≡ link_contents link ++ tables
   held_are =
       map-append piece_contents pieces ready.rest
       ∙ ap (λ (cs : List (List ℕ)). cs ++ map piece_contents ready.rest) ready.contents_are
-      ∙ ap (λ (cs : List (List ℕ)). link_contents modules ++ cs) ready.holds.contents
+      ∙ ap (λ (cs : List (List ℕ)). link_contents link ++ cs) ready.holds.contents
 
-  contents_count : length (link_contents modules) ≡ count
+  contents_count : length (link_contents link) ≡ count
   contents_count = sym (ap (λ (cs : List (List ℕ)). length cs) ready.contents_are) ∙ length-map pieces piece_contents ∙ count_is
 
   length_held : (base k : ℕ) → length (get_or (contents base) k []) ≡ length (get_or (map piece_contents (pieces ++ ready.rest)) k [])
   length_held base k =
       elim (cases_lt k count) [
-        | inl lt ↦ length_at base k lt ∙ sym (ap length (get_or_append_left (link_contents modules) tables [] k (omega (arith, lt, contents_count))))
-        | inr le ↦ ap length (table_read modules rows layout base tables k le) ∙ sym (ap length (get_or-append_right (link_contents modules) tables count k [] contents_count le))
+        | inl lt ↦ length_at base k lt ∙ sym (ap length (get_or_append_left (link_contents link) tables [] k (omega (arith, lt, contents_count))))
+        | inr le ↦ ap length (table_read link rows layout base tables k le) ∙ sym (ap length (get_or-append_right (link_contents link) tables count k [] contents_count le))
       ]
       ∙ ap (λ (cs : List (List ℕ)). length (get_or cs k [])) (sym held_are)
 
@@ -148,34 +148,34 @@ module _ (modules : List ModuleView) (pieces : List Piece) (fixups : List (List 
 
   -- ---- fields
 
-  have : HaveFields modules (length (link_pieces modules)) fixups
-  have = subst (λ (n : ℕ). HaveFields modules n fixups) count_is ready.fields
+  have : HaveFields link (length (link_pieces link)) fixups
+  have = subst (λ (n : ℕ). HaveFields link n fixups) count_is ready.fields
 
-  are_fields : (k : ℕ) → k < count → AreTheFields (piece_fixes modules k) (get_or fixups k [])
+  are_fields : (k : ℕ) → k < count → AreTheFields (piece_fixes link k) (get_or fixups k [])
   are_fields k lt = have.fields k lt
 
-  are_patchable : (k : ℕ) → k < count → ArePatchable (length (contents_at modules k)) (get_or fixups k [])
+  are_patchable : (k : ℕ) → k < count → ArePatchable (length (contents_at link k)) (get_or fixups k [])
   are_patchable k lt = have.patchable k lt
 
   -- so the contents are the same at each base
-  pub contents_stay : holds_address modules ≡ false → (base other : ℕ) → contents base ≡ contents other
-  contents_stay = image_stays modules fixups rows layout have tables
+  pub contents_stay : holds_address link ≡ false → (base other : ℕ) → contents base ≡ contents other
+  contents_stay = image_stays link fixups rows layout have tables
 
   -- ---- fields that hold addresses
 
   read_at : (base k place : ℕ) → place ≡ k → k < count → get_or (contents base) place [] ≡ bytes_of base k
-  read_at base k place is lt = ap (λ (j : ℕ). get_or (contents base) j []) is ∙ piece_read modules rows layout base tables k lt
+  read_at base k place is lt = ap (λ (j : ℕ). get_or (contents base) j []) is ∙ piece_read link rows layout base tables k lt
 
   -- a piece with a field has bytes, so it stands in a section
-  stands_at : (k : ℕ) → k < count → 0 < length (contents_at modules k) → OwnerAt sections k
+  stands_at : (k : ℕ) → k < count → 0 < length (contents_at link k) → OwnerAt sections k
   stands_at k lt some =
       let within : k < length pieces = omega (arith, lt, count_is) in
       owner_at sections k (ready.stands k within (inl (sized (get_or pieces k no_piece) (held k) (ready.bodies k within))))
     where
-      held : (k : ℕ) → piece_contents (get_or pieces k no_piece) ≡ contents_at modules k
+      held : (k : ℕ) → piece_contents (get_or pieces k no_piece) ≡ contents_at link k
       held k = sym (get_or-map piece_contents pieces k no_piece) ∙ ap (λ (cs : List (List ℕ)). get_or cs k []) ready.contents_are
 
-      sized : (piece : Piece) → piece_contents piece ≡ contents_at modules k → (IsTrue piece.init → length (piece_contents piece) ≡ piece.size) → 0 < piece.size
+      sized : (piece : Piece) → piece_contents piece ≡ contents_at link k → (IsTrue piece.init → length (piece_contents piece) ≡ piece.size) → 0 < piece.size
       sized piece is has = by piece.init refl
         where
           by : (b : Bool) → piece.init ≡ b → 0 < piece.size
@@ -190,22 +190,22 @@ module _ (modules : List ModuleView) (pieces : List Piece) (fixups : List (List 
     judged_raised : (k : ℕ) → k < count → All (RaisesFix (bytes_of own k) (bytes_of base k) delta) (get_or fixups k [])
     judged_raised k lt =
         All-from_get_or (RaisesFix (bytes_of own k) (bytes_of base k) delta) (get_or fixups k []) no_fix (λ i within based. (
-          let end = ends_within (length (contents_at modules k)) (get_or fixups k []) i (are_patchable k lt) within in omega (arith, end, length_piece modules rows layout own k),
-          bytes_moved own base (get_or layout.pieces.items k 0) layout (owners_in rows layout) (piece_fixes modules k) (get_or fixups k []) (contents_at modules k) (are_fields k lt) (are_patchable k lt) low i within based,
+          let end = ends_within (length (contents_at link k)) (get_or fixups k []) i (are_patchable k lt) within in omega (arith, end, length_piece link rows layout own k),
+          bytes_moved own base (get_or layout.pieces.items k 0) layout (owners_in rows layout) (piece_fixes link k) (get_or fixups k []) (contents_at link k) (are_fields k lt) (are_patchable k lt) low i within based,
         ))
 
-    fix_raised : (k i : ℕ) → k < count → i < length (piece_fixes modules k) → RaisesFix (bytes_of own k) (bytes_of base k) delta (fix_at (piece_fixes modules k) i)
+    fix_raised : (k i : ℕ) → k < count → i < length (piece_fixes link k) → RaisesFix (bytes_of own k) (bytes_of base k) delta (fix_at (piece_fixes link k) i)
     fix_raised k i lt within based =
-        among_fields (RaisesFix (bytes_of own k) (bytes_of base k) delta) (piece_fixes modules k) (get_or fixups k []) i (are_fields k lt) (judged_raised k lt) within (based_has_field (fix_at (piece_fixes modules k) i) based) based
+        among_fields (RaisesFix (bytes_of own k) (bytes_of base k) delta) (piece_fixes link k) (get_or fixups k []) i (are_fields k lt) (judged_raised k lt) within (based_has_field (fix_at (piece_fixes link k) i) based) based
 
-    field_moved : (field : BaseField) → IsBaseField modules layout.pieces.items field → IsMoved sections layout (contents own) (contents base) delta field
+    field_moved : (field : BaseField) → IsBaseField link layout.pieces.items field → IsMoved sections layout (contents own) (contents base) delta field
     field_moved field here =
         let k = here.piece in
-        let fix : Fix = fix_at (piece_fixes modules k) here.index in
+        let fix : Fix = fix_at (piece_fixes link k) here.index in
         let raised = fix_raised k here.index here.there here.within here.based in
         let some : 0 < field_width fix.kind = based_some fix here.based in
         let end = raised.0 in
-        let at : OwnerAt sections k = stands_at k here.there (omega (arith, some, end, length_piece modules rows layout own k)) in
+        let at : OwnerAt sections k = stands_at k here.there (omega (arith, some, end, length_piece link rows layout own k)) in
         let place = piece_at sections (section_of rows k) at.number in
         let was = read_at own k place at.is here.there in
         let is = read_at base k place at.is here.there in
@@ -223,14 +223,14 @@ module _ (modules : List ModuleView) (pieces : List Piece) (fixups : List (List 
               (subst (λ (new : List ℕ). AreRaised (bytes_of own k) new delta fix.at (field_width fix.kind)) (sym is) raised.1));
         }
 
-    module _ (fields : List BaseField) (are : AreBaseFields modules layout.pieces.items fields) where
+    module _ (fields : List BaseField) (are : AreBaseFields link layout.pieces.items fields) where
       -- a byte outside all fields is in no judged field that holds an address
       outside_judged : (k t : ℕ) → k < count → IsOutsideAll (get_or layout.pieces.items k 0 + t) fields → (i : ℕ) → i < length (get_or fixups k []) → is_based (fix_at (get_or fixups k []) i) ≡ true → IsOutsideFix t (fix_at (get_or fixups k []) i)
       unfolding IsAmong
       outside_judged k t lt outside i within based =
           let rva = get_or layout.pieces.items k 0 in
           let fix : Fix = fix_at (get_or fixups k []) i in
-          let among = (field_among (piece_fixes modules k) (get_or fixups k []) i (are_fields k lt) within).1 in
+          let among = (field_among (piece_fixes link k) (get_or fixups k []) i (are_fields k lt) within).1 in
           let field : BaseField = base_field rva fix in
           let listed = are.all field (record {
             piece = k;
@@ -246,14 +246,14 @@ module _ (modules : List ModuleView) (pieces : List Piece) (fixups : List (List 
       others_stay k t outside =
           elim (cases_lt k count) [
             | inl lt ↦
-                ap (λ (bs : List ℕ). slice_index bs t) (piece_read modules rows layout base tables k lt)
-                ∙ byte_stays own base (get_or layout.pieces.items k 0) layout (owners_in rows layout) (piece_fixes modules k) (get_or fixups k []) (contents_at modules k) (are_fields k lt) (are_patchable k lt) t (outside_judged k t lt outside)
-                ∙ sym (ap (λ (bs : List ℕ). slice_index bs t) (piece_read modules rows layout own tables k lt))
-            | inr le ↦ ap (λ (bs : List ℕ). slice_index bs t) (table_read modules rows layout base tables k le ∙ sym (table_read modules rows layout own tables k le))
+                ap (λ (bs : List ℕ). slice_index bs t) (piece_read link rows layout base tables k lt)
+                ∙ byte_stays own base (get_or layout.pieces.items k 0) layout (owners_in rows layout) (piece_fixes link k) (get_or fixups k []) (contents_at link k) (are_fields k lt) (are_patchable k lt) t (outside_judged k t lt outside)
+                ∙ sym (ap (λ (bs : List ℕ). slice_index bs t) (piece_read link rows layout own tables k lt))
+            | inr le ↦ ap (λ (bs : List ℕ). slice_index bs t) (table_read link rows layout base tables k le ∙ sym (table_read link rows layout own tables k le))
           ]
 
   -- the fields that hold addresses are moved, and no other byte is
-  pub contents_moved : (own base : ℕ) (fields : List BaseField) → own < 2 ^ 64 → AreBaseFields modules layout.pieces.items fields → AreMoved sections layout (contents own) (contents base) (base_delta own base) fields
+  pub contents_moved : (own base : ℕ) (fields : List BaseField) → own < 2 ^ 64 → AreBaseFields link layout.pieces.items fields → AreMoved sections layout (contents own) (contents base) (base_delta own base) fields
   contents_moved own base fields low are = record {
     each = λ n d lt. field_moved own base low (get_or fields n d) (are.listed n d lt);
     stays = λ k t outside lt. others_stay own base low fields are k t outside;

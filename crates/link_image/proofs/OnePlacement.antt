@@ -13,7 +13,7 @@ use Rattle.address_layout.specs.Places.{IsLeastMultiple, end_before, file_before
 use Rattle.address_layout.proofs.CallerLemmas.{layout_same_rows, one_layout}
 use Rattle.base_reloc.specs.declared.field.BaseField.{BaseField}
 use Rattle.base_reloc.specs.PageBlocks.{IsAscending, blocks_of}
-use Rattle.module_view.specs.Module.{ModuleView}
+use Rattle.symbol_table.specs.LinkView.{LinkView}
 use Rattle.link_words.specs.Outcome.{LinkOptions}
 use Rattle.link_plan.specs.Fixes.{plan_pieces}
 use Rattle.link_image.specs.BaseFields.{is_relocated, IsBaseField, AreBaseFields}
@@ -77,12 +77,12 @@ one_list low (x ∷ xs) (y ∷ ys) up down there back =
       | inr later ↦ later
     ]
 
-members : (modules : List ModuleView) (rvas : List ℕ) (xs ys : List BaseField) → AreBaseFields modules rvas xs → AreBaseFields modules rvas ys → (f : BaseField) → Contains xs f → Contains ys f
-members modules rvas xs ys x y f inside = y.all f (subst (IsBaseField modules rvas) inside.2 (x.listed inside.0 f inside.1))
+members : (link : LinkView) (rvas : List ℕ) (xs ys : List BaseField) → AreBaseFields link rvas xs → AreBaseFields link rvas ys → (f : BaseField) → Contains xs f → Contains ys f
+members link rvas xs ys x y f inside = y.all f (subst (IsBaseField link rvas) inside.2 (x.listed inside.0 f inside.1))
 
-pub one_base_fields : (modules : List ModuleView) (rvas : List ℕ) (xs ys : List BaseField) → AreBaseFields modules rvas xs → AreBaseFields modules rvas ys → xs ≡ ys
-one_base_fields modules rvas xs ys x y =
-    one_list 0 xs ys (rises_from 0 xs (λ some. omega arith) x.ascending) (rises_from 0 ys (λ some. omega arith) y.ascending) (members modules rvas xs ys x y) (members modules rvas ys xs y x)
+pub one_base_fields : (link : LinkView) (rvas : List ℕ) (xs ys : List BaseField) → AreBaseFields link rvas xs → AreBaseFields link rvas ys → xs ≡ ys
+one_base_fields link rvas xs ys x y =
+    one_list 0 xs ys (rises_from 0 xs (λ some. omega arith) x.ascending) (rises_from 0 ys (λ some. omega arith) y.ascending) (members link rvas xs ys x y) (members link rvas ys xs y x)
 
 -- ---- one table after a layout
 
@@ -142,40 +142,40 @@ one_refused_size old other len first second same has other_has =
 
 -- ---- one placement
 
-pub same_rows : (options : LinkOptions) (modules : List ModuleView) (xs ys : List OutSection) → AreGrouped options (plan_pieces options modules) xs → AreGrouped options (plan_pieces options modules) ys → rows_of xs ≡ rows_of ys
-same_rows options modules xs ys x y = one_grouping (link_input options (plan_pieces options modules)) xs ys x.grouping y.grouping
+pub same_rows : (options : LinkOptions) (link : LinkView) (xs ys : List OutSection) → AreGrouped options link (plan_pieces options link) xs → AreGrouped options link (plan_pieces options link) ys → rows_of xs ≡ rows_of ys
+same_rows options link xs ys x y = one_grouping (link_input options link (plan_pieces options link)) xs ys x.grouping y.grouping
 
-pub same_layout : (options : LinkOptions) (modules : List ModuleView) (xs ys : List OutSection) (reloc : Bool) (a b : Layout) → AreGrouped options (plan_pieces options modules) xs → AreGrouped options (plan_pieces options modules) ys → ArePlaced (plan_pieces options modules) xs reloc a → ArePlaced (plan_pieces options modules) ys reloc b → SameLayout a b
-same_layout options modules xs ys reloc a b gx gy px py =
-    one_layout (plan_pieces options modules) ys reloc a b (layout_same_rows (plan_pieces options modules) xs ys reloc a (same_rows options modules xs ys gx gy) px.layout_of) py.layout_of
+pub same_layout : (options : LinkOptions) (link : LinkView) (xs ys : List OutSection) (reloc : Bool) (a b : Layout) → AreGrouped options link (plan_pieces options link) xs → AreGrouped options link (plan_pieces options link) ys → ArePlaced (plan_pieces options link) xs reloc a → ArePlaced (plan_pieces options link) ys reloc b → SameLayout a b
+same_layout options link xs ys reloc a b gx gy px py =
+    one_layout (plan_pieces options link) ys reloc a b (layout_same_rows (plan_pieces options link) xs ys reloc a (same_rows options link xs ys gx gy) px.layout_of) py.layout_of
 
 -- the lists of two layouts of the same pieces
-pub same_fields : (options : LinkOptions) (modules : List ModuleView) (a b : Layout) (fields other : List BaseField) → SameLayout a b → AreBaseFields modules a.pieces.items fields → AreBaseFields modules b.pieces.items other → fields ≡ other
-same_fields options modules a b fields other same x y =
-    one_base_fields modules b.pieces.items fields other (subst (λ (rvas : List ℕ). AreBaseFields modules rvas fields) (sym same.pieces) x) y
+pub same_fields : (options : LinkOptions) (link : LinkView) (a b : Layout) (fields other : List BaseField) → SameLayout a b → AreBaseFields link a.pieces.items fields → AreBaseFields link b.pieces.items other → fields ≡ other
+same_fields options link a b fields other same x y =
+    one_base_fields link b.pieces.items fields other (subst (λ (rvas : List ℕ). AreBaseFields link rvas fields) (sym same.pieces) x) y
 
 pub record SamePlacement (rows other_rows : List SectionRow) (layout other : Layout) (tables other_tables : List (List ℕ)) : Type 0 where
   pub rows_same : rows ≡ other_rows
   pub layouts : SameLayout layout other
   pub tables_same : tables ≡ other_tables
 
-pub one_placement : (options : LinkOptions) (modules : List ModuleView) (rows other_rows : List SectionRow) (layout other : Layout) (tables other_tables : List (List ℕ)) → IsPlacement options modules rows layout tables → IsPlacement options modules other_rows other other_tables → SamePlacement rows other_rows layout other tables other_tables
-one_placement options modules rows other_rows layout other tables other_tables x y = by (is_relocated options modules) before x.whole y.whole
+pub one_placement : (options : LinkOptions) (link : LinkView) (rows other_rows : List SectionRow) (layout other : Layout) (tables other_tables : List (List ℕ)) → IsPlacement options link rows layout tables → IsPlacement options link other_rows other other_tables → SamePlacement rows other_rows layout other tables other_tables
+one_placement options link rows other_rows layout other tables other_tables x y = by (is_relocated options link) before x.whole y.whole
   where
     pieces_same : rows_of x.sections ≡ rows_of y.sections
-    pieces_same = same_rows options modules x.sections y.sections x.grouped y.grouped
+    pieces_same = same_rows options link x.sections y.sections x.grouped y.grouped
 
     before : SameLayout x.before y.before
-    before = same_layout options modules x.sections y.sections (is_relocated options modules) x.before y.before x.grouped y.grouped x.placed y.placed
+    before = same_layout options link x.sections y.sections (is_relocated options link) x.before y.before x.grouped y.grouped x.placed y.placed
 
-    by : (b : Bool) → SameLayout x.before y.before → IsWhole b modules (rows_of x.sections) x.before rows layout tables → IsWhole b modules (rows_of y.sections) y.before other_rows other other_tables → SamePlacement rows other_rows layout other tables other_tables
+    by : (b : Bool) → SameLayout x.before y.before → IsWhole b link (rows_of x.sections) x.before rows layout tables → IsWhole b link (rows_of y.sections) y.before other_rows other other_tables → SamePlacement rows other_rows layout other tables other_tables
     by false same first second = record {
       rows_same = first.0 ∙ pieces_same ∙ sym second.0;
       layouts = subst (λ (l : Layout). SameLayout l other) (sym first.1) (subst (SameLayout x.before) (sym second.1) same);
       tables_same = first.2 ∙ sym second.2;
     }
     by true same first second =
-        let fields = same_fields options modules x.before y.before first.fields second.fields same first.based second.based in
+        let fields = same_fields options link x.before y.before first.fields second.fields same first.based second.based in
         record {
           rows_same =
               first.rows_are

@@ -17,7 +17,7 @@ use Rattle.relocate.specs.Value.{IsOutside as IsOutsideFix}
 use Rattle.relocate.specs.PatchedBytes.{is_based, HaveNoBased}
 use Rattle.relocate.proofs.OrderLemmas.{IsAmong}
 use Rattle.relocate.proofs.CallerLemmas.{length_patched, bytes_stay, fields_suited, field_moved, byte_stays, based_width, field_among, among_fields}
-use Rattle.module_view.specs.Module.{ModuleView}
+use Rattle.symbol_table.specs.LinkView.{LinkView}
 use Rattle.link_pieces.specs.Pieces.{link_pieces}
 use Rattle.link_plan.specs.Fixes.{piece_fixes, HaveFields}
 use Rattle.link_image.specs.BaseFields.{piece_holds_address, holds_address}
@@ -25,29 +25,29 @@ use Rattle.link_image.specs.LinkedBytes.{owners_in, contents_at, linked_bytes, l
 
 -- ---- the contents of a piece and a table
 
-module _ (modules : List ModuleView) (rows : List SectionRow) (layout : Layout) (base : ℕ) where
+module _ (link : LinkView) (rows : List SectionRow) (layout : Layout) (base : ℕ) where
   abbrev total : ℕ
-  total = length (link_pieces modules)
+  total = length (link_pieces link)
 
   abbrev linked : List (List ℕ)
-  linked = linked_contents modules rows layout base
+  linked = linked_contents link rows layout base
 
-  pub linked_read : (k : ℕ) → k < total → get_or linked k [] ≡ linked_bytes modules rows layout base k
+  pub linked_read : (k : ℕ) → k < total → get_or linked k [] ≡ linked_bytes link rows layout base k
   unfolding linked_contents
-  linked_read k lt = get_or-map-range_with_len (linked_bytes modules rows layout base) 0 total k k [] lt (omega arith)
+  linked_read k lt = get_or-map-range_with_len (linked_bytes link rows layout base) 0 total k k [] lt (omega arith)
 
   pub length_linked : length linked ≡ total
   unfolding linked_contents
-  length_linked = length-map-range_with_len (linked_bytes modules rows layout base) 0 total
+  length_linked = length-map-range_with_len (linked_bytes link rows layout base) 0 total
 
-  pub piece_read : (tables : List (List ℕ)) (k : ℕ) → k < total → get_or (image_contents modules rows layout tables base) k [] ≡ linked_bytes modules rows layout base k
+  pub piece_read : (tables : List (List ℕ)) (k : ℕ) → k < total → get_or (image_contents link rows layout tables base) k [] ≡ linked_bytes link rows layout base k
   piece_read tables k lt = get_or_append_left linked tables [] k (omega (arith, lt, length_linked)) ∙ linked_read k lt
 
-  pub table_read : (tables : List (List ℕ)) (k : ℕ) → total ≤ k → get_or (image_contents modules rows layout tables base) k [] ≡ get_or tables (k - total) []
+  pub table_read : (tables : List (List ℕ)) (k : ℕ) → total ≤ k → get_or (image_contents link rows layout tables base) k [] ≡ get_or tables (k - total) []
   table_read tables k le = get_or-append_right linked tables total k [] length_linked le
 
-  pub length_piece : (k : ℕ) → length (linked_bytes modules rows layout base k) ≡ length (contents_at modules k)
-  length_piece k = length_patched base (get_or layout.pieces.items k 0) layout (owners_in rows layout) (piece_fixes modules k) (contents_at modules k)
+  pub length_piece : (k : ℕ) → length (linked_bytes link rows layout base k) ≡ length (contents_at link k)
+  length_piece k = length_patched base (get_or layout.pieces.items k 0) layout (owners_in rows layout) (piece_fixes link k) (contents_at link k)
 
 -- ---- a test that nothing passes
 
@@ -72,45 +72,45 @@ based_has_field fix based = lt-ltb 0 (field_width fix.kind) (based_some fix base
 
 -- ---- judged fields
 
-module _ (modules : List ModuleView) (fixups : List (List Fix)) (rows : List SectionRow) (layout : Layout) (have : HaveFields modules (length (link_pieces modules)) fixups) where
+module _ (link : LinkView) (fixups : List (List Fix)) (rows : List SectionRow) (layout : Layout) (have : HaveFields link (length (link_pieces link)) fixups) where
   abbrev count : ℕ
-  count = length (link_pieces modules)
+  count = length (link_pieces link)
 
   abbrev bytes_of : ℕ → ℕ → List ℕ
-  bytes_of base k = linked_bytes modules rows layout base k
+  bytes_of base k = linked_bytes link rows layout base k
 
   -- ---- no field holds an address
 
-  holds_none : holds_address modules ≡ false → (k : ℕ) → k < count → piece_holds_address modules k ≡ false
+  holds_none : holds_address link ≡ false → (k : ℕ) → k < count → piece_holds_address link k ≡ false
   unfolding holds_address
   holds_none none k lt =
       let n = length-range_with_len 0 count in
       let at : get_or (range_with_len 0 count) k 0 ≡ k = get_or-range_with_len 0 count k 0 lt ∙ omega arith in
-      ap (piece_holds_address modules) (sym at) ∙ not_any (piece_holds_address modules) (range_with_len 0 count) k 0 none (omega (arith, lt, n))
+      ap (piece_holds_address link) (sym at) ∙ not_any (piece_holds_address link) (range_with_len 0 count) k 0 none (omega (arith, lt, n))
 
-  none_based : holds_address modules ≡ false → (k : ℕ) → k < count → HaveNoBased (piece_fixes modules k)
-  none_based none k lt = λ i d within some. not_any is_based (piece_fixes modules k) i d (holds_none none k lt) within
+  none_based : holds_address link ≡ false → (k : ℕ) → k < count → HaveNoBased (piece_fixes link k)
+  none_based none k lt = λ i d within some. not_any is_based (piece_fixes link k) i d (holds_none none k lt) within
 
-  pub are_fields : (k : ℕ) → k < count → AreTheFields (piece_fixes modules k) (get_or fixups k [])
+  pub are_fields : (k : ℕ) → k < count → AreTheFields (piece_fixes link k) (get_or fixups k [])
   are_fields k lt = have.fields k lt
 
-  pub are_patchable : (k : ℕ) → k < count → ArePatchable (length (contents_at modules k)) (get_or fixups k [])
+  pub are_patchable : (k : ℕ) → k < count → ArePatchable (length (contents_at link k)) (get_or fixups k [])
   are_patchable k lt = have.patchable k lt
 
-  piece_stays : holds_address modules ≡ false → (base other k : ℕ) → k < count → bytes_of base k ≡ bytes_of other k
+  piece_stays : holds_address link ≡ false → (base other k : ℕ) → k < count → bytes_of base k ≡ bytes_of other k
   piece_stays none base other k lt =
-      bytes_stay false false base other (get_or layout.pieces.items k 0) layout (owners_in rows layout) (piece_fixes modules k) (contents_at modules k)
-      (fields_suited (piece_fixes modules k) (get_or fixups k []) (length (contents_at modules k)) (are_fields k lt) (are_patchable k lt))
+      bytes_stay false false base other (get_or layout.pieces.items k 0) layout (owners_in rows layout) (piece_fixes link k) (contents_at link k)
+      (fields_suited (piece_fixes link k) (get_or fixups k []) (length (contents_at link k)) (are_fields k lt) (are_patchable k lt))
       (none_based none k lt)
 
-  pub linked_stay : holds_address modules ≡ false → (base other : ℕ) → linked_contents modules rows layout base ≡ linked_contents modules rows layout other
+  pub linked_stay : holds_address link ≡ false → (base other : ℕ) → linked_contents link rows layout base ≡ linked_contents link rows layout other
   linked_stay none base other =
-      ext_get_or [] (linked_contents modules rows layout base) (linked_contents modules rows layout other) (length_linked modules rows layout base ∙ sym (length_linked modules rows layout other)) (λ k lt.
-      let within : k < count = omega (arith, lt, length_linked modules rows layout base) in
-      linked_read modules rows layout base k within ∙ piece_stays none base other k within ∙ sym (linked_read modules rows layout other k within))
+      ext_get_or [] (linked_contents link rows layout base) (linked_contents link rows layout other) (length_linked link rows layout base ∙ sym (length_linked link rows layout other)) (λ k lt.
+      let within : k < count = omega (arith, lt, length_linked link rows layout base) in
+      linked_read link rows layout base k within ∙ piece_stays none base other k within ∙ sym (linked_read link rows layout other k within))
 
   -- so all contents are the same at each base, those of the tables too
-  pub image_stays : (tables : List (List ℕ)) → holds_address modules ≡ false → (base other : ℕ) → image_contents modules rows layout tables base ≡ image_contents modules rows layout tables other
+  pub image_stays : (tables : List (List ℕ)) → holds_address link ≡ false → (base other : ℕ) → image_contents link rows layout tables base ≡ image_contents link rows layout tables other
   image_stays tables none base other = ap (λ (cs : List (List ℕ)). cs ++ tables) (linked_stay none base other)
 
   -- ---- fields that hold addresses
@@ -121,16 +121,16 @@ module _ (modules : List ModuleView) (fixups : List (List Fix)) (rows : List Sec
       is_based fix ≡ true
       → number_at (field_width fix.kind) (bytes_of base k) fix.at ≡ (number_at (field_width fix.kind) (bytes_of own k) fix.at + base_delta own base) % 2 ^ (8 * field_width fix.kind)
 
-  pub fix_moves : (own base : ℕ) → own < 2 ^ 64 → (k i : ℕ) → k < count → i < length (piece_fixes modules k) → MovesFix own base k (fix_at (piece_fixes modules k) i)
+  pub fix_moves : (own base : ℕ) → own < 2 ^ 64 → (k i : ℕ) → k < count → i < length (piece_fixes link k) → MovesFix own base k (fix_at (piece_fixes link k) i)
   fix_moves own base low k i lt within based =
-      among_fields (MovesFix own base k) (piece_fixes modules k) (get_or fixups k []) i (are_fields k lt)
-      (All-from_get_or (MovesFix own base k) (get_or fixups k []) no_fix (λ j inside. field_moved own base (get_or layout.pieces.items k 0) layout (owners_in rows layout) (piece_fixes modules k) (get_or fixups k []) (contents_at modules k) (are_fields k lt) (are_patchable k lt) low j inside))
-      within (based_has_field (fix_at (piece_fixes modules k) i) based) based
+      among_fields (MovesFix own base k) (piece_fixes link k) (get_or fixups k []) i (are_fields k lt)
+      (All-from_get_or (MovesFix own base k) (get_or fixups k []) no_fix (λ j inside. field_moved own base (get_or layout.pieces.items k 0) layout (owners_in rows layout) (piece_fixes link k) (get_or fixups k []) (contents_at link k) (are_fields k lt) (are_patchable k lt) low j inside))
+      within (based_has_field (fix_at (piece_fixes link k) i) based) based
 
   -- a byte of no such field is the same
-  pub byte_kept : (own base k t : ℕ) → k < count → ((i : ℕ) → i < length (piece_fixes modules k) → is_based (fix_at (piece_fixes modules k) i) ≡ true → IsOutsideFix t (fix_at (piece_fixes modules k) i)) → slice_index (bytes_of base k) t ≡ slice_index (bytes_of own k) t
+  pub byte_kept : (own base k t : ℕ) → k < count → ((i : ℕ) → i < length (piece_fixes link k) → is_based (fix_at (piece_fixes link k) i) ≡ true → IsOutsideFix t (fix_at (piece_fixes link k) i)) → slice_index (bytes_of base k) t ≡ slice_index (bytes_of own k) t
   unfolding IsAmong
   byte_kept own base k t lt outside =
-      byte_stays own base (get_or layout.pieces.items k 0) layout (owners_in rows layout) (piece_fixes modules k) (get_or fixups k []) (contents_at modules k) (are_fields k lt) (are_patchable k lt) t (λ j inside based.
-      let among = (field_among (piece_fixes modules k) (get_or fixups k []) j (are_fields k lt) inside).1 in
+      byte_stays own base (get_or layout.pieces.items k 0) layout (owners_in rows layout) (piece_fixes link k) (get_or fixups k []) (contents_at link k) (are_fields k lt) (are_patchable k lt) t (λ j inside based.
+      let among = (field_among (piece_fixes link k) (get_or fixups k []) j (are_fields k lt) inside).1 in
       subst (IsOutsideFix t) among.2 (outside among.0 among.1 (ap is_based among.2 ∙ based)))

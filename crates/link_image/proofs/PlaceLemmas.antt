@@ -9,29 +9,29 @@ use Rattle.address_layout.specs.declared.layout.Layout.{Layout}
 use Rattle.relocate.specs.PatchedBytes.{patched_bytes, range_fault}
 use Rattle.relocate.proofs.PlaceLemmas.{bytes_by_places}
 use Rattle.relocate.proofs.PlaceLemmas as places
-use Rattle.module_view.specs.Module.{ModuleView}
+use Rattle.symbol_table.specs.LinkView.{LinkView}
 use Rattle.link_pieces.specs.Pieces.{link_pieces}
 use Rattle.link_plan.specs.Fixes.{piece_at, piece_fixes}
 use Rattle.link_image.specs.LinkedBytes.{owners, owners_in, contents_at, linked_bytes, linked_contents, out_of_range, piece_range_fault, fields_range_fault}
 
 module _ (layout other : Layout) (pieces : layout.pieces.items ≡ other.pieces.items) (sections : layout.sections.items ≡ other.sections.items) where
-  piece_same : (modules : List ModuleView) (rows : List SectionRow) (base k : ℕ) → linked_bytes modules rows layout base k ≡ linked_bytes modules rows other base k
-  piece_same modules rows base k =
-      bytes_by_places layout other pieces sections base (get_or layout.pieces.items k 0) (owners_in rows layout) (piece_fixes modules k) (contents_at modules k)
-      ∙ ap (λ (rvas : List ℕ). patched_bytes base (get_or rvas k 0) other (owners rows (length rvas)) (piece_fixes modules k) (contents_at modules k)) pieces
+  piece_same : (link : LinkView) (rows : List SectionRow) (base k : ℕ) → linked_bytes link rows layout base k ≡ linked_bytes link rows other base k
+  piece_same link rows base k =
+      bytes_by_places layout other pieces sections base (get_or layout.pieces.items k 0) (owners_in rows layout) (piece_fixes link k) (contents_at link k)
+      ∙ ap (λ (rvas : List ℕ). patched_bytes base (get_or rvas k 0) other (owners rows (length rvas)) (piece_fixes link k) (contents_at link k)) pieces
 
-  fault_same : (modules : List ModuleView) (rows : List SectionRow) (base k : ℕ) → piece_range_fault modules rows layout base k ≡ piece_range_fault modules rows other base k
-  fault_same modules rows base k =
-      ap (option_map (out_of_range (piece_at modules k)))
-      (places.range_by_places layout other pieces sections base (get_or layout.pieces.items k 0) (owners_in rows layout) (piece_fixes modules k) (contents_at modules k)
-      ∙ ap (λ (rvas : List ℕ). range_fault base (get_or rvas k 0) other (owners rows (length rvas)) (piece_fixes modules k) (contents_at modules k)) pieces)
+  fault_same : (link : LinkView) (rows : List SectionRow) (base k : ℕ) → piece_range_fault link rows layout base k ≡ piece_range_fault link rows other base k
+  fault_same link rows base k =
+      ap (option_map (out_of_range (piece_at link k)))
+      (places.range_by_places layout other pieces sections base (get_or layout.pieces.items k 0) (owners_in rows layout) (piece_fixes link k) (contents_at link k)
+      ∙ ap (λ (rvas : List ℕ). range_fault base (get_or rvas k 0) other (owners rows (length rvas)) (piece_fixes link k) (contents_at link k)) pieces)
 
-pub contents_by_places : (modules : List ModuleView) (rows : List SectionRow) (layout other : Layout) → layout.pieces.items ≡ other.pieces.items → layout.sections.items ≡ other.sections.items → linked_contents modules rows layout ≡ linked_contents modules rows other
+pub contents_by_places : (link : LinkView) (rows : List SectionRow) (layout other : Layout) → layout.pieces.items ≡ other.pieces.items → layout.sections.items ≡ other.sections.items → linked_contents link rows layout ≡ linked_contents link rows other
 unfolding linked_contents
-contents_by_places modules rows layout other pieces sections =
-    fun_ext (λ base. ap (λ (f : ℕ → List ℕ). map f (range_with_len 0 (length (link_pieces modules)))) (fun_ext (λ k. piece_same layout other pieces sections modules rows base k)))
+contents_by_places link rows layout other pieces sections =
+    fun_ext (λ base. ap (λ (f : ℕ → List ℕ). map f (range_with_len 0 (length (link_pieces link)))) (fun_ext (λ k. piece_same layout other pieces sections link rows base k)))
 
-pub range_by_places : (modules : List ModuleView) (rows : List SectionRow) (layout other : Layout) (base : ℕ) → layout.pieces.items ≡ other.pieces.items → layout.sections.items ≡ other.sections.items → fields_range_fault modules rows layout base ≡ fields_range_fault modules rows other base
+pub range_by_places : (link : LinkView) (rows : List SectionRow) (layout other : Layout) (base : ℕ) → layout.pieces.items ≡ other.pieces.items → layout.sections.items ≡ other.sections.items → fields_range_fault link rows layout base ≡ fields_range_fault link rows other base
 unfolding fields_range_fault
-range_by_places modules rows layout other base pieces sections =
-    ap (λ (f : ℕ → Option Fault). first_refusal_below (length (link_pieces modules)) f) (fun_ext (λ k. fault_same layout other pieces sections modules rows base k))
+range_by_places link rows layout other base pieces sections =
+    ap (λ (f : ℕ → Option Fault). first_refusal_below (length (link_pieces link)) f) (fun_ext (λ k. fault_same layout other pieces sections link rows base k))

@@ -23,16 +23,16 @@ use Rattle.link_image.specs.Steps.{Fits, all_fields}
 use Rattle.link_image.proofs.SectionLemmas.{standing, used_there, needs_there}
 use Rattle.link_image.proofs.BaseFieldLemmas.{all_fit, base_fields_are}
 
-module _ (options : LinkOptions) (plan : LinkPlan) (sections : List OutSection) (reloc : Bool) (layout : Layout) (planned : IsPlanOf options plan.modules.items plan) (grouped : AreGrouped options plan.pieces.items sections) (placed : ArePlaced plan.pieces.items sections reloc layout) where
+module _ (options : LinkOptions) (plan : LinkPlan) (sections : List OutSection) (reloc : Bool) (layout : Layout) (planned : IsPlanOf options plan.names plan) (grouped : AreGrouped options plan.names plan.pieces.items sections) (placed : ArePlaced plan.pieces.items sections reloc layout) where
   abbrev pieces : List Piece
   pieces = plan.pieces.items
 
-  count : length plan.pieces.items ≡ length (link_pieces plan.modules.items)
-  count = sym (length-map plan.pieces.items bare) ∙ ap (λ (ps : List Piece). length ps) planned.pieces_are ∙ plan_count options plan.modules.items
+  count : length plan.pieces.items ≡ length (link_pieces plan.names)
+  count = sym (length-map plan.pieces.items bare) ∙ ap (λ (ps : List Piece). length ps) planned.pieces_are ∙ plan_count options plan.names
 
-  sizes : (k : ℕ) → k < length plan.pieces.items → length (contents_at plan.modules.items k) ≤ (get_or plan.pieces.items k no_piece).size
+  sizes : (k : ℕ) → k < length plan.pieces.items → length (contents_at plan.names k) ≤ (get_or plan.pieces.items k no_piece).size
   sizes k lt =
-      let is : contents_at plan.modules.items k ≡ piece_contents (get_or plan.pieces.items k no_piece) =
+      let is : contents_at plan.names k ≡ piece_contents (get_or plan.pieces.items k no_piece) =
       ap (λ (cs : List (List ℕ)). get_or cs k []) (sym planned.contents_are) ∙ get_or-map piece_contents plan.pieces.items k no_piece in
       let small = by_init (get_or plan.pieces.items k no_piece) (planned.bodies k lt) in
       omega (arith, ap length is, small)
@@ -49,19 +49,19 @@ module _ (options : LinkOptions) (plan : LinkPlan) (sections : List OutSection) 
 
   stand : (k : ℕ) → k < length plan.pieces.items → 0 < (get_or plan.pieces.items k no_piece).size → Contains (all_pieces sections) k
   stand k lt some =
-      stands (link_input options plan.pieces.items) sections k grouped.grouping (used_there options plan.pieces.items k lt) (needs_there (link_input options plan.pieces.items) k (inl some))
+      stands (link_input options plan.names plan.pieces.items) sections k grouped.grouping (used_there options plan.names plan.pieces.items k lt) (needs_there (link_input options plan.names plan.pieces.items) k (inl some))
 
   few : layout.image ≤ 2 ^ 31
   few = omega (arith, placed.within)
 
   pub plan_fit : All (Fits layout.pieces.items plan.fixes.items) (all_pieces sections)
-  plan_fit = all_fit plan.modules.items plan.pieces.items plan.fixes.items sections reloc layout count planned.fields sizes placed.layout_of.standing (standing options plan.pieces.items sections grouped) stand few
+  plan_fit = all_fit plan.names plan.pieces.items plan.fixes.items sections reloc layout count planned.fields sizes placed.layout_of.standing (standing options plan.names plan.pieces.items sections grouped) stand few
 
-  pub plan_fields : AreBaseFields plan.modules.items layout.pieces.items (all_fields layout.pieces.items plan.fixes.items sections)
-  plan_fields = base_fields_are plan.modules.items plan.pieces.items plan.fixes.items sections reloc layout count planned.fields sizes placed.layout_of.standing (standing options plan.pieces.items sections grouped) stand few
+  pub plan_fields : AreBaseFields plan.names layout.pieces.items (all_fields layout.pieces.items plan.fixes.items sections)
+  plan_fields = base_fields_are plan.names plan.pieces.items plan.fixes.items sections reloc layout count planned.fields sizes placed.layout_of.standing (standing options plan.names plan.pieces.items sections grouped) stand few
 
   pub plan_within : All (λ k. k < length layout.pieces.items) (all_pieces sections)
-  plan_within = subst (λ (n : ℕ). All (λ k. k < n) (all_pieces sections)) (sym placed.layout_of.standing.rva_for_each) (standing options plan.pieces.items sections grouped).within
+  plan_within = subst (λ (n : ℕ). All (λ k. k < n) (all_pieces sections)) (sym placed.layout_of.standing.rva_for_each) (standing options plan.names plan.pieces.items sections grouped).within
 
   pub plan_fixes : All (λ k. k < length plan.fixes.items) (all_pieces sections)
-  plan_fixes = subst (λ (n : ℕ). All (λ k. k < n) (all_pieces sections)) (sym planned.fields.for_each) (standing options plan.pieces.items sections grouped).within
+  plan_fixes = subst (λ (n : ℕ). All (λ k. k < n) (all_pieces sections)) (sym planned.fields.for_each) (standing options plan.names plan.pieces.items sections grouped).within

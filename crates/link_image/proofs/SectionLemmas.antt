@@ -27,7 +27,8 @@ use Rattle.link_base.specs.declared.fault.Fault.{Fault}
 use Rattle.section_group.specs.PieceContents.{piece_contents}
 use Rattle.image_writer.specs.WrittenImage.{section_rows, written_plan, layout_plan, IsLaidOut}
 use Rattle.image_writer.proofs.CallerLemmas.{laid_out, appended_laid_out}
-use Rattle.module_view.specs.Module.{ModuleView}
+use Rattle.symbol_table.specs.LinkView.{LinkView}
+use Rattle.link_plan.specs.Plan.{merges_of}
 use Rattle.link_plan.specs.Fixes.{plan_pieces}
 use Rattle.link_words.specs.Outcome.{LinkOptions}
 use Rattle.link_plan.specs.declared.entry.EntryPlace.{EntryPlace}
@@ -47,17 +48,17 @@ use Rattle.link_image.specs.BuildFaults.{IsBuildFault}
 -- ---- pieces without their bytes
 
 -- the grouping of the pieces of a plan is that of the modules
-pub grouped_modules : (options : LinkOptions) (modules : List ModuleView) (pieces : List Piece) (sections : List OutSection) → map bare pieces ≡ plan_pieces options modules → AreGrouped options pieces sections → AreGrouped options (plan_pieces options modules) sections
-grouped_modules options modules pieces sections are grouped =
+pub grouped_modules : (options : LinkOptions) (link : LinkView) (pieces : List Piece) (sections : List OutSection) → map bare pieces ≡ plan_pieces options link → AreGrouped options link pieces sections → AreGrouped options link (plan_pieces options link) sections
+grouped_modules options link pieces sections are grouped =
     let used : replicate (length pieces) true ≡ replicate (length (map bare pieces)) true = ap (λ (n : ℕ). replicate n true) (sym (length-map pieces bare)) in
-    let bared = subst (λ (u : List Bool). IsGrouping (input_from (map bare pieces) u options.merges) sections) used (grouping_bare pieces (replicate (length pieces) true) options.merges sections grouped.grouping) in
+    let bared = subst (λ (u : List Bool). IsGrouping (input_from (map bare pieces) u (merges_of options link)) sections) used (grouping_bare pieces (replicate (length pieces) true) (merges_of options link) sections grouped.grouping) in
     record {
       merges = grouped.merges;
-      grouping = subst (λ (ps : List Piece). IsGrouping (link_input options ps) sections) are bared;
+      grouping = subst (λ (ps : List Piece). IsGrouping (link_input options link ps) sections) are bared;
     }
 
-pub placed_modules : (options : LinkOptions) (modules : List ModuleView) (pieces : List Piece) (sections : List OutSection) (reloc : Bool) (layout : Layout) → map bare pieces ≡ plan_pieces options modules → ArePlaced pieces sections reloc layout → ArePlaced (plan_pieces options modules) sections reloc layout
-placed_modules options modules pieces sections reloc layout are placed = record {
+pub placed_modules : (options : LinkOptions) (link : LinkView) (pieces : List Piece) (sections : List OutSection) (reloc : Bool) (layout : Layout) → map bare pieces ≡ plan_pieces options link → ArePlaced pieces sections reloc layout → ArePlaced (plan_pieces options link) sections reloc layout
+placed_modules options link pieces sections reloc layout are placed = record {
   layout_of = subst (λ (ps : List Piece). IsLayout ps sections reloc layout) are (layout_bare pieces sections reloc layout placed.layout_of);
   few = placed.few;
   within = placed.within;
@@ -66,45 +67,45 @@ placed_modules options modules pieces sections reloc layout are placed = record 
 
 -- ---- each piece stands once
 
-pub standing : (options : LinkOptions) (pieces : List Piece) (sections : List OutSection) → AreGrouped options pieces sections → StandOnce pieces sections
-standing options pieces sections grouped = stand_once (link_input options pieces) sections grouped.grouping
+pub standing : (options : LinkOptions) (link : LinkView) (pieces : List Piece) (sections : List OutSection) → AreGrouped options link pieces sections → StandOnce pieces sections
+standing options link pieces sections grouped = stand_once (link_input options link pieces) sections grouped.grouping
 
 -- ---- why there is no image
 
-pub bad_merge : (options : LinkOptions) (modules : List ModuleView) (name : List ℕ) → NamesFirstBad options.merges name → IsBuildFault options modules (faults.BadMerge name)
-bad_merge options modules name named = inl (record { name = name; named = named; is = refl })
+pub bad_merge : (options : LinkOptions) (link : LinkView) (name : List ℕ) → NamesFirstBad (merges_of options link) name → IsBuildFault options link (faults.BadMerge name)
+bad_merge options link name named = inl (record { name = name; named = named; is = refl })
 
-pub too_many : (options : LinkOptions) (modules : List ModuleView) (pieces : List Piece) (sections : List OutSection) (reloc : Bool) (count : ℕ) → map bare pieces ≡ plan_pieces options modules → AreGrouped options pieces sections → reloc ≡ is_relocated options modules → IsPlaceRefusal pieces sections reloc (bad.TooManySections count) → IsBuildFault options modules (faults.TooManySections count)
-too_many options modules pieces sections reloc count are grouped same refused =
+pub too_many : (options : LinkOptions) (link : LinkView) (pieces : List Piece) (sections : List OutSection) (reloc : Bool) (count : ℕ) → map bare pieces ≡ plan_pieces options link → AreGrouped options link pieces sections → reloc ≡ is_relocated options link → IsPlaceRefusal pieces sections reloc (bad.TooManySections count) → IsBuildFault options link (faults.TooManySections count)
+too_many options link pieces sections reloc count are grouped same refused =
     inr (inl (record {
       sections = sections;
-      grouped = grouped_modules options modules pieces sections are grouped;
+      grouped = grouped_modules options link pieces sections are grouped;
       count = count;
-      refused = subst (λ (r : Bool). IsPlaceRefusal (plan_pieces options modules) sections r (bad.TooManySections count)) same refused;
+      refused = subst (λ (r : Bool). IsPlaceRefusal (plan_pieces options link) sections r (bad.TooManySections count)) same refused;
       is = refl;
     }))
 
-pub too_large : (options : LinkOptions) (modules : List ModuleView) (pieces : List Piece) (sections : List OutSection) (reloc : Bool) (size : ℕ) → map bare pieces ≡ plan_pieces options modules → AreGrouped options pieces sections → reloc ≡ is_relocated options modules → IsPlaceRefusal pieces sections reloc (bad.ImageTooLarge size) → IsBuildFault options modules (faults.ImageTooLarge size)
-too_large options modules pieces sections reloc size are grouped same refused =
+pub too_large : (options : LinkOptions) (link : LinkView) (pieces : List Piece) (sections : List OutSection) (reloc : Bool) (size : ℕ) → map bare pieces ≡ plan_pieces options link → AreGrouped options link pieces sections → reloc ≡ is_relocated options link → IsPlaceRefusal pieces sections reloc (bad.ImageTooLarge size) → IsBuildFault options link (faults.ImageTooLarge size)
+too_large options link pieces sections reloc size are grouped same refused =
     let bared : IsPlaceRefusal (map bare pieces) sections reloc (bad.ImageTooLarge size) = (refused.0, size_bare pieces sections reloc size refused.1, refused.2) in
     inr (inr (inl (record {
       sections = sections;
-      grouped = grouped_modules options modules pieces sections are grouped;
+      grouped = grouped_modules options link pieces sections are grouped;
       size = size;
-      refused = inl (subst (λ (r : Bool). IsPlaceRefusal (plan_pieces options modules) sections r (bad.ImageTooLarge size)) same (subst (λ (ps : List Piece). IsPlaceRefusal ps sections reloc (bad.ImageTooLarge size)) are bared));
+      refused = inl (subst (λ (r : Bool). IsPlaceRefusal (plan_pieces options link) sections r (bad.ImageTooLarge size)) same (subst (λ (ps : List Piece). IsPlaceRefusal ps sections reloc (bad.ImageTooLarge size)) are bared));
       is = refl;
     })))
 
-pub large_table : (options : LinkOptions) (modules : List ModuleView) (pieces : List Piece) (sections : List OutSection) (layout : Layout) (fields : List BaseField) (size : ℕ) → map bare pieces ≡ plan_pieces options modules → AreGrouped options pieces sections → ArePlaced pieces sections true layout → is_relocated options modules ≡ true → AreBaseFields modules layout.pieces.items fields → IsGrowRefusal layout (length (blocks_of fields)) (bad.ImageTooLarge size) → IsBuildFault options modules (faults.ImageTooLarge size)
-large_table options modules pieces sections layout fields size are grouped placed relocated based refused =
+pub large_table : (options : LinkOptions) (link : LinkView) (pieces : List Piece) (sections : List OutSection) (layout : Layout) (fields : List BaseField) (size : ℕ) → map bare pieces ≡ plan_pieces options link → AreGrouped options link pieces sections → ArePlaced pieces sections true layout → is_relocated options link ≡ true → AreBaseFields link layout.pieces.items fields → IsGrowRefusal layout (length (blocks_of fields)) (bad.ImageTooLarge size) → IsBuildFault options link (faults.ImageTooLarge size)
+large_table options link pieces sections layout fields size are grouped placed relocated based refused =
     inr (inr (inl (record {
       sections = sections;
-      grouped = grouped_modules options modules pieces sections are grouped;
+      grouped = grouped_modules options link pieces sections are grouped;
       size = size;
       refused = inr (record {
         relocated = relocated;
         layout = layout;
-        placed = placed_modules options modules pieces sections true layout are placed;
+        placed = placed_modules options link pieces sections true layout are placed;
         fields = fields;
         based = based;
         refused = refused;
@@ -112,17 +113,17 @@ large_table options modules pieces sections layout fields size are grouped place
       is = refl;
     })))
 
-pub bad_base : (options : LinkOptions) (modules : List ModuleView) (rows : List OutRow) (layout : Layout) (tables : List (List ℕ)) → IsPlacement options modules rows layout tables → is_permitted (base_rule options) layout.image options.base ≡ false → IsBuildFault options modules (faults.BaseRange options.base)
-bad_base options modules rows layout tables placement refused =
+pub bad_base : (options : LinkOptions) (link : LinkView) (rows : List OutRow) (layout : Layout) (tables : List (List ℕ)) → IsPlacement options link rows layout tables → is_permitted (base_rule options) layout.image options.base ≡ false → IsBuildFault options link (faults.BaseRange options.base)
+bad_base options link rows layout tables placement refused =
     inr (inr (inr (inl (record { rows = rows; layout = layout; tables = tables; placement = placement; refused = refused; is = refl }))))
 
 -- a value that does not fit
-pub bad_range : (options : LinkOptions) (modules : List ModuleView) (rows : List OutRow) (layout : Layout) (tables : List (List ℕ)) (fault : Fault) → IsPlacement options modules rows layout tables → is_permitted (base_rule options) layout.image options.base ≡ true → fields_range_fault modules rows layout options.base ≡ Some fault → IsBuildFault options modules fault
-bad_range options modules rows layout tables fault placement permitted is =
+pub bad_range : (options : LinkOptions) (link : LinkView) (rows : List OutRow) (layout : Layout) (tables : List (List ℕ)) (fault : Fault) → IsPlacement options link rows layout tables → is_permitted (base_rule options) layout.image options.base ≡ true → fields_range_fault link rows layout options.base ≡ Some fault → IsBuildFault options link fault
+bad_range options link rows layout tables fault placement permitted is =
     inr (inr (inr (inr (record { rows = rows; layout = layout; tables = tables; placement = placement; permitted = permitted; is = is }))))
 
-pub used_there : (options : LinkOptions) (pieces : List Piece) (k : ℕ) → k < length pieces → is_used (link_input options pieces) k ≡ true
-used_there options pieces k lt = and_from _ _ (lt-ltb k (length pieces) lt) (get_or-replicate (length pieces) k true false lt)
+pub used_there : (options : LinkOptions) (link : LinkView) (pieces : List Piece) (k : ℕ) → k < length pieces → is_used (link_input options link pieces) k ≡ true
+used_there options link pieces k lt = and_from _ _ (lt-ltb k (length pieces) lt) (get_or-replicate (length pieces) k true false lt)
 
 pub needs_there : (input : Input) (k : ℕ) → (0 < (get_or input.pieces k no_piece).size) ⊎ ((get_or input.pieces k no_piece).named ≡ true) → needs_place input k ≡ true
 needs_there input k (inl some) = or_left _ _ (lt-ltb 0 (get_or input.pieces k no_piece).size some)
@@ -131,10 +132,10 @@ needs_there input k (inr named) = or_right _ _ named
 -- ---- the entry
 
 -- a piece that is named stands in a section, so an offset in it has an RVA
-pub entry_fits : (options : LinkOptions) (pieces : List Piece) (sections : List OutSection) (reloc : Bool) (layout : Layout) (place : EntryPlace) → AreGrouped options pieces sections → ArePlaced pieces sections reloc layout → StandsNamed pieces place → get_or layout.pieces.items place.piece 0 < 2 ^ 32 → get_or layout.pieces.items place.piece 0 + place.value < 2 ^ 32
-entry_fits options pieces sections reloc layout place grouped placed stand fits =
+pub entry_fits : (options : LinkOptions) (link : LinkView) (pieces : List Piece) (sections : List OutSection) (reloc : Bool) (layout : Layout) (place : EntryPlace) → AreGrouped options link pieces sections → ArePlaced pieces sections reloc layout → StandsNamed pieces place → get_or layout.pieces.items place.piece 0 < 2 ^ 32 → get_or layout.pieces.items place.piece 0 + place.value < 2 ^ 32
+entry_fits options link pieces sections reloc layout place grouped placed stand fits =
     let piece = place.piece in
-    let input = link_input options pieces in
+    let input = link_input options link pieces in
     let used : is_used input piece ≡ true = and_from _ _ (lt-ltb piece (length pieces) stand.within) (get_or-replicate (length pieces) piece true false stand.within) in
     let needs : needs_place input piece ≡ true = or_right _ _ stand.named in
     name_fits pieces sections reloc layout piece place.value placed.layout_of.standing placed.within (stands input sections piece grouped.grouping used needs) fits stand.inside
@@ -163,9 +164,9 @@ plan_rows headers sections layout contents same =
     rows_count (rows_of sections) layout.sections.items (same ∙ sym count) ∙ count
 
 -- what is placed without a table can be written
-laid : (options : LinkOptions) (pieces : List Piece) (sections : List OutSection) (layout : Layout) → AreGrouped options pieces sections → ArePlaced pieces sections false layout → IsLaidOut pieces sections layout
-laid options pieces sections layout grouped placed =
-    laid_out pieces sections layout placed.layout_of.standing (standing options pieces sections grouped) placed.few placed.growth
+laid : (options : LinkOptions) (link : LinkView) (pieces : List Piece) (sections : List OutSection) (layout : Layout) → AreGrouped options link pieces sections → ArePlaced pieces sections false layout → IsLaidOut pieces sections layout
+laid options link pieces sections layout grouped placed =
+    laid_out pieces sections layout placed.layout_of.standing (standing options link pieces sections grouped) placed.few placed.growth
 
 -- ---- the placement of a plan
 
@@ -174,27 +175,27 @@ no_pieces f [] e = refl
 no_pieces f (x ∷ xs) e = absurd cc
 
 -- without a table of base relocations
-pub placed_alone : (options : LinkOptions) (plan : LinkPlan) (placement : Placement) → IsPlanOf options plan.modules.items plan → AreGrouped options plan.pieces.items placement.sections.items → ArePlaced plan.pieces.items placement.sections.items false placement.layout → is_relocated options plan.modules.items ≡ false → tables_of placement.table ≡ [] → IsPlaced options plan placement
+pub placed_alone : (options : LinkOptions) (plan : LinkPlan) (placement : Placement) → IsPlanOf options plan.names plan → AreGrouped options plan.names plan.pieces.items placement.sections.items → ArePlaced plan.pieces.items placement.sections.items false placement.layout → is_relocated options plan.names ≡ false → tables_of placement.table ≡ [] → IsPlaced options plan placement
 placed_alone options plan placement planned grouped placed alone none =
-    let modules = plan.modules.items in
+    let link = plan.names in
     let pieces = plan.pieces.items in
     let sections = placement.sections.items in
     let layout = placement.layout in
-    let input = link_input options pieces in
+    let input = link_input options link pieces in
     record {
       means = record {
         sections = sections;
-        grouped = grouped_modules options modules pieces sections planned.pieces_are grouped;
+        grouped = grouped_modules options link pieces sections planned.pieces_are grouped;
         before = layout;
-        placed = subst (λ (r : Bool). ArePlaced (plan_pieces options modules) sections r layout) (sym alone) (placed_modules options modules pieces sections false layout planned.pieces_are placed);
-        whole = subst (λ (r : Bool). IsWhole r modules (rows_of sections) layout (rows_of sections) layout (tables_of placement.table)) (sym alone) (refl, refl, none);
+        placed = subst (λ (r : Bool). ArePlaced (plan_pieces options link) sections r layout) (sym alone) (placed_modules options link pieces sections false layout planned.pieces_are placed);
+        whole = subst (λ (r : Bool). IsWhole r link (rows_of sections) layout (rows_of sections) layout (tables_of placement.table)) (sym alone) (refl, refl, none);
       };
       laid = λ rest holds.
           let empty : rest ≡ [] = no_pieces piece_contents rest (holds.contents ∙ none) in
-          subst (λ (ps : List Piece). IsLaidOut ps sections layout) (sym (append-nil pieces) ∙ ap (λ (r : List Piece). pieces ++ r) (sym empty)) (laid options pieces sections layout grouped placed);
-      stands = λ k lt needs. stands input sections k grouped.grouping (used_there options pieces k lt) (needs_there input k needs);
+          subst (λ (ps : List Piece). IsLaidOut ps sections layout) (sym (append-nil pieces) ∙ ap (λ (r : List Piece). pieces ++ r) (sym empty)) (laid options link pieces sections layout grouped placed);
+      stands = λ k lt needs. stands input sections k grouped.grouping (used_there options link pieces k lt) (needs_there input k needs);
       room = omega (arith, placed.layout_of.standing.rva_for_each);
-      fits = λ place stand small. entry_fits options pieces sections false layout place grouped placed stand small;
+      fits = λ place stand small. entry_fits options link pieces sections false layout place grouped placed stand small;
       few = omega (arith, placed.few);
       small = subst (λ (ts : List (List ℕ)). All (λ table. length table < 2 ^ 32) ts) (sym none) (All-nil (λ (table : List ℕ). length table < 2 ^ 32));
     }
@@ -208,13 +209,13 @@ sections_more : (sections : List OutSection) (section : OutSection) → all_piec
 sections_more sections section = flat_map-append (λ (s : OutSection). s.pieces.items) sections (section ∷ [])
 
 -- with a table after all other sections
-pub placed_with_table : (options : LinkOptions) (plan : LinkPlan) (sections : List OutSection) (before : Layout) (fields : List BaseField) (placement : Placement) → IsPlanOf options plan.modules.items plan → AreGrouped options plan.pieces.items sections → ArePlaced plan.pieces.items sections true before → is_relocated options plan.modules.items ≡ true → AreBaseFields plan.modules.items before.pieces.items fields → EndsWithTable sections placement.sections.items (length plan.pieces.items) → Appends before placement.layout (length (blocks_of fields)) → placement.layout.image ≤ IMAGE_LIMIT → tables_of placement.table ≡ blocks_of fields ∷ [] → length (blocks_of fields) < 2 ^ 32 → IsPlaced options plan placement
+pub placed_with_table : (options : LinkOptions) (plan : LinkPlan) (sections : List OutSection) (before : Layout) (fields : List BaseField) (placement : Placement) → IsPlanOf options plan.names plan → AreGrouped options plan.names plan.pieces.items sections → ArePlaced plan.pieces.items sections true before → is_relocated options plan.names ≡ true → AreBaseFields plan.names before.pieces.items fields → EndsWithTable sections placement.sections.items (length plan.pieces.items) → Appends before placement.layout (length (blocks_of fields)) → placement.layout.image ≤ IMAGE_LIMIT → tables_of placement.table ≡ blocks_of fields ∷ [] → length (blocks_of fields) < 2 ^ 32 → IsPlaced options plan placement
 placed_with_table options plan sections before fields placement planned grouped placed relocated based ends added within tables small =
-    let modules = plan.modules.items in
+    let link = plan.names in
     let pieces = plan.pieces.items in
     let layout = placement.layout in
     let section = ends.section in
-    let input = link_input options pieces in
+    let input = link_input options link pieces in
     let count : length before.pieces.items ≡ length pieces = placed.layout_of.standing.rva_for_each in
     let rows : rows_of placement.sections.items ≡ rows_of sections ++ table_row (length before.pieces.items) ∷ [] =
     ap rows_of ends.is ∙ map-append row_of sections (section ∷ []) ∙ ap (λ (r : OutRow). rows_of sections ++ r ∷ []) (ends.row ∙ ap table_row (sym count)) in
@@ -222,10 +223,10 @@ placed_with_table options plan sections before fields placement planned grouped 
     record {
       means = record {
         sections = sections;
-        grouped = grouped_modules options modules pieces sections planned.pieces_are grouped;
+        grouped = grouped_modules options link pieces sections planned.pieces_are grouped;
         before = before;
-        placed = subst (λ (r : Bool). ArePlaced (plan_pieces options modules) sections r before) (sym relocated) (placed_modules options modules pieces sections true before planned.pieces_are placed);
-        whole = subst (λ (r : Bool). IsWhole r modules (rows_of sections) before (rows_of placement.sections.items) layout (tables_of placement.table)) (sym relocated)
+        placed = subst (λ (r : Bool). ArePlaced (plan_pieces options link) sections r before) (sym relocated) (placed_modules options link pieces sections true before planned.pieces_are placed);
+        whole = subst (λ (r : Bool). IsWhole r link (rows_of sections) before (rows_of placement.sections.items) layout (tables_of placement.table)) (sym relocated)
             (record { fields = fields; based = based; added = added; within = within; rows_are = rows; tables_are = tables });
       };
       laid = λ rest holds.
@@ -234,16 +235,16 @@ placed_with_table options plan sections before fields placement planned grouped 
           ap (λ (ps : List Piece). (get_or ps 0 no_piece).size) (sym one.1) ∙ holds.sizes 0 (omega (arith, ap length one.1)) ∙ ap (λ (ts : List (List ℕ)). length (get_or ts 0 [])) tables in
           subst (λ (ss : List OutSection). IsLaidOut (pieces ++ rest) ss layout) (sym ends.is)
           (subst (λ (r : List Piece). IsLaidOut (pieces ++ r) (sections ++ section ∷ []) layout) (sym one.1)
-          (appended_laid_out pieces one.0 sections section before layout (length (blocks_of fields)) placed.layout_of.standing planned.aligned (standing options pieces sections grouped) placed.few added within last size));
+          (appended_laid_out pieces one.0 sections section before layout (length (blocks_of fields)) placed.layout_of.standing planned.aligned (standing options link pieces sections grouped) placed.few added within last size));
       stands = λ k lt needs.
           subst (λ (ss : List OutSection). Contains (all_pieces ss) k) (sym ends.is)
           (subst (λ (ks : List ℕ). Contains ks k) (sym (sections_more sections section))
-          (Contains-append_left (all_pieces sections) (all_pieces (section ∷ [])) k (stands input sections k grouped.grouping (used_there options pieces k lt) (needs_there input k needs))));
+          (Contains-append_left (all_pieces sections) (all_pieces (section ∷ [])) k (stands input sections k grouped.grouping (used_there options link pieces k lt) (needs_there input k needs))));
       room = omega (arith, count, ap length added.pieces, length-append before.pieces.items (added.placed.rva ∷ []));
       fits = λ place stand fits.
           let same : get_or layout.pieces.items place.piece 0 ≡ get_or before.pieces.items place.piece 0 =
           ap (λ (rvas : List ℕ). get_or rvas place.piece 0) added.pieces ∙ get_or_append_left before.pieces.items (added.placed.rva ∷ []) 0 place.piece (omega (arith, stand.within, count)) in
-          let here = entry_fits options pieces sections true before place grouped placed stand (omega (arith, same, fits)) in
+          let here = entry_fits options link pieces sections true before place grouped placed stand (omega (arith, same, fits)) in
           omega (arith, same, here);
       few = omega (arith, placed.few, ap length ends.is, length-append sections (section ∷ []));
       small = subst (λ (ts : List (List ℕ)). All (λ table. length table < 2 ^ 32) ts) (sym tables) (All-cons (λ (table : List ℕ). length table < 2 ^ 32) (blocks_of fields) [] small (All-nil (λ (table : List ℕ). length table < 2 ^ 32)));
@@ -252,7 +253,7 @@ placed_with_table options plan sections before fields placement planned grouped 
 -- ---- what is ready
 
 -- the pieces of a plan with their fields, where they stand
-pub ready : (options : LinkOptions) (plan : LinkPlan) (placement : Placement) (headers : Headers) (image owner : List ℕ) → IsPlanOf options plan.modules.items plan → IsPlaced options plan placement → IsWritten headers placement plan.pieces.items image → owner ≡ owners_in (rows_of placement.sections.items) placement.layout → IsReady plan.modules.items plan.pieces.items plan.fixes.items placement.sections.items placement.layout owner (tables_of placement.table)
+pub ready : (options : LinkOptions) (plan : LinkPlan) (placement : Placement) (headers : Headers) (image owner : List ℕ) → IsPlanOf options plan.names plan → IsPlaced options plan placement → IsWritten headers placement plan.pieces.items image → owner ≡ owners_in (rows_of placement.sections.items) placement.layout → IsReady plan.names plan.pieces.items plan.fixes.items placement.sections.items placement.layout owner (tables_of placement.table)
 ready options plan placement headers image owner planned placed written is = record {
   options = options;
   pieces_are = planned.pieces_are;

@@ -25,7 +25,7 @@ use Rattle.relocate.specs.declared.fix.Target.TheVariants as target
 use Rattle.relocate.specs.Field.{has_field}
 use Rattle.relocate.specs.Judged.{AreTheFields}
 use Rattle.relocate.specs.Value.{target_of, HasEntry, HaveEntries}
-use Rattle.module_view.specs.Module.{ModuleView}
+use Rattle.symbol_table.specs.LinkView.{LinkView}
 use Rattle.link_pieces.specs.Pieces.{link_pieces}
 use Rattle.link_plan.specs.Fixes.{piece_fixes}
 use Rattle.link_plan.proofs.CallerLemmas.{Stands, fields_stand, planned_at, plan_count}
@@ -105,9 +105,9 @@ owner_read rows count k lt = get_or-map-range_with_len (section_of rows) 0 count
 
 -- ---- what fields mean
 
-module _ (modules : List ModuleView) (pieces : List Piece) (fixups : List (List Fix)) (sections : List OutSection) (layout : Layout) (owner : List ℕ) (tables : List (List ℕ)) (ready : IsReady modules pieces fixups sections layout owner tables) where
-  pub pieces_count : length pieces ≡ length (link_pieces modules)
-  pieces_count = sym (length-map pieces bare) ∙ ap (λ (ps : List Piece). length ps) ready.pieces_are ∙ plan_count ready.options modules
+module _ (link : LinkView) (pieces : List Piece) (fixups : List (List Fix)) (sections : List OutSection) (layout : Layout) (owner : List ℕ) (tables : List (List ℕ)) (ready : IsReady link pieces fixups sections layout owner tables) where
+  pub pieces_count : length pieces ≡ length (link_pieces link)
+  pieces_count = sym (length-map pieces bare) ∙ ap (λ (ps : List Piece). length ps) ready.pieces_are ∙ plan_count ready.options link
 
   -- there is an RVA and an owner for each piece
   pub rva_there : (k : ℕ) → k < length pieces → k < length layout.pieces.items
@@ -120,11 +120,11 @@ module _ (modules : List ModuleView) (pieces : List Piece) (fixups : List (List 
   length_owner = ap length ready.owner_is ∙ length-owners (rows_of sections) (length layout.pieces.items)
 
   -- a piece that a field means has a place
-  entry_of : (t : Target) → Stands modules t → HasEntry layout owner t
+  entry_of : (t : Target) → Stands link t → HasEntry layout owner t
   entry_of (target.Piece piece value) stand =
       let within : piece < length pieces = omega (arith, stand.0, pieces_count) in
       let named : (get_or pieces piece no_piece).named ≡ true =
-      ap (λ (p : Piece). p.named) (sym (get_or-map bare pieces piece no_piece) ∙ ap (λ (ps : List Piece). get_or ps piece no_piece) ready.pieces_are ∙ planned_at ready.options modules piece stand.0) ∙ stand.1 ready.options in
+      ap (λ (p : Piece). p.named) (sym (get_or-map bare pieces piece no_piece) ∙ ap (λ (ps : List Piece). get_or ps piece no_piece) ready.pieces_are ∙ planned_at ready.options link piece stand.0) ∙ stand.1 ready.options in
       let at = owner_at sections piece (ready.stands piece within (inr named)) in
       let there = rva_there piece within in
       let owned = owner_at_piece piece within in
@@ -132,7 +132,7 @@ module _ (modules : List ModuleView) (pieces : List Piece) (fixups : List (List 
   entry_of (target.Absolute value) stand = tt
   entry_of target.ImageBase stand = tt
 
-  pub entries : (k : ℕ) (fields : List Fix) → k < length pieces → AreTheFields (piece_fixes modules k) fields → HaveEntries layout owner fields
+  pub entries : (k : ℕ) (fields : List Fix) → k < length pieces → AreTheFields (piece_fixes link k) fields → HaveEntries layout owner fields
   entries k fields lt are =
-      All-permutation (λ fix. HasEntry layout owner (target_of fix)) (filter has_field (piece_fixes modules k)) fields are
-      (All-weaker (λ fix. Stands modules (target_of fix)) (λ fix. HasEntry layout owner (target_of fix)) (λ fix stand. entry_of (target_of fix) stand) (filter has_field (piece_fixes modules k)) (fields_stand modules k (omega (arith, lt, pieces_count))))
+      All-permutation (λ fix. HasEntry layout owner (target_of fix)) (filter has_field (piece_fixes link k)) fields are
+      (All-weaker (λ fix. Stands link (target_of fix)) (λ fix. HasEntry layout owner (target_of fix)) (λ fix stand. entry_of (target_of fix) stand) (filter has_field (piece_fixes link k)) (fields_stand link k (omega (arith, lt, pieces_count))))

@@ -11,7 +11,7 @@ use Rattle.section_group.specs.Uniqueness.{SectionRow}
 use Rattle.address_layout.specs.declared.layout.Layout.{Layout}
 use Rattle.relocate.specs.declared.range.RelocRange.{RelocRange}
 use Rattle.relocate.specs.PatchedBytes.{patched_bytes, range_fault}
-use Rattle.module_view.specs.Module.{ModuleView}
+use Rattle.symbol_table.specs.LinkView.{LinkView}
 use Rattle.link_pieces.specs.Pieces.{link_pieces, link_contents}
 use Rattle.link_plan.specs.Fixes.{piece_at, piece_fixes}
 
@@ -36,21 +36,21 @@ owners rows count = map (section_of rows) (range_with_len 0 count)
 abbrev pub owners_in : List SectionRow → Layout → List ℕ
 owners_in rows layout = owners rows (length layout.pieces.items)
 
-abbrev pub contents_at : List ModuleView → ℕ → List ℕ
-contents_at modules k = slice_index_or (link_contents modules) k []
+abbrev pub contents_at : LinkView → ℕ → List ℕ
+contents_at link k = slice_index_or (link_contents link) k []
 
 -- the bytes of a piece with its fields, in an image at a base
-abbrev pub linked_bytes : List ModuleView → List SectionRow → Layout → ℕ → ℕ → List ℕ
-linked_bytes modules rows layout base k =
-    patched_bytes base (slice_index layout.pieces.items k) layout (owners_in rows layout) (piece_fixes modules k) (contents_at modules k)
+abbrev pub linked_bytes : LinkView → List SectionRow → Layout → ℕ → ℕ → List ℕ
+linked_bytes link rows layout base k =
+    patched_bytes base (slice_index layout.pieces.items k) layout (owners_in rows layout) (piece_fixes link k) (contents_at link k)
 
-unfoldable pub linked_contents : List ModuleView → List SectionRow → Layout → ℕ → List (List ℕ)
-linked_contents modules rows layout base =
-    map (linked_bytes modules rows layout base) (range_with_len 0 (length (link_pieces modules)))
+unfoldable pub linked_contents : LinkView → List SectionRow → Layout → ℕ → List (List ℕ)
+linked_contents link rows layout base =
+    map (linked_bytes link rows layout base) (range_with_len 0 (length (link_pieces link)))
 
 -- and after them the tables that the linker makes, which are the same at each base
-abbrev pub image_contents : List ModuleView → List SectionRow → Layout → List (List ℕ) → ℕ → List (List ℕ)
-image_contents modules rows layout tables base = linked_contents modules rows layout base ++ tables
+abbrev pub image_contents : LinkView → List SectionRow → Layout → List (List ℕ) → ℕ → List (List ℕ)
+image_contents link rows layout tables base = linked_contents link rows layout base ++ tables
 
 -- ---- values that do not fit
 
@@ -58,11 +58,11 @@ abbrev pub out_of_range : Piece → RelocRange → Fault
 out_of_range piece range = faults.RelocRange (Some piece.«module») piece.number range.index range.value
 
 -- the first field of a piece whose value does not fit
-abbrev pub piece_range_fault : List ModuleView → List SectionRow → Layout → ℕ → ℕ → Option Fault
-piece_range_fault modules rows layout base k =
-    option_map (out_of_range (piece_at modules k)) (range_fault base (slice_index layout.pieces.items k) layout (owners_in rows layout) (piece_fixes modules k) (contents_at modules k))
+abbrev pub piece_range_fault : LinkView → List SectionRow → Layout → ℕ → ℕ → Option Fault
+piece_range_fault link rows layout base k =
+    option_map (out_of_range (piece_at link k)) (range_fault base (slice_index layout.pieces.items k) layout (owners_in rows layout) (piece_fixes link k) (contents_at link k))
 
 -- that of all pieces, in their order
-unfoldable pub fields_range_fault : List ModuleView → List SectionRow → Layout → ℕ → Option Fault
-fields_range_fault modules rows layout base =
-    first_refusal_below (length (link_pieces modules)) (piece_range_fault modules rows layout base)
+unfoldable pub fields_range_fault : LinkView → List SectionRow → Layout → ℕ → Option Fault
+fields_range_fault link rows layout base =
+    first_refusal_below (length (link_pieces link)) (piece_range_fault link rows layout base)

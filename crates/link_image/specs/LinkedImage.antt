@@ -18,10 +18,11 @@ use Rattle.base_reloc.specs.declared.field.BaseField.{BaseField}
 use Rattle.base_reloc.specs.PageBlocks.{blocks_of}
 use Rattle.image_writer.specs.ExpectedImage.{ImagePlan, MeansPlan, image_file}
 use Rattle.image_writer.specs.WrittenImage.{written_plan}
-use Rattle.module_view.specs.Module.{ModuleView}
+use Rattle.symbol_table.specs.LinkView.{LinkView}
 use Rattle.link_words.specs.Outcome.{LinkOptions}
 use Rattle.link_plan.specs.declared.entry.EntryPlace.{EntryPlace}
 use Rattle.link_plan.specs.Entry.{entry_place}
+use Rattle.link_plan.specs.Plan.{merges_of}
 use Rattle.link_plan.specs.Fixes.{plan_pieces}
 use Rattle.link_image.specs.declared.make.Built.{Built}
 use Rattle.link_image.specs.BaseFields.{is_relocated, AreBaseFields}
@@ -30,14 +31,14 @@ use Rattle.link_image.specs.LinkedBytes.{image_contents, fields_range_fault}
 
 -- ---- sections
 
--- what is put into sections: every piece is used, and the merges are those of the command line
-abbrev pub link_input : LinkOptions → List Piece → Input
-link_input options pieces = input_from pieces (replicate (length pieces) true) options.merges
+-- what is put into sections: every piece is used, and the merges are those of the link
+abbrev pub link_input : LinkOptions → LinkView → List Piece → Input
+link_input options link pieces = input_from pieces (replicate (length pieces) true) (merges_of options link)
 
 -- the sections that pieces stand in, by merges of which none is bad
-pub record AreGrouped (options : LinkOptions) (pieces : List Piece) (sections : List OutSection) : Type 0 where
-  pub merges : HasNoBadMerge options.merges
-  pub grouping : IsGrouping (link_input options pieces) sections
+pub record AreGrouped (options : LinkOptions) (link : LinkView) (pieces : List Piece) (sections : List OutSection) : Type 0 where
+  pub merges : HasNoBadMerge (merges_of options link)
+  pub grouping : IsGrouping (link_input options link pieces) sections
 
 -- ---- places
 
@@ -64,25 +65,25 @@ abbrev pub table_row : ℕ → SectionRow
 table_row k = record { name = codes ".reloc"; flags = SCN_CNT_INITIALIZED_DATA + SCN_MEM_DISCARDABLE + SCN_MEM_READ; pieces = k ∷ [] }
 
 -- the table as the last section and the last piece
-pub record HasTable (modules : List ModuleView) (piece_rows : List SectionRow) (before : Layout) (rows : List SectionRow) (layout : Layout) (tables : List (List ℕ)) : Type 0 where
+pub record HasTable (link : LinkView) (piece_rows : List SectionRow) (before : Layout) (rows : List SectionRow) (layout : Layout) (tables : List (List ℕ)) : Type 0 where
   pub fields : List BaseField
-  pub based : AreBaseFields modules before.pieces.items fields
+  pub based : AreBaseFields link before.pieces.items fields
   pub added : Appends before layout (length (blocks_of fields))
   pub within : layout.image ≤ IMAGE_LIMIT
   pub rows_are : rows ≡ piece_rows ++ table_row (length before.pieces.items) ∷ []
   pub tables_are : tables ≡ blocks_of fields ∷ []
 
-abbrev pub IsWhole : Bool → List ModuleView → List SectionRow → Layout → List SectionRow → Layout → List (List ℕ) → Type 0
-IsWhole true modules piece_rows before rows layout tables = HasTable modules piece_rows before rows layout tables
-IsWhole false modules piece_rows before rows layout tables = (rows ≡ piece_rows) × (layout ≡ before) × (tables ≡ [])
+abbrev pub IsWhole : Bool → LinkView → List SectionRow → Layout → List SectionRow → Layout → List (List ℕ) → Type 0
+IsWhole true link piece_rows before rows layout tables = HasTable link piece_rows before rows layout tables
+IsWhole false link piece_rows before rows layout tables = (rows ≡ piece_rows) × (layout ≡ before) × (tables ≡ [])
 
 -- where everything stands: the sections of the pieces, and after them the table of base relocations where there is one
-pub record IsPlacement (options : LinkOptions) (modules : List ModuleView) (rows : List SectionRow) (layout : Layout) (tables : List (List ℕ)) : Type 0 where
+pub record IsPlacement (options : LinkOptions) (link : LinkView) (rows : List SectionRow) (layout : Layout) (tables : List (List ℕ)) : Type 0 where
   pub sections : List OutSection
-  pub grouped : AreGrouped options (plan_pieces options modules) sections
+  pub grouped : AreGrouped options link (plan_pieces options link) sections
   pub before : Layout
-  pub placed : ArePlaced (plan_pieces options modules) sections (is_relocated options modules) before
-  pub whole : IsWhole (is_relocated options modules) modules (rows_of sections) before rows layout tables
+  pub placed : ArePlaced (plan_pieces options link) sections (is_relocated options link) before
+  pub whole : IsWhole (is_relocated options link) link (rows_of sections) before rows layout tables
 
 -- the RVA and the size of the table, which is the last piece
 abbrev pub table_directory : Layout → List (List ℕ) → ℕ × ℕ
@@ -92,19 +93,19 @@ table_directory layout (table ∷ tables) = (slice_index layout.pieces.items (le
 -- ---- the image
 
 -- the image of modules, in which every value fits
-pub record IsImageOf (options : LinkOptions) (modules : List ModuleView) (image : ImagePlan) : Type 0 where
+pub record IsImageOf (options : LinkOptions) (link : LinkView) (image : ImagePlan) : Type 0 where
   pub rows : List SectionRow
   pub layout : Layout
   pub tables : List (List ℕ)
-  pub placement : IsPlacement options modules rows layout tables
+  pub placement : IsPlacement options link rows layout tables
   pub permitted : is_permitted (base_rule options) layout.image options.base ≡ true
-  pub in_range : fields_range_fault modules rows layout options.base ≡ None
-  pub is : image ≡ written_plan (headers_of options (entry_rva layout.pieces.items (entry_place modules options.entry_name)) (table_directory layout tables)) rows layout.sections.items layout.pieces.items layout.image (image_contents modules rows layout tables)
+  pub in_range : fields_range_fault link rows layout options.base ≡ None
+  pub is : image ≡ written_plan (headers_of options (entry_rva layout.pieces.items (entry_place link options.entry_name)) (table_directory layout tables)) rows layout.sections.items layout.pieces.items layout.image (image_contents link rows layout tables)
 
 -- what was made is the file of the image of the modules, which loads as planned at every permitted base
-pub record IsBuilt (options : LinkOptions) (modules : List ModuleView) (built : Built) : Type 0 where
+pub record IsBuilt (options : LinkOptions) (link : LinkView) (built : Built) : Type 0 where
   pub image : ImagePlan
-  pub is_image : IsImageOf options modules image
+  pub is_image : IsImageOf options link image
   pub file : built.image.items ≡ image_file image
   pub means : MeansPlan image built.image.items
   pub count : built.sections ≡ length image.rows

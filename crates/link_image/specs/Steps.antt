@@ -20,7 +20,7 @@ use Rattle.relocate.specs.Value.{IsLeastOutside}
 use Rattle.image_writer.specs.declared.headers.Headers.{Headers}
 use Rattle.image_writer.specs.ExpectedImage.{image_file}
 use Rattle.image_writer.specs.WrittenImage.{layout_plan, at_each_base, IsLaidOut}
-use Rattle.module_view.specs.Module.{ModuleView}
+use Rattle.symbol_table.specs.LinkView.{LinkView}
 use Rattle.link_pieces.specs.Pieces.{link_pieces, link_contents}
 use Rattle.link_plan.specs.Fixes.{HaveFields, plan_pieces}
 use Rattle.link_base.specs.Limits.{SECTION_LIMIT}
@@ -70,9 +70,9 @@ pub record HoldTables (tables : List (List ℕ)) (rest : List Piece) : Type 0 wh
   pub sizes : (j : ℕ) → j < length rest → (slice_index_or rest j no_piece).size ≡ length (slice_index_or tables j [])
 
 -- a table of base relocations
-pub record IsTable (modules : List ModuleView) (rvas table : List ℕ) : Type 0 where
+pub record IsTable (link : LinkView) (rvas table : List ℕ) : Type 0 where
   pub fields : List BaseField
-  pub based : AreBaseFields modules rvas fields
+  pub based : AreBaseFields link rvas fields
   pub is : table ≡ blocks_of fields
 
 -- the section of the table of a piece is the last
@@ -90,7 +90,7 @@ pub record EndsWithPiece (old new : List Piece) (table : List ℕ) : Type 0 wher
 
 -- the placement of a plan: what it means, that it can be written, and that pieces that need a place stand in a section
 pub record IsPlaced (options : LinkOptions) (plan : LinkPlan) (placement : Placement) : Type 0 where
-  pub means : IsPlacement options plan.modules.items (rows_of placement.sections.items) placement.layout (tables_of placement.table)
+  pub means : IsPlacement options plan.names (rows_of placement.sections.items) placement.layout (tables_of placement.table)
   pub laid : (rest : List Piece) → HoldTables (tables_of placement.table) rest → IsLaidOut (plan.pieces.items ++ rest) placement.sections.items placement.layout
   pub stands : (k : ℕ) → k < length plan.pieces.items → ((0 < (slice_index_or plan.pieces.items k no_piece).size) ⊎ ((slice_index_or plan.pieces.items k no_piece).named ≡ true)) → Contains (all_pieces placement.sections.items) k
   pub room : length plan.pieces.items ≤ length placement.layout.pieces.items
@@ -101,12 +101,12 @@ pub record IsPlaced (options : LinkOptions) (plan : LinkPlan) (placement : Place
 -- ---- what was decided before fields are patched
 
 -- the pieces with their fields, the tables after them, and where all of these stand
-pub record IsReady (modules : List ModuleView) (pieces : List Piece) (fixups : List (List Fix)) (sections : List OutSection) (layout : Layout) (owner : List ℕ) (tables : List (List ℕ)) : Type 0 where
+pub record IsReady (link : LinkView) (pieces : List Piece) (fixups : List (List Fix)) (sections : List OutSection) (layout : Layout) (owner : List ℕ) (tables : List (List ℕ)) : Type 0 where
   pub options : LinkOptions
-  pub pieces_are : map bare pieces ≡ plan_pieces options modules
-  pub contents_are : map piece_contents pieces ≡ link_contents modules
+  pub pieces_are : map bare pieces ≡ plan_pieces options link
+  pub contents_are : map piece_contents pieces ≡ link_contents link
   pub bodies : (k : ℕ) → k < length pieces → HasItsBytes pieces k
-  pub fields : HaveFields modules (length pieces) fixups
+  pub fields : HaveFields link (length pieces) fixups
   pub rest : List Piece
   pub holds : HoldTables tables rest
   pub laid : IsLaidOut (pieces ++ rest) sections layout
@@ -114,21 +114,21 @@ pub record IsReady (modules : List ModuleView) (pieces : List Piece) (fixups : L
   pub owner_is : owner ≡ owners_in (rows_of sections) layout
 
 -- the contents of an image whose first pieces are patched
-abbrev pub mixed_at : List ModuleView → List SectionRow → Layout → ℕ → ℕ → ℕ → List ℕ
-mixed_at modules rows layout base count k =
-    if nat_lt k count then linked_bytes modules rows layout base k else contents_at modules k
+abbrev pub mixed_at : LinkView → List SectionRow → Layout → ℕ → ℕ → ℕ → List ℕ
+mixed_at link rows layout base count k =
+    if nat_lt k count then linked_bytes link rows layout base k else contents_at link k
 
-unfoldable pub mixed_contents : List ModuleView → List SectionRow → Layout → ℕ → ℕ → List (List ℕ)
-mixed_contents modules rows layout base count =
-    map (mixed_at modules rows layout base count) (range_with_len 0 (length (link_pieces modules)))
+unfoldable pub mixed_contents : LinkView → List SectionRow → Layout → ℕ → ℕ → List (List ℕ)
+mixed_contents link rows layout base count =
+    map (mixed_at link rows layout base count) (range_with_len 0 (length (link_pieces link)))
 
 -- the file of an image with these headers and contents, and the tables after them
 abbrev pub file_of : Headers → List OutSection → Layout → List (List ℕ) → List (List ℕ) → List ℕ
 file_of headers sections layout contents tables = image_file (layout_plan headers sections layout (at_each_base (contents ++ tables)))
 
-abbrev pub mixed_file : List ModuleView → Headers → List OutSection → Layout → List (List ℕ) → ℕ → List ℕ
-mixed_file modules headers sections layout tables count =
-    file_of headers sections layout (mixed_contents modules (rows_of sections) layout headers.base count) tables
+abbrev pub mixed_file : LinkView → Headers → List OutSection → Layout → List (List ℕ) → ℕ → List ℕ
+mixed_file link headers sections layout tables count =
+    file_of headers sections layout (mixed_contents link (rows_of sections) layout headers.base count) tables
 
 -- what was written of pieces and tables
 pub record IsWritten (headers : Headers) (placement : Placement) (pieces : List Piece) (image : List ℕ) : Type 0 where

@@ -33,9 +33,9 @@ pub fn build<'a>(
     plan: &LinkPlan<'a>,
     options: &Options<'a>,
 ) -> Result<Built, Refusal<'a>>
-    requires { IsPlanOf (options_said options.now) plan.now.modules.items plan.now }
-    ensures built { IfOk result (IsBuilt (options_said options.now) plan.now.modules.items) }
-    ensures refused { IfErr result (RefusesBuild (options_said options.now) plan.now.modules.items) }
+    requires { IsPlanOf (options_said options.now) plan.now.names plan.now }
+    ensures built { IfOk result (IsBuilt (options_said options.now) plan.now.names) }
+    ensures refused { IfErr result (RefusesBuild (options_said options.now) plan.now.names) }
 {
     let placement = place_all(alloc, plan, options)?;
     let count = placement.sections.len() as u32;

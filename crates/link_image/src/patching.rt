@@ -31,13 +31,13 @@ pub(crate) fn patch_pieces<'a>(
     placement: &Placement<'a>,
     owner: &[u32],
 ) -> Result<(), Fault<'a>>
-    requires ready { IsReady plan.now.modules.items plan.now.pieces.items plan.now.fixes.items placement.now.sections.items placement.now.layout owner.now (tables_of placement.now.table) }
+    requires ready { IsReady plan.now.names plan.now.pieces.items plan.now.fixes.items placement.now.sections.items placement.now.layout owner.now (tables_of placement.now.table) }
     requires directories { length headers.now.directories ≡ NUMBEROF_DIRECTORY_ENTRIES }
     requires file { image.old.items ≡ file_of headers.now placement.now.sections.items placement.now.layout (map piece_contents plan.now.pieces.items) (tables_of placement.now.table) }
     ensures patched { OnOk result (image.new.items ≡ file_of headers.now placement.now.sections.items placement.now.layout
-        (linked_contents plan.now.modules.items (rows_of placement.now.sections.items) placement.now.layout headers.now.base) (tables_of placement.now.table)) }
-    ensures in_range { OnOk result (fields_range_fault plan.now.modules.items (rows_of placement.now.sections.items) placement.now.layout headers.now.base ≡ None) }
-    ensures refused { IfErr result (λ fault. fields_range_fault plan.now.modules.items (rows_of placement.now.sections.items) placement.now.layout headers.now.base ≡ Some fault) }
+        (linked_contents plan.now.names (rows_of placement.now.sections.items) placement.now.layout headers.now.base) (tables_of placement.now.table)) }
+    ensures in_range { OnOk result (fields_range_fault plan.now.names (rows_of placement.now.sections.items) placement.now.layout headers.now.base ≡ None) }
+    ensures refused { IfErr result (λ fault. fields_range_fault plan.now.names (rows_of placement.now.sections.items) placement.now.layout headers.now.base ≡ Some fault) }
 {
     for k in 0..plan.pieces.len() {
         patch_at(image, plan, headers, placement, owner, k)?;
@@ -54,13 +54,13 @@ fn patch_at<'a>(
     owner: &[u32],
     k: usize,
 ) -> Result<(), Fault<'a>>
-    requires ready { IsReady plan.now.modules.items plan.now.pieces.items plan.now.fixes.items placement.now.sections.items placement.now.layout owner.now (tables_of placement.now.table) }
+    requires ready { IsReady plan.now.names plan.now.pieces.items plan.now.fixes.items placement.now.sections.items placement.now.layout owner.now (tables_of placement.now.table) }
     requires directories { length headers.now.directories ≡ NUMBEROF_DIRECTORY_ENTRIES }
     requires piece { k < length plan.now.pieces.items }
-    requires file { image.old.items ≡ mixed_file plan.now.modules.items headers.now placement.now.sections.items placement.now.layout (tables_of placement.now.table) k }
-    ensures file { OnOk result (image.new.items ≡ mixed_file plan.now.modules.items headers.now placement.now.sections.items placement.now.layout (tables_of placement.now.table) (k + 1)) }
-    ensures in_range { OnOk result (piece_range_fault plan.now.modules.items (rows_of placement.now.sections.items) placement.now.layout headers.now.base k ≡ None) }
-    ensures refused { IfErr result (λ fault. piece_range_fault plan.now.modules.items (rows_of placement.now.sections.items) placement.now.layout headers.now.base k ≡ Some fault) }
+    requires file { image.old.items ≡ mixed_file plan.now.names headers.now placement.now.sections.items placement.now.layout (tables_of placement.now.table) k }
+    ensures file { OnOk result (image.new.items ≡ mixed_file plan.now.names headers.now placement.now.sections.items placement.now.layout (tables_of placement.now.table) (k + 1)) }
+    ensures in_range { OnOk result (piece_range_fault plan.now.names (rows_of placement.now.sections.items) placement.now.layout headers.now.base k ≡ None) }
+    ensures refused { IfErr result (λ fault. piece_range_fault plan.now.names (rows_of placement.now.sections.items) placement.now.layout headers.now.base k ≡ Some fault) }
 {
     let fixups = &plan.fixes[k];
     if fixups.is_empty() {

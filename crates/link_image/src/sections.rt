@@ -14,18 +14,18 @@ use link_words::Options;
 use section_group::{GroupError, OutSection, group};
 use std::alloc::Global;
 
-/// The pieces in sections, by their names and the merges of the command line. Every piece is used.
+/// The pieces in sections, by their names and the merges of the link. Every piece is used.
 pub(crate) fn group_pieces<'a>(
     alloc: Global,
     plan: &LinkPlan<'a>,
     options: &Options<'a>,
 ) -> Result<Vec<OutSection<'a>>, Refusal<'a>>
-    requires { IsPlanOf (options_said options.now) plan.now.modules.items plan.now }
-    ensures grouped { IfOk result (λ sections. AreGrouped (options_said options.now) plan.now.pieces.items sections.items) }
-    ensures refused { IfErr result (RefusesBuild (options_said options.now) plan.now.modules.items) }
+    requires { IsPlanOf (options_said options.now) plan.now.names plan.now }
+    ensures grouped { IfOk result (λ sections. AreGrouped (options_said options.now) plan.now.names plan.now.pieces.items sections.items) }
+    ensures refused { IfErr result (RefusesBuild (options_said options.now) plan.now.names) }
 {
     let used = vec![in alloc; true; plan.pieces.len()]?;
-    match group(alloc, &plan.pieces, &used, &options.merges) {
+    match group(alloc, &plan.pieces, &used, &plan.merges) {
         Ok(sections) => Ok(sections),
         Err(GroupError::BadMerge(name)) => Err(Refusal::Fault(Fault::BadMerge { name })),
         Err(GroupError::Memory) => Err(Refusal::Memory),
@@ -41,11 +41,11 @@ pub(crate) fn place_pieces<'a>(
     sections: &[OutSection<'a>],
     reloc: bool,
 ) -> Result<Layout, Refusal<'a>>
-    requires plan { IsPlanOf (options_said options.now) plan.now.modules.items plan.now }
-    requires grouped { AreGrouped (options_said options.now) plan.now.pieces.items sections.now }
-    requires reloc { reloc ≡ is_relocated (options_said options.now) plan.now.modules.items }
+    requires plan { IsPlanOf (options_said options.now) plan.now.names plan.now }
+    requires grouped { AreGrouped (options_said options.now) plan.now.names plan.now.pieces.items sections.now }
+    requires reloc { reloc ≡ is_relocated (options_said options.now) plan.now.names }
     ensures placed { IfOk result (ArePlaced plan.now.pieces.items sections.now reloc) }
-    ensures refused { IfErr result (RefusesBuild (options_said options.now) plan.now.modules.items) }
+    ensures refused { IfErr result (RefusesBuild (options_said options.now) plan.now.names) }
 {
     match place(alloc, &plan.pieces, sections, reloc) {
         Ok(layout) => Ok(layout),

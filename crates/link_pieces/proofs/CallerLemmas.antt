@@ -10,7 +10,8 @@ use Rattle.coff_records.specs.ObjectFile.{section_total}
 use Rattle.section_group.specs.declared.piece.Piece.{Piece}
 use Rattle.section_group.specs.BarePieces.{bare}
 use Rattle.section_group.specs.SectionOrder.{no_piece}
-use Rattle.module_view.specs.Module.{ModuleView, module_at}
+use Rattle.module_view.specs.Module.{module_at}
+use Rattle.symbol_table.specs.LinkView.{LinkView}
 use Rattle.module_view.specs.SymbolLists.{commons_of}
 use Rattle.link_pieces.specs.Commons.{FIRST_COMMON, is_meant_common, meant_commons, common_piece}
 use Rattle.link_pieces.specs.Pieces.{is_linked, linked_sections, piece_of, pieces_in, link_pieces, IsPieceOf}
@@ -19,66 +20,66 @@ use Rattle.link_pieces.proofs.CommonLemmas.{all_kept_of}
 
 -- ---- what each piece is
 
-section_pieces : (modules : List ModuleView) (m : ℕ) → m < length modules → All (IsPieceOf modules) (map (piece_of m (module_at modules m).bytes) (linked_sections modules m (module_at modules m).bytes))
-section_pieces modules m within =
-    let bytes = (module_at modules m).bytes in
-    all_kept (IsPieceOf modules) (piece_of m bytes) (is_linked modules m bytes) 1 (section_total bytes) (λ section first last linked.
+section_pieces : (link : LinkView) (m : ℕ) → m < length link.modules → All (IsPieceOf link) (map (piece_of m (module_at link.modules m).bytes) (linked_sections link m (module_at link.modules m).bytes))
+section_pieces link m within =
+    let bytes = (module_at link.modules m).bytes in
+    all_kept (IsPieceOf link) (piece_of m bytes) (is_linked link m bytes) 1 (section_total bytes) (λ section first last linked.
     record {
       within = within;
       is = inl (record { first = first; last = omega (arith, last); linked = linked; is = refl });
     })
 
-common_pieces : (modules : List ModuleView) (m : ℕ) → m < length modules → All (IsPieceOf modules) (map (common_piece m) (meant_commons modules m (module_at modules m).bytes))
-common_pieces modules m within =
-    let commons = commons_of (module_at modules m).bytes in
-    All-map (IsPieceOf modules) (common_piece m) (meant_commons modules m (module_at modules m).bytes)
-    (All-weaker (Contains commons) (λ common. IsPieceOf modules (common_piece m common)) (λ common own.
+common_pieces : (link : LinkView) (m : ℕ) → m < length link.modules → All (IsPieceOf link) (map (common_piece link.modules m) (meant_commons link m (module_at link.modules m).bytes))
+common_pieces link m within =
+    let commons = commons_of (module_at link.modules m).bytes in
+    All-map (IsPieceOf link) (common_piece link.modules m) (meant_commons link m (module_at link.modules m).bytes)
+    (All-weaker (Contains commons) (λ common. IsPieceOf link (common_piece link.modules m common)) (λ common own.
     record {
       within = within;
       is = inr (record { common = common; own = own; is = refl });
-    }) (filter (is_meant_common modules m) commons)
-    (all_kept_of (Contains commons) (is_meant_common modules m) commons (All-contains_itself commons)))
+    }) (filter (is_meant_common link m) commons)
+    (all_kept_of (Contains commons) (is_meant_common link m) commons (All-contains_itself commons)))
 
-pub pieces_are : (modules : List ModuleView) → All (IsPieceOf modules) (link_pieces modules)
-pieces_are modules =
-    all_joined (IsPieceOf modules) (λ m. pieces_in modules m (module_at modules m).bytes) 0 (length modules) (λ m low high.
-    let bytes = (module_at modules m).bytes in
-    let within : m < length modules = omega arith in
-    All-append (IsPieceOf modules) (map (piece_of m bytes) (linked_sections modules m bytes)) (map (common_piece m) (meant_commons modules m bytes)) (section_pieces modules m within) (common_pieces modules m within))
+pub pieces_are : (link : LinkView) → All (IsPieceOf link) (link_pieces link)
+pieces_are link =
+    all_joined (IsPieceOf link) (λ m. pieces_in link m (module_at link.modules m).bytes) 0 (length link.modules) (λ m low high.
+    let bytes = (module_at link.modules m).bytes in
+    let within : m < length link.modules = omega arith in
+    All-append (IsPieceOf link) (map (piece_of m bytes) (linked_sections link m bytes)) (map (common_piece link.modules m) (meant_commons link m bytes)) (section_pieces link m within) (common_pieces link m within))
 
-pub piece_is : (modules : List ModuleView) (k : ℕ) → k < length (link_pieces modules) → IsPieceOf modules (get_or (link_pieces modules) k no_piece)
-piece_is modules k lt = pieces_are modules k no_piece lt
+pub piece_is : (link : LinkView) (k : ℕ) → k < length (link_pieces link) → IsPieceOf link (get_or (link_pieces link) k no_piece)
+piece_is link k lt = pieces_are link k no_piece lt
 
 -- a piece without its bytes is one of the link
-pub bare_at : (modules : List ModuleView) (pieces : List Piece) (k : ℕ) → map bare pieces ≡ link_pieces modules → bare (get_or pieces k no_piece) ≡ get_or (link_pieces modules) k no_piece
-bare_at modules pieces k same =
+pub bare_at : (link : LinkView) (pieces : List Piece) (k : ℕ) → map bare pieces ≡ link_pieces link → bare (get_or pieces k no_piece) ≡ get_or (link_pieces link) k no_piece
+bare_at link pieces k same =
     sym (get_or-map bare pieces k no_piece) ∙ ap (λ (ps : List Piece). get_or ps k no_piece) same
 
 -- ---- the piece that a section is
 
 -- it is there, and is that section
-pub record IsFoundAt (modules : List ModuleView) (position section k : ℕ) : Type 0 where
-  pub within : k < length (link_pieces modules)
-  pub is : get_or (link_pieces modules) k no_piece ≡ piece_of position (module_at modules position).bytes section
+pub record IsFoundAt (link : LinkView) (position section k : ℕ) : Type 0 where
+  pub within : k < length (link_pieces link)
+  pub is : get_or (link_pieces link) k no_piece ≡ piece_of position (module_at link.modules position).bytes section
 
 same_place : (position number : ℕ) (piece : Piece) → is_numbered position number piece ≡ true → (piece.«module» ≡ position) × (piece.number ≡ number)
 same_place position number piece e =
     let both = and_parts (eqb piece.«module» position) (eqb piece.number number) e in
     (eqb-true piece.«module» position both.0, eqb-true piece.number number both.1)
 
-pub found_piece : (modules : List ModuleView) (position section k : ℕ) → piece_index modules position section ≡ Some k → IsFoundAt modules position section k
-found_piece modules position section k e =
-    let pieces = link_pieces modules in
+pub found_piece : (link : LinkView) (position section k : ℕ) → piece_index link position section ≡ Some k → IsFoundAt link position section k
+found_piece link position section k e =
+    let pieces = link_pieces link in
     let found = first_below-some (length pieces) k (holds (is_section_of position section) pieces) e in
     let piece = get_or pieces k no_piece in
     let parts = and_parts (is_section piece) (is_numbered position section piece) found.1.0 in
     let small = ltb-true piece.number FIRST_COMMON parts.0 in
     let same = same_place position section piece parts.1 in
-    elim (piece_is modules k found.0).is [
+    elim (piece_is link k found.0).is [
       | inl whole ↦
           record {
             within = found.0;
-            is = whole.is ∙ ap (λ (m : ℕ). piece_of m (module_at modules m).bytes piece.number) same.0 ∙ ap (piece_of position (module_at modules position).bytes) same.1;
+            is = whole.is ∙ ap (λ (m : ℕ). piece_of m (module_at link.modules m).bytes piece.number) same.0 ∙ ap (piece_of position (module_at link.modules position).bytes) same.1;
           }
       | inr common ↦
           let number : piece.number ≡ FIRST_COMMON + common.common.symbol = ap (λ (p : Piece). p.number) common.is in
@@ -86,6 +87,6 @@ found_piece modules position section k e =
     ]
 
 -- a common's piece is there
-pub found_common : (modules : List ModuleView) (position symbol k : ℕ) → common_index modules position symbol ≡ Some k → k < length (link_pieces modules)
-found_common modules position symbol k e =
-    (first_below-some (length (link_pieces modules)) k (holds (is_common_of position symbol) (link_pieces modules)) e).0
+pub found_common : (link : LinkView) (position symbol k : ℕ) → common_index link position symbol ≡ Some k → k < length (link_pieces link)
+found_common link position symbol k e =
+    (first_below-some (length (link_pieces link)) k (holds (is_common_of position symbol) (link_pieces link)) e).0

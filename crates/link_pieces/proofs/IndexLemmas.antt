@@ -1,12 +1,12 @@
 -- An index of pieces, one piece more at a time.
-use Rattle.std.proofs.Common.{◌≡◌, ℕ, ◌+◌, ◌-◌, ◌<◌, ◌≤◌, Bool, true, false, cond, ◌&&◌, eqb, List, [], length, map, get_or, set, Option, Some, None, inl, inr, refl, sym, ap, subst, ◌∙◌, add-one, arith}
+use Rattle.std.proofs.Common.{◌≡◌, ℕ, ◌+◌, ◌-◌, ◌<◌, ◌≤◌, Bool, true, false, cond, ◌&&◌, eqb, List, [], length, map, get_or, set, Option, Some, None, inl, inr, refl, sym, ap, ◌∙◌, add-one, arith}
 use Rattle.std.specs.Option.{option_or}
 use Rattle.std.specs.Global.{Global}
 use Rattle.std.specs.Prelude.{Vec}
 use Rattle.std.specs.List.{All}
 use Rattle.std.proofs.lemmas.Bool.{eq-eqb, lt-ltb, le-ltb}
 use Rattle.std.proofs.lemmas.Bool.Decides.{eqb_tells}
-use Rattle.std.proofs.lemmas.List.{map-set, get_or-map, get_or-set_same, get_or-set_other, get_or_default, length-map, length-set}
+use Rattle.std.proofs.lemmas.List.{map-set, get_or-map, get_or-set_same, get_or-set_other, get_or_default, length-set}
 use Rattle.std.proofs.Math.ListN.{get_or-map as get_or-map_same}
 use Rattle.link_base.specs.Bytes.{first_below}
 use Rattle.section_group.specs.declared.piece.Piece.{Piece}
@@ -14,12 +14,14 @@ use Rattle.section_group.specs.BarePieces.{bare}
 use Rattle.section_group.specs.SectionOrder.{no_piece}
 use Rattle.coff_records.specs.ObjectFile.{section_total}
 use Rattle.module_view.specs.Module.{ModuleView, no_module, module_at}
+use Rattle.symbol_table.specs.LinkView.{LinkView}
 use Rattle.link_pieces.specs.Commons.{FIRST_COMMON, HasFewSections}
 use Rattle.link_pieces.specs.Pieces.{link_pieces, IsPieceOf}
-use Rattle.link_pieces.proofs.CallerLemmas.{piece_is, bare_at}
+use Rattle.link_pieces.proofs.CallerLemmas.{pieces_are}
+use Rattle.std.proofs.lemmas.List.Elements.{All-weaker}
 use Rattle.link_pieces.proofs.CommonLemmas.{common_place}
 use Rattle.link_pieces.specs.PieceIndex.{is_section_of, is_common_of, holds, indexed}
-use Rattle.link_pieces.specs.Rows.{items_of, section_places, common_places, HasRows}
+use Rattle.link_pieces.specs.Rows.{items_of, section_places, common_places, HasRows, HasPlace}
 use Rattle.link_base.proofs.RefusalLemmas.{or_none}
 
 -- a row that is replaced
@@ -153,39 +155,42 @@ noted_same places modules test pieces k piece rows lt read fails are = record {
   noted = λ m n. index_same (test m n) pieces k piece (indexed rows m n) lt read (fails m n) (are.noted m n);
 }
 
--- ---- room in rows
+-- ---- places in rows
 
 -- there is a place for a number of a module
 pub record IsInRows (rows : List (List (Option ℕ))) (position number : ℕ) : Type 0 where
   pub row : position < length rows
   pub cell : number < length (get_or rows position [])
 
-piece_read : (modules : List ModuleView) (pieces : List Piece) (k : ℕ) (piece : Piece) → map bare pieces ≡ link_pieces modules → k < length pieces → piece ≡ get_or pieces k piece → IsPieceOf modules (bare piece)
-piece_read modules pieces k piece same lt read =
-    let inside : k < length (link_pieces modules) = omega (arith, ap length same, length-map pieces bare) in
-    let is : bare piece ≡ get_or (link_pieces modules) k no_piece = ap bare (read ∙ get_or_default pieces k piece no_piece lt) ∙ bare_at modules pieces k same in
-    subst (IsPieceOf modules) (sym is) (piece_is modules k inside)
+place_of : (link : LinkView) (piece : Piece) → All HasFewSections link.modules → IsPieceOf link piece → HasPlace link.modules piece.«module» piece.number
+place_of link piece few whole = record {
+  within = whole.within;
+  section = λ small.
+      elim whole.is [
+        | inl section ↦ omega (arith, section.last)
+        | inr common ↦ absurd (omega (arith, small, ap (λ (p : Piece). p.number) common.is))
+      ];
+  common = λ large.
+      elim whole.is [
+        | inl section ↦
+            let total : section_total (module_at link.modules piece.«module»).bytes < FIRST_COMMON = few piece.«module» no_module whole.within in
+            absurd (omega (arith, large, section.last, total))
+        | inr common ↦
+            let number : piece.number ≡ FIRST_COMMON + common.common.symbol = ap (λ (p : Piece). p.number) common.is in
+            let room = common_place (module_at link.modules piece.«module»).bytes common.common common.own in
+            omega (arith, room, number)
+      ];
+}
 
-pub section_room : (modules : List ModuleView) (pieces : List Piece) (rows : List (List (Option ℕ))) (k : ℕ) (piece : Piece) → map bare pieces ≡ link_pieces modules → length rows ≡ length modules → ((m : ℕ) → m < length modules → length (get_or rows m []) ≡ section_places (module_at modules m).bytes) → k < length pieces → piece ≡ get_or pieces k piece → piece.number < FIRST_COMMON → IsInRows rows piece.«module» piece.number
-section_room modules pieces rows k piece same for_each long lt read small =
-    let whole = piece_read modules pieces k piece same lt read in
-    elim whole.is [
-      | inl section ↦
-          record { row = omega (arith, whole.within, for_each); cell = omega (arith, long piece.«module» whole.within, section.last) }
-      | inr common ↦
-          let number : piece.number ≡ FIRST_COMMON + common.common.symbol = ap (λ (p : Piece). p.number) common.is in
-          absurd (omega (arith, small, number))
-    ]
+pub all_placed : (link : LinkView) → All HasFewSections link.modules → All (λ piece. HasPlace link.modules piece.«module» piece.number) (link_pieces link)
+all_placed link few =
+    All-weaker (IsPieceOf link) (λ (piece : Piece). HasPlace link.modules piece.«module» piece.number) (λ piece whole. place_of link piece few whole) (link_pieces link) (pieces_are link)
 
-pub common_room : (modules : List ModuleView) (pieces : List Piece) (rows : List (List (Option ℕ))) (k : ℕ) (piece : Piece) → map bare pieces ≡ link_pieces modules → All HasFewSections modules → length rows ≡ length modules → ((m : ℕ) → m < length modules → length (get_or rows m []) ≡ common_places (module_at modules m).bytes) → k < length pieces → piece ≡ get_or pieces k piece → FIRST_COMMON ≤ piece.number → IsInRows rows piece.«module» (piece.number - FIRST_COMMON)
-common_room modules pieces rows k piece same few for_each long lt read large =
-    let whole = piece_read modules pieces k piece same lt read in
-    elim whole.is [
-      | inl section ↦
-          let total : section_total (module_at modules piece.«module»).bytes < FIRST_COMMON = few piece.«module» no_module whole.within in
-          absurd (omega (arith, large, section.last, total))
-      | inr common ↦
-          let number : piece.number ≡ FIRST_COMMON + common.common.symbol = ap (λ (p : Piece). p.number) common.is in
-          let room = common_place (module_at modules piece.«module»).bytes common.common common.own in
-          record { row = omega (arith, whole.within, for_each); cell = omega (arith, long piece.«module» whole.within, room, number) }
-    ]
+-- rows of so many places have it
+pub in_section_rows : (modules : List ModuleView) (rows : List (List (Option ℕ))) (position number : ℕ) → length rows ≡ length modules → ((m : ℕ) → m < length modules → length (get_or rows m []) ≡ section_places (module_at modules m).bytes) → HasPlace modules position number → number < FIRST_COMMON → IsInRows rows position number
+in_section_rows modules rows position number for_each long has small =
+    record { row = omega (arith, has.within, for_each); cell = omega (arith, long position has.within, has.section small) }
+
+pub in_common_rows : (modules : List ModuleView) (rows : List (List (Option ℕ))) (position number : ℕ) → length rows ≡ length modules → ((m : ℕ) → m < length modules → length (get_or rows m []) ≡ common_places (module_at modules m).bytes) → HasPlace modules position number → FIRST_COMMON ≤ number → IsInRows rows position (number - FIRST_COMMON)
+in_common_rows modules rows position number for_each long has large =
+    record { row = omega (arith, has.within, for_each); cell = omega (arith, long position has.within, has.common large) }

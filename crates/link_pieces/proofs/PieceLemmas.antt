@@ -19,10 +19,13 @@ use Rattle.section_group.specs.BarePieces.{bare}
 use Rattle.address_layout.specs.Layout.{IsAlignment}
 use Rattle.section_group.specs.PieceContents.{piece_contents, HasItsBytes}
 use Rattle.module_view.specs.Module.{ModuleView, no_module, module_at}
+use Rattle.symbol_table.specs.LinkView.{LinkView}
 use Rattle.module_view.specs.Opening.{IsOpened}
 use Rattle.module_view.specs.declared.definition.Common.{Common}
 use Rattle.module_view.proofs.CallerLemmas.{opened_sound}
-use Rattle.link_pieces.specs.Commons.{meant_commons, common_piece}
+use Rattle.link_directives.specs.LinkDirectives.{raised_alignment}
+use Rattle.link_directives.proofs.CallerLemmas.{raised_holds}
+use Rattle.link_pieces.specs.Commons.{meant_commons, common_alignment, common_piece}
 use Rattle.link_pieces.specs.Pieces.{is_linked, linked_sections, piece_of, section_contents, no_contents, pieces_in, contents_in, link_pieces, link_contents}
 use Rattle.link_pieces.proofs.CommonLemmas.{common_aligned}
 
@@ -69,20 +72,20 @@ section_filled position bytes section sound first last =
     filled (is_uninitialised bytes section) (raw_size_of bytes section) (bytes_at bytes (raw_offset_of bytes section) (raw_size_of bytes section)) (body_length bytes section sound first last)
 
 -- a common is not initialised
-commons_filled : (position : ℕ) (commons : List Common) → Paired IsFilled (map (common_piece position) commons) (map no_contents commons)
-commons_filled position [] = tt
-commons_filled position (common ∷ commons) = (λ e. absurd (false≢true e), commons_filled position commons)
+commons_filled : (modules : List ModuleView) (position : ℕ) (commons : List Common) → Paired IsFilled (map (common_piece modules position) commons) (map no_contents commons)
+commons_filled modules position [] = tt
+commons_filled modules position (common ∷ commons) = (λ e. absurd (false≢true e), commons_filled modules position commons)
 
-link_filled : (modules : List ModuleView) → ((m : ℕ) → m < length modules → object_fault (module_at modules m).bytes ≡ None) → Paired IsFilled (link_pieces modules) (link_contents modules)
-link_filled modules sound =
-    paired_joined IsFilled (λ m. pieces_in modules m (module_at modules m).bytes) (λ m. contents_in modules m (module_at modules m).bytes) 0 (length modules) (λ m low high.
-    let bytes = (module_at modules m).bytes in
-    let within : m < length modules = omega arith in
-    let commons = meant_commons modules m bytes in
-    paired_append IsFilled (map (piece_of m bytes) (linked_sections modules m bytes)) (map (common_piece m) commons) (map (section_contents bytes) (linked_sections modules m bytes)) (map no_contents commons)
-    (paired_kept IsFilled (piece_of m bytes) (section_contents bytes) (is_linked modules m bytes) 1 (section_total bytes) (λ section first last.
+link_filled : (link : LinkView) → ((m : ℕ) → m < length link.modules → object_fault (module_at link.modules m).bytes ≡ None) → Paired IsFilled (link_pieces link) (link_contents link)
+link_filled link sound =
+    paired_joined IsFilled (λ m. pieces_in link m (module_at link.modules m).bytes) (λ m. contents_in link m (module_at link.modules m).bytes) 0 (length link.modules) (λ m low high.
+    let bytes = (module_at link.modules m).bytes in
+    let within : m < length link.modules = omega arith in
+    let commons = meant_commons link m bytes in
+    paired_append IsFilled (map (piece_of m bytes) (linked_sections link m bytes)) (map (common_piece link.modules m) commons) (map (section_contents bytes) (linked_sections link m bytes)) (map no_contents commons)
+    (paired_kept IsFilled (piece_of m bytes) (section_contents bytes) (is_linked link m bytes) 1 (section_total bytes) (λ section first last.
     section_filled m bytes section (sound m within) first (omega arith)))
-    (commons_filled m commons))
+    (commons_filled link.modules m commons))
 
 filled_at : (pieces : List Piece) (k : ℕ) → Paired IsFilled (map bare pieces) (map piece_contents pieces) → k < length pieces → HasItsBytes pieces k
 filled_at [] k paired lt = absurd (omega arith)
@@ -90,15 +93,15 @@ filled_at (piece ∷ pieces) zero paired lt = paired.0
 filled_at (piece ∷ pieces) (suc k) paired lt = filled_at pieces k paired.1 (omega arith)
 
 -- the object of each module is well formed
-pub each_sound : (modules : List ModuleView) → All IsOpened modules → (m : ℕ) → m < length modules → object_fault (module_at modules m).bytes ≡ None
-each_sound modules all m lt = opened_sound (module_at modules m).bytes (all m no_module lt)
+pub each_sound : (link : LinkView) → All IsOpened link.modules → (m : ℕ) → m < length link.modules → object_fault (module_at link.modules m).bytes ≡ None
+each_sound link all m lt = opened_sound (module_at link.modules m).bytes (all m no_module lt)
 
-pub bodies : (modules : List ModuleView) (pieces : List Piece) → All IsOpened modules → map bare pieces ≡ link_pieces modules → map piece_contents pieces ≡ link_contents modules → (k : ℕ) → k < length pieces → HasItsBytes pieces k
-bodies modules pieces sound same_pieces same_contents k lt =
+pub bodies : (link : LinkView) (pieces : List Piece) → All IsOpened link.modules → map bare pieces ≡ link_pieces link → map piece_contents pieces ≡ link_contents link → (k : ℕ) → k < length pieces → HasItsBytes pieces k
+bodies link pieces sound same_pieces same_contents k lt =
     filled_at pieces k
     (subst (λ (ps : List Piece). Paired IsFilled ps (map piece_contents pieces)) (sym same_pieces)
-    (subst (λ (cs : List (List ℕ)). Paired IsFilled (link_pieces modules) cs) (sym same_contents)
-    (link_filled modules (each_sound modules sound)))) lt
+    (subst (λ (cs : List (List ℕ)). Paired IsFilled (link_pieces link) cs) (sym same_contents)
+    (link_filled link (each_sound link sound)))) lt
 
 -- ---- alignments
 
@@ -113,27 +116,31 @@ pub alignment : (align : ℕ) → IsPower align → IsAlignment align
 alignment align p =
     subst IsAlignment (sym p.is) (record { positive = pow_pos p.power; divides = divides p.power p.small })
 
-over_bare : (P : Piece → Type 0) (pieces : List Piece) → All P (map bare pieces) → All (λ piece. P (bare piece)) pieces
+pub over_bare : (P : Piece → Type 0) (pieces : List Piece) → All P (map bare pieces) → All (λ piece. P (bare piece)) pieces
 over_bare P pieces all = λ k d lt.
     let lt' : k < length (map bare pieces) = omega (arith, length-map pieces bare) in
     subst P (get_or-map bare pieces k d) (all k (bare d) lt')
 
-commons_aligned : (position : ℕ) (commons : List Common) → All (λ piece. IsAlignment piece.align) (map (common_piece position) commons)
-commons_aligned position [] = All-nil (λ piece. IsAlignment piece.align)
-commons_aligned position (common ∷ commons) =
-    All-cons (λ (piece : Piece). IsAlignment piece.align) (common_piece position common) (map (common_piece position) commons) (common_aligned common.size) (commons_aligned position commons)
+raised_aligned : (modules : List ModuleView) (name : List ℕ) (align : ℕ) → IsAlignment align → IsAlignment (raised_alignment modules name align)
+raised_aligned modules name align aligned =
+    raised_holds IsAlignment modules name align aligned (λ power small. record { positive = pow_pos power; divides = divides power small })
 
-pub aligned : (modules : List ModuleView) (pieces : List Piece) → All IsOpened modules → map bare pieces ≡ link_pieces modules → All (λ piece. IsAlignment piece.align) pieces
-aligned modules pieces sound same =
+commons_aligned : (modules : List ModuleView) (position : ℕ) (commons : List Common) → All (λ piece. IsAlignment piece.align) (map (common_piece modules position) commons)
+commons_aligned modules position [] = All-nil (λ piece. IsAlignment piece.align)
+commons_aligned modules position (common ∷ commons) =
+    All-cons (λ (piece : Piece). IsAlignment piece.align) (common_piece modules position common) (map (common_piece modules position) commons) (raised_aligned modules common.name (common_alignment common.size) (common_aligned common.size)) (commons_aligned modules position commons)
+
+pub aligned : (link : LinkView) (pieces : List Piece) → All IsOpened link.modules → map bare pieces ≡ link_pieces link → All (λ piece. IsAlignment piece.align) pieces
+aligned link pieces sound same =
     over_bare (λ piece. IsAlignment piece.align) pieces
     (subst (All (λ (piece : Piece). IsAlignment piece.align)) (sym same)
-    (all_joined (λ piece. IsAlignment piece.align) (λ m. pieces_in modules m (module_at modules m).bytes) 0 (length modules) (λ m low high.
-    let bytes = (module_at modules m).bytes in
-    let within : m < length modules = omega arith in
-    All-append (λ (piece : Piece). IsAlignment piece.align) (map (piece_of m bytes) (linked_sections modules m bytes)) (map (common_piece m) (meant_commons modules m bytes))
-    (all_kept (λ piece. IsAlignment piece.align) (piece_of m bytes) (is_linked modules m bytes) 1 (section_total bytes) (λ section first last linked.
-    alignment (alignment_of (flags_of bytes section)) (section_alignment bytes section (each_sound modules sound m within) first (omega arith))))
-    (commons_aligned m (meant_commons modules m bytes)))))
+    (all_joined (λ piece. IsAlignment piece.align) (λ m. pieces_in link m (module_at link.modules m).bytes) 0 (length link.modules) (λ m low high.
+    let bytes = (module_at link.modules m).bytes in
+    let within : m < length link.modules = omega arith in
+    All-append (λ (piece : Piece). IsAlignment piece.align) (map (piece_of m bytes) (linked_sections link m bytes)) (map (common_piece link.modules m) (meant_commons link m bytes))
+    (all_kept (λ piece. IsAlignment piece.align) (piece_of m bytes) (is_linked link m bytes) 1 (section_total bytes) (λ section first last linked.
+    alignment (alignment_of (flags_of bytes section)) (section_alignment bytes section (each_sound link sound m within) first (omega arith))))
+    (commons_aligned link.modules m (meant_commons link m bytes)))))
 
 -- ---- modules, one more in a loop
 

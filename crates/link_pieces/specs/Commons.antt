@@ -10,6 +10,8 @@ use Rattle.module_view.specs.declared.definition.Common.{Common}
 use Rattle.symbol_table.specs.declared.meaning.Meaning.{Meaning}
 use Rattle.symbol_table.specs.declared.meaning.Meaning.TheVariants as meaning
 use Rattle.symbol_table.specs.declared.meaning.NoMeaning.{NoMeaning}
+use Rattle.symbol_table.specs.LinkView.{LinkView}
+use Rattle.link_directives.specs.LinkDirectives.{raised_alignment}
 use Rattle.link_pieces.specs.NameMeaning.{name_meaning}
 
 -- ---- which of them
@@ -26,11 +28,11 @@ is_that_common position symbol (Ok meaning.ImageBase) = false
 is_that_common position symbol (Err none) = false
 
 -- some name means a common exactly where its own name does: a chain that ends at it comes to that name
-abbrev pub is_meant_common : List ModuleView → ℕ → Common → Bool
-is_meant_common modules position common = is_that_common position common.symbol (name_meaning modules common.name)
+abbrev pub is_meant_common : LinkView → ℕ → Common → Bool
+is_meant_common link position common = is_that_common position common.symbol (name_meaning link common.name)
 
-abbrev pub meant_commons : List ModuleView → ℕ → List ℕ → List Common
-meant_commons modules position bytes = filter (is_meant_common modules position) (commons_of bytes)
+abbrev pub meant_commons : LinkView → ℕ → List ℕ → List Common
+meant_commons link position bytes = filter (is_meant_common link position) (commons_of bytes)
 
 -- ---- what they are
 
@@ -53,21 +55,22 @@ FIRST_COMMON = 16777216
 abbrev pub HasFewSections : ModuleView → Type 0
 HasFewSections view = section_total view.bytes < FIRST_COMMON
 
-abbrev pub common_piece : ℕ → Common → Piece
-common_piece position common = record {
+-- directives raise its alignment
+abbrev pub common_piece : List ModuleView → ℕ → Common → Piece
+common_piece modules position common = record {
   «module» = position;
   number = FIRST_COMMON + common.symbol;
   name = codes ".bss";
   flags = COMMON_FLAGS;
   size = common.size;
-  align = common_alignment common.size;
+  align = raised_alignment modules common.name (common_alignment common.size);
   body = None;
   init = false;
   named = true;
 }
 
 -- a piece is a common of the module at a position
-pub record IsCommonOf (position : ℕ) (bytes : List ℕ) (piece : Piece) : Type 0 where
+pub record IsCommonOf (modules : List ModuleView) (position : ℕ) (bytes : List ℕ) (piece : Piece) : Type 0 where
   pub common : Common
   pub own : Contains (commons_of bytes) common
-  pub is : piece ≡ common_piece position common
+  pub is : piece ≡ common_piece modules position common

@@ -3,7 +3,7 @@ use Rattle.std.specs.Prelude.{◌≡◌, ℕ, ◌+◌, Bool, ◌&&◌, ◌==◌,
 use Rattle.link_base.specs.Bytes.{first_below}
 use Rattle.section_group.specs.declared.piece.Piece.{Piece}
 use Rattle.section_group.specs.SectionOrder.{no_piece}
-use Rattle.module_view.specs.Module.{ModuleView}
+use Rattle.symbol_table.specs.LinkView.{LinkView}
 use Rattle.link_pieces.specs.Commons.{FIRST_COMMON}
 use Rattle.link_pieces.specs.Pieces.{link_pieces}
 
@@ -28,14 +28,14 @@ holds test pieces k = test (slice_index_or pieces k no_piece)
 -- ---- among the pieces of a link
 
 -- the piece that is a section of the module at a position, where that comes into the image
-abbrev pub piece_index : List ModuleView → ℕ → ℕ → Option ℕ
-piece_index modules position section =
-    first_below (length (link_pieces modules)) (holds (is_section_of position section) (link_pieces modules))
+abbrev pub piece_index : LinkView → ℕ → ℕ → Option ℕ
+piece_index link position section =
+    first_below (length (link_pieces link)) (holds (is_section_of position section) (link_pieces link))
 
 -- the piece that is a common of the module at a position, by the record of its symbol, where some name means it
-abbrev pub common_index : List ModuleView → ℕ → ℕ → Option ℕ
-common_index modules position symbol =
-    first_below (length (link_pieces modules)) (holds (is_common_of position symbol) (link_pieces modules))
+abbrev pub common_index : LinkView → ℕ → ℕ → Option ℕ
+common_index link position symbol =
+    first_below (length (link_pieces link)) (holds (is_common_of position symbol) (link_pieces link))
 
 -- ---- an index
 
@@ -49,6 +49,6 @@ pub record IndexView : Type 0 where
   pub commons : List (List (Option ℕ))
 
 -- they tell the piece of each
-pub record IsPieceIndex (modules : List ModuleView) (index : IndexView) : Type 0 where
-  pub sections : (position section : ℕ) → indexed index.sections position section ≡ piece_index modules position section
-  pub commons : (position symbol : ℕ) → indexed index.commons position symbol ≡ common_index modules position symbol
+pub record IsPieceIndex (link : LinkView) (index : IndexView) : Type 0 where
+  pub sections : (position section : ℕ) → indexed index.sections position section ≡ piece_index link position section
+  pub commons : (position symbol : ℕ) → indexed index.commons position symbol ≡ common_index link position symbol

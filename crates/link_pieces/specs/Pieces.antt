@@ -4,13 +4,14 @@ use Rattle.std.specs.Prelude.{◌≡◌, ◌<◌, ◌≤◌, ◌⊎◌, ℕ, Boo
 use Rattle.std.specs.List.{range_with_len, flat_map, list_any}
 use Rattle.coff_records.specs.ObjectFile.{section_total, section_name_of, raw_size_of, flags_of, alignment_of, is_uninitialised, body_of}
 use Rattle.section_group.specs.declared.piece.Piece.{Piece}
-use Rattle.module_view.specs.Module.{ModuleView, module_at}
+use Rattle.module_view.specs.Module.{module_at}
 use Rattle.module_view.specs.PlacedSection.{is_placed}
 use Rattle.module_view.specs.SymbolLists.{definitions_of}
 use Rattle.module_view.specs.declared.definition.Common.{Common}
 use Rattle.module_view.specs.declared.definition.Definition.{Definition}
 use Rattle.module_view.specs.declared.definition.Place.{Place}
 use Rattle.module_view.specs.declared.definition.Place.TheVariants as place
+use Rattle.symbol_table.specs.LinkView.{LinkView}
 use Rattle.link_pieces.specs.NameMeaning.{takes_part}
 use Rattle.link_pieces.specs.Commons.{meant_commons, common_piece, IsCommonOf}
 
@@ -50,43 +51,43 @@ section_contents bytes section = unwrap_or (body_of bytes section) []
 -- ---- all that come into the image
 
 -- a section that takes part in the link
-abbrev pub is_linked : List ModuleView → ℕ → List ℕ → ℕ → Bool
-is_linked modules position bytes section = takes_part modules position section && is_placed bytes section
+abbrev pub is_linked : LinkView → ℕ → List ℕ → ℕ → Bool
+is_linked link position bytes section = takes_part link position section && is_placed bytes section
 
-abbrev pub linked_sections : List ModuleView → ℕ → List ℕ → List ℕ
-linked_sections modules position bytes = filter (is_linked modules position bytes) (range_with_len 1 (section_total bytes))
+abbrev pub linked_sections : LinkView → ℕ → List ℕ → List ℕ
+linked_sections link position bytes = filter (is_linked link position bytes) (range_with_len 1 (section_total bytes))
 
 -- its sections in the order of their headers, then its commons in the order of their symbols
-abbrev pub pieces_in : List ModuleView → ℕ → List ℕ → List Piece
-pieces_in modules position bytes =
-    map (piece_of position bytes) (linked_sections modules position bytes)
-    ++ map (common_piece position) (meant_commons modules position bytes)
+abbrev pub pieces_in : LinkView → ℕ → List ℕ → List Piece
+pieces_in link position bytes =
+    map (piece_of position bytes) (linked_sections link position bytes)
+    ++ map (common_piece link.modules position) (meant_commons link position bytes)
 
 -- a common holds nothing
 abbrev pub no_contents : Common → List ℕ
 no_contents common = []
 
-abbrev pub contents_in : List ModuleView → ℕ → List ℕ → List (List ℕ)
-contents_in modules position bytes =
-    map (section_contents bytes) (linked_sections modules position bytes)
-    ++ map no_contents (meant_commons modules position bytes)
+abbrev pub contents_in : LinkView → ℕ → List ℕ → List (List ℕ)
+contents_in link position bytes =
+    map (section_contents bytes) (linked_sections link position bytes)
+    ++ map no_contents (meant_commons link position bytes)
 
-abbrev pub link_pieces : List ModuleView → List Piece
-link_pieces modules = flat_map (λ k. pieces_in modules k (module_at modules k).bytes) (range_with_len 0 (length modules))
+abbrev pub link_pieces : LinkView → List Piece
+link_pieces link = flat_map (λ k. pieces_in link k (module_at link.modules k).bytes) (range_with_len 0 (length link.modules))
 
-abbrev pub link_contents : List ModuleView → List (List ℕ)
-link_contents modules = flat_map (λ k. contents_in modules k (module_at modules k).bytes) (range_with_len 0 (length modules))
+abbrev pub link_contents : LinkView → List (List ℕ)
+link_contents link = flat_map (λ k. contents_in link k (module_at link.modules k).bytes) (range_with_len 0 (length link.modules))
 
 -- ---- what a piece is
 
 -- a section of its module that comes into the image
-pub record IsSectionOf (modules : List ModuleView) (piece : Piece) : Type 0 where
+pub record IsSectionOf (link : LinkView) (piece : Piece) : Type 0 where
   pub first : 1 ≤ piece.number
-  pub last : piece.number ≤ section_total (module_at modules piece.«module»).bytes
-  pub linked : is_linked modules piece.«module» (module_at modules piece.«module»).bytes piece.number ≡ true
-  pub is : piece ≡ piece_of piece.«module» (module_at modules piece.«module»).bytes piece.number
+  pub last : piece.number ≤ section_total (module_at link.modules piece.«module»).bytes
+  pub linked : is_linked link piece.«module» (module_at link.modules piece.«module»).bytes piece.number ≡ true
+  pub is : piece ≡ piece_of piece.«module» (module_at link.modules piece.«module»).bytes piece.number
 
 -- or a common of its module
-pub record IsPieceOf (modules : List ModuleView) (piece : Piece) : Type 0 where
-  pub within : piece.«module» < length modules
-  pub is : IsSectionOf modules piece ⊎ IsCommonOf piece.«module» (module_at modules piece.«module»).bytes piece
+pub record IsPieceOf (link : LinkView) (piece : Piece) : Type 0 where
+  pub within : piece.«module» < length link.modules
+  pub is : IsSectionOf link piece ⊎ IsCommonOf link.modules piece.«module» (module_at link.modules piece.«module»).bytes piece

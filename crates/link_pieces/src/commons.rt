@@ -1,12 +1,15 @@
 //! The commons that names mean, as pieces.
 
-ghost use Rattle.std.specs.Prelude.{◌≡◌, ◌<◌, ◌^◌, []};
+ghost use Rattle.std.specs.Prelude.{◌≡◌, ◌<◌, ◌^◌, [], List};
 ghost use Rattle.section_group.specs.BarePieces.{bare};
 ghost use Rattle.section_group.specs.PieceContents.{piece_contents};
+ghost use Rattle.module_view.specs.Module.{ModuleView};
+ghost use Rattle.link_directives.specs.Alignments.{AreAsked};
 ghost use Rattle.link_pieces.specs.Commons.{is_meant_common, common_alignment, common_piece};
 
 use crate::names::LinkNames;
 use link_base::Name;
+use link_directives::CommonAlignments;
 use module_view::Common;
 use section_group::Piece;
 use symbol_table::Meaning;
@@ -27,10 +30,14 @@ pub(crate) fn is_meant<'a>(names: &LinkNames<'a>, position: u32, common: &Common
     }
 }
 
-/// The piece that a common of the module at a position is.
-pub(crate) fn common_piece<'a>(position: u32, common: &Common<'a>) -> Piece<'a>
+/// The piece that a common of the module at a position is, as it is aligned by its size and by directives.
+pub(crate) fn common_piece<'a>(
+    alignments: &CommonAlignments<'a>,
+    position: u32,
+    common: &Common<'a>,
+) -> Piece<'a>
     requires { common.now.symbol < 2 ^ 31 }
-    ensures piece { bare result ≡ common_piece position common.now }
+    ensures piece { (modules : List ModuleView) → AreAsked modules alignments.now → bare result ≡ common_piece modules position common.now }
     ensures contents { piece_contents result ≡ [] }
 {
     Piece {
@@ -39,7 +46,7 @@ pub(crate) fn common_piece<'a>(position: u32, common: &Common<'a>) -> Piece<'a>
         name: Name::of(b".bss"),
         flags: COMMON_FLAGS,
         size: common.size,
-        align: common_alignment(common.size),
+        align: alignments.raised(&common.name, common_alignment(common.size)),
         body: None,
         init: false,
         named: true,

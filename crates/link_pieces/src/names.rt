@@ -22,15 +22,15 @@ pub struct LinkNames<'a> {
 }
 
 impl<'a> Model for LinkNames<'a> {
-    ghost use Rattle.std.specs.Prelude.{◌≡◌, List};
-    ghost use Rattle.module_view.specs.Module.{ModuleView};
+    ghost use Rattle.std.specs.Prelude.{◌≡◌};
+    ghost use Rattle.symbol_table.specs.LinkView.{LinkView};
     ghost use Rattle.comdat.specs.Selection.{chosen_sections};
 
-    ghost Value = { List ModuleView };
+    ghost Value = { LinkView };
 
-    ghost view = { λ t. t.names.modules };
+    ghost view = { λ t. t.names.link };
 
-    ghost invariant = { λ t. t.names.chosen ≡ chosen_sections t.names.modules };
+    ghost invariant = { λ t. t.names.chosen ≡ chosen_sections t.names.link.modules };
 }
 
 impl<'a> LinkNames<'a> {
@@ -49,15 +49,20 @@ impl<'a> LinkNames<'a> {
     }
 }
 
-/// The names of the modules. COMDAT sections that conflict are refused (`ComdatConflict`).
-pub fn link_names<'a>(alloc: Global, modules: &[Module<'a>]) -> Result<LinkNames<'a>, Refusal<'a>>
+/// The names of the modules, with the alternates that the command line gives. COMDAT sections that conflict are refused
+/// (`ComdatConflict`).
+pub fn link_names<'a>(
+    alloc: Global,
+    alternates: &[(Name<'a>, Name<'a>)],
+    modules: &[Module<'a>],
+) -> Result<LinkNames<'a>, Refusal<'a>>
     requires { length modules.now ≤ MODULE_LIMIT }
-    ensures names { IfOk result (λ names. names ≡ modules.now) }
+    ensures names { IfOk result (λ names. names ≡ record { alternates = alternates.now; modules = modules.now }) }
     ensures accepted { OnOk result (conflict_fault modules.now ≡ None) }
     ensures refused { IfErr result (RefusesFor (conflict_fault modules.now)) }
 {
     let chosen = choose(alloc, modules)?;
-    let table = table_of(alloc, modules)?;
+    let table = table_of(alloc, alternates, modules)?;
     let names = table.resolved(alloc, chosen)?;
     Ok(LinkNames { names })
 }
@@ -86,12 +91,16 @@ fn choose<'a>(alloc: Global, modules: &[Module<'a>]) -> Result<Chosen, Refusal<'
     }
 }
 
-/// The table of the names of all modules.
-fn table_of<'a>(alloc: Global, modules: &[Module<'a>]) -> Result<SymbolTable<'a>, Memory>
+/// The table of the names of all modules, and of these alternates.
+fn table_of<'a>(
+    alloc: Global,
+    alternates: &[(Name<'a>, Name<'a>)],
+    modules: &[Module<'a>],
+) -> Result<SymbolTable<'a>, Memory>
     requires { length modules.now ≤ MODULE_LIMIT }
-    ensures { IfOk result (λ table. table ≡ modules.now) }
+    ensures { IfOk result (λ table. table ≡ record { alternates = alternates.now; modules = modules.now }) }
 {
-    let mut table = SymbolTable::new(alloc);
+    let mut table = SymbolTable::new(alloc, alternates)?;
     for module in modules {
         table.add_module(module)?;
     }
@@ -100,8 +109,8 @@ fn table_of<'a>(alloc: Global, modules: &[Module<'a>]) -> Result<SymbolTable<'a>
 
 /// That no name is defined twice: else the input is refused (`Duplicate`).
 pub fn check_clash<'a>(names: &LinkNames<'a>) -> Result<(), Fault<'a>>
-    ensures accepted { OnOk result (clash_fault names.now ≡ None) }
-    ensures refused { IfErr result (λ fault. clash_fault names.now ≡ Some fault) }
+    ensures accepted { OnOk result (clash_fault names.now.modules ≡ None) }
+    ensures refused { IfErr result (λ fault. clash_fault names.now.modules ≡ Some fault) }
 {
     match names.names.clash() {
         None => Ok(()),

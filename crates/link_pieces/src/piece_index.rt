@@ -5,9 +5,10 @@ ghost use Rattle.std.specs.Option.{option_or};
 ghost use Rattle.section_group.specs.BarePieces.{bare};
 ghost use Rattle.link_pieces.specs.Pieces.{link_pieces};
 ghost use Rattle.coff_records.specs.ObjectFile.{section_total};
-ghost use Rattle.link_pieces.specs.Commons.{FIRST_COMMON, HasFewSections};
+ghost use Rattle.symbol_table.specs.LinkView.{LinkView};
+ghost use Rattle.link_pieces.specs.Commons.{FIRST_COMMON};
 ghost use Rattle.link_pieces.specs.PieceIndex.{indexed, IsPieceIndex};
-ghost use Rattle.link_pieces.specs.Rows.{items_of, section_places, common_places, HasRows};
+ghost use Rattle.link_pieces.specs.Rows.{items_of, section_places, common_places, HasRows, HasPlace};
 
 use crate::commons::FIRST_COMMON;
 use link_base::Memory;
@@ -41,10 +42,9 @@ impl PieceIndex {
         modules: &[Module<'_>],
         pieces: &[Piece<'_>],
     ) -> Result<PieceIndex, Memory>
-        requires pieces { map bare pieces.now ≡ link_pieces modules.now }
+        requires placed { All (λ piece. HasPlace modules.now piece.«module» piece.number) pieces.now }
         requires few { length pieces.now < 2 ^ 31 }
-        requires few_sections { All HasFewSections modules.now }
-        ensures { IfOk result (IsPieceIndex modules.now) }
+        ensures { IfOk result (λ index. (link : LinkView) → map bare pieces.now ≡ link_pieces link → IsPieceIndex link index) }
     {
         let mut sections = section_rows(alloc, modules)?;
         let mut commons = common_rows(alloc, modules)?;

@@ -9,7 +9,9 @@ ghost use Rattle.address_layout.specs.Layout.{IsAlignment};
 ghost use Rattle.section_group.specs.PieceContents.{piece_contents, HasItsBytes};
 ghost use Rattle.module_view.specs.Opening.{IsOpened};
 ghost use Rattle.module_view.specs.PlacedSection.{is_placed};
+ghost use Rattle.link_directives.specs.Alignments.{AreAsked};
 ghost use Rattle.link_pieces.specs.Commons.{is_meant_common, meant_commons, common_piece, HasFewSections, FIRST_COMMON};
+ghost use Rattle.link_pieces.specs.Rows.{HasPlace};
 ghost use Rattle.link_pieces.specs.Pieces.{is_named, is_linked, piece_of, section_contents, no_contents, linked_sections, pieces_in, contents_in, link_pieces, link_contents};
 
 use crate::commons::{FIRST_COMMON, common_piece, is_meant};
@@ -17,6 +19,7 @@ use crate::named::named_sections;
 use crate::names::LinkNames;
 use coff_object::{Object, Section};
 use link_base::Memory;
+use link_directives::CommonAlignments;
 use module_view::{Common, Module, comes_in};
 use section_group::Piece;
 use std::alloc::Global;
@@ -35,22 +38,24 @@ pub fn pieces_of<'a>(
     names: &LinkNames<'a>,
     modules: &[Module<'a>],
 ) -> Result<Vec<Piece<'a>>, Memory>
-    requires same { names.now ≡ modules.now }
+    requires same { names.now.modules ≡ modules.now }
     requires few { length modules.now ≤ limit.MODULE_LIMIT }
-    ensures pieces { IfOk result (λ pieces. map bare pieces.items ≡ link_pieces modules.now) }
-    ensures contents { IfOk result (λ pieces. map piece_contents pieces.items ≡ link_contents modules.now) }
+    ensures pieces { IfOk result (λ pieces. map bare pieces.items ≡ link_pieces names.now) }
+    ensures contents { IfOk result (λ pieces. map piece_contents pieces.items ≡ link_contents names.now) }
     ensures aligned { IfOk result (λ pieces. All (λ piece. IsAlignment piece.align) pieces.items) }
     ensures bodies { IfOk result (λ pieces. (k : ℕ) → k < length pieces.items → HasItsBytes pieces.items k) }
     ensures count { IfOk result (λ pieces. length pieces.items < 2 ^ 31) }
     ensures opened { OnOk result (All IsOpened modules.now) }
-    ensures few_sections { OnOk result (All HasFewSections modules.now) }
+    ensures placed { IfOk result (λ pieces. All (λ piece. HasPlace modules.now piece.«module» piece.number) pieces.items) }
 {
+    let alignments = CommonAlignments::of(alloc, modules)?;
     let mut pieces = Vec::new(alloc);
     for position in 0..modules.len() {
         push_module(
             alloc,
             &mut pieces,
             names,
+            &alignments,
             position as u32,
             &modules[position],
         )?;
@@ -66,9 +71,11 @@ fn push_module<'a>(
     alloc: Global,
     pieces: &mut Vec<Piece<'a>>,
     names: &LinkNames<'a>,
+    alignments: &CommonAlignments<'a>,
     position: u32,
     module: &Module<'a>,
 ) -> Result<(), Memory>
+    requires { AreAsked names.now.modules alignments.now }
     ensures pieces { OnOk result (map bare pieces.new.items
         ≡ map bare pieces.old.items ++ pieces_in names.now position «module».now.bytes) }
     ensures contents { OnOk result (map piece_contents pieces.new.items
@@ -86,7 +93,7 @@ fn push_module<'a>(
     pieces.reserve(count as usize)?;
     let named = named_sections(alloc, module, count)?;
     push_sections(pieces, names, position, object, &named)?;
-    push_commons(pieces, names, position, module)
+    push_commons(pieces, names, alignments, position, module)
 }
 
 /// Appends the pieces of an object's sections, with what is known of each by its number.
@@ -149,17 +156,19 @@ fn push_section<'a>(
 fn push_commons<'a>(
     pieces: &mut Vec<Piece<'a>>,
     names: &LinkNames<'a>,
+    alignments: &CommonAlignments<'a>,
     position: u32,
     module: &Module<'a>,
 ) -> Result<(), Memory>
-    requires { record_total «module».now.bytes < 2 ^ 31 }
+    requires asked { AreAsked names.now.modules alignments.now }
+    requires few { record_total «module».now.bytes < 2 ^ 31 }
     ensures pieces { OnOk result (map bare pieces.new.items
-        ≡ map bare pieces.old.items ++ map (common_piece position) (meant_commons names.now position «module».now.bytes)) }
+        ≡ map bare pieces.old.items ++ map (common_piece names.now.modules position) (meant_commons names.now position «module».now.bytes)) }
     ensures contents { OnOk result (map piece_contents pieces.new.items
         ≡ map piece_contents pieces.old.items ++ map no_contents (meant_commons names.now position «module».now.bytes)) }
 {
     for common in module.commons() {
-        push_common(pieces, names, position, common)?;
+        push_common(pieces, names, alignments, position, common)?;
     }
     Ok(())
 }
@@ -168,17 +177,19 @@ fn push_commons<'a>(
 fn push_common<'a>(
     pieces: &mut Vec<Piece<'a>>,
     names: &LinkNames<'a>,
+    alignments: &CommonAlignments<'a>,
     position: u32,
     common: &Common<'a>,
 ) -> Result<(), Memory>
-    requires { common.now.symbol < 2 ^ 31 }
+    requires asked { AreAsked names.now.modules alignments.now }
+    requires few { common.now.symbol < 2 ^ 31 }
     ensures pieces { OnOk result (map bare pieces.new.items ≡ map bare pieces.old.items
-        ++ (if is_meant_common names.now position common.now then common_piece position common.now ∷ [] else [])) }
+        ++ (if is_meant_common names.now position common.now then common_piece names.now.modules position common.now ∷ [] else [])) }
     ensures contents { OnOk result (map piece_contents pieces.new.items ≡ map piece_contents pieces.old.items
         ++ (if is_meant_common names.now position common.now then no_contents common.now ∷ [] else [])) }
 {
     if is_meant(names, position, common) {
-        pieces.push(common_piece(position, common))?;
+        pieces.push(common_piece(alignments, position, common))?;
     }
     Ok(())
 }

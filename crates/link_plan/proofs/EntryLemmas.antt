@@ -12,7 +12,8 @@ use Rattle.coff_records.specs.ObjectFile.{section_total, raw_size_of}
 use Rattle.section_group.specs.declared.piece.Piece.{Piece}
 use Rattle.section_group.specs.BarePieces.{bare}
 use Rattle.section_group.specs.SectionOrder.{no_piece}
-use Rattle.module_view.specs.Module.{ModuleView, module_at}
+use Rattle.module_view.specs.Module.{module_at}
+use Rattle.symbol_table.specs.LinkView.{LinkView}
 use Rattle.module_view.specs.Opening.{IsOpened}
 use Rattle.module_view.specs.SymbolLists.{definitions_of}
 use Rattle.module_view.specs.declared.definition.Definition.{Definition}
@@ -35,10 +36,10 @@ use Rattle.link_plan.proofs.CallerLemmas.{planned_at, plan_count}
 
 -- ---- a place that a name means is inside its section
 
-value_inside : (modules : List ModuleView) (chosen : List (List Bool)) (position section value : ℕ) → All IsOpened modules → MeansPlace modules chosen position section value → value ≤ raw_size_of (module_at modules position).bytes section
-value_inside modules chosen position section value opened means =
-    let bytes = (module_at modules position).bytes in
-    let opens = module_opens modules position opened means.within in
+value_inside : (link : LinkView) (chosen : List (List Bool)) (position section value : ℕ) → All IsOpened link.modules → MeansPlace link.modules chosen position section value → value ≤ raw_size_of (module_at link.modules position).bytes section
+value_inside link chosen position section value opened means =
+    let bytes = (module_at link.modules position).bytes in
+    let opens = module_opens link.modules position opened means.within in
     elim means.stands [
       | inl defines ↦
           let stands = subst (IsPlaceIn bytes) defines.stands (All-contains (λ (d : Definition). IsPlaceIn bytes d.place) (definitions_of bytes) defines.definition (definitions_stand bytes opens) defines.own) in
@@ -50,55 +51,55 @@ value_inside modules chosen position section value opened means =
 
 -- ---- and inside the piece of the link
 
-record IsInside (modules : List ModuleView) (place : EntryPlace) : Type 0 where
-  within : place.piece < length (link_pieces modules)
-  inside : place.value ≤ (piece_at modules place.piece).size
+record IsInside (link : LinkView) (place : EntryPlace) : Type 0 where
+  within : place.piece < length (link_pieces link)
+  inside : place.value ≤ (piece_at link place.piece).size
 
-section_inside : (modules : List ModuleView) (position section value piece : ℕ) → value ≤ raw_size_of (module_at modules position).bytes section → piece_index modules position section ≡ Some piece → IsInside modules (record { piece = piece; value = value })
-section_inside modules position section value piece inside found =
-    let stands = found_piece modules position section piece found in
+section_inside : (link : LinkView) (position section value piece : ℕ) → value ≤ raw_size_of (module_at link.modules position).bytes section → piece_index link position section ≡ Some piece → IsInside link (record { piece = piece; value = value })
+section_inside link position section value piece inside found =
+    let stands = found_piece link position section piece found in
     let size = ap (λ (p : Piece). p.size) stands.is in
     record { within = stands.within; inside = omega (arith, inside, size) }
 
-common_inside : (modules : List ModuleView) (position symbol piece : ℕ) → common_index modules position symbol ≡ Some piece → IsInside modules (record { piece = piece; value = 0 })
-common_inside modules position symbol piece found =
-    record { within = found_common modules position symbol piece found; inside = omega arith }
+common_inside : (link : LinkView) (position symbol piece : ℕ) → common_index link position symbol ≡ Some piece → IsInside link (record { piece = piece; value = 0 })
+common_inside link position symbol piece found =
+    record { within = found_common link position symbol piece found; inside = omega arith }
 
-by_piece : (modules : List ModuleView) (value : ℕ) (place : EntryPlace) (found : Option ℕ) → ((piece : ℕ) → found ≡ Some piece → IsInside modules (record { piece = piece; value = value })) → place_in value found ≡ Some place → IsInside modules place
-by_piece modules value place None each e = absurd cc
-by_piece modules value place (Some piece) each e =
+by_piece : (link : LinkView) (value : ℕ) (place : EntryPlace) (found : Option ℕ) → ((piece : ℕ) → found ≡ Some piece → IsInside link (record { piece = piece; value = value })) → place_in value found ≡ Some place → IsInside link place
+by_piece link value place None each e = absurd cc
+by_piece link value place (Some piece) each e =
     let same : record { piece = piece; value = value } ≡ place = cc in
-    subst (IsInside modules) same (each piece refl)
+    subst (IsInside link) same (each piece refl)
 
-by_meaning : (modules : List ModuleView) (name : List ℕ) (place : EntryPlace) (r : Result Meaning NoMeaning) → All IsOpened modules → name_meaning modules name ≡ r → meant_place modules (meant r) ≡ Some place → IsInside modules place
-by_meaning modules name place (Ok (meaning.Section position section value)) opened is e =
-    let inside = value_inside modules (chosen_sections modules) position section value opened (meaning_stands modules (chosen_sections modules) name position section value is) in
-    by_piece modules value place (piece_index modules position section) (λ piece found. section_inside modules position section value piece inside found) e
-by_meaning modules name place (Ok (meaning.Common position symbol)) opened is e =
-    by_piece modules 0 place (common_index modules position symbol) (λ piece found. common_inside modules position symbol piece found) e
-by_meaning modules name place (Ok (meaning.Slot position)) opened is e = absurd cc
-by_meaning modules name place (Ok (meaning.Thunk position)) opened is e = absurd cc
-by_meaning modules name place (Ok (meaning.LocalSlot pointed)) opened is e = absurd cc
-by_meaning modules name place (Ok (meaning.Absolute value)) opened is e = absurd cc
-by_meaning modules name place (Ok meaning.ImageBase) opened is e = absurd cc
-by_meaning modules name place (Err none) opened is e = absurd cc
+by_meaning : (link : LinkView) (name : List ℕ) (place : EntryPlace) (r : Result Meaning NoMeaning) → All IsOpened link.modules → name_meaning link name ≡ r → meant_place link (meant r) ≡ Some place → IsInside link place
+by_meaning link name place (Ok (meaning.Section position section value)) opened is e =
+    let inside = value_inside link (chosen_sections link.modules) position section value opened (meaning_stands link (chosen_sections link.modules) name position section value is) in
+    by_piece link value place (piece_index link position section) (λ piece found. section_inside link position section value piece inside found) e
+by_meaning link name place (Ok (meaning.Common position symbol)) opened is e =
+    by_piece link 0 place (common_index link position symbol) (λ piece found. common_inside link position symbol piece found) e
+by_meaning link name place (Ok (meaning.Slot position)) opened is e = absurd cc
+by_meaning link name place (Ok (meaning.Thunk position)) opened is e = absurd cc
+by_meaning link name place (Ok (meaning.LocalSlot pointed)) opened is e = absurd cc
+by_meaning link name place (Ok (meaning.Absolute value)) opened is e = absurd cc
+by_meaning link name place (Ok meaning.ImageBase) opened is e = absurd cc
+by_meaning link name place (Err none) opened is e = absurd cc
 
-entry_inside : (modules : List ModuleView) (entry : Option (List ℕ)) (place : EntryPlace) → All IsOpened modules → entry_place modules entry ≡ Some place → IsInside modules place
-entry_inside modules None place opened e = absurd cc
-entry_inside modules (Some name) place opened e = by_meaning modules name place (name_meaning modules name) opened refl e
+entry_inside : (link : LinkView) (entry : Option (List ℕ)) (place : EntryPlace) → All IsOpened link.modules → entry_place link entry ≡ Some place → IsInside link place
+entry_inside link None place opened e = absurd cc
+entry_inside link (Some name) place opened e = by_meaning link name place (name_meaning link name) opened refl e
 
 -- ---- its piece is named
 
-pub entry_stands : (options : LinkOptions) (modules : List ModuleView) (pieces : List Piece) → map bare pieces ≡ plan_pieces options modules → All IsOpened modules → ForSome (entry_place modules options.entry_name) (StandsNamed pieces)
-entry_stands options modules pieces are opened = λ place e.
+pub entry_stands : (options : LinkOptions) (link : LinkView) (pieces : List Piece) → map bare pieces ≡ plan_pieces options link → All IsOpened link.modules → ForSome (entry_place link options.entry_name) (StandsNamed pieces)
+entry_stands options link pieces are opened = λ place e.
     let k = place.piece in
-    let stands = entry_inside modules options.entry_name place opened e in
-    let here : bare (get_or pieces k no_piece) ≡ planned_piece options modules k =
-    sym (get_or-map bare pieces k no_piece) ∙ ap (λ (ps : List Piece). get_or ps k no_piece) are ∙ planned_at options modules k stands.within in
-    let entry : is_entry options modules k ≡ true = ap (λ (p : Option EntryPlace). is_that k (piece_of_place p)) e ∙ eq-eqb k k refl in
+    let stands = entry_inside link options.entry_name place opened e in
+    let here : bare (get_or pieces k no_piece) ≡ planned_piece options link k =
+    sym (get_or-map bare pieces k no_piece) ∙ ap (λ (ps : List Piece). get_or ps k no_piece) are ∙ planned_at options link k stands.within in
+    let entry : is_entry options link k ≡ true = ap (λ (p : Option EntryPlace). is_that k (piece_of_place p)) e ∙ eq-eqb k k refl in
     let size = ap (λ (p : Piece). p.size) here in
     record {
-      within = omega (arith, stands.within, length-map pieces bare, ap (λ (ps : List Piece). length ps) are, plan_count options modules);
-      named = ap (λ (p : Piece). p.named) here ∙ or_right (piece_at modules k).named (is_meant modules k || is_entry options modules k) (or_right (is_meant modules k) (is_entry options modules k) entry);
+      within = omega (arith, stands.within, length-map pieces bare, ap (λ (ps : List Piece). length ps) are, plan_count options link);
+      named = ap (λ (p : Piece). p.named) here ∙ or_right (piece_at link k).named (is_meant link k || is_entry options link k) (or_right (is_meant link k) (is_entry options link k) entry);
       inside = omega (arith, stands.inside, size);
     }

@@ -17,7 +17,7 @@ use Rattle.section_group.specs.SectionOrder.{no_piece}
 use Rattle.section_group.specs.PieceContents.{piece_contents}
 use Rattle.relocate.specs.declared.fix.Fix.{Fix}
 use Rattle.relocate.specs.Judged.{AreTheFields, ArePatchable}
-use Rattle.module_view.specs.Module.{ModuleView}
+use Rattle.symbol_table.specs.LinkView.{LinkView}
 use Rattle.link_pieces.specs.Pieces.{link_pieces, link_contents, IsPieceOf}
 use Rattle.link_pieces.proofs.CallerLemmas.{piece_is, bare_at}
 use Rattle.link_plan.specs.Fixes.{fixes_in, piece_at, piece_fixes, judged_fault, piece_fault, HaveFields, means_piece, mean_piece, is_meant_among}
@@ -32,63 +32,63 @@ none_judged piece contents large (fix ∷ fixes) none = absurd (omega (arith, no
 
 -- ---- a piece as it was read
 
-pub record IsRead (modules : List ModuleView) (k : ℕ) (piece : Piece) : Type 0 where
-  pub within : k < length (link_pieces modules)
-  pub is : bare piece ≡ piece_at modules k
-  pub whole : IsPieceOf modules (bare piece)
-  pub contents : piece_contents piece ≡ get_or (link_contents modules) k []
+pub record IsRead (link : LinkView) (k : ℕ) (piece : Piece) : Type 0 where
+  pub within : k < length (link_pieces link)
+  pub is : bare piece ≡ piece_at link k
+  pub whole : IsPieceOf link (bare piece)
+  pub contents : piece_contents piece ≡ get_or (link_contents link) k []
 
-pub read_piece : (modules : List ModuleView) (pieces : List Piece) (k : ℕ) (piece : Piece) → map bare pieces ≡ link_pieces modules → map piece_contents pieces ≡ link_contents modules → k < length pieces → piece ≡ get_or pieces k piece → IsRead modules k piece
-read_piece modules pieces k piece are contents lt read =
-    let within : k < length (link_pieces modules) = omega (arith, length-map pieces bare, ap (λ (ps : List Piece). length ps) are) in
+pub read_piece : (link : LinkView) (pieces : List Piece) (k : ℕ) (piece : Piece) → map bare pieces ≡ link_pieces link → map piece_contents pieces ≡ link_contents link → k < length pieces → piece ≡ get_or pieces k piece → IsRead link k piece
+read_piece link pieces k piece are contents lt read =
+    let within : k < length (link_pieces link) = omega (arith, length-map pieces bare, ap (λ (ps : List Piece). length ps) are) in
     let here : piece ≡ get_or pieces k no_piece = read ∙ get_or_default pieces k piece no_piece lt in
-    let is : bare piece ≡ piece_at modules k = ap bare here ∙ bare_at modules pieces k are in
+    let is : bare piece ≡ piece_at link k = ap bare here ∙ bare_at link pieces k are in
     record {
       within = within;
       is = is;
-      whole = subst (IsPieceOf modules) (sym is) (piece_is modules k within);
+      whole = subst (IsPieceOf link) (sym is) (piece_is link k within);
       contents = ap piece_contents here ∙ sym (get_or-map piece_contents pieces k no_piece) ∙ ap (λ (cs : List (List ℕ)). get_or cs k []) contents;
     }
 
 -- its relocations are those of the link's piece
-pub fixes_read : (modules : List ModuleView) (k : ℕ) (piece : Piece) → IsRead modules k piece → fixes_in modules piece ≡ piece_fixes modules k
-fixes_read modules k piece read = ap (fixes_in modules) read.is
+pub fixes_read : (link : LinkView) (k : ℕ) (piece : Piece) → IsRead link k piece → fixes_in link piece ≡ piece_fixes link k
+fixes_read link k piece read = ap (fixes_in link) read.is
 
 -- and so is their fault
-pub fault_read : (modules : List ModuleView) (k : ℕ) (piece : Piece) (large : Bool) (fixes : List Fix) → IsRead modules k piece → fixes ≡ fixes_in modules piece → judged_fault piece (piece_contents piece) large fixes ≡ piece_fault modules large k
-fault_read modules k piece large fixes read are =
-    ap (judged_fault piece (piece_contents piece) large) (are ∙ fixes_read modules k piece read)
-    ∙ ap (λ (bytes : List ℕ). judged_fault piece bytes large (piece_fixes modules k)) read.contents
-    ∙ ap (λ (p : Piece). judged_fault p (get_or (link_contents modules) k []) large (piece_fixes modules k)) read.is
+pub fault_read : (link : LinkView) (k : ℕ) (piece : Piece) (large : Bool) (fixes : List Fix) → IsRead link k piece → fixes ≡ fixes_in link piece → judged_fault piece (piece_contents piece) large fixes ≡ piece_fault link large k
+fault_read link k piece large fixes read are =
+    ap (judged_fault piece (piece_contents piece) large) (are ∙ fixes_read link k piece read)
+    ∙ ap (λ (bytes : List ℕ). judged_fault piece bytes large (piece_fixes link k)) read.contents
+    ∙ ap (λ (p : Piece). judged_fault p (get_or (link_contents link) k []) large (piece_fixes link k)) read.is
 
 -- ---- one piece more
 
-pub fields_none : (modules : List ModuleView) (fixups : List (List Fix)) → fixups ≡ [] → HaveFields modules 0 fixups
-fields_none modules fixups none = record {
+pub fields_none : (link : LinkView) (fixups : List (List Fix)) → fixups ≡ [] → HaveFields link 0 fixups
+fields_none link fixups none = record {
   for_each = ap (λ (fs : List (List Fix)). length fs) none;
   fields = λ k lt. absurd (omega arith);
   patchable = λ k lt. absurd (omega arith);
 }
 
-pub fields_more : (modules : List ModuleView) (k : ℕ) (piece : Piece) (fixes fields : List Fix) (was now : List (List Fix)) → IsRead modules k piece → HaveFields modules k was → now ≡ was ++ fields ∷ [] → fixes ≡ fixes_in modules piece → AreTheFields fixes fields → ArePatchable (length (piece_contents piece)) fields → HaveFields modules (k + 1) now
-fields_more modules k piece fixes fields was now read have grown are field patchable =
+pub fields_more : (link : LinkView) (k : ℕ) (piece : Piece) (fixes fields : List Fix) (was now : List (List Fix)) → IsRead link k piece → HaveFields link k was → now ≡ was ++ fields ∷ [] → fixes ≡ fixes_in link piece → AreTheFields fixes fields → ArePatchable (length (piece_contents piece)) fields → HaveFields link (k + 1) now
+fields_more link k piece fixes fields was now read have grown are field patchable =
     let first_place : k - k ≡ 0 = omega arith in
     let last : get_or (was ++ fields ∷ []) k [] ≡ fields = get_or-append_right was (fields ∷ []) k k [] have.for_each (omega arith) ∙ ap (λ (i : ℕ). get_or (fields ∷ []) i []) first_place in
-    let here : AreTheFields (piece_fixes modules k) fields = subst (λ (fs : List Fix). AreTheFields fs fields) (are ∙ fixes_read modules k piece read) field in
-    let fits : ArePatchable (length (get_or (link_contents modules) k [])) fields = subst (λ (bytes : List ℕ). ArePatchable (length bytes) fields) read.contents patchable in
+    let here : AreTheFields (piece_fixes link k) fields = subst (λ (fs : List Fix). AreTheFields fs fields) (are ∙ fixes_read link k piece read) field in
+    let fits : ArePatchable (length (get_or (link_contents link) k [])) fields = subst (λ (bytes : List ℕ). ArePatchable (length bytes) fields) read.contents patchable in
     record {
       for_each = let len = ap (λ (fs : List (List Fix)). length fs) grown in let sum = length-append was (fields ∷ []) in let whole = have.for_each in omega (arith, len, sum, whole);
-      fields = λ i lt. subst (λ (fs : List (List Fix)). AreTheFields (piece_fixes modules i) (get_or fs i [])) (sym grown) (elim (cases_lt i k) [
-        | inl below ↦ subst (AreTheFields (piece_fixes modules i)) (sym (get_or_append_left was (fields ∷ []) [] i (omega (arith, have.for_each)))) (have.fields i below)
+      fields = λ i lt. subst (λ (fs : List (List Fix)). AreTheFields (piece_fixes link i) (get_or fs i [])) (sym grown) (elim (cases_lt i k) [
+        | inl below ↦ subst (AreTheFields (piece_fixes link i)) (sym (get_or_append_left was (fields ∷ []) [] i (omega (arith, have.for_each)))) (have.fields i below)
         | inr above ↦
             let same : i ≡ k = omega arith in
-            subst (λ (j : ℕ). AreTheFields (piece_fixes modules j) (get_or (was ++ fields ∷ []) j [])) (sym same) (subst (AreTheFields (piece_fixes modules k)) (sym last) here)
+            subst (λ (j : ℕ). AreTheFields (piece_fixes link j) (get_or (was ++ fields ∷ []) j [])) (sym same) (subst (AreTheFields (piece_fixes link k)) (sym last) here)
       ]);
-      patchable = λ i lt. subst (λ (fs : List (List Fix)). ArePatchable (length (get_or (link_contents modules) i [])) (get_or fs i [])) (sym grown) (elim (cases_lt i k) [
-        | inl below ↦ subst (ArePatchable (length (get_or (link_contents modules) i []))) (sym (get_or_append_left was (fields ∷ []) [] i (omega (arith, have.for_each)))) (have.patchable i below)
+      patchable = λ i lt. subst (λ (fs : List (List Fix)). ArePatchable (length (get_or (link_contents link) i [])) (get_or fs i [])) (sym grown) (elim (cases_lt i k) [
+        | inl below ↦ subst (ArePatchable (length (get_or (link_contents link) i []))) (sym (get_or_append_left was (fields ∷ []) [] i (omega (arith, have.for_each)))) (have.patchable i below)
         | inr above ↦
             let same : i ≡ k = omega arith in
-            subst (λ (j : ℕ). ArePatchable (length (get_or (link_contents modules) j [])) (get_or (was ++ fields ∷ []) j [])) (sym same) (subst (ArePatchable (length (get_or (link_contents modules) k []))) (sym last) fits)
+            subst (λ (j : ℕ). ArePatchable (length (get_or (link_contents link) j [])) (get_or (was ++ fields ∷ []) j [])) (sym same) (subst (ArePatchable (length (get_or (link_contents link) k []))) (sym last) fits)
       ]);
     }
 
@@ -96,14 +96,14 @@ or_none_false : (b : Bool) → (b || false) ≡ b
 or_none_false true = refl
 or_none_false false = refl
 
-pub meant_more : (modules : List ModuleView) (k j : ℕ) (piece : Piece) (fixes : List Fix) (was now : Bool) → IsRead modules k piece → fixes ≡ fixes_in modules piece → was ≡ is_meant_among modules k j → now ≡ (was || list_any (means_piece j) fixes) → now ≡ is_meant_among modules (k + 1) j
-meant_more modules k j piece fixes was now read are before after =
+pub meant_more : (link : LinkView) (k j : ℕ) (piece : Piece) (fixes : List Fix) (was now : Bool) → IsRead link k piece → fixes ≡ fixes_in link piece → was ≡ is_meant_among link k j → now ≡ (was || list_any (means_piece j) fixes) → now ≡ is_meant_among link (k + 1) j
+meant_more link k j piece fixes was now read are before after =
     after
     ∙ ap (λ (b : Bool). b || list_any (means_piece j) fixes) before
-    ∙ ap (λ (fs : List Fix). is_meant_among modules k j || list_any (means_piece j) fs) (are ∙ fixes_read modules k piece read)
-    ∙ ap (λ (b : Bool). is_meant_among modules k j || b) (sym (or_none_false (mean_piece modules j k)))
-    ∙ sym (list_any-append (mean_piece modules j) (range_with_len 0 k) (k ∷ []))
-    ∙ ap (list_any (mean_piece modules j)) (sym (range_more 0 k k (omega arith)))
+    ∙ ap (λ (fs : List Fix). is_meant_among link k j || list_any (means_piece j) fs) (are ∙ fixes_read link k piece read)
+    ∙ ap (λ (b : Bool). is_meant_among link k j || b) (sym (or_none_false (mean_piece link j k)))
+    ∙ sym (list_any-append (mean_piece link j) (range_with_len 0 k) (k ∷ []))
+    ∙ ap (list_any (mean_piece link j)) (sym (range_more 0 k k (omega arith)))
 
 -- a refusal of one piece, before which none is refused, is that of all
 pub refuses_found : (count k : ℕ) (fault_at : ℕ → Option Fault) (here : Option Fault) (r : Refusal) → k < count → first_refusal_below k fault_at ≡ None → here ≡ fault_at k → RefusesFor here r → RefusesFor (first_refusal_below count fault_at) r

@@ -11,7 +11,7 @@ use Rattle.std.proofs.lemmas.List.FromFn.{get_or-map-range_with_len, length-map-
 use Rattle.section_group.specs.declared.piece.Piece.{Piece}
 use Rattle.section_group.specs.BarePieces.{bare}
 use Rattle.section_group.specs.SectionOrder.{no_piece}
-use Rattle.module_view.specs.Module.{ModuleView}
+use Rattle.symbol_table.specs.LinkView.{LinkView}
 use Rattle.link_pieces.specs.Pieces.{link_pieces}
 use Rattle.link_pieces.proofs.CallerLemmas.{bare_at}
 use Rattle.relocate.specs.declared.fix.Fix.{Fix}
@@ -118,17 +118,17 @@ named_same old meant k now are unmarked = record {
 -- ---- the pieces of a plan
 
 -- the pieces of a link, named where fields or the entry mean them
-pub planned : (options : LinkOptions) (modules : List ModuleView) (old : List Piece) (meant : List Bool) (now : List Piece) → map bare old ≡ link_pieces modules → ((k : ℕ) → k < length old → get_or meant k false ≡ (is_meant modules k || is_entry options modules k)) → now ≡ map (λ k. named_if (get_or meant k false) (get_or old k no_piece)) (range_with_len 0 (length old)) → map bare now ≡ plan_pieces options modules
+pub planned : (options : LinkOptions) (link : LinkView) (old : List Piece) (meant : List Bool) (now : List Piece) → map bare old ≡ link_pieces link → ((k : ℕ) → k < length old → get_or meant k false ≡ (is_meant link k || is_entry options link k)) → now ≡ map (λ k. named_if (get_or meant k false) (get_or old k no_piece)) (range_with_len 0 (length old)) → map bare now ≡ plan_pieces options link
 unfolding plan_pieces
-planned options modules old meant now are marks is =
-    let n : length old ≡ length (link_pieces modules) = sym (length-map old bare) ∙ ap (λ (ps : List Piece). length ps) are in
+planned options link old meant now are marks is =
+    let n : length old ≡ length (link_pieces link) = sym (length-map old bare) ∙ ap (λ (ps : List Piece). length ps) are in
     let f = λ (k : ℕ). named_if (get_or meant k false) (get_or old k no_piece) in
     let count : length now ≡ length old = ap (λ (ps : List Piece). length ps) is ∙ length-map-range_with_len f 0 (length old) in
-    ext_get_or no_piece (map bare now) (map (planned_piece options modules) (range_with_len 0 (length (link_pieces modules)))) (length-map now bare ∙ count ∙ n ∙ sym (length-map-range_with_len (planned_piece options modules) 0 (length (link_pieces modules)))) (λ i lt.
+    ext_get_or no_piece (map bare now) (map (planned_piece options link) (range_with_len 0 (length (link_pieces link)))) (length-map now bare ∙ count ∙ n ∙ sym (length-map-range_with_len (planned_piece options link) 0 (length (link_pieces link)))) (λ i lt.
     let within : i < length old = omega (arith, length-map now bare, count) in
     let here : get_or now i no_piece ≡ f i = ap (λ (ps : List Piece). get_or ps i no_piece) is ∙ get_or-map-range_with_len f 0 (length old) i i no_piece within (omega arith) in
     get_or-map bare now i no_piece
     ∙ ap bare here
     ∙ ap (λ (b : Bool). named_if b (bare (get_or old i no_piece))) (marks i within)
-    ∙ ap (named_if (is_meant modules i || is_entry options modules i)) (bare_at modules old i are)
-    ∙ sym (get_or-map-range_with_len (planned_piece options modules) 0 (length (link_pieces modules)) i i no_piece (omega (arith, within, n)) (omega arith)))
+    ∙ ap (named_if (is_meant link i || is_entry options link i)) (bare_at link old i are)
+    ∙ sym (get_or-map-range_with_len (planned_piece options link) 0 (length (link_pieces link)) i i no_piece (omega (arith, within, n)) (omega arith)))

@@ -1,45 +1,71 @@
 -- The stages of a plan, one after the other, and the piece of the entry.
-use Rattle.std.proofs.Common.{◌≡◌, List, Some, None, refl}
+use Rattle.std.proofs.Common.{◌≡◌, Some, None, refl}
 use Rattle.std.specs.Option.{option_or}
 use Rattle.link_base.specs.Refusals.{RefusesFor}
 use Rattle.link_base.specs.declared.stop.Refusal.{Refusal}
-use Rattle.link_base.proofs.RefusalLemmas.{neither_stands, refuses_first}
+use Rattle.link_base.proofs.RefusalLemmas.{neither_stands, refuses_first, refuses_later}
 use Rattle.link_base.specs.declared.fault.Fault.{Fault}
-use Rattle.module_view.specs.Module.{ModuleView}
+use Rattle.symbol_table.specs.LinkView.{LinkView}
 use Rattle.link_words.specs.Outcome.{LinkOptions}
-use Rattle.link_plan.specs.References.{references_fault}
+use Rattle.link_plan.specs.References.{includes_fault, references_fault}
 use Rattle.link_plan.specs.Entry.{entry_meant, entry_meaning_fault, meant_fault}
 use Rattle.link_plan.specs.Fixes.{fixes_fault}
 use Rattle.link_pieces.specs.ChoiceFaults.{conflict_fault, clash_fault}
-use Rattle.link_plan.specs.PlanFaults.{choice_fault, meaning_fault, fields_fault, plan_fault}
+use Rattle.link_plan.specs.PlanFaults.{mismatch_fault, choice_fault, meaning_fault, fields_fault, plan_fault}
 
 -- ---- the first stage that has a fault
 
-pub conflict_stage : (options : LinkOptions) (modules : List ModuleView) (r : Refusal) → RefusesFor (conflict_fault modules) r → RefusesFor (plan_fault options modules) r
+pub mismatch_stage : (options : LinkOptions) (link : LinkView) (r : Refusal) → RefusesFor (mismatch_fault link.modules) r → RefusesFor (plan_fault options link) r
 unfolding plan_fault
-conflict_stage options modules r refused =
-    let rest = option_or (meaning_fault modules options.entry_name) (fields_fault options modules) in
-    refuses_first (choice_fault modules) rest r (refuses_first (conflict_fault modules) (clash_fault modules) r refused)
+mismatch_stage options link r refused =
+    refuses_first (mismatch_fault link.modules) (option_or (choice_fault link) (option_or (meaning_fault options link) (fields_fault options link))) r refused
 
-pub chosen_well : (modules : List ModuleView) → conflict_fault modules ≡ None → clash_fault modules ≡ None → choice_fault modules ≡ None
-chosen_well modules conflict clash = neither_stands (conflict_fault modules) (clash_fault modules) conflict clash
-
-pub clash_stage : (options : LinkOptions) (modules : List ModuleView) (fault : Fault) → conflict_fault modules ≡ None → clash_fault modules ≡ Some fault → plan_fault options modules ≡ Some fault
+pub conflict_stage : (options : LinkOptions) (link : LinkView) (r : Refusal) → mismatch_fault link.modules ≡ None → RefusesFor (conflict_fault link.modules) r → RefusesFor (plan_fault options link) r
 unfolding plan_fault
-clash_stage options modules fault conflict is = rw (conflict, is) refl
+conflict_stage options link r agreed refused =
+    let rest = option_or (meaning_fault options link) (fields_fault options link) in
+    refuses_later (mismatch_fault link.modules) (option_or (choice_fault link) rest) r agreed
+    (refuses_first (choice_fault link) rest r (refuses_first (conflict_fault link.modules) (clash_fault link.modules) r refused))
 
-pub entry_stage : (options : LinkOptions) (modules : List ModuleView) (fault : Fault) → choice_fault modules ≡ None → entry_meaning_fault modules options.entry_name ≡ Some fault → plan_fault options modules ≡ Some fault
+pub clash_stage : (options : LinkOptions) (link : LinkView) (fault : Fault) → mismatch_fault link.modules ≡ None → conflict_fault link.modules ≡ None → clash_fault link.modules ≡ Some fault → plan_fault options link ≡ Some fault
 unfolding plan_fault
-entry_stage options modules fault chosen is = rw (chosen, is) refl
+clash_stage options link fault agreed conflict is = rw (agreed, conflict, is) refl
 
-pub references_stage : (options : LinkOptions) (modules : List ModuleView) (fault : Fault) → choice_fault modules ≡ None → entry_meaning_fault modules options.entry_name ≡ None → references_fault modules ≡ Some fault → plan_fault options modules ≡ Some fault
-unfolding plan_fault
-references_stage options modules fault chosen meant is = rw (chosen, meant, is) refl
+-- no key has two values, and no choice is at fault
+pub record AreChosen (link : LinkView) : Type 0 where
+  pub agreed : mismatch_fault link.modules ≡ None
+  pub chosen : choice_fault link ≡ None
 
-pub place_stage : (options : LinkOptions) (modules : List ModuleView) (fault : Fault) → choice_fault modules ≡ None → entry_meaning_fault modules options.entry_name ≡ None → references_fault modules ≡ None → meant_fault modules (entry_meant modules options.entry_name) ≡ Some fault → plan_fault options modules ≡ Some fault
-unfolding plan_fault
-place_stage options modules fault chosen meant all_meant is = rw (chosen, meant, all_meant, is) refl
+pub chosen_well : (link : LinkView) → mismatch_fault link.modules ≡ None → conflict_fault link.modules ≡ None → clash_fault link.modules ≡ None → AreChosen link
+chosen_well link agreed conflict clash = record {
+  agreed = agreed;
+  chosen = neither_stands (conflict_fault link.modules) (clash_fault link.modules) conflict clash;
+}
 
-pub fields_stage : (options : LinkOptions) (modules : List ModuleView) → choice_fault modules ≡ None → entry_meaning_fault modules options.entry_name ≡ None → references_fault modules ≡ None → meant_fault modules (entry_meant modules options.entry_name) ≡ None → plan_fault options modules ≡ fixes_fault modules options.large
+pub entry_stage : (options : LinkOptions) (link : LinkView) (fault : Fault) → AreChosen link → entry_meaning_fault link options.entry_name ≡ Some fault → plan_fault options link ≡ Some fault
 unfolding plan_fault
-fields_stage options modules chosen meant all_meant placed = rw (chosen, meant, all_meant, placed) refl
+entry_stage options link fault well is = rw (well.agreed, well.chosen, is) refl
+
+pub includes_stage : (options : LinkOptions) (link : LinkView) (fault : Fault) → AreChosen link → entry_meaning_fault link options.entry_name ≡ None → includes_fault link None options.includes ≡ Some fault → plan_fault options link ≡ Some fault
+unfolding plan_fault
+includes_stage options link fault well meant is = rw (well.agreed, well.chosen, meant, is) refl
+
+-- all names mean something
+pub record AreMeant (options : LinkOptions) (link : LinkView) : Type 0 where
+  pub well : AreChosen link
+  pub entry : entry_meaning_fault link options.entry_name ≡ None
+  pub included : includes_fault link None options.includes ≡ None
+
+pub references_stage : (options : LinkOptions) (link : LinkView) (fault : Fault) → AreMeant options link → references_fault link ≡ Some fault → plan_fault options link ≡ Some fault
+unfolding plan_fault
+references_stage options link fault meant is = rw (meant.well.agreed, meant.well.chosen, meant.entry, meant.included, is) refl
+
+pub place_stage : (options : LinkOptions) (link : LinkView) (fault : Fault) → AreMeant options link → references_fault link ≡ None → meant_fault link (entry_meant link options.entry_name) ≡ Some fault → plan_fault options link ≡ Some fault
+unfolding plan_fault
+place_stage options link fault meant all_meant is =
+    rw (meant.well.agreed, meant.well.chosen, meant.entry, meant.included, all_meant, is) refl
+
+pub fields_stage : (options : LinkOptions) (link : LinkView) → AreMeant options link → references_fault link ≡ None → meant_fault link (entry_meant link options.entry_name) ≡ None → plan_fault options link ≡ fixes_fault link options.large
+unfolding plan_fault
+fields_stage options link meant all_meant placed =
+    rw (meant.well.agreed, meant.well.chosen, meant.entry, meant.included, all_meant, placed) refl

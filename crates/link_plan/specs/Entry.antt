@@ -5,7 +5,7 @@ use Rattle.link_base.specs.declared.fault.Fault.{Fault}
 use Rattle.link_base.specs.declared.fault.Fault.TheVariants as faults
 use Rattle.link_base.specs.declared.kinds.target.TargetFault.{TargetFault}
 use Rattle.link_base.specs.declared.kinds.target.TargetFault.TheVariants.{Unplaced, NoSection}
-use Rattle.module_view.specs.Module.{ModuleView}
+use Rattle.symbol_table.specs.LinkView.{LinkView}
 use Rattle.symbol_table.specs.declared.meaning.Meaning.{Meaning}
 use Rattle.symbol_table.specs.declared.meaning.Meaning.TheVariants.{Section, Common, ImageBase}
 use Rattle.symbol_table.specs.declared.meaning.NoMeaning.{NoMeaning}
@@ -21,14 +21,14 @@ meant (Ok meaning) = Some meaning
 meant (Err none) = None
 
 -- what an entry means, where there is one and it means something
-abbrev pub entry_meant : List ModuleView → Option (List ℕ) → Option Meaning
-entry_meant modules None = None
-entry_meant modules (Some name) = meant (name_meaning modules name)
+abbrev pub entry_meant : LinkView → Option (List ℕ) → Option Meaning
+entry_meant link None = None
+entry_meant link (Some name) = meant (name_meaning link name)
 
 -- the entry means nothing
-abbrev pub entry_meaning_fault : List ModuleView → Option (List ℕ) → Option Fault
-entry_meaning_fault modules None = None
-entry_meaning_fault modules (Some name) = name_fault modules name None
+abbrev pub entry_meaning_fault : LinkView → Option (List ℕ) → Option Fault
+entry_meaning_fault link None = None
+entry_meaning_fault link (Some name) = name_fault link name None
 
 -- ---- where it stands
 
@@ -37,10 +37,10 @@ place_in value None = None
 place_in value (Some piece) = Some (record { piece = piece; value = value })
 
 -- the place of a meaning: an offset in the piece of its section, or the start of that of a common
-abbrev pub meant_place : List ModuleView → Option Meaning → Option EntryPlace
-meant_place modules (Some (Section position section value)) = place_in value (piece_index modules position section)
-meant_place modules (Some (Common position symbol)) = place_in 0 (common_index modules position symbol)
-meant_place modules other = None
+abbrev pub meant_place : LinkView → Option Meaning → Option EntryPlace
+meant_place link (Some (Section position section value)) = place_in value (piece_index link position section)
+meant_place link (Some (Common position symbol)) = place_in 0 (common_index link position symbol)
+meant_place link other = None
 
 -- before all modules: no section and no relocation is named
 abbrev pub bad_entry : TargetFault → Fault
@@ -52,16 +52,16 @@ unplaced_fault (Some piece) = None
 
 -- the section of the entry does not come into the image, or the entry stands in no section; the start of the image is the
 -- RVA 0, which says that the image begins nowhere
-abbrev pub meant_fault : List ModuleView → Option Meaning → Option Fault
-meant_fault modules None = None
-meant_fault modules (Some ImageBase) = None
-meant_fault modules (Some (Section position section value)) = unplaced_fault (piece_index modules position section)
-meant_fault modules (Some (Common position symbol)) = unplaced_fault (common_index modules position symbol)
-meant_fault modules (Some other) = Some (bad_entry NoSection)
+abbrev pub meant_fault : LinkView → Option Meaning → Option Fault
+meant_fault link None = None
+meant_fault link (Some ImageBase) = None
+meant_fault link (Some (Section position section value)) = unplaced_fault (piece_index link position section)
+meant_fault link (Some (Common position symbol)) = unplaced_fault (common_index link position symbol)
+meant_fault link (Some other) = Some (bad_entry NoSection)
 
 -- where the entry stands
-abbrev pub entry_place : List ModuleView → Option (List ℕ) → Option EntryPlace
-entry_place modules entry = meant_place modules (entry_meant modules entry)
+abbrev pub entry_place : LinkView → Option (List ℕ) → Option EntryPlace
+entry_place link entry = meant_place link (entry_meant link entry)
 
 abbrev pub piece_of_place : Option EntryPlace → Option ℕ
 piece_of_place place = option_map (λ stands. stands.piece) place

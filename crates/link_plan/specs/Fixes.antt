@@ -18,7 +18,8 @@ use Rattle.relocate.specs.Field.{has_field}
 use Rattle.relocate.specs.FieldFaults.{field_fault}
 use Rattle.relocate.specs.Judged.{AreTheFields, ArePatchable}
 use Rattle.relocate.specs.Value.{target_of}
-use Rattle.module_view.specs.Module.{ModuleView, module_at}
+use Rattle.module_view.specs.Module.{module_at}
+use Rattle.symbol_table.specs.LinkView.{LinkView}
 use Rattle.link_pieces.specs.Pieces.{link_pieces, link_contents}
 use Rattle.link_pieces.specs.PieceIndex.{is_section}
 use Rattle.link_words.specs.Outcome.{LinkOptions}
@@ -27,37 +28,37 @@ use Rattle.link_plan.specs.Entry.{entry_place, piece_of_place}
 
 -- ---- the relocations of a section of the module at a position
 
-abbrev pub fix_of : List ModuleView → ℕ → List ℕ → ℕ → Relocation → Fix
-fix_of modules position bytes index relocation = record {
+abbrev pub fix_of : LinkView → ℕ → List ℕ → ℕ → Relocation → Fix
+fix_of link position bytes index relocation = record {
   index = index;
   at = relocation.at;
   kind = relocation.kind;
-  target = record_target modules position bytes relocation.symbol;
+  target = record_target link position bytes relocation.symbol;
 }
 
 -- relocations from an index on
-unfoldable pub fixes_from : List ModuleView → ℕ → List ℕ → ℕ → List Relocation → List Fix
-fixes_from modules position bytes index [] = []
-fixes_from modules position bytes index (relocation ∷ later) =
-    fix_of modules position bytes index relocation ∷ fixes_from modules position bytes (index + 1) later
+unfoldable pub fixes_from : LinkView → ℕ → List ℕ → ℕ → List Relocation → List Fix
+fixes_from link position bytes index [] = []
+fixes_from link position bytes index (relocation ∷ later) =
+    fix_of link position bytes index relocation ∷ fixes_from link position bytes (index + 1) later
 
-abbrev pub section_fixes : List ModuleView → ℕ → List ℕ → ℕ → List Fix
-section_fixes modules position bytes section = fixes_from modules position bytes 0 (relocations_of bytes section)
+abbrev pub section_fixes : LinkView → ℕ → List ℕ → ℕ → List Fix
+section_fixes link position bytes section = fixes_from link position bytes 0 (relocations_of bytes section)
 
 -- ---- those of a piece
 
-abbrev pub piece_at : List ModuleView → ℕ → Piece
-piece_at modules k = slice_index_or (link_pieces modules) k no_piece
+abbrev pub piece_at : LinkView → ℕ → Piece
+piece_at link k = slice_index_or (link_pieces link) k no_piece
 
 -- a common has none
-abbrev pub fixes_in : List ModuleView → Piece → List Fix
-fixes_in modules piece =
+abbrev pub fixes_in : LinkView → Piece → List Fix
+fixes_in link piece =
     if is_section piece
-    then section_fixes modules piece.«module» (module_at modules piece.«module»).bytes piece.number
+    then section_fixes link piece.«module» (module_at link.modules piece.«module»).bytes piece.number
     else []
 
-abbrev pub piece_fixes : List ModuleView → ℕ → List Fix
-piece_fixes modules k = fixes_in modules (piece_at modules k)
+abbrev pub piece_fixes : LinkView → ℕ → List Fix
+piece_fixes link k = fixes_in link (piece_at link k)
 
 -- ---- faults
 
@@ -76,19 +77,19 @@ abbrev pub judged_fault : Piece → List ℕ → Bool → List Fix → Option Fa
 judged_fault piece contents large fixes =
     option_and_then (refused_at piece) (field_fault (len_if piece.init contents) large false fixes)
 
-abbrev pub piece_fault : List ModuleView → Bool → ℕ → Option Fault
-piece_fault modules large k =
-    judged_fault (piece_at modules k) (slice_index_or (link_contents modules) k []) large (piece_fixes modules k)
+abbrev pub piece_fault : LinkView → Bool → ℕ → Option Fault
+piece_fault link large k =
+    judged_fault (piece_at link k) (slice_index_or (link_contents link) k []) large (piece_fixes link k)
 
 -- that of all pieces, in their order
-abbrev pub fixes_fault : List ModuleView → Bool → Option Fault
-fixes_fault modules large = first_refusal_below (length (link_pieces modules)) (piece_fault modules large)
+abbrev pub fixes_fault : LinkView → Bool → Option Fault
+fixes_fault link large = first_refusal_below (length (link_pieces link)) (piece_fault link large)
 
 -- what the fields of the first pieces are, judged
-pub record HaveFields (modules : List ModuleView) (count : ℕ) (fixups : List (List Fix)) : Type 0 where
+pub record HaveFields (link : LinkView) (count : ℕ) (fixups : List (List Fix)) : Type 0 where
   pub for_each : length fixups ≡ count
-  pub fields : (k : ℕ) → k < count → AreTheFields (piece_fixes modules k) (slice_index_or fixups k [])
-  pub patchable : (k : ℕ) → k < count → ArePatchable (length (slice_index_or (link_contents modules) k [])) (slice_index_or fixups k [])
+  pub fields : (k : ℕ) → k < count → AreTheFields (piece_fixes link k) (slice_index_or fixups k [])
+  pub patchable : (k : ℕ) → k < count → ArePatchable (length (slice_index_or (link_contents link) k [])) (slice_index_or fixups k [])
 
 -- ---- pieces that fields mean
 
@@ -108,28 +109,28 @@ is_that k (Some piece) = piece == k
 abbrev pub means_piece : ℕ → Fix → Bool
 means_piece k fix = is_that k (meant_in fix)
 
-abbrev pub mean_piece : List ModuleView → ℕ → ℕ → Bool
-mean_piece modules k i = list_any (means_piece k) (piece_fixes modules i)
+abbrev pub mean_piece : LinkView → ℕ → ℕ → Bool
+mean_piece link k i = list_any (means_piece k) (piece_fixes link i)
 
 -- a field of one of the first pieces means a piece
-abbrev pub is_meant_among : List ModuleView → ℕ → ℕ → Bool
-is_meant_among modules count k = list_any (mean_piece modules k) (range_with_len 0 count)
+abbrev pub is_meant_among : LinkView → ℕ → ℕ → Bool
+is_meant_among link count k = list_any (mean_piece link k) (range_with_len 0 count)
 
-abbrev pub is_meant : List ModuleView → ℕ → Bool
-is_meant modules k = is_meant_among modules (length (link_pieces modules)) k
+abbrev pub is_meant : LinkView → ℕ → Bool
+is_meant link k = is_meant_among link (length (link_pieces link)) k
 
 -- ---- pieces that stand in a section even where they have no bytes
 
 -- the entry is there
-abbrev pub is_entry : LinkOptions → List ModuleView → ℕ → Bool
-is_entry options modules k = is_that k (piece_of_place (entry_place modules options.entry_name))
+abbrev pub is_entry : LinkOptions → LinkView → ℕ → Bool
+is_entry options link k = is_that k (piece_of_place (entry_place link options.entry_name))
 
 abbrev pub named_if : Bool → Piece → Piece
 named_if meant piece = record piece { named = piece.named || meant }
 
 -- a definition stands there, a field means it, or the entry is there
-abbrev pub planned_piece : LinkOptions → List ModuleView → ℕ → Piece
-planned_piece options modules k = named_if (is_meant modules k || is_entry options modules k) (piece_at modules k)
+abbrev pub planned_piece : LinkOptions → LinkView → ℕ → Piece
+planned_piece options link k = named_if (is_meant link k || is_entry options link k) (piece_at link k)
 
-unfoldable pub plan_pieces : LinkOptions → List ModuleView → List Piece
-plan_pieces options modules = map (planned_piece options modules) (range_with_len 0 (length (link_pieces modules)))
+unfoldable pub plan_pieces : LinkOptions → LinkView → List Piece
+plan_pieces options link = map (planned_piece options link) (range_with_len 0 (length (link_pieces link)))

@@ -8,7 +8,9 @@ use Rattle.section_group.specs.BarePieces.{bare}
 use Rattle.address_layout.specs.Layout.{IsAlignment}
 use Rattle.section_group.specs.PieceContents.{piece_contents, HasItsBytes}
 use Rattle.module_view.specs.Module.{ModuleView}
+use Rattle.symbol_table.specs.LinkView.{LinkView}
 use Rattle.module_view.specs.Opening.{IsOpened}
+use Rattle.link_directives.specs.LinkDirectives.{link_merges}
 use Rattle.link_pieces.specs.Pieces.{link_contents}
 use Rattle.link_words.specs.Outcome.{LinkOptions}
 use Rattle.link_plan.specs.declared.entry.EntryPlace.{EntryPlace}
@@ -23,17 +25,26 @@ pub record StandsNamed (pieces : List Piece) (place : EntryPlace) : Type 0 where
   pub named : (slice_index_or pieces place.piece no_piece).named ≡ true
   pub inside : place.value ≤ (slice_index_or pieces place.piece no_piece).size
 
+-- what takes part in a link with these options
+abbrev pub link_of : LinkOptions → List ModuleView → LinkView
+link_of options modules = record { alternates = options.alternates; modules = modules }
+
+-- the merges of a link: those of the options, then those of the directives
+abbrev pub merges_of : LinkOptions → LinkView → List (List ℕ × List ℕ)
+merges_of options link = link_merges options.merges link.modules
+
 -- a plan holds what the definitions give for the modules and the options, which have no fault up to it
-pub record IsPlanOf (options : LinkOptions) (modules : List ModuleView) (plan : LinkPlan) : Type 0 where
-  pub opened : All IsOpened modules
-  pub modules_are : plan.modules.items ≡ modules
-  pub names_are : plan.names ≡ modules
-  pub pieces_are : map bare plan.pieces.items ≡ plan_pieces options modules
-  pub contents_are : map piece_contents plan.pieces.items ≡ link_contents modules
+pub record IsPlanOf (options : LinkOptions) (link : LinkView) (plan : LinkPlan) : Type 0 where
+  pub opened : All IsOpened link.modules
+  pub modules_are : plan.modules.items ≡ link.modules
+  pub names_are : plan.names ≡ link
+  pub pieces_are : map bare plan.pieces.items ≡ plan_pieces options link
+  pub contents_are : map piece_contents plan.pieces.items ≡ link_contents link
   pub aligned : All (λ piece. IsAlignment piece.align) plan.pieces.items
   pub bodies : (k : ℕ) → k < length plan.pieces.items → HasItsBytes plan.pieces.items k
   pub few : length plan.pieces.items < 2 ^ 31
-  pub fields : HaveFields modules (length plan.pieces.items) plan.fixes.items
-  pub entry_is : plan.entry ≡ entry_place modules options.entry_name
+  pub fields : HaveFields link (length plan.pieces.items) plan.fixes.items
+  pub merges_are : plan.merges.items ≡ merges_of options link
+  pub entry_is : plan.entry ≡ entry_place link options.entry_name
   pub stands : ForSome plan.entry (StandsNamed plan.pieces.items)
-  pub no_fault : plan_fault options modules ≡ None
+  pub no_fault : plan_fault options link ≡ None

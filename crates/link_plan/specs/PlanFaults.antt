@@ -1,30 +1,43 @@
--- Why modules are not linked, before anything is laid out: the faults of the stages from choice to fields, in their order.
+-- Why modules are not linked, before anything is laid out: the faults of the stages from mismatch to fields, in their order.
 -- The order is own.
-use Rattle.std.specs.Prelude.{ℕ, List, Option}
+use Rattle.std.specs.Prelude.{List, Option, None, option_map}
 use Rattle.std.specs.Option.{option_or}
 use Rattle.link_base.specs.declared.fault.Fault.{Fault}
+use Rattle.symbol_table.specs.LinkView.{LinkView}
+use Rattle.link_base.specs.declared.fault.Fault.TheVariants as faults
 use Rattle.module_view.specs.Module.{ModuleView}
+use Rattle.link_directives.specs.LinkDirectives.{mismatch_of}
+use Rattle.link_directives.specs.declared.mismatch.Mismatch.{Mismatch}
 use Rattle.link_pieces.specs.ChoiceFaults.{conflict_fault, clash_fault}
 use Rattle.link_words.specs.Outcome.{LinkOptions}
-use Rattle.link_plan.specs.References.{references_fault}
+use Rattle.link_plan.specs.References.{includes_fault, references_fault}
 use Rattle.link_plan.specs.Entry.{entry_meant, entry_meaning_fault, meant_fault}
 use Rattle.link_plan.specs.Fixes.{fixes_fault}
 
--- choice: COMDAT sections conflict, or two modules define one name
-abbrev pub choice_fault : List ModuleView → Option Fault
-choice_fault modules = option_or (conflict_fault modules) (clash_fault modules)
+-- mismatch: a directive gives a key another value than an earlier one
+abbrev pub mismatched : Mismatch → Fault
+mismatched mismatch = faults.Mismatch mismatch.key mismatch.first mismatch.second
 
--- meaning: the entry means nothing, or a reference of a module does
-abbrev pub meaning_fault : List ModuleView → Option (List ℕ) → Option Fault
-meaning_fault modules entry = option_or (entry_meaning_fault modules entry) (references_fault modules)
+abbrev pub mismatch_fault : List ModuleView → Option Fault
+mismatch_fault modules = option_map mismatched (mismatch_of modules)
+
+-- choice: COMDAT sections conflict, or two modules define one name
+abbrev pub choice_fault : LinkView → Option Fault
+choice_fault link = option_or (conflict_fault link.modules) (clash_fault link.modules)
+
+-- meaning: the entry means nothing, or a name that the command line includes, or a reference of a module
+abbrev pub meaning_fault : LinkOptions → LinkView → Option Fault
+meaning_fault options link =
+    option_or (entry_meaning_fault link options.entry_name)
+    (option_or (includes_fault link None options.includes) (references_fault link))
 
 -- fields: the entry has no place in the image, or a relocation of a piece has a fault
-abbrev pub fields_fault : LinkOptions → List ModuleView → Option Fault
-fields_fault options modules =
-    option_or (meant_fault modules (entry_meant modules options.entry_name)) (fixes_fault modules options.large)
+abbrev pub fields_fault : LinkOptions → LinkView → Option Fault
+fields_fault options link =
+    option_or (meant_fault link (entry_meant link options.entry_name)) (fixes_fault link options.large)
 
 -- the first of the stages that has a fault
-unfoldable pub plan_fault : LinkOptions → List ModuleView → Option Fault
-plan_fault options modules =
-    option_or (choice_fault modules)
-    (option_or (meaning_fault modules options.entry_name) (fields_fault options modules))
+unfoldable pub plan_fault : LinkOptions → LinkView → Option Fault
+plan_fault options link =
+    option_or (mismatch_fault link.modules)
+    (option_or (choice_fault link) (option_or (meaning_fault options link) (fields_fault options link)))

@@ -1,11 +1,16 @@
 -- The names that modules refer to, and which of them mean nothing. Own.
-use Rattle.std.specs.Prelude.{ℕ, Bool, ◌&&◌, ◌||◌, not, if◌then◌else◌, List, length, map, Option, Some, None, Result, Ok, Err}
+use Rattle.std.specs.Prelude.{ℕ, Bool, ◌&&◌, ◌||◌, not, if◌then◌else◌, List, length, map, filter_map, Option, Some, None, Result, Ok, Err}
+use Rattle.std.specs.Option.{option_or}
 use Rattle.link_base.specs.Refusals.{first_standing, first_refusal_below}
 use Rattle.link_base.specs.declared.fault.Fault.{Fault}
 use Rattle.link_base.specs.declared.fault.Fault.TheVariants as faults
-use Rattle.module_view.specs.Module.{ModuleView, module_at}
+use Rattle.module_view.specs.Module.{module_at}
+use Rattle.symbol_table.specs.LinkView.{LinkView}
 use Rattle.coff_records.specs.ObjectFile.{SymbolView, SymbolEntry, name_in, symbol_entries}
 use Rattle.module_view.specs.SymbolLists.{is_definition, place_of, is_reference}
+use Rattle.directives.specs.Said.{Said}
+use Rattle.directives.specs.Said as says
+use Rattle.module_view.specs.ModuleDirectives.{module_directives}
 use Rattle.symbol_table.specs.Lists.{is_live_at}
 use Rattle.comdat.specs.Selection.{chosen_sections}
 use Rattle.symbol_table.specs.declared.meaning.Meaning.{Meaning}
@@ -19,29 +24,58 @@ no_meaning_fault name at (Err Undefined) = Some (faults.Undefined name at)
 no_meaning_fault name at (Err WeakCycle) = Some (faults.WeakCycle name at)
 
 -- a name, said by the module at a position or before all modules, means nothing
-abbrev pub name_fault : List ModuleView → List ℕ → Option ℕ → Option Fault
-name_fault modules name at = no_meaning_fault name at (name_meaning modules name)
+abbrev pub name_fault : LinkView → List ℕ → Option ℕ → Option Fault
+name_fault link name at = no_meaning_fault name at (name_meaning link name)
 
 -- ---- the symbols of a module whose names must mean something
 
 -- a definition in a section that takes no part in the link stands for its name
-abbrev pub is_lost : List ModuleView → ℕ → SymbolView → Bool
-is_lost modules position symbol = is_definition symbol && not (is_live_at (chosen_sections modules) position (place_of symbol))
+abbrev pub is_lost : LinkView → ℕ → SymbolView → Bool
+is_lost link position symbol = is_definition symbol && not (is_live_at (chosen_sections link.modules) position (place_of symbol))
 
-unfoldable pub asks : List ModuleView → ℕ → SymbolView → Bool
-asks modules position symbol = is_reference symbol || is_lost modules position symbol
+unfoldable pub asks : LinkView → ℕ → SymbolView → Bool
+asks link position symbol = is_reference symbol || is_lost link position symbol
 
-abbrev pub symbol_fault : List ModuleView → ℕ → SymbolEntry → Option Fault
-symbol_fault modules position entry =
-    if asks modules position entry.1 then name_fault modules (name_in entry.1) (Some position) else None
+abbrev pub symbol_fault : LinkView → ℕ → SymbolEntry → Option Fault
+symbol_fault link position entry =
+    if asks link position entry.1 then name_fault link (name_in entry.1) (Some position) else None
 
--- the first name of a symbol that means nothing, in the order of the symbols
-abbrev pub object_fault_among : List ModuleView → ℕ → List ℕ → Option Fault
-object_fault_among modules position bytes = first_standing (map (symbol_fault modules position) (symbol_entries bytes))
+-- the first that means nothing, in the order of the symbols
+abbrev pub symbols_fault : LinkView → ℕ → List ℕ → Option Fault
+symbols_fault link position bytes = first_standing (map (symbol_fault link position) (symbol_entries bytes))
 
-abbrev pub references_fault_at : List ModuleView → ℕ → Option Fault
-references_fault_at modules position = object_fault_among modules position (module_at modules position).bytes
+-- ---- names that are included (MSVC linker reference, "/INCLUDE")
+
+abbrev pub include_said : Said → Option (List ℕ)
+include_said (says.Include name) = Some name
+include_said (says.AlignComm name log) = None
+include_said (says.AlternateName left right) = None
+include_said (says.DefaultLib text) = None
+include_said (says.Exports row) = None
+include_said (says.FailIfMismatch key value) = None
+include_said (says.Merge left right) = None
+
+abbrev pub included_fault : LinkView → Option ℕ → List ℕ → Option Fault
+included_fault link at name = name_fault link name at
+
+-- the first of several names that means nothing
+abbrev pub includes_fault : LinkView → Option ℕ → List (List ℕ) → Option Fault
+includes_fault link at names = first_standing (map (included_fault link at) names)
+
+-- those of the directives of a module
+abbrev pub includes_by : List ℕ → List (List ℕ)
+includes_by bytes = filter_map include_said (module_directives bytes)
+
+-- ---- all of them
+
+-- in a module its symbols come before its directives
+abbrev pub object_fault_among : LinkView → ℕ → List ℕ → Option Fault
+object_fault_among link position bytes =
+    option_or (symbols_fault link position bytes) (includes_fault link (Some position) (includes_by bytes))
+
+abbrev pub references_fault_at : LinkView → ℕ → Option Fault
+references_fault_at link position = object_fault_among link position (module_at link.modules position).bytes
 
 -- that of all modules, in their order
-abbrev pub references_fault : List ModuleView → Option Fault
-references_fault modules = first_refusal_below (length modules) (references_fault_at modules)
+abbrev pub references_fault : LinkView → Option Fault
+references_fault link = first_refusal_below (length link.modules) (references_fault_at link)

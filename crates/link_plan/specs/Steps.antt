@@ -2,10 +2,11 @@
 use Rattle.std.specs.Prelude.{ℕ, List, Option, Some, None, Result}
 use Rattle.link_base.specs.declared.kinds.target.TargetFault.{TargetFault}
 use Rattle.relocate.specs.declared.fix.Target.{Target}
-use Rattle.module_view.specs.Module.{ModuleView, module_at}
+use Rattle.module_view.specs.Module.{module_at}
+use Rattle.symbol_table.specs.LinkView.{LinkView}
 use Rattle.link_plan.specs.Targets.{AreTargets}
 
 -- where a module was read last, the list tells what its symbols mean
-abbrev pub HoldsTargets : List ModuleView → Option ℕ → List (Option (Result Target TargetFault)) → Type 0
-HoldsTargets modules None targets = Unit {0}
-HoldsTargets modules (Some position) targets = AreTargets modules position (module_at modules position).bytes targets
+abbrev pub HoldsTargets : LinkView → Option ℕ → List (Option (Result Target TargetFault)) → Type 0
+HoldsTargets link None targets = Unit {0}
+HoldsTargets link (Some position) targets = AreTargets link position (module_at link.modules position).bytes targets

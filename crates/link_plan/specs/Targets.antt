@@ -10,7 +10,7 @@ use Rattle.link_base.specs.declared.kinds.target.TargetFault.TheVariants as faul
 use Rattle.coff_records.specs.ObjectFile.{SymbolView, SymbolEntry, name_in, value_in, section_number_in, section_of_number, class_in, symbol_entries}
 use Rattle.relocate.specs.declared.fix.Target.{Target}
 use Rattle.relocate.specs.declared.fix.Target.TheVariants as target
-use Rattle.module_view.specs.Module.{ModuleView}
+use Rattle.symbol_table.specs.LinkView.{LinkView}
 use Rattle.module_view.specs.SymbolLists.{is_absolute}
 use Rattle.symbol_table.specs.declared.meaning.Meaning.{Meaning}
 use Rattle.symbol_table.specs.declared.meaning.Meaning.TheVariants as meaning
@@ -25,27 +25,27 @@ target_in value None = Err fault.Unplaced
 target_in value (Some piece) = Ok (target.Piece piece value)
 
 -- an offset in a section of the module at a position, which may not come into the image
-abbrev pub section_target : List ModuleView → ℕ → ℕ → ℕ → Result Target TargetFault
-section_target modules position section value = target_in value (piece_index modules position section)
+abbrev pub section_target : LinkView → ℕ → ℕ → ℕ → Result Target TargetFault
+section_target link position section value = target_in value (piece_index link position section)
 
 -- a common of the module at a position, by the record of its symbol
-abbrev pub common_target : List ModuleView → ℕ → ℕ → Result Target TargetFault
-common_target modules position symbol = target_in 0 (common_index modules position symbol)
+abbrev pub common_target : LinkView → ℕ → ℕ → Result Target TargetFault
+common_target link position symbol = target_in 0 (common_index link position symbol)
 
 -- an offset in a section, of a symbol that only its module can name: a section that takes no part in the link has been discarded
-abbrev pub own_target : List ModuleView → ℕ → ℕ → ℕ → Result Target TargetFault
-own_target modules position section value =
-    if takes_part modules position section then section_target modules position section value else Err fault.Discarded
+abbrev pub own_target : LinkView → ℕ → ℕ → ℕ → Result Target TargetFault
+own_target link position section value =
+    if takes_part link position section then section_target link position section value else Err fault.Discarded
 
 -- ---- a name
 
 -- what a meaning is to a relocation; that a name means nothing is refused before
-abbrev pub meant_target : List ModuleView → Result Meaning NoMeaning → Result Target TargetFault
-meant_target modules (Ok (meaning.Section position section value)) = section_target modules position section value
-meant_target modules (Ok (meaning.Common position symbol)) = common_target modules position symbol
-meant_target modules (Ok (meaning.Absolute value)) = Ok (target.Absolute value)
-meant_target modules (Ok meaning.ImageBase) = Ok target.ImageBase
-meant_target modules other = Err fault.NoSection
+abbrev pub meant_target : LinkView → Result Meaning NoMeaning → Result Target TargetFault
+meant_target link (Ok (meaning.Section position section value)) = section_target link position section value
+meant_target link (Ok (meaning.Common position symbol)) = common_target link position symbol
+meant_target link (Ok (meaning.Absolute value)) = Ok (target.Absolute value)
+meant_target link (Ok meaning.ImageBase) = Ok target.ImageBase
+meant_target link other = Err fault.NoSection
 
 -- ---- a symbol
 
@@ -56,18 +56,18 @@ has_meaning symbol =
     && not (int_eq (section_number_in symbol) SYM_DEBUG)
 
 -- a symbol of the object alone: a number, or a place in one of its sections; else it has no address
-unfoldable pub local_target : List ModuleView → ℕ → SymbolView → Result Target TargetFault
-local_target modules position symbol =
+unfoldable pub local_target : LinkView → ℕ → SymbolView → Result Target TargetFault
+local_target link position symbol =
     if is_absolute symbol then Ok (target.Absolute (value_in symbol))
     else (if lt_z SYM_UNDEFINED (section_number_in symbol)
-    then own_target modules position (section_of_number (section_number_in symbol)) (value_in symbol)
+    then own_target link position (section_of_number (section_number_in symbol)) (value_in symbol)
     else Err fault.Local)
 
 -- a symbol of the module at a position
-abbrev pub symbol_target : List ModuleView → ℕ → SymbolView → Result Target TargetFault
-symbol_target modules position symbol =
-    if has_meaning symbol then meant_target modules (name_meaning modules (name_in symbol))
-    else local_target modules position symbol
+abbrev pub symbol_target : LinkView → ℕ → SymbolView → Result Target TargetFault
+symbol_target link position symbol =
+    if has_meaning symbol then meant_target link (name_meaning link (name_in symbol))
+    else local_target link position symbol
 
 -- ---- a record
 
@@ -75,11 +75,11 @@ abbrev pub is_record : ℕ → SymbolEntry → Bool
 is_record at entry = entry.0 == at
 
 -- the symbol whose record has an index; an auxiliary record and an index beyond all records are no symbol
-abbrev pub record_target : List ModuleView → ℕ → List ℕ → ℕ → Option (Result Target TargetFault)
-record_target modules position bytes at =
-    option_map (λ entry. symbol_target modules position entry.1) (find (is_record at) (symbol_entries bytes))
+abbrev pub record_target : LinkView → ℕ → List ℕ → ℕ → Option (Result Target TargetFault)
+record_target link position bytes at =
+    option_map (λ entry. symbol_target link position entry.1) (find (is_record at) (symbol_entries bytes))
 
 -- a list tells it of each record of the module at a position
-abbrev pub AreTargets : List ModuleView → ℕ → List ℕ → List (Option (Result Target TargetFault)) → Type 0
-AreTargets modules position bytes targets =
-    (at : ℕ) → slice_index_or targets at None ≡ record_target modules position bytes at
+abbrev pub AreTargets : LinkView → ℕ → List ℕ → List (Option (Result Target TargetFault)) → Type 0
+AreTargets link position bytes targets =
+    (at : ℕ) → slice_index_or targets at None ≡ record_target link position bytes at

@@ -1,7 +1,7 @@
 //! The entry of an image.
 
 ghost use Rattle.std.specs.Prelude.{◌≡◌, List, None, Some, IfOk, OnOk, IfErr};
-ghost use Rattle.module_view.specs.Module.{ModuleView};
+ghost use Rattle.symbol_table.specs.LinkView.{LinkView};
 ghost use Rattle.link_pieces.specs.PieceIndex.{IsPieceIndex};
 ghost use Rattle.link_plan.specs.Entry.{entry_meant, entry_meaning_fault, meant_place, meant_fault};
 
@@ -38,12 +38,12 @@ pub(crate) fn entry_place<'a>(
     index: &PieceIndex,
     meaning: &Option<Meaning<'a>>,
 ) -> Result<Option<EntryPlace>, Fault<'a>>
-    ensures placed { IfOk result (λ place. (modules : List ModuleView) → IsPieceIndex modules index.now
-        → place ≡ meant_place modules meaning.now) }
-    ensures accepted { OnOk result ((modules : List ModuleView) → IsPieceIndex modules index.now
-        → meant_fault modules meaning.now ≡ None) }
-    ensures refused { IfErr result (λ fault. (modules : List ModuleView) → IsPieceIndex modules index.now
-        → meant_fault modules meaning.now ≡ Some fault) }
+    ensures placed { IfOk result (λ place. (link : LinkView) → IsPieceIndex link index.now
+        → place ≡ meant_place link meaning.now) }
+    ensures accepted { OnOk result ((link : LinkView) → IsPieceIndex link index.now
+        → meant_fault link meaning.now ≡ None) }
+    ensures refused { IfErr result (λ fault. (link : LinkView) → IsPieceIndex link index.now
+        → meant_fault link meaning.now ≡ Some fault) }
 {
     match meaning {
         None => Ok(None),

@@ -2,7 +2,8 @@
 
 ghost use Rattle.std.specs.Prelude.{◌≡◌, ◌≤◌, ℕ, List, Some, None, IfOk, OnOk, slice_index_or};
 ghost use Rattle.coff_records.specs.ObjectFile.{section_total};
-ghost use Rattle.module_view.specs.Module.{ModuleView, module_at};
+ghost use Rattle.module_view.specs.Module.{module_at};
+ghost use Rattle.symbol_table.specs.LinkView.{LinkView};
 ghost use Rattle.link_pieces.specs.PieceIndex.{IsPieceIndex};
 ghost use Rattle.link_plan.specs.Targets.{AreTargets};
 ghost use Rattle.link_plan.specs.Fixes.{section_fixes};
@@ -34,7 +35,7 @@ pub(crate) fn section_fixes<'a>(
 ) -> Result<Vec<Fix>, Memory>
     requires indexed { IsPieceIndex names.now index.now }
     requires held { HoldsTargets names.now last.old.position last.old.targets.items }
-    requires here { object.now ≡ (module_at names.now position).bytes }
+    requires here { object.now ≡ (module_at names.now.modules position).bytes }
     requires first { 1 ≤ section }
     requires last { section ≤ section_total object.now }
     ensures fixes { IfOk result (λ fixes. fixes.items ≡ section_fixes names.now position object.now section) }
@@ -58,7 +59,7 @@ fn read_targets<'a>(
 ) -> Result<(), Memory>
     requires indexed { IsPieceIndex names.now index.now }
     requires held { HoldsTargets names.now last.old.position last.old.targets.items }
-    requires here { object.now ≡ (module_at names.now position).bytes }
+    requires here { object.now ≡ (module_at names.now.modules position).bytes }
     ensures position { OnOk result (last.new.position ≡ Some position) }
     ensures targets { OnOk result (AreTargets names.now position object.now last.new.targets.items) }
 {
@@ -78,8 +79,8 @@ fn fixes_of(
 ) -> Result<Vec<Fix>, Memory>
     requires first { 1 ≤ section }
     requires last { section ≤ section_total object.now }
-    ensures { IfOk result (λ fixes. (modules : List ModuleView) (position : ℕ) → AreTargets modules position object.now targets.now
-        → fixes.items ≡ section_fixes modules position object.now section) }
+    ensures { IfOk result (λ fixes. (link : LinkView) (position : ℕ) → AreTargets link position object.now targets.now
+        → fixes.items ≡ section_fixes link position object.now section) }
 {
     let mut fixes = Vec::with_capacity(alloc, object.relocation_count(section) as usize)?;
     let mut index = 0;

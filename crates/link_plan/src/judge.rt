@@ -35,15 +35,15 @@ pub(crate) fn judge_pieces<'a>(
     pieces: &[Piece<'a>],
     large: bool,
 ) -> Result<JudgedFixes, Refusal<'a>>
-    requires same { names.now ≡ modules.now }
-    requires indexed { IsPieceIndex modules.now index.now }
-    requires pieces { map bare pieces.now ≡ link_pieces modules.now }
-    requires contents { map piece_contents pieces.now ≡ link_contents modules.now }
-    ensures fields { IfOk result (λ fixes. HaveFields modules.now (length pieces.now) fixes.fixups.items) }
-    ensures meant { IfOk result (λ fixes. (k : ℕ) → k < length pieces.now → slice_index_or fixes.meant.items k false ≡ is_meant modules.now k) }
+    requires same { names.now.modules ≡ modules.now }
+    requires indexed { IsPieceIndex names.now index.now }
+    requires pieces { map bare pieces.now ≡ link_pieces names.now }
+    requires contents { map piece_contents pieces.now ≡ link_contents names.now }
+    ensures fields { IfOk result (λ fixes. HaveFields names.now (length pieces.now) fixes.fixups.items) }
+    ensures meant { IfOk result (λ fixes. (k : ℕ) → k < length pieces.now → slice_index_or fixes.meant.items k false ≡ is_meant names.now k) }
     ensures len { IfOk result (λ fixes. length fixes.meant.items ≡ length pieces.now) }
-    ensures accepted { OnOk result (fixes_fault modules.now large ≡ None) }
-    ensures refused { IfErr result (RefusesFor (fixes_fault modules.now large)) }
+    ensures accepted { OnOk result (fixes_fault names.now large ≡ None) }
+    ensures refused { IfErr result (RefusesFor (fixes_fault names.now large)) }
 {
     let mut fixups = Vec::with_capacity(alloc, pieces.len())?;
     let mut meant = vec![in alloc; false; pieces.len()]?;
@@ -78,12 +78,12 @@ fn piece_fixes<'a>(
     modules: &[Module<'a>],
     piece: &Piece<'a>,
 ) -> Result<Vec<Fix>, Memory>
-    requires same { names.now ≡ modules.now }
-    requires indexed { IsPieceIndex modules.now index.now }
-    requires held { HoldsTargets modules.now last.old.position last.old.targets.items }
-    requires whole { IsPieceOf modules.now (bare piece.now) }
-    ensures fixes { IfOk result (λ fixes. fixes.items ≡ fixes_in modules.now piece.now) }
-    ensures held { OnOk result (HoldsTargets modules.now last.new.position last.new.targets.items) }
+    requires same { names.now.modules ≡ modules.now }
+    requires indexed { IsPieceIndex names.now index.now }
+    requires held { HoldsTargets names.now last.old.position last.old.targets.items }
+    requires whole { IsPieceOf names.now (bare piece.now) }
+    ensures fixes { IfOk result (λ fixes. fixes.items ≡ fixes_in names.now piece.now) }
+    ensures held { OnOk result (HoldsTargets names.now last.new.position last.new.targets.items) }
 {
     if piece.number >= FIRST_COMMON {
         return Ok(Vec::new(alloc));

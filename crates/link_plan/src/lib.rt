@@ -2,13 +2,14 @@
 //! the image with their fields, and the place of the entry. It takes the modules that were opened and the options, and
 //! gives the plan to `link_image`. What a symbol means to a relocation stands here, above the table of names and the
 //! pieces; `relocate` judges the fields. The contract promises the plan that the definitions give, or the first fault of
-//! the stages from choice to fields. Places, bytes and values are left to `link_image`.
+//! the stages from mismatch to fields. Places, bytes and values are left to `link_image`.
 #![tactic(auto)]
 
 mod entry;
 mod fixes;
 mod judge;
 mod meant;
+mod mismatch;
 mod plan;
 mod references;
 mod targets;

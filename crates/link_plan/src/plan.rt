@@ -5,13 +5,15 @@ ghost use Rattle.link_base.specs.Limits.{MODULE_LIMIT};
 ghost use Rattle.link_base.specs.Refusals.{RefusesFor};
 ghost use Rattle.link_words.specs.Outcome.{options_said};
 ghost use Rattle.link_plan.specs.PlanFaults.{plan_fault};
-ghost use Rattle.link_plan.specs.Plan.{IsPlanOf};
+ghost use Rattle.link_plan.specs.Plan.{IsPlanOf, link_of};
 
 use crate::entry::{EntryPlace, entry_meaning, entry_place};
 use crate::judge::judge_pieces;
 use crate::meant::{mark_entry, name_meant};
-use crate::references::check_references;
-use link_base::Refusal;
+use crate::mismatch::check_mismatch;
+use crate::references::{check_includes, check_references};
+use link_base::{Name, Refusal};
+use link_directives::link_merges;
 use link_pieces::{LinkNames, PieceIndex, check_clash, link_names, pieces_of};
 use link_words::Options;
 use module_view::Module;
@@ -30,26 +32,31 @@ pub struct LinkPlan<'a> {
     pub pieces: Vec<Piece<'a>>,
     /// The fields of each piece.
     pub fixes: Vec<Fixups>,
+    /// The merges of sections: those of the options, then those of the directives.
+    pub merges: Vec<(Name<'a>, Name<'a>)>,
     /// Where the image begins, where it begins at all.
     pub entry: Option<EntryPlace>,
 }
 
-/// The plan of a link of these modules. The input is refused for the first of: COMDAT sections that conflict
-/// (`ComdatConflict`), two definitions of one name (`Duplicate`), an entry or another name that nothing defines
-/// (`Undefined`) or whose default leads back to it (`WeakCycle`), an entry that has no place in the image (`BadTarget`),
-/// and a relocation that is malformed or whose target cannot be used (`BadReloc`, `BadTarget`).
+/// The plan of a link of these modules. The input is refused for the first of: directives that give one key different values
+/// (`Mismatch`), COMDAT sections that conflict (`ComdatConflict`), two definitions of one name (`Duplicate`), an entry or
+/// another name that nothing defines (`Undefined`) or whose default or alternate leads back to it (`WeakCycle`), an entry that
+/// has no place in the image (`BadTarget`), and a relocation that is malformed or whose target cannot be used (`BadReloc`,
+/// `BadTarget`).
 pub fn plan_of<'a>(
     alloc: Global,
     modules: Vec<Module<'a>>,
     options: &Options<'a>,
 ) -> Result<LinkPlan<'a>, Refusal<'a>>
     requires few { length modules.items ≤ MODULE_LIMIT }
-    ensures planned { IfOk result (IsPlanOf (options_said options.now) modules.entry.items) }
-    ensures refused { IfErr result (RefusesFor (plan_fault (options_said options.now) modules.entry.items)) }
+    ensures planned { IfOk result (IsPlanOf (options_said options.now) (link_of (options_said options.now) modules.entry.items)) }
+    ensures refused { IfErr result (RefusesFor (plan_fault (options_said options.now) (link_of (options_said options.now) modules.entry.items))) }
 {
-    let names = link_names(alloc, &modules)?;
+    check_mismatch(alloc, &modules)?;
+    let names = link_names(alloc, &options.alternates, &modules)?;
     check_clash(&names)?;
     let meaning = entry_meaning(&names, &options.entry)?;
+    check_includes(&names, &options.includes)?;
     check_references(&names, &modules)?;
     let mut pieces = pieces_of(alloc, &names, &modules)?;
     let index = PieceIndex::new(alloc, &modules, &pieces)?;
@@ -57,11 +64,13 @@ pub fn plan_of<'a>(
     let mut fixes = judge_pieces(alloc, &names, &index, &modules, &pieces, options.large)?;
     mark_entry(&mut fixes.meant, &entry);
     name_meant(&mut pieces, &fixes.meant);
+    let merges = link_merges(alloc, &options.merges, &modules)?;
     Ok(LinkPlan {
         modules,
         names,
         pieces,
         fixes: fixes.fixups,
+        merges,
         entry,
     })
 }

@@ -1,25 +1,28 @@
 //! The names that modules refer to.
 
-ghost use Rattle.std.specs.Prelude.{◌≡◌, ◌≤◌, length, Some, None, Err, OnOk, IfErr};
+ghost use Rattle.std.specs.Prelude.{◌≡◌, ◌≤◌, ◌∷◌, [], length, map, filter_map, Some, None, Err, OnOk, IfErr};
 ghost use Rattle.link_base.specs.Limits.{MODULE_LIMIT};
-ghost use Rattle.link_plan.specs.References.{no_meaning_fault, name_fault, asks, symbol_fault, object_fault_among, references_fault};
+ghost use Rattle.directives.specs.Said.{said};
+ghost use Rattle.link_plan.specs.References.{no_meaning_fault, name_fault, asks, symbol_fault, symbols_fault, include_said, includes_fault, object_fault_among, references_fault};
 
 use coff_object::{Object, SymbolRecord};
+use directives::Directive;
 use link_base::pe_format::{SYM_CLASS_EXTERNAL, SYM_CLASS_WEAK_EXTERNAL, SYM_UNDEFINED};
 use link_base::{Fault, Name};
 use link_pieces::LinkNames;
 use module_view::Module;
 use symbol_table::NoMeaning;
 
-/// That each name that a symbol of a module stands for means something. The first that means nothing is refused.
+/// That each name that a symbol of a module stands for, or a directive of it includes, means something. The first that means
+/// nothing is refused.
 pub(crate) fn check_references<'a>(
     names: &LinkNames<'a>,
     modules: &[Module<'a>],
 ) -> Result<(), Fault<'a>>
-    requires same { names.now ≡ modules.now }
+    requires same { names.now.modules ≡ modules.now }
     requires few { length modules.now ≤ MODULE_LIMIT }
-    ensures accepted { OnOk result (references_fault modules.now ≡ None) }
-    ensures refused { IfErr result (λ fault. references_fault modules.now ≡ Some fault) }
+    ensures accepted { OnOk result (references_fault names.now ≡ None) }
+    ensures refused { IfErr result (λ fault. references_fault names.now ≡ Some fault) }
 {
     for position in 0..modules.len() {
         check_module(names, &modules[position], position as u32)?;
@@ -27,7 +30,21 @@ pub(crate) fn check_references<'a>(
     Ok(())
 }
 
-/// The same of the module at a position.
+/// That each name that the command line includes means something. The first that means nothing is refused.
+pub(crate) fn check_includes<'a>(
+    names: &LinkNames<'a>,
+    includes: &[Name<'a>],
+) -> Result<(), Fault<'a>>
+    ensures accepted { OnOk result (includes_fault names.now None includes.now ≡ None) }
+    ensures refused { IfErr result (λ fault. includes_fault names.now None includes.now ≡ Some fault) }
+{
+    for name in includes {
+        check_name(names, name, None)?;
+    }
+    Ok(())
+}
+
+/// The same of the module at a position: its symbols, then its directives.
 fn check_module<'a>(
     names: &LinkNames<'a>,
     module: &Module<'a>,
@@ -36,20 +53,50 @@ fn check_module<'a>(
     ensures accepted { OnOk result (object_fault_among names.now position «module».now.bytes ≡ None) }
     ensures refused { IfErr result (λ fault. object_fault_among names.now position «module».now.bytes ≡ Some fault) }
 {
-    match module.object() {
-        Some(object) => check_object(names, object, position),
-        None => Ok(()),
+    if let Some(object) = module.object() {
+        check_object(names, object, position)?;
+    }
+    check_directives(names, module.directives(), position)
+}
+
+/// The same of the names that directives of the module at a position include.
+fn check_directives<'a>(
+    names: &LinkNames<'a>,
+    directives: &[Directive<'a>],
+    position: u32,
+) -> Result<(), Fault<'a>>
+    ensures accepted { OnOk result (includes_fault names.now (Some position) (filter_map include_said (map said directives.now)) ≡ None) }
+    ensures refused { IfErr result (λ fault. includes_fault names.now (Some position) (filter_map include_said (map said directives.now)) ≡ Some fault) }
+{
+    for directive in directives {
+        check_directive(names, directive, position)?;
+    }
+    Ok(())
+}
+
+/// The same of a name that a directive includes.
+fn check_directive<'a>(
+    names: &LinkNames<'a>,
+    directive: &Directive<'a>,
+    position: u32,
+) -> Result<(), Fault<'a>>
+    ensures accepted { OnOk result (includes_fault names.now (Some position) (filter_map include_said (said directive.now ∷ [])) ≡ None) }
+    ensures refused { IfErr result (λ fault. includes_fault names.now (Some position) (filter_map include_said (said directive.now ∷ [])) ≡ Some fault) }
+{
+    match directive {
+        Directive::Include(name) => check_name(names, name, Some(position)),
+        _ => Ok(()),
     }
 }
 
-/// The same of the object of the module at a position.
+/// The same of the symbols of the object of the module at a position.
 fn check_object<'a>(
     names: &LinkNames<'a>,
     object: &Object<'a>,
     position: u32,
 ) -> Result<(), Fault<'a>>
-    ensures accepted { OnOk result (object_fault_among names.now position object.now ≡ None) }
-    ensures refused { IfErr result (λ fault. object_fault_among names.now position object.now ≡ Some fault) }
+    ensures accepted { OnOk result (symbols_fault names.now position object.now ≡ None) }
+    ensures refused { IfErr result (λ fault. symbols_fault names.now position object.now ≡ Some fault) }
 {
     for entry in object.symbols() {
         check_symbol(names, &entry, position)?;
@@ -68,7 +115,7 @@ fn check_symbol<'a>(
 {
     let symbol = &entry.1;
     if asks(names, symbol, position) {
-        check_name(names, &symbol.name(), position)?;
+        check_name(names, &symbol.name(), Some(position))?;
     }
     Ok(())
 }
@@ -93,14 +140,18 @@ fn asks(names: &LinkNames<'_>, symbol: &SymbolRecord<'_>, position: u32) -> bool
     section > SYM_UNDEFINED && !names.takes_part(position, section as u32)
 }
 
-/// That a name of the module at a position means something.
-fn check_name<'a>(names: &LinkNames<'a>, name: &Name<'a>, position: u32) -> Result<(), Fault<'a>>
-    ensures accepted { OnOk result (name_fault names.now name.now (Some position) ≡ None) }
-    ensures refused { IfErr result (λ fault. name_fault names.now name.now (Some position) ≡ Some fault) }
+/// That a name means something, said by the module at a position or before all modules.
+fn check_name<'a>(
+    names: &LinkNames<'a>,
+    name: &Name<'a>,
+    module: Option<u32>,
+) -> Result<(), Fault<'a>>
+    ensures accepted { OnOk result (name_fault names.now name.now «module» ≡ None) }
+    ensures refused { IfErr result (λ fault. name_fault names.now name.now «module» ≡ Some fault) }
 {
     match names.resolve(name.again()) {
         Ok(_) => Ok(()),
-        Err(none) => Err(name_fault(name, Some(position), none)),
+        Err(none) => Err(name_fault(name, module, none)),
     }
 }
 

@@ -2,7 +2,7 @@
 
 ghost use Rattle.std.specs.Prelude.{◌≡◌, ◌==◌, ◌<◌, ℕ, List, None, Some, Err, length, slice_index_or, replicate, IfOk, if◌then◌else◌};
 ghost use Rattle.std.specs.Option.{option_or};
-ghost use Rattle.module_view.specs.Module.{ModuleView};
+ghost use Rattle.symbol_table.specs.LinkView.{LinkView};
 ghost use Rattle.link_pieces.specs.PieceIndex.{IsPieceIndex};
 ghost use Rattle.link_plan.specs.Targets.{section_target, common_target, own_target, meant_target, has_meaning, local_target, symbol_target, AreTargets};
 ghost use Rattle.link_pieces.specs.NameMeaning.{name_meaning};
@@ -159,7 +159,7 @@ fn section_target(
     section: u32,
     value: u32,
 ) -> Result<Target, TargetFault>
-    ensures { (modules : List ModuleView) → IsPieceIndex modules index.now → result ≡ section_target modules position section value }
+    ensures { (link : LinkView) → IsPieceIndex link index.now → result ≡ section_target link position section value }
 {
     match index.of(position, section) {
         Some(piece) => Ok(Target::Piece { piece, value }),
@@ -169,7 +169,7 @@ fn section_target(
 
 /// A common of the module at a position, by the record of its symbol.
 fn common_target(index: &PieceIndex, position: u32, symbol: u32) -> Result<Target, TargetFault>
-    ensures { (modules : List ModuleView) → IsPieceIndex modules index.now → result ≡ common_target modules position symbol }
+    ensures { (link : LinkView) → IsPieceIndex link index.now → result ≡ common_target link position symbol }
 {
     match index.of_common(position, symbol) {
         Some(piece) => Ok(Target::Piece { piece, value: 0 }),

@@ -23,6 +23,8 @@ use Rattle.base_reloc.specs.PageBlocks.{blocks_of}
 use Rattle.image_writer.specs.ExpectedImage.{ImagePlan}
 use Rattle.image_writer.specs.WrittenImage.{written_plan}
 use Rattle.module_view.specs.Module.{ModuleView}
+use Rattle.symbol_table.specs.LinkView.{LinkView}
+use Rattle.link_plan.specs.Plan.{link_of, merges_of}
 use Rattle.link_plan.specs.Fixes.{plan_pieces}
 use Rattle.link_words.specs.Outcome.{LinkOptions, CommandSaid, Link, At, Show, Gen, Refused as RefusedWord}
 use Rattle.link_words.specs.Commands.{words_say}
@@ -50,20 +52,20 @@ one_first given first second x y = elim (cases_lt first second) [
   ]
 ]
 
-same_merge : (options : LinkOptions) (f g : Fault) → IsBadMerge options f → IsBadMerge options g → f ≡ g
-same_merge options f g x y =
-    let place = one_first options.merges x.named.place y.named.place x.named.first y.named.first in
-    let name : x.name ≡ y.name = x.named.named ∙ ap (λ (k : ℕ). (merge_at options.merges k).0) place ∙ sym y.named.named in
+same_merge : (options : LinkOptions) (link : LinkView) (f g : Fault) → IsBadMerge options link f → IsBadMerge options link g → f ≡ g
+same_merge options link f g x y =
+    let place = one_first (merges_of options link) x.named.place y.named.place x.named.first y.named.first in
+    let name : x.name ≡ y.name = x.named.named ∙ ap (λ (k : ℕ). (merge_at (merges_of options link) k).0) place ∙ sym y.named.named in
     x.is ∙ ap (λ (n : List ℕ). faults.BadMerge n) name ∙ sym y.is
 
-no_bad_merge : (options : LinkOptions) (pieces : List Piece) (sections : List OutSection) (fault : Fault) → IsBadMerge options fault → AreGrouped options pieces sections → ⊥
-no_bad_merge options pieces sections fault x grouped = grouped.merges x.named.place x.named.first.within x.named.first.bad
+no_bad_merge : (options : LinkOptions) (link : LinkView) (pieces : List Piece) (sections : List OutSection) (fault : Fault) → IsBadMerge options link fault → AreGrouped options link pieces sections → ⊥
+no_bad_merge options link pieces sections fault x grouped = grouped.merges x.named.place x.named.first.within x.named.first.bad
 
 -- ---- one layout
 
-counts : (options : LinkOptions) (modules : List ModuleView) (reloc : Bool) (xs ys : List OutSection) → AreGrouped options (plan_pieces options modules) xs → AreGrouped options (plan_pieces options modules) ys → section_count xs reloc ≡ section_count ys reloc
-counts options modules reloc xs ys x y =
-    let rows = same_rows options modules xs ys x y in
+counts : (options : LinkOptions) (link : LinkView) (reloc : Bool) (xs ys : List OutSection) → AreGrouped options link (plan_pieces options link) xs → AreGrouped options link (plan_pieces options link) ys → section_count xs reloc ≡ section_count ys reloc
+counts options link reloc xs ys x y =
+    let rows = same_rows options link xs ys x y in
     ap (λ (n : ℕ). n + cond reloc 1 0) (sym (length-map xs row_of) ∙ ap length rows ∙ length-map ys row_of)
 
 has_size : (pieces : List Piece) (sections : List OutSection) (reloc : Bool) (layout : Layout) → IsLayout pieces sections reloc layout → HasImageSize pieces sections reloc layout.image
@@ -71,139 +73,139 @@ has_size pieces sections reloc layout is =
     record { headers = layout.headers; placed = placed_at layout.sections.items; place = is.standing.place; arranged = is.standing.arranged }
 
 -- grouped in two ways, the image of the pieces has one size
-sizes : (options : LinkOptions) (modules : List ModuleView) (reloc : Bool) (xs ys : List OutSection) (size other : ℕ) → AreGrouped options (plan_pieces options modules) xs → AreGrouped options (plan_pieces options modules) ys → HasImageSize (plan_pieces options modules) xs reloc size → HasImageSize (plan_pieces options modules) ys reloc other → size ≡ other
-sizes options modules reloc xs ys size other x y has has_other =
-    one_image_size (plan_pieces options modules) ys reloc size other (size_same_rows (plan_pieces options modules) xs ys reloc size (same_rows options modules xs ys x y) has) has_other
+sizes : (options : LinkOptions) (link : LinkView) (reloc : Bool) (xs ys : List OutSection) (size other : ℕ) → AreGrouped options link (plan_pieces options link) xs → AreGrouped options link (plan_pieces options link) ys → HasImageSize (plan_pieces options link) xs reloc size → HasImageSize (plan_pieces options link) ys reloc other → size ≡ other
+sizes options link reloc xs ys size other x y has has_other =
+    one_image_size (plan_pieces options link) ys reloc size other (size_same_rows (plan_pieces options link) xs ys reloc size (same_rows options link xs ys x y) has) has_other
 
 -- the pieces of a placement fit
-fits : (options : LinkOptions) (modules : List ModuleView) (sections : List OutSection) (size : ℕ) (rows : List SectionRow) (layout : Layout) (tables : List (List ℕ)) → AreGrouped options (plan_pieces options modules) sections → HasImageSize (plan_pieces options modules) sections (is_relocated options modules) size → IsPlacement options modules rows layout tables → size ≤ IMAGE_LIMIT
-fits options modules sections size rows layout tables grouped has y =
-    let same = sizes options modules (is_relocated options modules) sections y.sections size y.before.image grouped y.grouped has (has_size (plan_pieces options modules) y.sections (is_relocated options modules) y.before y.placed.layout_of) in
+fits : (options : LinkOptions) (link : LinkView) (sections : List OutSection) (size : ℕ) (rows : List SectionRow) (layout : Layout) (tables : List (List ℕ)) → AreGrouped options link (plan_pieces options link) sections → HasImageSize (plan_pieces options link) sections (is_relocated options link) size → IsPlacement options link rows layout tables → size ≤ IMAGE_LIMIT
+fits options link sections size rows layout tables grouped has y =
+    let same = sizes options link (is_relocated options link) sections y.sections size y.before.image grouped y.grouped has (has_size (plan_pieces options link) y.sections (is_relocated options link) y.before y.placed.layout_of) in
     omega (arith, same, y.placed.within)
 
 -- ---- one fault of what is built
 
-same_many : (options : LinkOptions) (modules : List ModuleView) (f g : Fault) → HasTooManySections options modules f → HasTooManySections options modules g → f ≡ g
-same_many options modules f g x y =
-    let count = counts options modules (is_relocated options modules) x.sections y.sections x.grouped y.grouped in
+same_many : (options : LinkOptions) (link : LinkView) (f g : Fault) → HasTooManySections options link f → HasTooManySections options link g → f ≡ g
+same_many options link f g x y =
+    let count = counts options link (is_relocated options link) x.sections y.sections x.grouped y.grouped in
     x.is ∙ ap (λ (n : ℕ). faults.TooManySections n) (x.refused.0 ∙ count ∙ sym y.refused.0) ∙ sym y.is
 
 -- the pieces are too large, or fit before the table does not
-pieces_or_table : (options : LinkOptions) (modules : List ModuleView) (xs ys : List OutSection) (size other : ℕ) → AreGrouped options (plan_pieces options modules) xs → AreGrouped options (plan_pieces options modules) ys → IsPlaceRefusal (plan_pieces options modules) xs (is_relocated options modules) (bad.ImageTooLarge size) → HasLargeTable options modules ys other → ⊥
-pieces_or_table options modules xs ys size other gx gy x y =
-    let has = subst (λ (r : Bool). HasImageSize (plan_pieces options modules) xs r size) y.relocated x.1 in
-    let same = sizes options modules true xs ys size y.layout.image gx gy has (has_size (plan_pieces options modules) ys true y.layout y.placed.layout_of) in
+pieces_or_table : (options : LinkOptions) (link : LinkView) (xs ys : List OutSection) (size other : ℕ) → AreGrouped options link (plan_pieces options link) xs → AreGrouped options link (plan_pieces options link) ys → IsPlaceRefusal (plan_pieces options link) xs (is_relocated options link) (bad.ImageTooLarge size) → HasLargeTable options link ys other → ⊥
+pieces_or_table options link xs ys size other gx gy x y =
+    let has = subst (λ (r : Bool). HasImageSize (plan_pieces options link) xs r size) y.relocated x.1 in
+    let same = sizes options link true xs ys size y.layout.image gx gy has (has_size (plan_pieces options link) ys true y.layout y.placed.layout_of) in
     omega (arith, same, x.2, y.placed.within)
 
 -- two sizes that are refused
-same_size : (options : LinkOptions) (modules : List ModuleView) (xs ys : List OutSection) (size other : ℕ) → AreGrouped options (plan_pieces options modules) xs → AreGrouped options (plan_pieces options modules) ys
-    → IsPlaceRefusal (plan_pieces options modules) xs (is_relocated options modules) (bad.ImageTooLarge size) ⊎ HasLargeTable options modules xs size
-    → IsPlaceRefusal (plan_pieces options modules) ys (is_relocated options modules) (bad.ImageTooLarge other) ⊎ HasLargeTable options modules ys other → size ≡ other
-same_size options modules xs ys size other gx gy (inl x) (inl y) = sizes options modules (is_relocated options modules) xs ys size other gx gy x.1 y.1
-same_size options modules xs ys size other gx gy (inl x) (inr y) = absurd (pieces_or_table options modules xs ys size other gx gy x y)
-same_size options modules xs ys size other gx gy (inr x) (inl y) = absurd (pieces_or_table options modules ys xs other size gy gx y x)
-same_size options modules xs ys size other gx gy (inr x) (inr y) =
-    let same = same_layout options modules xs ys true x.layout y.layout gx gy x.placed y.placed in
-    let fields = same_fields options modules x.layout y.layout x.fields y.fields same x.based y.based in
+same_size : (options : LinkOptions) (link : LinkView) (xs ys : List OutSection) (size other : ℕ) → AreGrouped options link (plan_pieces options link) xs → AreGrouped options link (plan_pieces options link) ys
+    → IsPlaceRefusal (plan_pieces options link) xs (is_relocated options link) (bad.ImageTooLarge size) ⊎ HasLargeTable options link xs size
+    → IsPlaceRefusal (plan_pieces options link) ys (is_relocated options link) (bad.ImageTooLarge other) ⊎ HasLargeTable options link ys other → size ≡ other
+same_size options link xs ys size other gx gy (inl x) (inl y) = sizes options link (is_relocated options link) xs ys size other gx gy x.1 y.1
+same_size options link xs ys size other gx gy (inl x) (inr y) = absurd (pieces_or_table options link xs ys size other gx gy x y)
+same_size options link xs ys size other gx gy (inr x) (inl y) = absurd (pieces_or_table options link ys xs other size gy gx y x)
+same_size options link xs ys size other gx gy (inr x) (inr y) =
+    let same = same_layout options link xs ys true x.layout y.layout gx gy x.placed y.placed in
+    let fields = same_fields options link x.layout y.layout x.fields y.fields same x.based y.based in
     one_refused_size x.layout y.layout (length (blocks_of y.fields)) size other same (subst (λ (fs : List BaseField). HasGrownSize x.layout (length (blocks_of fs)) size) fields x.refused.0) y.refused.0
 
-same_large : (options : LinkOptions) (modules : List ModuleView) (f g : Fault) → IsTooLarge options modules f → IsTooLarge options modules g → f ≡ g
-same_large options modules f g x y =
-    x.is ∙ ap (λ (n : ℕ). faults.ImageTooLarge n) (same_size options modules x.sections y.sections x.size y.size x.grouped y.grouped x.refused y.refused) ∙ sym y.is
+same_large : (options : LinkOptions) (link : LinkView) (f g : Fault) → IsTooLarge options link f → IsTooLarge options link g → f ≡ g
+same_large options link f g x y =
+    x.is ∙ ap (λ (n : ℕ). faults.ImageTooLarge n) (same_size options link x.sections y.sections x.size y.size x.grouped y.grouped x.refused y.refused) ∙ sym y.is
 
-many_or_large : (options : LinkOptions) (modules : List ModuleView) (f g : Fault) → HasTooManySections options modules f → IsTooLarge options modules g → ⊥
-many_or_large options modules f g x y =
-    let count = counts options modules (is_relocated options modules) x.sections y.sections x.grouped y.grouped in
+many_or_large : (options : LinkOptions) (link : LinkView) (f g : Fault) → HasTooManySections options link f → IsTooLarge options link g → ⊥
+many_or_large options link f g x y =
+    let count = counts options link (is_relocated options link) x.sections y.sections x.grouped y.grouped in
     by count y.refused
   where
-    by : section_count x.sections (is_relocated options modules) ≡ section_count y.sections (is_relocated options modules) → IsPlaceRefusal (plan_pieces options modules) y.sections (is_relocated options modules) (bad.ImageTooLarge y.size) ⊎ HasLargeTable options modules y.sections y.size → ⊥
+    by : section_count x.sections (is_relocated options link) ≡ section_count y.sections (is_relocated options link) → IsPlaceRefusal (plan_pieces options link) y.sections (is_relocated options link) (bad.ImageTooLarge y.size) ⊎ HasLargeTable options link y.sections y.size → ⊥
     by count (inl pieces) = omega (arith, x.refused.0, x.refused.1, count, pieces.0)
     by count (inr table) = omega (arith, x.refused.0, x.refused.1, count, subst (λ (r : Bool). section_count y.sections r ≤ SECTION_LIMIT) (sym table.relocated) table.placed.few)
 
-many_or_placement : (options : LinkOptions) (modules : List ModuleView) (f : Fault) (rows : List SectionRow) (layout : Layout) (tables : List (List ℕ)) → HasTooManySections options modules f → IsPlacement options modules rows layout tables → ⊥
-many_or_placement options modules f rows layout tables x y =
-    let count = counts options modules (is_relocated options modules) x.sections y.sections x.grouped y.grouped in
+many_or_placement : (options : LinkOptions) (link : LinkView) (f : Fault) (rows : List SectionRow) (layout : Layout) (tables : List (List ℕ)) → HasTooManySections options link f → IsPlacement options link rows layout tables → ⊥
+many_or_placement options link f rows layout tables x y =
+    let count = counts options link (is_relocated options link) x.sections y.sections x.grouped y.grouped in
     omega (arith, x.refused.0, x.refused.1, count, y.placed.few)
 
-large_or_placement : (options : LinkOptions) (modules : List ModuleView) (f : Fault) (rows : List SectionRow) (layout : Layout) (tables : List (List ℕ)) → IsTooLarge options modules f → IsPlacement options modules rows layout tables → ⊥
-large_or_placement options modules f rows layout tables x y = by x.refused
+large_or_placement : (options : LinkOptions) (link : LinkView) (f : Fault) (rows : List SectionRow) (layout : Layout) (tables : List (List ℕ)) → IsTooLarge options link f → IsPlacement options link rows layout tables → ⊥
+large_or_placement options link f rows layout tables x y = by x.refused
   where
-    table : (reloc : Bool) → reloc ≡ true → (large : HasLargeTable options modules x.sections x.size) → ArePlaced (plan_pieces options modules) y.sections reloc y.before → IsWhole reloc modules (rows_of y.sections) y.before rows layout tables → ⊥
+    table : (reloc : Bool) → reloc ≡ true → (large : HasLargeTable options link x.sections x.size) → ArePlaced (plan_pieces options link) y.sections reloc y.before → IsWhole reloc link (rows_of y.sections) y.before rows layout tables → ⊥
     table false e large placed whole = false≢true e
     table true e large placed whole =
-        let same = same_layout options modules x.sections y.sections true large.layout y.before x.grouped y.grouped large.placed placed in
-        let fields = same_fields options modules large.layout y.before large.fields whole.fields same large.based whole.based in
+        let same = same_layout options link x.sections y.sections true large.layout y.before x.grouped y.grouped large.placed placed in
+        let fields = same_fields options link large.layout y.before large.fields whole.fields same large.based whole.based in
         let size = one_grown_size large.layout y.before layout (length (blocks_of whole.fields)) x.size same (subst (λ (fs : List BaseField). HasGrownSize large.layout (length (blocks_of fs)) x.size) fields large.refused.0) whole.added in
         omega (arith, size, large.refused.1, whole.within)
 
-    by : IsPlaceRefusal (plan_pieces options modules) x.sections (is_relocated options modules) (bad.ImageTooLarge x.size) ⊎ HasLargeTable options modules x.sections x.size → ⊥
-    by (inl pieces) = omega (arith, fits options modules x.sections x.size rows layout tables x.grouped pieces.1 y, pieces.2)
-    by (inr large) = table (is_relocated options modules) large.relocated large y.placed y.whole
+    by : IsPlaceRefusal (plan_pieces options link) x.sections (is_relocated options link) (bad.ImageTooLarge x.size) ⊎ HasLargeTable options link x.sections x.size → ⊥
+    by (inl pieces) = omega (arith, fits options link x.sections x.size rows layout tables x.grouped pieces.1 y, pieces.2)
+    by (inr large) = table (is_relocated options link) large.relocated large y.placed y.whole
 
 -- two placements say the same of the base and of each field
 same_permitted : (options : LinkOptions) (rows other_rows : List SectionRow) (layout other : Layout) (tables other_tables : List (List ℕ)) → SamePlacement rows other_rows layout other tables other_tables → is_permitted (base_rule options) layout.image options.base ≡ is_permitted (base_rule options) other.image options.base
 same_permitted options rows other_rows layout other tables other_tables same = ap (λ (n : ℕ). is_permitted (base_rule options) n options.base) (sym same.layouts.image)
 
-same_ranges : (options : LinkOptions) (modules : List ModuleView) (rows other_rows : List SectionRow) (layout other : Layout) (tables other_tables : List (List ℕ)) → SamePlacement rows other_rows layout other tables other_tables → fields_range_fault modules rows layout options.base ≡ fields_range_fault modules other_rows other options.base
-same_ranges options modules rows other_rows layout other tables other_tables same =
-    ap (λ (r : List SectionRow). fields_range_fault modules r layout options.base) same.rows_same
-    ∙ range_by_places modules other_rows layout other options.base (sym same.layouts.pieces) (sym same.layouts.sections)
+same_ranges : (options : LinkOptions) (link : LinkView) (rows other_rows : List SectionRow) (layout other : Layout) (tables other_tables : List (List ℕ)) → SamePlacement rows other_rows layout other tables other_tables → fields_range_fault link rows layout options.base ≡ fields_range_fault link other_rows other options.base
+same_ranges options link rows other_rows layout other tables other_tables same =
+    ap (λ (r : List SectionRow). fields_range_fault link r layout options.base) same.rows_same
+    ∙ range_by_places link other_rows layout other options.base (sym same.layouts.pieces) (sym same.layouts.sections)
 
-base_or_range : (options : LinkOptions) (modules : List ModuleView) (f g : Fault) → HasBadBase options modules f → HasBadRange options modules g → ⊥
-base_or_range options modules f g x y =
-    let same = one_placement options modules x.rows y.rows x.layout y.layout x.tables y.tables x.placement y.placement in
+base_or_range : (options : LinkOptions) (link : LinkView) (f g : Fault) → HasBadBase options link f → HasBadRange options link g → ⊥
+base_or_range options link f g x y =
+    let same = one_placement options link x.rows y.rows x.layout y.layout x.tables y.tables x.placement y.placement in
     false≢true (sym x.refused ∙ same_permitted options x.rows y.rows x.layout y.layout x.tables y.tables same ∙ y.permitted)
 
-same_range : (options : LinkOptions) (modules : List ModuleView) (f g : Fault) → HasBadRange options modules f → HasBadRange options modules g → f ≡ g
-same_range options modules f g x y =
-    let same = one_placement options modules x.rows y.rows x.layout y.layout x.tables y.tables x.placement y.placement in
-    some_same (sym x.is ∙ same_ranges options modules x.rows y.rows x.layout y.layout x.tables y.tables same ∙ y.is)
+same_range : (options : LinkOptions) (link : LinkView) (f g : Fault) → HasBadRange options link f → HasBadRange options link g → f ≡ g
+same_range options link f g x y =
+    let same = one_placement options link x.rows y.rows x.layout y.layout x.tables y.tables x.placement y.placement in
+    some_same (sym x.is ∙ same_ranges options link x.rows y.rows x.layout y.layout x.tables y.tables same ∙ y.is)
   where
     some_same : Some f ≡ Some g → f ≡ g
     some_same e = cc
 
 -- no bad merge stands where the pieces are grouped
-merge_or : (options : LinkOptions) (modules : List ModuleView) (fault : Fault) (sections : List OutSection) → IsBadMerge options fault → AreGrouped options (plan_pieces options modules) sections → ⊥
-merge_or options modules fault sections x grouped = no_bad_merge options (plan_pieces options modules) sections fault x grouped
+merge_or : (options : LinkOptions) (link : LinkView) (fault : Fault) (sections : List OutSection) → IsBadMerge options link fault → AreGrouped options link (plan_pieces options link) sections → ⊥
+merge_or options link fault sections x grouped = no_bad_merge options link (plan_pieces options link) sections fault x grouped
 
-same_fault : (options : LinkOptions) (modules : List ModuleView) (f g : Fault) → IsBuildFault options modules f → IsBuildFault options modules g → f ≡ g
-same_fault options modules f g (inl x) (inl y) = same_merge options f g x y
-same_fault options modules f g (inl x) (inr (inl y)) = absurd (merge_or options modules f y.sections x y.grouped)
-same_fault options modules f g (inl x) (inr (inr (inl y))) = absurd (merge_or options modules f y.sections x y.grouped)
-same_fault options modules f g (inl x) (inr (inr (inr (inl y)))) = absurd (merge_or options modules f y.placement.sections x y.placement.grouped)
-same_fault options modules f g (inl x) (inr (inr (inr (inr y)))) = absurd (merge_or options modules f y.placement.sections x y.placement.grouped)
-same_fault options modules f g (inr (inl x)) (inl y) = absurd (merge_or options modules g x.sections y x.grouped)
-same_fault options modules f g (inr (inl x)) (inr (inl y)) = same_many options modules f g x y
-same_fault options modules f g (inr (inl x)) (inr (inr (inl y))) = absurd (many_or_large options modules f g x y)
-same_fault options modules f g (inr (inl x)) (inr (inr (inr (inl y)))) = absurd (many_or_placement options modules f y.rows y.layout y.tables x y.placement)
-same_fault options modules f g (inr (inl x)) (inr (inr (inr (inr y)))) = absurd (many_or_placement options modules f y.rows y.layout y.tables x y.placement)
-same_fault options modules f g (inr (inr (inl x))) (inl y) = absurd (merge_or options modules g x.sections y x.grouped)
-same_fault options modules f g (inr (inr (inl x))) (inr (inl y)) = absurd (many_or_large options modules g f y x)
-same_fault options modules f g (inr (inr (inl x))) (inr (inr (inl y))) = same_large options modules f g x y
-same_fault options modules f g (inr (inr (inl x))) (inr (inr (inr (inl y)))) = absurd (large_or_placement options modules f y.rows y.layout y.tables x y.placement)
-same_fault options modules f g (inr (inr (inl x))) (inr (inr (inr (inr y)))) = absurd (large_or_placement options modules f y.rows y.layout y.tables x y.placement)
-same_fault options modules f g (inr (inr (inr (inl x)))) (inl y) = absurd (merge_or options modules g x.placement.sections y x.placement.grouped)
-same_fault options modules f g (inr (inr (inr (inl x)))) (inr (inl y)) = absurd (many_or_placement options modules g x.rows x.layout x.tables y x.placement)
-same_fault options modules f g (inr (inr (inr (inl x)))) (inr (inr (inl y))) = absurd (large_or_placement options modules g x.rows x.layout x.tables y x.placement)
-same_fault options modules f g (inr (inr (inr (inl x)))) (inr (inr (inr (inl y)))) = x.is ∙ sym y.is
-same_fault options modules f g (inr (inr (inr (inl x)))) (inr (inr (inr (inr y)))) = absurd (base_or_range options modules f g x y)
-same_fault options modules f g (inr (inr (inr (inr x)))) (inl y) = absurd (merge_or options modules g x.placement.sections y x.placement.grouped)
-same_fault options modules f g (inr (inr (inr (inr x)))) (inr (inl y)) = absurd (many_or_placement options modules g x.rows x.layout x.tables y x.placement)
-same_fault options modules f g (inr (inr (inr (inr x)))) (inr (inr (inl y))) = absurd (large_or_placement options modules g x.rows x.layout x.tables y x.placement)
-same_fault options modules f g (inr (inr (inr (inr x)))) (inr (inr (inr (inl y)))) = absurd (base_or_range options modules g f y x)
-same_fault options modules f g (inr (inr (inr (inr x)))) (inr (inr (inr (inr y)))) = same_range options modules f g x y
+same_fault : (options : LinkOptions) (link : LinkView) (f g : Fault) → IsBuildFault options link f → IsBuildFault options link g → f ≡ g
+same_fault options link f g (inl x) (inl y) = same_merge options link f g x y
+same_fault options link f g (inl x) (inr (inl y)) = absurd (merge_or options link f y.sections x y.grouped)
+same_fault options link f g (inl x) (inr (inr (inl y))) = absurd (merge_or options link f y.sections x y.grouped)
+same_fault options link f g (inl x) (inr (inr (inr (inl y)))) = absurd (merge_or options link f y.placement.sections x y.placement.grouped)
+same_fault options link f g (inl x) (inr (inr (inr (inr y)))) = absurd (merge_or options link f y.placement.sections x y.placement.grouped)
+same_fault options link f g (inr (inl x)) (inl y) = absurd (merge_or options link g x.sections y x.grouped)
+same_fault options link f g (inr (inl x)) (inr (inl y)) = same_many options link f g x y
+same_fault options link f g (inr (inl x)) (inr (inr (inl y))) = absurd (many_or_large options link f g x y)
+same_fault options link f g (inr (inl x)) (inr (inr (inr (inl y)))) = absurd (many_or_placement options link f y.rows y.layout y.tables x y.placement)
+same_fault options link f g (inr (inl x)) (inr (inr (inr (inr y)))) = absurd (many_or_placement options link f y.rows y.layout y.tables x y.placement)
+same_fault options link f g (inr (inr (inl x))) (inl y) = absurd (merge_or options link g x.sections y x.grouped)
+same_fault options link f g (inr (inr (inl x))) (inr (inl y)) = absurd (many_or_large options link g f y x)
+same_fault options link f g (inr (inr (inl x))) (inr (inr (inl y))) = same_large options link f g x y
+same_fault options link f g (inr (inr (inl x))) (inr (inr (inr (inl y)))) = absurd (large_or_placement options link f y.rows y.layout y.tables x y.placement)
+same_fault options link f g (inr (inr (inl x))) (inr (inr (inr (inr y)))) = absurd (large_or_placement options link f y.rows y.layout y.tables x y.placement)
+same_fault options link f g (inr (inr (inr (inl x)))) (inl y) = absurd (merge_or options link g x.placement.sections y x.placement.grouped)
+same_fault options link f g (inr (inr (inr (inl x)))) (inr (inl y)) = absurd (many_or_placement options link g x.rows x.layout x.tables y x.placement)
+same_fault options link f g (inr (inr (inr (inl x)))) (inr (inr (inl y))) = absurd (large_or_placement options link g x.rows x.layout x.tables y x.placement)
+same_fault options link f g (inr (inr (inr (inl x)))) (inr (inr (inr (inl y)))) = x.is ∙ sym y.is
+same_fault options link f g (inr (inr (inr (inl x)))) (inr (inr (inr (inr y)))) = absurd (base_or_range options link f g x y)
+same_fault options link f g (inr (inr (inr (inr x)))) (inl y) = absurd (merge_or options link g x.placement.sections y x.placement.grouped)
+same_fault options link f g (inr (inr (inr (inr x)))) (inr (inl y)) = absurd (many_or_placement options link g x.rows x.layout x.tables y x.placement)
+same_fault options link f g (inr (inr (inr (inr x)))) (inr (inr (inl y))) = absurd (large_or_placement options link g x.rows x.layout x.tables y x.placement)
+same_fault options link f g (inr (inr (inr (inr x)))) (inr (inr (inr (inl y)))) = absurd (base_or_range options link g f y x)
+same_fault options link f g (inr (inr (inr (inr x)))) (inr (inr (inr (inr y)))) = same_range options link f g x y
 
 -- modules have a fault, or an image
-fault_or_image : (options : LinkOptions) (modules : List ModuleView) (f : Fault) (image : ImagePlan) → IsBuildFault options modules f → IsImageOf options modules image → ⊥
-fault_or_image options modules f image (inl x) y = merge_or options modules f y.placement.sections x y.placement.grouped
-fault_or_image options modules f image (inr (inl x)) y = many_or_placement options modules f y.rows y.layout y.tables x y.placement
-fault_or_image options modules f image (inr (inr (inl x))) y = large_or_placement options modules f y.rows y.layout y.tables x y.placement
-fault_or_image options modules f image (inr (inr (inr (inl x)))) y =
-    let same = one_placement options modules x.rows y.rows x.layout y.layout x.tables y.tables x.placement y.placement in
+fault_or_image : (options : LinkOptions) (link : LinkView) (f : Fault) (image : ImagePlan) → IsBuildFault options link f → IsImageOf options link image → ⊥
+fault_or_image options link f image (inl x) y = merge_or options link f y.placement.sections x y.placement.grouped
+fault_or_image options link f image (inr (inl x)) y = many_or_placement options link f y.rows y.layout y.tables x y.placement
+fault_or_image options link f image (inr (inr (inl x))) y = large_or_placement options link f y.rows y.layout y.tables x y.placement
+fault_or_image options link f image (inr (inr (inr (inl x)))) y =
+    let same = one_placement options link x.rows y.rows x.layout y.layout x.tables y.tables x.placement y.placement in
     false≢true (sym x.refused ∙ same_permitted options x.rows y.rows x.layout y.layout x.tables y.tables same ∙ y.permitted)
-fault_or_image options modules f image (inr (inr (inr (inr x)))) y =
-    let same = one_placement options modules y.rows x.rows y.layout x.layout y.tables x.tables y.placement x.placement in
-    absurd (none_some (sym y.in_range ∙ same_ranges options modules y.rows x.rows y.layout x.layout y.tables x.tables same ∙ x.is))
+fault_or_image options link f image (inr (inr (inr (inr x)))) y =
+    let same = one_placement options link y.rows x.rows y.layout x.layout y.tables x.tables y.placement x.placement in
+    absurd (none_some (sym y.in_range ∙ same_ranges options link y.rows x.rows y.layout x.layout y.tables x.tables same ∙ x.is))
   where
     none_some : None ≡ Some f → ⊥
     none_some e = cc
@@ -219,21 +221,21 @@ directory_is : (layout : Layout) (tables : List (List ℕ)) → table_directory 
 directory_is layout [] = refl
 directory_is layout (table ∷ tables) = refl
 
-same_image : (options : LinkOptions) (modules : List ModuleView) (a b : ImagePlan) → IsImageOf options modules a → IsImageOf options modules b → a ≡ b
-same_image options modules a b x y =
-    let place = entry_place modules options.entry_name in
-    let same = one_placement options modules x.rows y.rows x.layout y.layout x.tables y.tables x.placement y.placement in
-    let linked : linked_contents modules x.rows x.layout ≡ linked_contents modules y.rows y.layout =
-    ap (λ (r : List SectionRow). linked_contents modules r x.layout) same.rows_same ∙ contents_by_places modules y.rows x.layout y.layout (sym same.layouts.pieces) (sym same.layouts.sections) in
+same_image : (options : LinkOptions) (link : LinkView) (a b : ImagePlan) → IsImageOf options link a → IsImageOf options link b → a ≡ b
+same_image options link a b x y =
+    let place = entry_place link options.entry_name in
+    let same = one_placement options link x.rows y.rows x.layout y.layout x.tables y.tables x.placement y.placement in
+    let linked : linked_contents link x.rows x.layout ≡ linked_contents link y.rows y.layout =
+    ap (λ (r : List SectionRow). linked_contents link r x.layout) same.rows_same ∙ contents_by_places link y.rows x.layout y.layout (sym same.layouts.pieces) (sym same.layouts.sections) in
     x.is
-    ∙ ap (λ (d : ℕ × ℕ). written_plan (headers_of options (entry_rva x.layout.pieces.items place) d) x.rows x.layout.sections.items x.layout.pieces.items x.layout.image (image_contents modules x.rows x.layout x.tables)) (directory_is x.layout x.tables)
+    ∙ ap (λ (d : ℕ × ℕ). written_plan (headers_of options (entry_rva x.layout.pieces.items place) d) x.rows x.layout.sections.items x.layout.pieces.items x.layout.image (image_contents link x.rows x.layout x.tables)) (directory_is x.layout x.tables)
     ∙ ap (λ (cs : ℕ → List (List ℕ)). written_plan (headers_of options (entry_rva x.layout.pieces.items place) (directory_at x.layout.pieces.items x.tables)) x.rows x.layout.sections.items x.layout.pieces.items x.layout.image (λ base. cs base ++ x.tables)) linked
-    ∙ ap (λ (ts : List (List ℕ)). written_plan (headers_of options (entry_rva x.layout.pieces.items place) (directory_at x.layout.pieces.items ts)) x.rows x.layout.sections.items x.layout.pieces.items x.layout.image (image_contents modules y.rows y.layout ts)) same.tables_same
-    ∙ ap (λ (r : List SectionRow). written_plan (headers_of options (entry_rva x.layout.pieces.items place) (directory_at x.layout.pieces.items y.tables)) r x.layout.sections.items x.layout.pieces.items x.layout.image (image_contents modules y.rows y.layout y.tables)) same.rows_same
-    ∙ ap (λ (p : List Placed). written_plan (headers_of options (entry_rva x.layout.pieces.items place) (directory_at x.layout.pieces.items y.tables)) y.rows p x.layout.pieces.items x.layout.image (image_contents modules y.rows y.layout y.tables)) (sym same.layouts.sections)
-    ∙ ap (λ (r : List ℕ). written_plan (headers_of options (entry_rva r place) (directory_at r y.tables)) y.rows y.layout.sections.items r x.layout.image (image_contents modules y.rows y.layout y.tables)) (sym same.layouts.pieces)
-    ∙ ap (λ (n : ℕ). written_plan (headers_of options (entry_rva y.layout.pieces.items place) (directory_at y.layout.pieces.items y.tables)) y.rows y.layout.sections.items y.layout.pieces.items n (image_contents modules y.rows y.layout y.tables)) (sym same.layouts.image)
-    ∙ sym (ap (λ (d : ℕ × ℕ). written_plan (headers_of options (entry_rva y.layout.pieces.items place) d) y.rows y.layout.sections.items y.layout.pieces.items y.layout.image (image_contents modules y.rows y.layout y.tables)) (directory_is y.layout y.tables))
+    ∙ ap (λ (ts : List (List ℕ)). written_plan (headers_of options (entry_rva x.layout.pieces.items place) (directory_at x.layout.pieces.items ts)) x.rows x.layout.sections.items x.layout.pieces.items x.layout.image (image_contents link y.rows y.layout ts)) same.tables_same
+    ∙ ap (λ (r : List SectionRow). written_plan (headers_of options (entry_rva x.layout.pieces.items place) (directory_at x.layout.pieces.items y.tables)) r x.layout.sections.items x.layout.pieces.items x.layout.image (image_contents link y.rows y.layout y.tables)) same.rows_same
+    ∙ ap (λ (p : List Placed). written_plan (headers_of options (entry_rva x.layout.pieces.items place) (directory_at x.layout.pieces.items y.tables)) y.rows p x.layout.pieces.items x.layout.image (image_contents link y.rows y.layout y.tables)) (sym same.layouts.sections)
+    ∙ ap (λ (r : List ℕ). written_plan (headers_of options (entry_rva r place) (directory_at r y.tables)) y.rows y.layout.sections.items r x.layout.image (image_contents link y.rows y.layout y.tables)) (sym same.layouts.pieces)
+    ∙ ap (λ (n : ℕ). written_plan (headers_of options (entry_rva y.layout.pieces.items place) (directory_at y.layout.pieces.items y.tables)) y.rows y.layout.sections.items y.layout.pieces.items n (image_contents link y.rows y.layout y.tables)) (sym same.layouts.image)
+    ∙ sym (ap (λ (d : ℕ × ℕ). written_plan (headers_of options (entry_rva y.layout.pieces.items place) d) y.rows y.layout.sections.items y.layout.pieces.items y.layout.image (image_contents link y.rows y.layout y.tables)) (directory_is y.layout y.tables))
     ∙ sym y.is
 
 plan_from : LinkOptions → List ModuleView → ImagePlan → Plan
@@ -252,20 +254,20 @@ same_parts p q options modules image =
 
 same_plan : (options : LinkOptions) (modules : List ModuleView) (p q : Plan) → IsPlan options modules p → IsPlan options modules q → p ≡ q
 same_plan options modules p q x y =
-    same_parts p q (x.options_are ∙ sym y.options_are) (x.modules_are ∙ sym y.modules_are) (same_image options modules p.image q.image x.image_is y.image_is)
+    same_parts p q (x.options_are ∙ sym y.options_are) (x.modules_are ∙ sym y.modules_are) (same_image options (link_of options modules) p.image q.image x.image_is y.image_is)
 
 -- ---- the outcome
 
 same_built : (options : LinkOptions) (modules : List ModuleView) (a b : Outcome) → BuildOutcome options modules a → BuildOutcome options modules b → a ≡ b
 same_built options modules (Usage index kind) b x y = absurd x
 same_built options modules (Refused f) (Usage index kind) x y = absurd y
-same_built options modules (Refused f) (Refused g) x y = ap (λ (h : Fault). Refused h) (same_fault options modules f g x y)
-same_built options modules (Refused f) (Linked q) x y = absurd (fault_or_image options modules f q.image x y.image_is)
+same_built options modules (Refused f) (Refused g) x y = ap (λ (h : Fault). Refused h) (same_fault options (link_of options modules) f g x y)
+same_built options modules (Refused f) (Linked q) x y = absurd (fault_or_image options (link_of options modules) f q.image x y.image_is)
 same_built options modules (Refused f) (Shown line) x y = absurd y
 same_built options modules (Shown line) b x y = absurd x
 same_built options modules (Linked p) (Shown line) x y = absurd y
 same_built options modules (Linked p) (Usage index kind) x y = absurd y
-same_built options modules (Linked p) (Refused g) x y = absurd (fault_or_image options modules g p.image y x.image_is)
+same_built options modules (Linked p) (Refused g) x y = absurd (fault_or_image options (link_of options modules) g p.image y x.image_is)
 same_built options modules (Linked p) (Linked q) x y = ap (λ (r : Plan). Linked r) (same_plan options modules p q x y)
 
 -- a stage before a later one that has one outcome

@@ -22,6 +22,7 @@ use Rattle.link_words.specs.declared.errors.UsageKind.{UsageKind}
 use Rattle.link_words.specs.UsageWord.{usage_word}
 use Rattle.link_words.specs.Commands.{words_say}
 use Rattle.link_plan.specs.PlanFaults.{plan_fault}
+use Rattle.link_plan.specs.Plan.{link_of}
 use Rattle.link_image.specs.declared.make.Built.{Built}
 use Rattle.link_image.specs.LinkedImage.{IsBuilt}
 use Rattle.link_image.specs.BuildFaults.{RefusesBuild}
@@ -239,19 +240,19 @@ refused_opening options files (refusal.Fault fault) is = rw is refl
 refused_opening options files refusal.Memory is = tt
 
 -- modules that are not linked
-pub refused_plan : (options : LinkOptions) (files : List (List ℕ)) (modules : List ModuleView) (r : Refusal) → opening_fault options.inputs files ≡ None → modules ≡ joined options.inputs files → RefusesFor (plan_fault options modules) r → RefusesInputs options files r
+pub refused_plan : (options : LinkOptions) (files : List (List ℕ)) (modules : List ModuleView) (r : Refusal) → opening_fault options.inputs files ≡ None → modules ≡ joined options.inputs files → RefusesFor (plan_fault options (link_of options modules)) r → RefusesInputs options files r
 unfolding inputs_fault
 refused_plan options files modules (refusal.Fault fault) opened are is = rw (opened, ← are, is) refl
 refused_plan options files modules refusal.Memory opened are is = tt
 
 -- pieces that make no image
-pub refused_build : (options : LinkOptions) (files : List (List ℕ)) (modules : List ModuleView) (r : Refusal) → opening_fault options.inputs files ≡ None → modules ≡ joined options.inputs files → plan_fault options modules ≡ None → RefusesBuild options modules r → RefusesInputs options files r
+pub refused_build : (options : LinkOptions) (files : List (List ℕ)) (modules : List ModuleView) (r : Refusal) → opening_fault options.inputs files ≡ None → modules ≡ joined options.inputs files → plan_fault options (link_of options modules) ≡ None → RefusesBuild options (link_of options modules) r → RefusesInputs options files r
 unfolding inputs_fault
 refused_build options files modules (refusal.Fault fault) opened are planned is = rw (opened, ← are, planned) is
 refused_build options files modules refusal.Memory opened are planned is = tt
 
 -- an image that is made
-pub linked : (options : LinkOptions) (files : List (List ℕ)) (modules : List ModuleView) (built : Built) (made : LinkedBytes) → opening_fault options.inputs files ≡ None → modules ≡ joined options.inputs files → plan_fault options modules ≡ None → IsBuilt options modules built → made.image ≡ built.image → made.sections ≡ built.sections → made.modules ≡ length modules → IsLinked options files made
+pub linked : (options : LinkOptions) (files : List (List ℕ)) (modules : List ModuleView) (built : Built) (made : LinkedBytes) → opening_fault options.inputs files ≡ None → modules ≡ joined options.inputs files → plan_fault options (link_of options modules) ≡ None → IsBuilt options (link_of options modules) built → made.image ≡ built.image → made.sections ≡ built.sections → made.modules ≡ length modules → IsLinked options files made
 unfolding inputs_fault
 linked options files modules built made opened are planned is image sections count =
     let plan : Plan = record { options = options; modules = modules; image = is.image } in

@@ -7,7 +7,7 @@ use Rattle.std.specs.Option.{option_or}
 use Rattle.link_base.specs.Limits.{FILE_LIMIT, INPUT_LIMIT, MODULE_LIMIT}
 use Rattle.link_base.specs.Refusals.{first_refusal_below}
 use Rattle.link_base.specs.declared.fault.Fault.{Fault}
-use Rattle.link_base.specs.declared.fault.Fault.TheVariants.{NotFound, FileTooLarge, InputLimit, BadObject, Unsupported}
+use Rattle.link_base.specs.declared.fault.Fault.TheVariants.{NotFound, FileTooLarge, InputLimit, BadObject, BadDirective, Unsupported}
 use Rattle.link_files.specs.Store.{Store, file_of}
 use Rattle.module_view.specs.declared.error.ModuleError.{ModuleError}
 use Rattle.module_view.specs.declared.error.ModuleError.TheVariants as bad
@@ -49,6 +49,7 @@ read_files store names = map (contents_of store) names
 -- an error of opening, with the name of the file; of want of memory nothing is said
 abbrev pub module_fault : List ℕ → Option ModuleError → Option Fault
 module_fault name (Some (bad.Object error)) = Some (BadObject name None error.kind error.index)
+module_fault name (Some (bad.Directive at)) = Some (BadDirective name None at)
 module_fault name (Some (bad.Unsupported kind)) = Some (Unsupported name None kind)
 module_fault name (Some bad.Memory) = None
 module_fault name None = None

@@ -10,6 +10,7 @@ use Rattle.link_words.specs.Outcome.{LinkOptions, CommandSaid, Link, At}
 use Rattle.link_words.specs.Commands.{words_say}
 use Rattle.link_words.specs.UsageWord.{usage_word}
 use Rattle.link_plan.specs.PlanFaults.{plan_fault}
+use Rattle.link_plan.specs.Plan.{link_of}
 use Rattle.link_image.specs.LinkedImage.{IsImageOf}
 use Rattle.link_image.specs.BuildFaults.{IsBuildFault}
 use Rattle.linker_program.specs.Ending.{Plan, Outcome, Usage, Refused, Linked, Shown}
@@ -19,21 +20,21 @@ use Rattle.linker_program.specs.Unbuilt.{is_unbuilt_link}
 
 -- ---- inputs that were read
 
--- the stages that are functions of the inputs: opening, choice, meaning, fields
+-- the stages that are functions of the inputs: opening, mismatch, choice, meaning, fields
 unfoldable pub inputs_fault : LinkOptions → List (List ℕ) → Option Fault
 inputs_fault options files =
-    option_or (opening_fault options.inputs files) (plan_fault options (joined options.inputs files))
+    option_or (opening_fault options.inputs files) (plan_fault options (link_of options (joined options.inputs files)))
 
 -- the plan of modules
 pub record IsPlan (options : LinkOptions) (modules : List ModuleView) (plan : Plan) : Type 0 where
   pub options_are : plan.options ≡ options
   pub modules_are : plan.modules ≡ modules
-  pub image_is : IsImageOf options modules plan.image
+  pub image_is : IsImageOf options (link_of options modules) plan.image
 
 -- modules that come to the tables have a fault there or later, or a plan
 abbrev pub BuildOutcome : LinkOptions → List ModuleView → Outcome → Type 0
 BuildOutcome options modules (Usage index kind) = ⊥
-BuildOutcome options modules (Refused fault) = IsBuildFault options modules fault
+BuildOutcome options modules (Refused fault) = IsBuildFault options (link_of options modules) fault
 BuildOutcome options modules (Linked plan) = IsPlan options modules plan
 BuildOutcome options modules (Shown line) = ⊥
 

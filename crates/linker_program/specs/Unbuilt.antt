@@ -1,6 +1,8 @@
 -- Commands and options that are read and not carried out yet. Own; each goes as it is built.
 use Rattle.std.specs.Prelude.{ℕ, Bool, false, ◌||◌, not, ◌==◌, List, length, Option, Some, None, is_some}
+use Rattle.std.specs.List.{list_any}
 use Rattle.link_base.specs.NameText.{begins_import}
+use Rattle.module_view.specs.Unbuilt.{is_unbuilt_name}
 use Rattle.link_words.specs.Outcome.{LinkOptions}
 use Rattle.link_words.specs.Options.{has_default_pdb}
 
@@ -8,6 +10,15 @@ use Rattle.link_words.specs.Options.{has_default_pdb}
 abbrev pub is_unbuilt_entry : Option (List ℕ) → Bool
 is_unbuilt_entry None = false
 is_unbuilt_entry (Some name) = begins_import name
+
+-- a name that is included or has an alternate is the slot of an import, or one that the loader of a program looks for
+abbrev pub is_unbuilt_alternate : List ℕ × List ℕ → Bool
+is_unbuilt_alternate pair = is_unbuilt_name pair.0 || is_unbuilt_name pair.1
+
+abbrev pub asks_for_imports : LinkOptions → Bool
+asks_for_imports options =
+    is_unbuilt_entry options.entry_name
+    || (list_any is_unbuilt_name options.includes || list_any is_unbuilt_alternate options.alternates)
 
 abbrev pub is_some_text : {A : Type 0} → List A → Bool
 is_some_text texts = not (length texts == 0)
@@ -23,11 +34,9 @@ asks_for_libraries options =
     is_some_text options.default_libs
     || (is_some_text options.no_default || (options.no_default_all || is_some_text options.lib_paths))
 
--- names that are included or have an alternate, exports, and a DLL
-abbrev pub asks_for_names : LinkOptions → Bool
-asks_for_names options =
-    is_some_text options.includes
-    || (is_some_text options.alternates || (is_some_text options.exports || (options.dll || options.noentry)))
+-- exports, and a DLL
+abbrev pub asks_for_exports : LinkOptions → Bool
+asks_for_exports options = is_some_text options.exports || (options.dll || options.noentry)
 
 -- a program database, by itself or by its name, or a map
 abbrev pub asks_for_outputs : LinkOptions → Bool
@@ -36,5 +45,5 @@ asks_for_outputs options = options.debug || (not (has_default_pdb options) || is
 unfoldable pub is_unbuilt_link : LinkOptions → Bool
 is_unbuilt_link options =
     asks_for_libraries options
-    || (asks_for_names options
-    || (asks_for_outputs options || (drops_sections options.refs || is_unbuilt_entry options.entry_name)))
+    || (asks_for_exports options
+    || (asks_for_outputs options || (drops_sections options.refs || asks_for_imports options)))

@@ -77,6 +77,11 @@ fn refusal_of<'a>(file: Name<'a>, error: ModuleError) -> Refusal<'a>
             kind: error.kind,
             index: error.index,
         }),
+        ModuleError::Directive { at } => Refusal::Fault(Fault::BadDirective {
+            file,
+            member: None,
+            at,
+        }),
         ModuleError::Unsupported(kind) => Refusal::Fault(Fault::Unsupported {
             file,
             member: None,

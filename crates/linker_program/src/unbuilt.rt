@@ -1,11 +1,14 @@
 //! Options that are read and not carried out yet.
 
 ghost use Rattle.std.specs.Prelude.{◌≡◌};
+ghost use Rattle.std.specs.List.{list_any};
+ghost use Rattle.module_view.specs.Unbuilt.{is_unbuilt_name};
 ghost use Rattle.link_words.specs.Outcome.{options_said};
-ghost use Rattle.linker_program.specs.Unbuilt.{is_unbuilt_entry, drops_sections, asks_for_libraries, asks_for_names, asks_for_outputs, is_unbuilt_link};
+ghost use Rattle.linker_program.specs.Unbuilt.{is_unbuilt_entry, is_unbuilt_alternate, drops_sections, asks_for_libraries, asks_for_exports, asks_for_imports, asks_for_outputs, is_unbuilt_link};
 
 use link_base::Name;
 use link_words::{Options, has_default_pdb};
+use module_view::is_unbuilt_name;
 
 /// Whether a link asks for something that is not built yet.
 #[tactic(auto, unfolding(crate::specs::Unbuilt::is_unbuilt_link))]
@@ -13,10 +16,10 @@ pub(crate) fn is_unbuilt_link(options: &Options<'_>) -> bool
     ensures { result ≡ is_unbuilt_link (options_said options.now) }
 {
     asks_for_libraries(options)
-        || asks_for_names(options)
+        || asks_for_exports(options)
         || asks_for_outputs(options)
         || drops_sections(options.refs)
-        || is_unbuilt_entry(&options.entry)
+        || asks_for_imports(options)
 }
 
 /// Libraries, and how they are searched.
@@ -29,15 +32,11 @@ fn asks_for_libraries(options: &Options<'_>) -> bool
         || !options.lib_paths.is_empty()
 }
 
-/// Names that are included or have an alternate, exports, and a DLL.
-fn asks_for_names(options: &Options<'_>) -> bool
-    ensures { result ≡ asks_for_names (options_said options.now) }
+/// Exports, and a DLL.
+fn asks_for_exports(options: &Options<'_>) -> bool
+    ensures { result ≡ asks_for_exports (options_said options.now) }
 {
-    !options.includes.is_empty()
-        || !options.alternates.is_empty()
-        || !options.exports.is_empty()
-        || options.dll
-        || options.noentry
+    !options.exports.is_empty() || options.dll || options.noentry
 }
 
 /// A program database, by itself or by its name, or a map.
@@ -55,6 +54,36 @@ fn drops_sections(refs: Option<bool>) -> bool
         Some(refs) => refs,
         None => false,
     }
+}
+
+/// An entry, or a name that is included or has an alternate, that is not linked yet.
+fn asks_for_imports(options: &Options<'_>) -> bool
+    ensures { result ≡ asks_for_imports (options_said options.now) }
+{
+    is_unbuilt_entry(&options.entry)
+        || has_unbuilt_name(&options.includes)
+        || has_unbuilt_alternate(&options.alternates)
+}
+
+/// Whether one of these names is not linked yet.
+fn has_unbuilt_name(names: &[Name<'_>]) -> bool
+    ensures { result ≡ list_any is_unbuilt_name names.now }
+{
+    names.iter().any(|name| is_unbuilt_name(name))
+}
+
+/// Whether one of these alternates has a name that is not linked yet.
+fn has_unbuilt_alternate(alternates: &[(Name<'_>, Name<'_>)]) -> bool
+    ensures { result ≡ list_any is_unbuilt_alternate alternates.now }
+{
+    alternates.iter().any(|pair| is_unbuilt_alternate(pair))
+}
+
+/// Whether one of two names is not linked yet.
+fn is_unbuilt_alternate(pair: &(Name<'_>, Name<'_>)) -> bool
+    ensures { result ≡ is_unbuilt_alternate pair.now }
+{
+    is_unbuilt_name(&pair.0) || is_unbuilt_name(&pair.1)
 }
 
 /// An entry that is the slot of an import.

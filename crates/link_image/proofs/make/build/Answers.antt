@@ -65,9 +65,9 @@ returns-in_err-patch_pieces-clause-refused c =
     let own : c.headers_of-headers.result.base ≡ options.base = ap (λ (h : Headers). h.base) begins in
     let given = err_from_is_err_and c.from_residual-in_err-patch_pieces.result c.from_residual-in_err-patch_pieces.ensures.1 in
     let fault : Fault = c.in_err-patch_pieces.field-0.0 in
-    let refused : fields_range_fault plan.modules.items (rows_of placement.sections.items) placement.layout options.base ≡ Some fault =
-    ap (fields_range_fault plan.modules.items (rows_of placement.sections.items) placement.layout) (sym own) ∙ c.in_err-patch_pieces.ensures.refused in
-    rw (given.1, given.2) (bad_range options plan.modules.items (rows_of placement.sections.items) placement.layout (tables_of placement.table) fault placed.means c.in_ok-check_own_base.ensures.permitted refused)
+    let refused : fields_range_fault plan.names (rows_of placement.sections.items) placement.layout options.base ≡ Some fault =
+    ap (fields_range_fault plan.names (rows_of placement.sections.items) placement.layout) (sym own) ∙ c.in_err-patch_pieces.ensures.refused in
+    rw (given.1, given.2) (bad_range options plan.names (rows_of placement.sections.items) placement.layout (tables_of placement.table) fault placed.means c.in_ok-check_own_base.ensures.permitted refused)
 
 pub returns-clause-built : goal.returns-clause-built
 returns-clause-built c =
@@ -84,11 +84,11 @@ returns-clause-built c =
     c.headers_of-headers.ensures ∙ ap (λ (e : ℕ). headers_of options e c.table_directory.result) c.entry_rva-entry.ensures ∙ ap (headers_of options (entry_rva placement.layout.pieces.items plan.entry)) c.table_directory.ensures in
     let own : c.headers_of-headers.result.base ≡ options.base = ap (λ (h : Headers). h.base) begins in
     let all = ready options plan placement c.headers_of-headers.result c.in_ok-image.image.items c.in_ok-owner.owner.items c.requires placed written owner_is in
-    let in_range : fields_range_fault plan.modules.items (rows_of placement.sections.items) placement.layout options.base ≡ None =
-    ap (fields_range_fault plan.modules.items (rows_of placement.sections.items) placement.layout) (sym own) ∙ c.in_ok-patch_pieces.ensures.in_range in
-    let file : c.patch_pieces.new.image.items ≡ file_of (headers_of options (entry_rva placement.layout.pieces.items plan.entry) (table_directory placement.layout (tables_of placement.table))) placement.sections.items placement.layout (linked_contents plan.modules.items (rows_of placement.sections.items) placement.layout options.base) (tables_of placement.table) =
+    let in_range : fields_range_fault plan.names (rows_of placement.sections.items) placement.layout options.base ≡ None =
+    ap (fields_range_fault plan.names (rows_of placement.sections.items) placement.layout) (sym own) ∙ c.in_ok-patch_pieces.ensures.in_range in
+    let file : c.patch_pieces.new.image.items ≡ file_of (headers_of options (entry_rva placement.layout.pieces.items plan.entry) (table_directory placement.layout (tables_of placement.table))) placement.sections.items placement.layout (linked_contents plan.names (rows_of placement.sections.items) placement.layout options.base) (tables_of placement.table) =
     c.in_ok-patch_pieces.ensures.patched
-    ∙ ap (λ (h : Headers). file_of h placement.sections.items placement.layout (linked_contents plan.modules.items (rows_of placement.sections.items) placement.layout h.base) (tables_of placement.table)) begins in
+    ∙ ap (λ (h : Headers). file_of h placement.sections.items placement.layout (linked_contents plan.names (rows_of placement.sections.items) placement.layout h.base) (tables_of placement.table)) begins in
     built options plan placement c.in_ok-owner.owner.items c.requires placed all (record { image = c.patch_pieces.new.image; sections = c.len-count.result }) c.in_ok-check_own_base.ensures.permitted in_range file (c.len-count.ensures ∙ placement.sections.ok.0)
 
 pub overflow_cast-count : goal.overflow_cast-count

@@ -15,12 +15,12 @@ use Rattle.link_image.proofs.patching.patch_pieces.Goals as goal
 pub loop-k-init : goal.loop-k-init
 unfolding first_refusal_below
 loop-k-init c =
-    let modules = c.args.plan.now.modules.items in
+    let link = c.args.plan.now.names in
     let pieces = c.args.plan.now.pieces.items in
     let ready = c.requires.ready in
-    let total = total_is modules pieces c.args.plan.now.fixes.items c.args.placement.now.sections.items c.args.placement.now.layout c.args.owner.now (tables_of c.args.placement.now.table) ready in
-    let count : length (link_contents modules) ≡ length (link_pieces modules) = sym (ap (λ (cs : List (List ℕ)). length cs) ready.contents_are) ∙ length-map pieces piece_contents ∙ total in
-    let contents = ready.contents_are ∙ sym (mixed_none modules (rows_of c.args.placement.now.sections.items) c.args.placement.now.layout c.args.headers.now.base count) in
+    let total = total_is link pieces c.args.plan.now.fixes.items c.args.placement.now.sections.items c.args.placement.now.layout c.args.owner.now (tables_of c.args.placement.now.table) ready in
+    let count : length (link_contents link) ≡ length (link_pieces link) = sym (ap (λ (cs : List (List ℕ)). length cs) ready.contents_are) ∙ length-map pieces piece_contents ∙ total in
+    let contents = ready.contents_are ∙ sym (mixed_none link (rows_of c.args.placement.now.sections.items) c.args.placement.now.layout c.args.headers.now.base count) in
     record {
       file = c.requires.file ∙ ap (λ (cs : List (List ℕ)). file_of c.args.headers.now c.args.placement.now.sections.items c.args.placement.now.layout cs (tables_of c.args.placement.now.table)) contents;
       none = refl;
@@ -29,29 +29,29 @@ loop-k-init c =
 pub returns-in_err-patch_at-clause-refused : goal.returns-in_err-patch_at-clause-refused
 unfolding fields_range_fault
 returns-in_err-patch_at-clause-refused c =
-    let modules = c.args.plan.now.modules.items in
-    let total = total_is modules c.args.plan.now.pieces.items c.args.plan.now.fixes.items c.args.placement.now.sections.items c.args.placement.now.layout c.args.owner.now (tables_of c.args.placement.now.table) c.requires.ready in
+    let link = c.args.plan.now.names in
+    let total = total_is link c.args.plan.now.pieces.items c.args.plan.now.fixes.items c.args.placement.now.sections.items c.args.placement.now.layout c.args.owner.now (tables_of c.args.placement.now.table) c.requires.ready in
     let given = err_from_is_err_and c.from_residual.result c.from_residual.ensures.1 in
     rw (given.1, given.2)
-    (first_refusal_below-found c.loop-k.k (length (link_pieces modules)) (piece_range_fault modules (rows_of c.args.placement.now.sections.items) c.args.placement.now.layout c.args.headers.now.base) c.in_err-patch_at.field-0.0 (omega (arith, total)) c.loop-k.invariant.none c.in_err-patch_at.ensures.refused)
+    (first_refusal_below-found c.loop-k.k (length (link_pieces link)) (piece_range_fault link (rows_of c.args.placement.now.sections.items) c.args.placement.now.layout c.args.headers.now.base) c.in_err-patch_at.field-0.0 (omega (arith, total)) c.loop-k.invariant.none c.in_err-patch_at.ensures.refused)
 
 pub loop-k-preserved : goal.loop-k-preserved
 loop-k-preserved c = record {
   file = c.in_ok-patch_at.ensures.file;
-  none = first_refusal_below-more c.loop-k.k (piece_range_fault c.args.plan.now.modules.items (rows_of c.args.placement.now.sections.items) c.args.placement.now.layout c.args.headers.now.base) c.loop-k.invariant.none c.in_ok-patch_at.ensures.in_range;
+  none = first_refusal_below-more c.loop-k.k (piece_range_fault c.args.plan.now.names (rows_of c.args.placement.now.sections.items) c.args.placement.now.layout c.args.headers.now.base) c.loop-k.invariant.none c.in_ok-patch_at.ensures.in_range;
 }
 
 pub returns-clause-patched : goal.returns-clause-patched
 returns-clause-patched c =
-    let modules = c.args.plan.now.modules.items in
-    let total = total_is modules c.args.plan.now.pieces.items c.args.plan.now.fixes.items c.args.placement.now.sections.items c.args.placement.now.layout c.args.owner.now (tables_of c.args.placement.now.table) c.requires.ready in
+    let link = c.args.plan.now.names in
+    let total = total_is link c.args.plan.now.pieces.items c.args.plan.now.fixes.items c.args.placement.now.sections.items c.args.placement.now.layout c.args.owner.now (tables_of c.args.placement.now.table) c.requires.ready in
     c.loop-k.invariant.file
-    ∙ ap (λ (cs : List (List ℕ)). file_of c.args.headers.now c.args.placement.now.sections.items c.args.placement.now.layout cs (tables_of c.args.placement.now.table)) (mixed_all modules (rows_of c.args.placement.now.sections.items) c.args.placement.now.layout c.args.headers.now.base c.loop-k.k (omega (arith, total, c.len-k-end.ensures)))
+    ∙ ap (λ (cs : List (List ℕ)). file_of c.args.headers.now c.args.placement.now.sections.items c.args.placement.now.layout cs (tables_of c.args.placement.now.table)) (mixed_all link (rows_of c.args.placement.now.sections.items) c.args.placement.now.layout c.args.headers.now.base c.loop-k.k (omega (arith, total, c.len-k-end.ensures)))
 
 pub returns-clause-in_range : goal.returns-clause-in_range
 unfolding fields_range_fault
 returns-clause-in_range c =
-    let modules = c.args.plan.now.modules.items in
-    let total = total_is modules c.args.plan.now.pieces.items c.args.plan.now.fixes.items c.args.placement.now.sections.items c.args.placement.now.layout c.args.owner.now (tables_of c.args.placement.now.table) c.requires.ready in
-    let ends : c.loop-k.k ≡ length (link_pieces modules) = omega (arith, total, c.len-k-end.ensures) in
-    ap (λ (n : ℕ). first_refusal_below n (piece_range_fault modules (rows_of c.args.placement.now.sections.items) c.args.placement.now.layout c.args.headers.now.base)) (sym ends) ∙ c.loop-k.invariant.none
+    let link = c.args.plan.now.names in
+    let total = total_is link c.args.plan.now.pieces.items c.args.plan.now.fixes.items c.args.placement.now.sections.items c.args.placement.now.layout c.args.owner.now (tables_of c.args.placement.now.table) c.requires.ready in
+    let ends : c.loop-k.k ≡ length (link_pieces link) = omega (arith, total, c.len-k-end.ensures) in
+    ap (λ (n : ℕ). first_refusal_below n (piece_range_fault link (rows_of c.args.placement.now.sections.items) c.args.placement.now.layout c.args.headers.now.base)) (sym ends) ∙ c.loop-k.invariant.none

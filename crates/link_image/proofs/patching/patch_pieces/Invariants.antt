@@ -7,6 +7,6 @@ use Rattle.link_image.proofs.patching.patch_pieces.Given as goal
 
 abbrev pub invariant-loop-k : goal.invariant-loop-k
 invariant-loop-k l = record {
-  file : l.image.items ≡ mixed_file l.plan.modules.items l.headers l.placement.sections.items l.placement.layout (tables_of l.placement.table) l.k;
-  none : first_refusal_below l.k (piece_range_fault l.plan.modules.items (rows_of l.placement.sections.items) l.placement.layout l.headers.base) ≡ None;
+  file : l.image.items ≡ mixed_file l.plan.names l.headers l.placement.sections.items l.placement.layout (tables_of l.placement.table) l.k;
+  none : first_refusal_below l.k (piece_range_fault l.plan.names (rows_of l.placement.sections.items) l.placement.layout l.headers.base) ≡ None;
 }

@@ -11,7 +11,7 @@ pub returns-in-Err-ImageTooLarge-clause-refused : goal.returns-in-Err-ImageTooLa
 returns-in-Err-ImageTooLarge-clause-refused c =
     let table = c.requires.table in
     let len : c.in_ok-len.len ≡ length (blocks_of table.fields) = c.in_ok-len.ensures.len ∙ ap length (c.deref.ensures.value ∙ table.is) in
-    rw (c.in-Err-ImageTooLarge.size-is) (large_table (options_said c.args.options.now) c.args.plan.now.modules.items c.args.plan.now.pieces.items c.args.sections.items c.args.layout table.fields c.in-Err-ImageTooLarge.size c.requires.plan.pieces_are c.requires.grouped c.requires.placed c.requires.relocated table.based
+    rw (c.in-Err-ImageTooLarge.size-is) (large_table (options_said c.args.options.now) c.args.plan.now.names c.args.plan.now.pieces.items c.args.sections.items c.args.layout table.fields c.in-Err-ImageTooLarge.size c.requires.plan.pieces_are c.requires.grouped c.requires.placed c.requires.relocated table.based
     (subst (λ (n : ℕ). IsGrowRefusal c.args.layout n (bad.ImageTooLarge c.in-Err-ImageTooLarge.size)) len (subst (IsGrowRefusal c.args.layout c.in_ok-len.len) c.in-Err-ImageTooLarge.field-0-is c.in-Err-ImageTooLarge.ensures.refused)))
 
 pub returns-clause-placed : goal.returns-clause-placed

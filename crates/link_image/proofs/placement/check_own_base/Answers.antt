@@ -9,5 +9,5 @@ pub returns-in-Err-clause-refused : goal.returns-in-Err-clause-refused
 returns-in-Err-clause-refused c =
     let options = options_said c.args.options.now in
     let placement = c.args.placement.now in
-    bad_base options c.args.plan.now.modules.items (rows_of placement.sections.items) placement.layout (tables_of placement.table) c.requires.placed.means
+    bad_base options c.args.plan.now.names (rows_of placement.sections.items) placement.layout (tables_of placement.table) c.requires.placed.means
     (not_permitted (base_rule options) placement.layout.image _ c.in-Err.ensures.refused)

@@ -11,9 +11,9 @@ use Rattle.link_image.proofs.placement.is_relocated.Goals as goal
 
 pub returns-then-not-options : goal.returns-then-not-options
 returns-then-not-options c =
-    let modules = c.args.plan.now.modules.items in
+    let link = c.args.plan.now.names in
     let pieces = c.args.plan.now.pieces.items in
-    let count : length pieces ≡ length (link_pieces modules) = sym (length-map pieces bare) ∙ ap (λ (ps : List Piece). length ps) c.requires.pieces_are ∙ plan_count (options_said c.args.options.now) modules in
+    let count : length pieces ≡ length (link_pieces link) = sym (length-map pieces bare) ∙ ap (λ (ps : List Piece). length ps) c.requires.pieces_are ∙ plan_count (options_said c.args.options.now) link in
     c.hold_address.ensures
-    ∙ rw (c.deref.ensures.value) (held_addresses modules c.args.plan.now.fixes.items (length pieces) count c.requires.fields)
-    ∙ sym (ap (λ (b : Bool). not b && holds_address modules) c.if-not-options.true)
+    ∙ rw (c.deref.ensures.value) (held_addresses link c.args.plan.now.fixes.items (length pieces) count c.requires.fields)
+    ∙ sym (ap (λ (b : Bool). not b && holds_address link) c.if-not-options.true)

@@ -59,6 +59,6 @@ append_table-requires-clause-table c =
     rw (← c.deref-2.ensures.value, ← c.deref-3.ensures.value, ← c.deref-4.ensures.value) c.in_ok-fields.ensures in
     record {
       fields = c.deref-5.result.now;
-      based = subst (AreBaseFields c.args.plan.now.modules.items layout.pieces.items) (sym (c.deref-5.ensures.value ∙ listed)) are;
+      based = subst (AreBaseFields c.args.plan.now.names layout.pieces.items) (sym (c.deref-5.ensures.value ∙ listed)) are;
       is = c.in_ok-table.ensures;
     }

@@ -10,8 +10,8 @@ use Rattle.link_pieces.proofs.pieces.pieces_of.Given as goal
 
 abbrev pub invariant-loop-position : goal.invariant-loop-position
 invariant-loop-position l = record {
-  pieces : map bare l.pieces.items ≡ flat_map (λ k. pieces_in l.modules k (module_at l.modules k).bytes) (range_with_len 0 l.position);
-  contents : map piece_contents l.pieces.items ≡ flat_map (λ k. contents_in l.modules k (module_at l.modules k).bytes) (range_with_len 0 l.position);
+  pieces : map bare l.pieces.items ≡ flat_map (λ k. pieces_in l.names k (module_at l.modules k).bytes) (range_with_len 0 l.position);
+  contents : map piece_contents l.pieces.items ≡ flat_map (λ k. contents_in l.names k (module_at l.modules k).bytes) (range_with_len 0 l.position);
   opened : All IsOpened (take l.position l.modules);
   few_sections : All HasFewSections (take l.position l.modules);
 }

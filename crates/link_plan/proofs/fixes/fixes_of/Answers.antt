@@ -13,9 +13,9 @@ loop-relocation-init c =
       can = tt;
       ends = tt;
       count = let len = ap length all ∙ relocations_count bytes c.args.section in omega (arith, len);
-      fixes = λ modules position are.
-          ap (λ (fs : List Fix). fs ++ fixes_from modules position bytes 0 c.into_iter-relocation-iterator.result) c.in_ok-fixes.ensures.items
-          ∙ ap (fixes_from modules position bytes 0) all;
+      fixes = λ link position are.
+          ap (λ (fs : List Fix). fs ++ fixes_from link position bytes 0 c.into_iter-relocation-iterator.result) c.in_ok-fixes.ensures.items
+          ∙ ap (fixes_from link position bytes 0) all;
     }
 
 pub loop-relocation-preserved : goal.loop-relocation-preserved
@@ -27,13 +27,13 @@ loop-relocation-preserved c =
       can = tt;
       ends = tt;
       count = let was = c.loop-relocation.invariant.count in let len = ap length steps in omega (arith, was, len);
-      fixes = λ modules position are.
-          fixes_more modules position bytes c.loop-relocation.index before c.next.new.self c.in-Some.relocation c.loop-relocation.fixes.items c.push.new.self.items _ steps
-          (c.loop-relocation.invariant.fixes modules position are)
-          (c.in_ok-push.ensures.items ∙ ap (λ (fix : Fix). c.loop-relocation.fixes.items ++ fix ∷ []) (fix_read modules position bytes c.args.targets.now c.loop-relocation.index c.in-Some.relocation _ are c.target_at.ensures));
+      fixes = λ link position are.
+          fixes_more link position bytes c.loop-relocation.index before c.next.new.self c.in-Some.relocation c.loop-relocation.fixes.items c.push.new.self.items _ steps
+          (c.loop-relocation.invariant.fixes link position are)
+          (c.in_ok-push.ensures.items ∙ ap (λ (fix : Fix). c.loop-relocation.fixes.items ++ fix ∷ []) (fix_read link position bytes c.args.targets.now c.loop-relocation.index c.in-Some.relocation _ are c.target_at.ensures));
     }
 
 pub returns : goal.returns
-returns c = λ modules position are.
+returns c = λ link position are.
     sym (append-nil c.loop-relocation.fixes.items)
-    ∙ no_more modules position c.args.object.now c.loop-relocation.index c.loop-relocation.relocation-iterator c.loop-relocation.fixes.items _ c.in-None.ensures.steps.0 (c.loop-relocation.invariant.fixes modules position are)
+    ∙ no_more link position c.args.object.now c.loop-relocation.index c.loop-relocation.relocation-iterator c.loop-relocation.fixes.items _ c.in-None.ensures.steps.0 (c.loop-relocation.invariant.fixes link position are)

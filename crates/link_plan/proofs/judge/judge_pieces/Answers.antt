@@ -12,7 +12,7 @@ pub loop-k-init : goal.loop-k-init
 unfolding first_refusal_below
 loop-k-init c = record {
   held = tt;
-  fields = fields_none c.args.modules.now c.in_ok-fixups.fixups.items c.in_ok-fixups.ensures.items;
+  fields = fields_none c.args.names.now c.in_ok-fixups.fixups.items c.in_ok-fixups.ensures.items;
   same_length = omega (arith, c.in_ok-meant.ensures.len);
   marked = λ j lt. unmarked c.in_ok-meant.meant.items _ j (c.in_ok-meant.ensures.items_if_clones_equal (λ y e. e));
   none = refl;
@@ -20,33 +20,33 @@ loop-k-init c = record {
 
 pub piece_fixes-requires-clause-whole : goal.piece_fixes-requires-clause-whole
 piece_fixes-requires-clause-whole c =
-    (read_piece c.args.modules.now c.args.pieces.now c.loop-k.k c.index-pieces-k.result c.requires.pieces c.requires.contents (omega arith) c.index-pieces-k.is).whole
+    (read_piece c.args.names.now c.args.pieces.now c.loop-k.k c.index-pieces-k.result c.requires.pieces c.requires.contents (omega arith) c.index-pieces-k.is).whole
 
 pub returns-in_err-fields-clause-refused : goal.returns-in_err-fields-clause-refused
 returns-in_err-fields-clause-refused c =
-    let modules = c.args.modules.now in
+    let link = c.args.names.now in
     let k = c.loop-k.k in
     let piece = c.index-pieces-k.result in
-    let read = read_piece modules c.args.pieces.now k piece c.requires.pieces c.requires.contents (omega arith) c.index-pieces-k.is in
+    let read = read_piece link c.args.pieces.now k piece c.requires.pieces c.requires.contents (omega arith) c.index-pieces-k.is in
     let fixes = c.deref-in-loop-k.ensures.value ∙ c.in_ok-fixes.ensures.fixes in
     let given = err_from_is_err_and c.from_residual-in_err-fields.result c.from_residual-in_err-fields.ensures.1 in
     rw (given.1, given.2)
-    (refuses_found (length (link_pieces modules)) k (piece_fault modules c.args.large) _ c.in_err-fields.field-0.0 read.within c.loop-k.invariant.none
-    (fault_read modules k piece c.args.large c.deref-in-loop-k.result.now read fixes)
+    (refuses_found (length (link_pieces link)) k (piece_fault link c.args.large) _ c.in_err-fields.field-0.0 read.within c.loop-k.invariant.none
+    (fault_read link k piece c.args.large c.deref-in-loop-k.result.now read fixes)
     c.in_err-fields.ensures.refused)
 
 pub loop-k-preserved : goal.loop-k-preserved
 loop-k-preserved c =
-    let modules = c.args.modules.now in
+    let link = c.args.names.now in
     let k = c.loop-k.k in
     let piece = c.index-pieces-k.result in
-    let read = read_piece modules c.args.pieces.now k piece c.requires.pieces c.requires.contents (omega arith) c.index-pieces-k.is in
+    let read = read_piece link c.args.pieces.now k piece c.requires.pieces c.requires.contents (omega arith) c.index-pieces-k.is in
     let judged = c.deref-in-loop-k.ensures.value ∙ c.in_ok-fixes.ensures.fixes in
     let marked = c.deref.ensures.value ∙ c.in_ok-fixes.ensures.fixes in
     record {
       held = c.in_ok-fixes.ensures.held;
-      fields = fields_more modules k piece c.deref-in-loop-k.result.now c.in_ok-fields.fields c.loop-k.fixups.items c.keep.new.fixups.items read c.loop-k.invariant.fields c.in_ok-keep.ensures judged c.in_ok-fields.ensures.fields c.in_ok-fields.ensures.patchable;
+      fields = fields_more link k piece c.deref-in-loop-k.result.now c.in_ok-fields.fields c.loop-k.fixups.items c.keep.new.fixups.items read c.loop-k.invariant.fields c.in_ok-keep.ensures judged c.in_ok-fields.ensures.fields c.in_ok-fields.ensures.patchable;
       same_length = c.mark_meant.ensures.len ∙ c.loop-k.invariant.same_length;
-      marked = λ j lt. meant_more modules k j piece c.deref.result.now _ _ read marked (c.loop-k.invariant.marked j lt) (c.mark_meant.ensures.marked j (omega (arith, lt, c.loop-k.invariant.same_length)));
-      none = first_refusal_below-more k (piece_fault modules c.args.large) c.loop-k.invariant.none (sym (fault_read modules k piece c.args.large c.deref-in-loop-k.result.now read judged) ∙ c.in_ok-fields.ensures.accepted);
+      marked = λ j lt. meant_more link k j piece c.deref.result.now _ _ read marked (c.loop-k.invariant.marked j lt) (c.mark_meant.ensures.marked j (omega (arith, lt, c.loop-k.invariant.same_length)));
+      none = first_refusal_below-more k (piece_fault link c.args.large) c.loop-k.invariant.none (sym (fault_read link k piece c.args.large c.deref-in-loop-k.result.now read judged) ∙ c.in_ok-fields.ensures.accepted);
     }

@@ -6,9 +6,9 @@ use Rattle.link_plan.proofs.judge.judge_pieces.Given as goal
 
 abbrev pub invariant-loop-k : goal.invariant-loop-k
 invariant-loop-k l = record {
-  held : HoldsTargets l.modules l.last.position l.last.targets.items;
-  fields : HaveFields l.modules l.k l.fixups.items;
+  held : HoldsTargets l.names l.last.position l.last.targets.items;
+  fields : HaveFields l.names l.k l.fixups.items;
   same_length : length l.meant.items ≡ length l.pieces;
-  marked : (j : ℕ) → j < length l.pieces → get_or l.meant.items j false ≡ is_meant_among l.modules l.k j;
-  none : first_refusal_below l.k (piece_fault l.modules l.large) ≡ None;
+  marked : (j : ℕ) → j < length l.pieces → get_or l.meant.items j false ≡ is_meant_among l.names l.k j;
+  none : first_refusal_below l.k (piece_fault l.names l.large) ≡ None;
 }

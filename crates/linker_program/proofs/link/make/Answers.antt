@@ -3,11 +3,12 @@ use Rattle.std.specs.Borrow.{Bor}
 use Rattle.std.specs.Prelude.{ℕ, None}
 use Rattle.std.proofs.lemmas.Result.{err_from_is_err_and}
 use Rattle.link_base.specs.Refusals.{RefusesFor}
-use Rattle.module_view.specs.Module.{ModuleView}
+use Rattle.symbol_table.specs.LinkView.{LinkView}
 use Rattle.link_words.specs.Outcome.{options_said}
 use Rattle.link_words.specs.SettingsView.{texts_of}
 use Rattle.link_plan.specs.Plan.{IsPlanOf}
-use Rattle.link_plan.specs.PlanFaults.{plan_fault}
+use Rattle.link_image.specs.BuildFaults.{RefusesBuild}
+use Rattle.link_image.specs.LinkedImage.{IsBuilt}
 use Rattle.linker_program.specs.Loading.{opening_fault, joined}
 use Rattle.linker_program.specs.ReadingSteps.{file_bytes}
 use Rattle.linker_program.proofs.StepLemmas.{refused_opening, refused_plan, refused_build, linked}
@@ -22,7 +23,7 @@ plan_of-requires c = record { few = c.in_ok-modules.ensures.few }
 pub build-requires : goal.build-requires
 build-requires c =
     let planned = c.in_ok-plan.ensures.planned in
-    subst (λ (modules : List ModuleView). IsPlanOf (options_said c.args.options.now) modules c.in_ok-plan.plan) (sym planned.modules_are) planned
+    subst (λ (link : LinkView). IsPlanOf (options_said c.args.options.now) link c.in_ok-plan.plan) (sym planned.names_are) planned
 
 pub returns-in_err-modules-clause-refused : goal.returns-in_err-modules-clause-refused
 returns-in_err-modules-clause-refused c =
@@ -49,8 +50,8 @@ returns-in_err-built-clause-refused c =
     let are = c.in_ok-modules.ensures.opened ∙ ap (λ (names : List (Bor (List ℕ))). joined (texts_of names) files) c.deref.ensures.value in
     let given = err_from_is_err_and c.from_residual-in_err-built.result c.from_residual-in_err-built.ensures.1 in
     rw (given.1, given.2)
-    (refused_build options files c.in_ok-plan.plan.modules.items c.in_err-built.field-0.0 opened (planned.modules_are ∙ are)
-    (ap (plan_fault options) planned.modules_are ∙ planned.no_fault) c.in_err-built.ensures.refused)
+    (refused_build options files c.in_ok-modules.modules.items c.in_err-built.field-0.0 opened are planned.no_fault
+    (subst (λ (link : LinkView). RefusesBuild options link c.in_err-built.field-0.0) planned.names_are c.in_err-built.ensures.refused))
 
 pub returns-clause-linked : goal.returns-clause-linked
 returns-clause-linked c =
@@ -59,7 +60,8 @@ returns-clause-linked c =
     let planned = c.in_ok-plan.ensures.planned in
     let opened = subst (λ (names : List (Bor (List ℕ))). opening_fault (texts_of names) files ≡ None) c.deref.ensures.value c.in_ok-modules.ensures.accepted in
     let are = c.in_ok-modules.ensures.opened ∙ ap (λ (names : List (Bor (List ℕ))). joined (texts_of names) files) c.deref.ensures.value in
-    linked options files c.in_ok-plan.plan.modules.items c.in_ok-built.built
+    linked options files c.in_ok-modules.modules.items c.in_ok-built.built
     (record { modules = c.len-count.result; sections = c.in_ok-built.built.sections; image = c.in_ok-built.built.image })
-    opened (planned.modules_are ∙ are) (ap (plan_fault options) planned.modules_are ∙ planned.no_fault) c.in_ok-built.ensures.built refl refl
-    (c.len-count.ensures ∙ c.in_ok-modules.modules.ok.0 ∙ ap (λ (ms : List ModuleView). length ms) (sym planned.modules_are))
+    opened are planned.no_fault
+    (subst (λ (link : LinkView). IsBuilt options link c.in_ok-built.built) planned.names_are c.in_ok-built.ensures.built) refl refl
+    (c.len-count.ensures ∙ c.in_ok-modules.modules.ok.0)

@@ -1,4 +1,4 @@
-use Rattle.std.proofs.Common.{◌≡◌, ◌≤◌, ◌+◌, ◌-◌, ℕ, ◌&&◌, cond, eqb, List, [], Option, None, Some, Vec, length, map, get_or, take, drop, ◌++◌, sym, ap, subst, ◌∙◌, arith}
+use Rattle.std.proofs.Common.{◌≡◌, ◌≤◌, ◌<◌, ◌+◌, ◌-◌, ℕ, ◌&&◌, cond, eqb, List, [], Option, None, Some, Vec, length, map, get_or, take, drop, ◌++◌, sym, ap, subst, ◌∙◌, arith}
 use Rattle.std.specs.Option.{option_or}
 use Rattle.std.specs.Global.{Global}
 use Rattle.std.proofs.lemmas.List.{length-map}
@@ -7,9 +7,11 @@ use Rattle.section_group.specs.BarePieces.{bare}
 use Rattle.link_base.specs.Bytes.{first_below}
 use Rattle.link_pieces.specs.Commons.{FIRST_COMMON}
 use Rattle.link_pieces.specs.PieceIndex.{indexed, holds, is_section_of, is_common_of}
-use Rattle.link_pieces.specs.Rows.{items_of, section_places, common_places}
+use Rattle.std.specs.List.{All}
+use Rattle.module_view.specs.Module.{ModuleView}
+use Rattle.link_pieces.specs.Rows.{items_of, section_places, common_places, HasPlace}
 use Rattle.link_pieces.proofs.NamedLemmas.{written}
-use Rattle.link_pieces.proofs.IndexLemmas.{AreNoted, none_noted, noted_more, noted_same, of_section, no_section, of_common, no_common, section_room, common_room}
+use Rattle.link_pieces.proofs.IndexLemmas.{AreNoted, none_noted, noted_more, noted_same, of_section, no_section, of_common, no_common, in_section_rows, in_common_rows}
 use Rattle.link_pieces.proofs.piece_index.PieceIndex.new.Goals as goal
 use Rattle.link_pieces.proofs.piece_index.PieceIndex.new.Goals.{then-piece-lt-FIRST_COMMON, else-piece-lt-FIRST_COMMON}
 
@@ -19,16 +21,20 @@ loop-index-init c = record {
   commons = none_noted common_places c.args.modules.now is_common_of c.args.pieces.now (items_of c.in_ok-commons.commons.items) c.in_ok-commons.ensures;
 }
 
+here : (modules : List ModuleView) (pieces : List Piece) (k : ℕ) (piece : Piece) → k < length pieces → piece ≡ get_or pieces k piece → All (λ (p : Piece). HasPlace modules p.«module» p.number) pieces → HasPlace modules piece.«module» piece.number
+here modules pieces k piece lt read placed =
+    subst (λ (p : Piece). HasPlace modules p.«module» p.number) (sym read) (placed k piece lt)
+
 pub note-requires-clause-row : goal.note-requires-clause-row
 note-requires-clause-row c =
     let rows = c.loop-index.sections.items in
-    let room = section_room c.args.modules.now c.args.pieces.now (items_of rows) c.loop-index.index c.index-pieces-index.result c.requires.pieces c.loop-index.invariant.sections.for_each c.loop-index.invariant.sections.long (omega arith) c.index-pieces-index.is (omega arith) in
+    let room = in_section_rows c.args.modules.now (items_of rows) c.index-pieces-index.result.«module» c.index-pieces-index.result.number c.loop-index.invariant.sections.for_each c.loop-index.invariant.sections.long (here c.args.modules.now c.args.pieces.now c.loop-index.index c.index-pieces-index.result (omega arith) c.index-pieces-index.is c.requires.placed) (omega arith) in
     omega (arith, room.row, length-map rows (λ v. v.items), c.deref_mut.ensures.len, ap length c.deref_mut.ensures.value)
 
 pub note-requires-clause-cell : goal.note-requires-clause-cell
 note-requires-clause-cell c =
     let piece = c.index-pieces-index.result in
-    let room = section_room c.args.modules.now c.args.pieces.now (items_of c.loop-index.sections.items) c.loop-index.index piece c.requires.pieces c.loop-index.invariant.sections.for_each c.loop-index.invariant.sections.long (omega arith) c.index-pieces-index.is (omega arith) in
+    let room = in_section_rows c.args.modules.now (items_of c.loop-index.sections.items) c.index-pieces-index.result.«module» c.index-pieces-index.result.number c.loop-index.invariant.sections.for_each c.loop-index.invariant.sections.long (here c.args.modules.now c.args.pieces.now c.loop-index.index c.index-pieces-index.result (omega arith) c.index-pieces-index.is c.requires.placed) (omega arith) in
     let same = ap (λ (vs : List (Vec (Option ℕ) Global)). length (get_or (items_of vs) piece.«module» [])) c.deref_mut.ensures.value in
     omega (arith, room.cell, same)
 
@@ -37,14 +43,14 @@ pub note-requires-else-piece-lt-FIRST_COMMON-clause-row :
 note-requires-else-piece-lt-FIRST_COMMON-clause-row c =
     let rows = c.loop-index.commons.items in
     let deref = c.deref_mut-else-piece-lt-FIRST_COMMON in
-    let room = common_room c.args.modules.now c.args.pieces.now (items_of rows) c.loop-index.index c.index-pieces-index.result c.requires.pieces c.requires.few_sections c.loop-index.invariant.commons.for_each c.loop-index.invariant.commons.long (omega arith) c.index-pieces-index.is (omega arith) in
+    let room = in_common_rows c.args.modules.now (items_of rows) c.index-pieces-index.result.«module» c.index-pieces-index.result.number c.loop-index.invariant.commons.for_each c.loop-index.invariant.commons.long (here c.args.modules.now c.args.pieces.now c.loop-index.index c.index-pieces-index.result (omega arith) c.index-pieces-index.is c.requires.placed) (omega arith) in
     omega (arith, room.row, length-map rows (λ v. v.items), deref.ensures.len, ap length deref.ensures.value)
 
 pub note-requires-else-piece-lt-FIRST_COMMON-clause-cell :
     goal.note-requires-else-piece-lt-FIRST_COMMON-clause-cell
 note-requires-else-piece-lt-FIRST_COMMON-clause-cell c =
     let piece = c.index-pieces-index.result in
-    let room = common_room c.args.modules.now c.args.pieces.now (items_of c.loop-index.commons.items) c.loop-index.index piece c.requires.pieces c.requires.few_sections c.loop-index.invariant.commons.for_each c.loop-index.invariant.commons.long (omega arith) c.index-pieces-index.is (omega arith) in
+    let room = in_common_rows c.args.modules.now (items_of c.loop-index.commons.items) c.index-pieces-index.result.«module» c.index-pieces-index.result.number c.loop-index.invariant.commons.for_each c.loop-index.invariant.commons.long (here c.args.modules.now c.args.pieces.now c.loop-index.index c.index-pieces-index.result (omega arith) c.index-pieces-index.is c.requires.placed) (omega arith) in
     let same = ap (λ (vs : List (Vec (Option ℕ) Global)). length (get_or (items_of vs) piece.«module» [])) c.deref_mut-else-piece-lt-FIRST_COMMON.ensures.value in
     omega (arith, room.cell, same)
 
@@ -98,16 +104,15 @@ loop-index-preserved c =
 
 pub returns : goal.returns
 returns c =
-    let modules = c.args.modules.now in
     let pieces = c.args.pieces.now in
     let all : c.loop-index.index ≡ length (map bare pieces) = omega (arith, length-map pieces bare) in
-    record {
+    λ link are. record {
       sections = λ m s.
           c.loop-index.invariant.sections.noted m s
           ∙ ap (λ (n : ℕ). first_below n (holds (is_section_of m s) (map bare pieces))) all
-          ∙ ap (λ (ps : List Piece). first_below (length ps) (holds (is_section_of m s) ps)) c.requires.pieces;
+          ∙ ap (λ (ps : List Piece). first_below (length ps) (holds (is_section_of m s) ps)) are;
       commons = λ m j.
           c.loop-index.invariant.commons.noted m j
           ∙ ap (λ (n : ℕ). first_below n (holds (is_common_of m j) (map bare pieces))) all
-          ∙ ap (λ (ps : List Piece). first_below (length ps) (holds (is_common_of m j) ps)) c.requires.pieces;
+          ∙ ap (λ (ps : List Piece). first_below (length ps) (holds (is_common_of m j) ps)) are;
     }

@@ -1,0 +1,7 @@
+use Rattle.std.proofs.Common.{◌≡◌, None, map, take}
+use Rattle.link_base.specs.Refusals.{first_standing}
+use Rattle.link_plan.specs.References.{included_fault}
+use Rattle.link_plan.proofs.references.check_includes.Given as goal
+
+abbrev pub invariant-loop-name : goal.invariant-loop-name
+invariant-loop-name l = first_standing (map (included_fault l.names None) (take l.name-index l.includes)) ≡ None
