@@ -3,6 +3,7 @@ pub mod Defaults
 pub mod LinkView
 pub mod Lists
 pub mod Alternates
+pub mod References
 pub mod Resolution
 pub mod Clash
 pub mod Interning
