@@ -22,7 +22,7 @@ use Rattle.symbol_table.specs.declared.meaning.Meaning.{Meaning}
 use Rattle.symbol_table.specs.declared.meaning.NoMeaning.TheVariants.{Undefined}
 use Rattle.symbol_table.specs.declared.noted.ModuleNames.{ModuleNames}
 use Rattle.symbol_table.specs.declared.noted.NotedAlternate.{NotedAlternate}
-use Rattle.symbol_table.specs.declared.alternates.GivenAlternates.{GivenAlternates}
+use Rattle.symbol_table.specs.declared.given.GivenNames.{GivenNames}
 use Rattle.symbol_table.specs.Alternates.{alternates_by, all_alternates, is_left, alternate_named}
 use Rattle.symbol_table.specs.TableParts.{link_view}
 use Rattle.symbol_table.specs.LinkerNames.{linker_meaning}
@@ -49,14 +49,14 @@ abbrev pub Absent : List (List ℕ) → List ℕ → Type 0
 Absent names name = (number : ℕ) → Numbers names number name → ⊥
 
 -- other names have numbers
-differs : (names : List (List ℕ)) (name other : List ℕ) (number : ℕ) → Absent names name → Numbers names number other → same_name other name ≡ false
+pub differs : (names : List (List ℕ)) (name other : List ℕ) (number : ℕ) → Absent names name → Numbers names number other → same_name other name ≡ false
 differs names name other number absent numbered = go (same_name other name) refl
   where
     go : (b : Bool) → same_name other name ≡ b → same_name other name ≡ false
     go false e = e
     go true e = absurd (absent number (numbered ∙ ap Some ((bytes_eq-Decides other name).0 e)))
 
-zip_left : {X Y : Type 0} (R : X → Y → Type 0) (P : X → Type 0) (xs : List X) (ys : List Y) → AllZip R xs ys → ((x : X) (y : Y) → R x y → P x) → All P xs
+pub zip_left : {X Y : Type 0} (R : X → Y → Type 0) (P : X → Type 0) (xs : List X) (ys : List Y) → AllZip R xs ys → ((x : X) (y : Y) → R x y → P x) → All P xs
 zip_left R P [] ys zip each = λ k d lt. absurd (omega arith)
 zip_left R P (x ∷ xs) [] zip each = absurd zip
 zip_left {X} R P (x ∷ xs) (y ∷ ys) zip each = go (zip_left R P xs ys zip.1 each)
@@ -71,7 +71,7 @@ module_noted names (m ∷ kept) zero all lt = (m, (all 0 m (omega arith), refl))
 module_noted names (m ∷ kept) (suc k) all lt = module_noted names kept k (λ j d below. all (suc j) d (omega arith)) (omega arith)
 
 module _ (names : List (List ℕ)) (kept : List ModuleNames) (noted : All (NotesModule names) kept) (name : List ℕ) (absent : Absent names name) where
-  no_definition : All (λ entry. has_name name entry ≡ false) (all_definitions (map noted_view kept))
+  pub no_definition : All (λ entry. has_name name entry ≡ false) (all_definitions (map noted_view kept))
   no_definition =
       all_joined (λ entry. has_name name entry ≡ false) (λ k. provided_by k (module_at (map noted_view kept) k).bytes) 0 (length (map noted_view kept)) (λ k low high.
       let found = module_noted names kept k noted (omega (arith, length-map kept noted_view)) in
@@ -80,7 +80,7 @@ module _ (names : List (List ℕ)) (kept : List ModuleNames) (noted : All (Notes
       subst (λ (v : ModuleView). All (λ entry. has_name name entry ≡ false) (provided_by k v.bytes)) (sym found.1.1)
       (All-map (λ entry. has_name name entry ≡ false) (provided k) own each))
 
-  no_common : All (λ entry. offers name entry ≡ false) (all_commons (map noted_view kept))
+  pub no_common : All (λ entry. offers name entry ≡ false) (all_commons (map noted_view kept))
   no_common =
       all_joined (λ entry. offers name entry ≡ false) (λ k. offered_by k (module_at (map noted_view kept) k).bytes) 0 (length (map noted_view kept)) (λ k low high.
       let found = module_noted names kept k noted (omega (arith, length-map kept noted_view)) in
@@ -98,7 +98,7 @@ module _ (names : List (List ℕ)) (kept : List ModuleNames) (noted : All (Notes
       subst (λ (v : ModuleView). All (λ entry. says name entry ≡ false) (said_by k v.bytes)) (sym found.1.1)
       (All-map (λ entry. says name entry ≡ false) (said k found.0.bytes.now) own each))
 
-  no_alternate : (given : GivenAlternates) → AllZip (NotesAlternate names) given.pairs.items given.noted.items → All (λ pair. is_left name pair ≡ false) (all_alternates (link_view given kept))
+  no_alternate : (given : GivenNames) → AllZip (NotesAlternate names) given.pairs.items given.noted.items → All (λ pair. is_left name pair ≡ false) (all_alternates (link_view given kept))
   no_alternate given pairs =
       All-append (λ pair. is_left name pair ≡ false) given.pairs.items (of_all alternates_by (map noted_view kept))
       (lefts_differ given.pairs.items given.noted.items pairs)
@@ -111,7 +111,7 @@ module _ (names : List (List ℕ)) (kept : List ModuleNames) (noted : All (Notes
       lefts_differ pairs notes zipped =
           zip_left (NotesAlternate names) (λ (p : List ℕ × List ℕ). same_name p.0 name ≡ false) pairs notes zipped (λ p m is. differs names name p.0 m.left absent is.left)
 
-  step_ends : (given : GivenAlternates) (chosen : List (List Bool)) → AllZip (NotesAlternate names) given.pairs.items given.noted.items → step (link_view given kept) chosen name ≡ Ends (meaning_if (linker_meaning name))
+  step_ends : (given : GivenNames) (chosen : List (List Bool)) → AllZip (NotesAlternate names) given.pairs.items given.noted.items → step (link_view given kept) chosen name ≡ Ends (meaning_if (linker_meaning name))
   unfolding step
   step_ends given chosen pairs =
       let view = link_view given kept in
@@ -132,7 +132,7 @@ module _ (names : List (List ℕ)) (kept : List ModuleNames) (noted : All (Notes
       ends None = refl
       ends (Some m) = refl
 
-  pub absent_means : (given : GivenAlternates) (chosen : List (List Bool)) → AllZip (NotesAlternate names) given.pairs.items given.noted.items → meaning_of (link_view given kept) chosen name ≡ meaning_if (linker_meaning name)
+  pub absent_means : (given : GivenNames) (chosen : List (List Bool)) → AllZip (NotesAlternate names) given.pairs.items given.noted.items → meaning_of (link_view given kept) chosen name ≡ meaning_if (linker_meaning name)
   unfolding meaning_of meaning_within
   absent_means given chosen pairs =
       let view = link_view given kept in

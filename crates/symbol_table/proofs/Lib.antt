@@ -1,5 +1,6 @@
 pub mod AbsentLemmas
 pub mod AlternateLemmas
+pub mod AskedLemmas
 pub mod CallerLemmas
 pub mod ChainLemmas
 pub mod EndLemmas
@@ -8,6 +9,7 @@ pub mod LinkLemmas
 pub mod LiveLemmas
 pub mod NumberLemmas
 pub mod PassLemmas
+pub mod RecordLemmas
 pub mod WeakLemmas
 pub mod TableLemmas
 pub mod WorkedNames

@@ -1,6 +1,6 @@
 -- Names by numbers, and lists side by side.
 use Rattle.std.proofs.Common.{◌≡◌, ℕ, zero, suc, ◌+◌, ◌<◌, true, false, nat_eq, List, [], ◌∷◌, ◌++◌, length, take, get_or, refl, sym, ap, subst, ◌∙◌, inl, inr, eq-eqb, arith}
-use Rattle.std.specs.List.{AllZip, IsDistinct}
+use Rattle.std.specs.List.{All, AllZip, IsDistinct}
 use Rattle.std.proofs.lemmas.Bool.{false≢true, ne_eqb, cases_order, cases_Bool}
 use Rattle.std.proofs.lemmas.List.{take_more}
 use Rattle.std.proofs.lemmas.Option.{slice_get_within, get_or_from_slice_get, same_Some}
@@ -14,11 +14,13 @@ use Rattle.symbol_table.specs.declared.noted.NotedDefinition.{NotedDefinition}
 use Rattle.symbol_table.specs.declared.noted.NotedCommon.{NotedCommon}
 use Rattle.symbol_table.specs.declared.noted.NotedWeak.{NotedWeak}
 use Rattle.symbol_table.specs.declared.noted.NotedAlternate.{NotedAlternate}
+use Rattle.symbol_table.specs.declared.noted.NotedAsked.{NotedAsked}
 use Rattle.symbol_table.specs.declared.noted.NotedDefault.{NotedDefault}
 use Rattle.symbol_table.specs.declared.noted.NotedDefault.TheVariants as noted
 use Rattle.symbol_table.specs.declared.weak_default.WeakDefault.{WeakDefault}
 use Rattle.symbol_table.specs.declared.weak_default.WeakDefault.TheVariants as default
-use Rattle.symbol_table.specs.Interning.{Numbers, KeepsNumbers, NotesDefinition, NotesCommon, NotesDefault, NotesWeak, NotesAlternate}
+use Rattle.symbol_table.specs.References.{Asked}
+use Rattle.symbol_table.specs.Interning.{Numbers, KeepsNumbers, NotesDefinition, NotesCommon, NotesDefault, NotesWeak, NotesAlternate, NotesAsked, AreRecords}
 
 -- ---- names that are one text
 
@@ -88,6 +90,26 @@ zip_map R S [] (y ∷ ys) to h = absurd h
 zip_map R S (x ∷ xs) [] to h = absurd h
 zip_map R S (x ∷ xs) (y ∷ ys) to h = (to x y h.0, zip_map R S xs ys to h.1)
 
+pub zip_append : {A B : Type 0} (R : A → B → Type 0) (xs more : List A) (ys later : List B) → AllZip R xs ys → AllZip R more later → AllZip R (xs ++ more) (ys ++ later)
+zip_append R [] more [] later h r = r
+zip_append R [] more (b ∷ ys) later h r = absurd h
+zip_append R (a ∷ xs) more [] later h r = absurd h
+zip_append R (a ∷ xs) more (b ∷ ys) later h r = (h.0, zip_append R xs more ys later h.1 r)
+
+-- what each has on the right
+pub zip_right : {A B : Type 0} (R : A → B → Type 0) (P : B → Type 0) (xs : List A) (ys : List B) → ((x : A) (y : B) → R x y → P y) → AllZip R xs ys → All P ys
+zip_right R P xs [] each h = λ k d lt. absurd (omega arith)
+zip_right R P [] (y ∷ ys) each h = absurd h
+zip_right {A} {B} R P (x ∷ xs) (y ∷ ys) each h = go (each x y h.0) (zip_right R P xs ys each h.1)
+  where
+    go : P y → All P ys → All P (y ∷ ys)
+    go first later zero d lt = first
+    go first later (suc k) d lt = later k d (omega arith)
+
+-- what is so of all is so of the item at an index
+pub all_item : {A : Type 0} (P : A → Type 0) (xs : List A) (i : ℕ) (x : A) → All P xs → i < length xs → x ≡ get_or xs i x → P x
+all_item P xs i x all lt is = subst P (sym is) (all i x lt)
+
 -- one more of a list is noted, where what was noted before stays right
 pub zip_more : {A B : Type 0} (R S : A → B → Type 0) (xs : List A) (i : ℕ) (x : A) (ys more : List B) (y : B) → ((a : A) (b : B) → R a b → S a b) → i < length xs → x ≡ get_or xs i x → AllZip R (take i xs) ys → S x y → more ≡ ys ++ y ∷ [] → AllZip S (take (i + 1) xs) more
 zip_more {A} {B} R S xs i x ys more y to lt is h s pushed =
@@ -117,3 +139,13 @@ weak_kept before after kept bytes weak noted is = record { named = kept _ _ is.n
 
 pub alternate_kept : (before after : List (List ℕ)) → KeepsNumbers before after → (pair : List ℕ × List ℕ) (noted : NotedAlternate) → NotesAlternate before pair noted → NotesAlternate after pair noted
 alternate_kept before after kept pair noted is = record { left = kept _ _ is.left; right = kept _ _ is.right }
+
+pub asked_within : (names : List (List ℕ)) (asked : List Asked) (notes : List NotedAsked) → AllZip (NotesAsked names) asked notes → All (λ noted. noted.name < length names) notes
+asked_within names asked notes zipped =
+    zip_right (NotesAsked names) (λ noted. noted.name < length names) asked notes (λ a n is. number_within names n.name a.name is.named) zipped
+
+pub asked_kept : (before after : List (List ℕ)) → KeepsNumbers before after → (asked : Asked) (noted : NotedAsked) → NotesAsked before asked noted → NotesAsked after asked noted
+asked_kept before after kept asked noted is = record { named = kept _ _ is.named; search_is = is.search_is }
+
+pub records_kept : (before after : List (List ℕ)) → KeepsNumbers before after → (bytes records : List ℕ) → AreRecords before bytes records → AreRecords after bytes records
+records_kept before after kept bytes records are = λ symbol lt. kept _ _ (are symbol lt)

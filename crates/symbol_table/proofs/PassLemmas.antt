@@ -1,11 +1,11 @@
 -- One more of a list: what is found in it, what stands at its number, and one more module.
-use Rattle.std.proofs.Common.{◌⊎◌, inl, inr, ◌≡◌, ℕ, zero, suc, ◌+◌, ◌<◌, Bool, false, cond, nat_eq, List, [], ◌∷◌, ◌++◌, length, map, take, get_or, replicate, Option, Some, None, refl, sym, ap, ◌∙◌, append_assoc, arith}
+use Rattle.std.proofs.Common.{◌⊎◌, inl, inr, ◌≡◌, ℕ, zero, suc, ◌+◌, ◌<◌, ◌≤◌, Bool, false, cond, nat_eq, List, [], ◌∷◌, ◌++◌, length, map, take, get_or, replicate, Option, Some, None, refl, sym, ap, ◌∙◌, append_assoc, arith}
 use Rattle.std.proofs.Math.ListN.{set}
 use Rattle.std.specs.Prelude.{option_map, filter, is_some}
 use Rattle.std.specs.Option.{option_or}
 use Rattle.std.specs.List.{find, flat_map, range_with_len}
 use Rattle.std.proofs.lemmas.Bool.{eqb-false}
-use Rattle.std.proofs.lemmas.List.{map-append, take_more, length-map, length-set, get_or-map, get_or-set_same, get_or-set_other}
+use Rattle.std.proofs.lemmas.List.{map-append, take_more, length-map, length-append, length-set, get_or-map, get_or-set_same, get_or-set_other, get_or_append_left, get_or_push}
 use Rattle.std.proofs.lemmas.List.Folds.{find-append}
 use Rattle.std.proofs.lemmas.List.Elements.{filter-append}
 use Rattle.link_base.proofs.RangeLemmas.{joined_more}
@@ -94,3 +94,24 @@ of_first_more {A} list modules n m lt is =
 pub of_first_all : {A : Type 0} (list : ℕ → List ℕ → List A) (modules : List ModuleNames) (n : ℕ) → n ≡ length modules → of_first list (map noted_view modules) n ≡ of_all list (map noted_view modules)
 of_first_all list modules n is =
     ap (of_first list (map noted_view modules)) (is ∙ sym (length-map modules noted_view))
+
+-- behind those of the modules before come those of one more
+same_joined : {A : Type 0} (f g : ℕ → List A) (a n : ℕ) → ((k : ℕ) → a ≤ k → k < a + n → f k ≡ g k) → flat_map f (range_with_len a n) ≡ flat_map g (range_with_len a n)
+same_joined f g a zero same = refl
+same_joined {A} f g a (suc n) same =
+    ap (λ (xs : List A). xs ++ flat_map f (range_with_len (a + 1) n)) (same a (omega arith) (omega arith))
+    ∙ ap (λ (ys : List A). g a ++ ys) (same_joined f g (a + 1) n (λ k low high. same k (omega arith) (omega arith)))
+
+pub of_all_push : {A : Type 0} (list : ℕ → List ℕ → List A) (modules : List ModuleNames) (m : ModuleNames) → of_all list (map noted_view (modules ++ m ∷ [])) ≡ of_all list (map noted_view modules) ++ list (length modules) m.bytes.now
+of_all_push {A} list modules m =
+    let more = modules ++ m ∷ [] in
+    let n = length modules in
+    let longer : length more ≡ n + 1 = length-append modules (m ∷ []) in
+    sym (of_first_all list more (n + 1) (sym longer))
+    ∙ of_first_more list more n m (omega (arith, longer)) (sym (get_or_push modules m m n refl))
+    ∙ ap (λ (xs : List A). xs ++ list n m.bytes.now)
+    (same_joined (λ k. list k (module_at (map noted_view more) k).bytes) (λ k. list k (module_at (map noted_view modules) k).bytes) 0 n (λ k low high.
+    ap (λ (v : ModuleView). list k v.bytes)
+    (ap (λ (vs : List ModuleView). module_at vs k) (map-append noted_view modules (m ∷ []))
+    ∙ get_or_append_left (map noted_view modules) (map noted_view (m ∷ [])) no_module k (omega (arith, high, length-map modules noted_view))))
+    ∙ of_first_all list modules n refl)

@@ -1,17 +1,22 @@
 -- One more module, and what the names of all mean.
-use Rattle.std.proofs.Common.{◌≡◌, ℕ, ◌<◌, Bool, List, [], ◌∷◌, ◌++◌, length, map, get_or, Option, sym, subst, ◌∙◌, arith}
-use Rattle.std.specs.List.{All, AllZip}
-use Rattle.std.proofs.lemmas.List.{length-append, map-append, get_or_default}
-use Rattle.std.proofs.lemmas.List.Elements.{All-push, All-weaker}
+use Rattle.std.proofs.Common.{◌≡◌, ℕ, ◌<◌, Bool, List, [], ◌∷◌, ◌++◌, ◌||◌, true, false, length, map, get_or, Option, refl, sym, ap, subst, ◌∙◌, append_assoc, arith}
+use Rattle.std.specs.List.{All, AllZip, IsDistinct, list_any, flat_map}
+use Rattle.std.proofs.lemmas.List.{append-nil, length-append, map-append, get_or_default}
+use Rattle.std.proofs.lemmas.List.Folds.{list_any-append}
+use Rattle.std.proofs.lemmas.Grind.{flat_map-append}
+use Rattle.std.proofs.lemmas.List.Elements.{All-nil, All-push, All-weaker}
 use Rattle.std.proofs.lemmas.Option.{slice_get-get_or}
 use Rattle.link_base.specs.Limits.{MODULE_LIMIT}
+use Rattle.link_base.specs.NameText.{same_name}
 use Rattle.module_view.specs.Opening.{IsOpened}
 use Rattle.module_view.specs.SymbolLists.{definitions_of, commons_of, weaks_of}
 use Rattle.symbol_table.specs.declared.link.Link.{Link}
 use Rattle.symbol_table.specs.declared.link.Link.TheVariants as link
 use Rattle.symbol_table.specs.declared.noted.ModuleNames.{ModuleNames}
 use Rattle.symbol_table.specs.Resolution.{Step, Ends, Leads, step}
-use Rattle.symbol_table.specs.Interning.{Numbers, KeepsNumbers, NotesDefinition, NotesCommon, NotesAlternate, NotesWeak, NotesModule}
+use Rattle.symbol_table.specs.Interning.{Numbers, KeepsNumbers, NotesDefinition, NotesCommon, NotesAlternate, NotesWeak, NotesAsked, NotesLists, NotesModule, AreRecords}
+use Rattle.symbol_table.specs.References.{Asked, asked_by_name, asked_by, all_asked}
+use Rattle.symbol_table.specs.AskedParts.{names_definition, names_common, seeks, kept_definitions, kept_commons, flag_of, KeepsParts, AddsLists, AreWithin}
 use Rattle.std.specs.declared.vec.Vec.{Vec}
 use Rattle.std.specs.declared.alloc.Global.{Global}
 use Rattle.symbol_table.specs.declared.meaning.Clash.{Clash}
@@ -19,14 +24,19 @@ use Rattle.symbol_table.specs.declared.lives.FirstLive.{FirstLive}
 use Rattle.symbol_table.specs.declared.greatest.GreatestCommon.{GreatestCommon}
 use Rattle.symbol_table.specs.declared.first_weak.FirstWeak.{FirstWeak}
 use Rattle.symbol_table.specs.declared.noted.NotedAlternate.{NotedAlternate}
-use Rattle.symbol_table.specs.declared.alternates.GivenAlternates.{GivenAlternates}
+use Rattle.symbol_table.specs.declared.noted.NotedCommon.{NotedCommon}
+use Rattle.symbol_table.specs.declared.noted.NotedDefinition.{NotedDefinition}
+use Rattle.symbol_table.specs.declared.noted.NotedLists.{NotedLists}
+use Rattle.symbol_table.specs.declared.asked.AskedNames.{AskedNames}
+use Rattle.symbol_table.specs.declared.given.GivenNames.{GivenNames}
 use Rattle.symbol_table.specs.LinkView.{LinkView}
 use Rattle.symbol_table.specs.Alternates.{alternates_by, all_alternates}
-use Rattle.symbol_table.specs.Lists.{live_definitions, all_commons, all_weaks}
+use Rattle.symbol_table.specs.Lists.{of_all, live_definitions, all_commons, all_weaks}
 use Rattle.symbol_table.specs.Passes.{rows_of, noted_view, AreFirst, AreLives, AreGreatest, AreWeaks, AreAlternates}
 use Rattle.symbol_table.specs.Links.{IsStep, no_link, link_at, LeadsBelow, AreSteps}
-use Rattle.symbol_table.specs.TableParts.{link_view, KeepsLink}
-use Rattle.symbol_table.proofs.NumberLemmas.{number_within, definition_kept, common_kept, weak_kept, alternate_kept, zip_map}
+use Rattle.symbol_table.specs.TableParts.{link_view, KeepsLink, KeepsTable}
+use Rattle.symbol_table.proofs.NumberLemmas.{number_within, definition_kept, common_kept, weak_kept, alternate_kept, asked_kept, records_kept, asked_within, zip_map, zip_append, zip_right}
+use Rattle.symbol_table.proofs.PassLemmas.{of_all_push}
 
 -- ---- a table whose names grow
 
@@ -36,9 +46,10 @@ noted_grows before after noted kept is = record {
   commons = zip_map (NotesCommon before) (NotesCommon after) (commons_of noted.bytes.now) noted.commons.items (common_kept before after kept) is.commons;
   weaks = zip_map (NotesWeak before noted.bytes.now) (NotesWeak after noted.bytes.now) (weaks_of noted.bytes.now) noted.weaks.items (weak_kept before after kept noted.bytes.now) is.weaks;
   alternates = zip_map (NotesAlternate before) (NotesAlternate after) (alternates_by 0 noted.bytes.now) noted.alternates.items (alternate_kept before after kept) is.alternates;
+  records = records_kept before after kept noted.bytes.now noted.records.items is.records;
 }
 
-pub keeps_grow : (before after : List (List ℕ)) (given : GivenAlternates) (kept : List ModuleNames) → KeepsNumbers before after → KeepsLink before given kept → KeepsLink after given kept
+pub keeps_grow : (before after : List (List ℕ)) (given : GivenNames) (kept : List ModuleNames) → KeepsNumbers before after → KeepsLink before given kept → KeepsLink after given kept
 keeps_grow before after given kept grown is = record {
   alternates = zip_map (NotesAlternate before) (NotesAlternate after) given.pairs.items given.noted.items (alternate_kept before after grown) is.alternates;
   modules = record {
@@ -51,7 +62,7 @@ keeps_grow before after given kept grown is = record {
 pub keeps_both : (a b c : List (List ℕ)) → KeepsNumbers a b → KeepsNumbers b c → KeepsNumbers a c
 keeps_both a b c first second = λ number name is. second number name (first number name is)
 
-pub keeps_push : (names : List (List ℕ)) (given : GivenAlternates) (kept now : List ModuleNames) (noted : ModuleNames) → KeepsLink names given kept → length kept < MODULE_LIMIT → NotesModule names noted → IsOpened (noted_view noted) → now ≡ kept ++ noted ∷ [] → KeepsLink names given now
+pub keeps_push : (names : List (List ℕ)) (given : GivenNames) (kept now : List ModuleNames) (noted : ModuleNames) → KeepsLink names given kept → length kept < MODULE_LIMIT → NotesModule names noted → IsOpened (noted_view noted) → now ≡ kept ++ noted ∷ [] → KeepsLink names given now
 keeps_push names given kept now noted is room there opened same =
     subst (KeepsLink names given) (sym same) (record {
       alternates = is.alternates;
@@ -62,20 +73,111 @@ keeps_push names given kept now noted is room there opened same =
       };
     })
 
--- the lists of a module, with numbers that names keep
-pub notes_module : (first second third fourth : List (List ℕ)) (noted : ModuleNames) (bytes : List ℕ) → KeepsNumbers first second → KeepsNumbers second third → KeepsNumbers third fourth → noted.bytes.now ≡ bytes → AllZip (NotesDefinition first) (definitions_of bytes) noted.definitions.items → AllZip (NotesCommon second) (commons_of bytes) noted.commons.items → AllZip (NotesWeak third bytes) (weaks_of bytes) noted.weaks.items → AllZip (NotesAlternate fourth) (alternates_by 0 bytes) noted.alternates.items → NotesModule fourth noted
-notes_module first second third fourth noted bytes grown again once same definitions commons weaks alternates =
-    let from_second = keeps_both second third fourth again once in
-    let from_first = keeps_both first second fourth grown from_second in
-    record {
-      definitions = subst (λ (b : List ℕ). AllZip (NotesDefinition fourth) (definitions_of b) noted.definitions.items) (sym same)
-          (zip_map (NotesDefinition first) (NotesDefinition fourth) (definitions_of bytes) noted.definitions.items (definition_kept first fourth from_first) definitions);
-      commons = subst (λ (b : List ℕ). AllZip (NotesCommon fourth) (commons_of b) noted.commons.items) (sym same)
-          (zip_map (NotesCommon second) (NotesCommon fourth) (commons_of bytes) noted.commons.items (common_kept second fourth from_second) commons);
-      weaks = subst (λ (b : List ℕ). AllZip (NotesWeak fourth b) (weaks_of b) noted.weaks.items) (sym same)
-          (zip_map (NotesWeak third bytes) (NotesWeak fourth bytes) (weaks_of bytes) noted.weaks.items (weak_kept third fourth once bytes) weaks);
-      alternates = subst (λ (b : List ℕ). AllZip (NotesAlternate fourth) (alternates_by 0 b) noted.alternates.items) (sym same) alternates;
-    }
+-- ---- with what is asked for
+
+pub table_grows : (before after : List (List ℕ)) (given : GivenNames) (kept : List ModuleNames) (asked : AskedNames) → KeepsNumbers before after → IsDistinct same_name after → KeepsTable before given kept asked → KeepsTable after given kept asked
+table_grows before after given kept asked grown distinct is = record {
+  distinct = distinct;
+  whole = keeps_grow before after given kept grown is.whole;
+  asked_for = record {
+    list = zip_map (NotesAsked before) (NotesAsked after) (all_asked (link_view given kept)) asked.list.items (asked_kept before after grown) is.asked_for.list;
+    provided = is.asked_for.provided;
+    sought = is.asked_for.sought;
+  };
+}
+
+pub table_same : (names : List (List ℕ)) (given : GivenNames) (kept : List ModuleNames) (asked now : AskedNames) → KeepsParts asked now → KeepsTable names given kept asked → KeepsTable names given kept now
+table_same names given kept asked now same is = record {
+  distinct = is.distinct;
+  whole = is.whole;
+  asked_for = record {
+    list = subst (AllZip (NotesAsked names) (all_asked (link_view given kept))) (sym same.list) is.asked_for.list;
+    provided = λ number. same.provided number ∙ is.asked_for.provided number;
+    sought = λ number. same.sought number ∙ is.asked_for.sought number ∙ ap (list_any (seeks number)) (sym same.list);
+  };
+}
+
+-- a table of no modules
+pub table_begins : (before names : List (List ℕ)) (given : GivenNames) (kept : List ModuleNames) (asked : AskedNames) (words : List (List ℕ)) → KeepsNumbers before names → IsDistinct same_name names → kept ≡ [] → given.words.items ≡ words → AllZip (NotesAlternate before) given.pairs.items given.noted.items → AllZip (NotesAsked names) (map asked_by_name words) asked.list.items → asked.provided.items ≡ [] → ((number : ℕ) → flag_of asked.sought.items number ≡ list_any (seeks number) asked.list.items) → KeepsTable names given kept asked
+table_begins before names given kept asked words grown distinct none same alternates list provided sought =
+    subst (λ (ms : List ModuleNames). KeepsTable names given ms asked) (sym none) (record {
+      distinct = distinct;
+      whole = record {
+        alternates = zip_map (NotesAlternate before) (NotesAlternate names) given.pairs.items given.noted.items (alternate_kept before names grown) alternates;
+        modules = record { noted = All-nil (NotesModule names); opened = All-nil IsOpened; few = omega arith };
+      };
+      asked_for = record {
+        list = subst (λ (asked_for : List Asked). AllZip (NotesAsked names) asked_for asked.list.items)
+            (ap (λ (ws : List (List ℕ)). map asked_by_name ws) (sym same) ∙ sym (append-nil (map asked_by_name given.words.items))) list;
+        provided = λ number. ap (λ (flags : List Bool). flag_of flags number) provided;
+        sought = sought;
+      };
+    })
+
+any_pushed : {B : Type 0} (pick : ModuleNames → List B) (test : B → Bool) (kept : List ModuleNames) (m : ModuleNames) → list_any test (flat_map pick (kept ++ m ∷ [])) ≡ (list_any test (flat_map pick kept) || list_any test (pick m))
+any_pushed {B} pick test kept m =
+    ap (list_any test) (flat_map-append pick kept (m ∷ []) ∙ ap (λ (ys : List B). flat_map pick kept ++ ys) (append-nil (pick m)))
+    ∙ list_any-append test (flat_map pick kept) (pick m)
+
+by_pairs : (a b c d : Bool) → (((a || b) || c) || d) ≡ ((a || c) || (b || d))
+by_pairs true b c d = refl
+by_pairs false true true d = refl
+by_pairs false true false d = refl
+by_pairs false false c d = refl
+
+-- what a module provides and asks for is added
+pub table_push : (names : List (List ℕ)) (given : GivenNames) (kept now : List ModuleNames) (noted : ModuleNames) (lists : NotedLists) (asked after : AskedNames) → KeepsTable names given kept asked → length kept < MODULE_LIMIT → NotesModule names noted → IsOpened (noted_view noted) → AllZip (NotesAsked names) (asked_by 0 noted.bytes.now) lists.asked.items → noted.definitions.items ≡ lists.definitions.items → noted.commons.items ≡ lists.commons.items → AddsLists lists asked after → now ≡ kept ++ noted ∷ [] → KeepsTable names given now after
+table_push names given kept now noted lists asked after is room notes opened asks definitions commons added same =
+    subst (λ (ms : List ModuleNames). KeepsTable names given ms after) (sym same) (record {
+      distinct = is.distinct;
+      whole = keeps_push names given kept (kept ++ noted ∷ []) noted is.whole room notes opened refl;
+      asked_for = record {
+        list =
+            subst (AllZip (NotesAsked names) (all_asked (link_view given (kept ++ noted ∷ [])))) (sym added.list)
+            (subst (λ (asked_for : List Asked). AllZip (NotesAsked names) asked_for (asked.list.items ++ lists.asked.items))
+            (append_assoc words (of_all asked_by (map noted_view kept)) (asked_by 0 noted.bytes.now)
+            ∙ ap (λ (later : List Asked). words ++ later) (sym (of_all_push asked_by kept noted)))
+            (zip_append (NotesAsked names) (all_asked (link_view given kept)) (asked_by 0 noted.bytes.now) asked.list.items lists.asked.items is.asked_for.list asks));
+        provided = λ number.
+            let defined = list_any (names_definition number) in
+            let shared = list_any (names_common number) in
+            added.provided number
+            ∙ ap (λ (b : Bool). (b || defined lists.definitions.items) || shared lists.commons.items) (is.asked_for.provided number)
+            ∙ by_pairs (defined (flat_map kept_definitions kept)) (shared (flat_map kept_commons kept)) (defined lists.definitions.items) (shared lists.commons.items)
+            ∙ ap (λ (ds : List NotedDefinition). (defined (flat_map kept_definitions kept) || defined ds) || (shared (flat_map kept_commons kept) || shared lists.commons.items)) (sym definitions)
+            ∙ ap (λ (cs : List NotedCommon). (defined (flat_map kept_definitions kept) || defined noted.definitions.items) || (shared (flat_map kept_commons kept) || shared cs)) (sym commons)
+            ∙ ap (λ (b : Bool). b || (shared (flat_map kept_commons kept) || shared noted.commons.items)) (sym (any_pushed kept_definitions (names_definition number) kept noted))
+            ∙ ap (λ (b : Bool). defined (flat_map kept_definitions (kept ++ noted ∷ [])) || b) (sym (any_pushed kept_commons (names_common number) kept noted));
+        sought = λ number.
+            added.sought number
+            ∙ ap (λ (b : Bool). b || list_any (seeks number) lists.asked.items) (is.asked_for.sought number)
+            ∙ sym (list_any-append (seeks number) asked.list.items lists.asked.items)
+            ∙ ap (list_any (seeks number)) (sym added.list);
+      };
+    })
+  where
+    words : List Asked
+    words = map asked_by_name given.words.items
+
+-- ---- the lists of a module
+
+-- its numbers are those of names
+pub lists_within : (names : List (List ℕ)) (bytes : List ℕ) (lists : NotedLists) → NotesLists names bytes lists → AreWithin (length names) lists
+lists_within names bytes lists is = record {
+  definitions = zip_right (NotesDefinition names) (λ noted. noted.name < length names) (definitions_of bytes) lists.definitions.items (λ d n notes. number_within names n.name d.name notes.named) is.definitions;
+  commons = zip_right (NotesCommon names) (λ noted. noted.name < length names) (commons_of bytes) lists.commons.items (λ d n notes. number_within names n.name d.name notes.named) is.commons;
+  asked = asked_within names (asked_by 0 bytes) lists.asked.items is.asked;
+}
+
+-- what is kept of it
+pub notes_module : (names : List (List ℕ)) (noted : ModuleNames) (bytes : List ℕ) → noted.bytes.now ≡ bytes → AllZip (NotesDefinition names) (definitions_of bytes) noted.definitions.items → AllZip (NotesCommon names) (commons_of bytes) noted.commons.items → AllZip (NotesWeak names bytes) (weaks_of bytes) noted.weaks.items → AllZip (NotesAlternate names) (alternates_by 0 bytes) noted.alternates.items → AreRecords names bytes noted.records.items → NotesModule names noted
+notes_module names noted bytes same definitions commons weaks alternates records = record {
+  definitions = subst (λ (b : List ℕ). AllZip (NotesDefinition names) (definitions_of b) noted.definitions.items) (sym same) definitions;
+  commons = subst (λ (b : List ℕ). AllZip (NotesCommon names) (commons_of b) noted.commons.items) (sym same) commons;
+  weaks = subst (λ (b : List ℕ). AllZip (NotesWeak names b) (weaks_of b) noted.weaks.items) (sym same) weaks;
+  alternates = subst (λ (b : List ℕ). AllZip (NotesAlternate names) (alternates_by 0 b) noted.alternates.items) (sym same) alternates;
+  records = subst (λ (b : List ℕ). AreRecords names b noted.records.items) (sym same) records;
+}
 
 -- ---- where names lead
 
@@ -94,7 +196,7 @@ steps_below view chosen names links steps = λ k d lt.
     below (Leads name) (link.Ends other) is = absurd is
 
 -- the steps of all names, by what the passes say of the modules
-pub steps_hold : (names : List (List ℕ)) (given : GivenAlternates) (noted : List NotedAlternate) (kept m1 m3 m4 m5 : List ModuleNames) (chosen c2 c8 : List (Vec Bool Global)) (firsts f5 : List (Option FirstLive)) (clash : Option Clash) (commons k6 : List (Option GreatestCommon)) (weaks w7 : List (Option FirstWeak)) (alternates a9 : List (Option ℕ)) (links : List Link) → KeepsLink names given kept → noted ≡ given.noted.items → m1 ≡ kept → c2 ≡ chosen → m3 ≡ kept → m4 ≡ kept → m5 ≡ kept → f5 ≡ firsts → k6 ≡ commons → w7 ≡ weaks → a9 ≡ alternates → c8 ≡ chosen → AreLives names (live_definitions (map noted_view m1) (rows_of c2)) firsts clash → AreGreatest names (all_commons (map noted_view m3)) commons → AreWeaks names (all_weaks (map noted_view m4)) weaks → ((pairs : List (List ℕ × List ℕ)) → AllZip (NotesAlternate names) pairs noted → AreAlternates names (all_alternates (record { alternates = pairs; modules = map noted_view m5 })) alternates) → ((view : LinkView) → AreFirst names (live_definitions view.modules (rows_of c8)) f5 → AreGreatest names (all_commons view.modules) k6 → AreWeaks names (all_weaks view.modules) w7 → AreAlternates names (all_alternates view) a9 → AreSteps view (rows_of c8) names links) → AreSteps (link_view given kept) (rows_of chosen) names links
+pub steps_hold : (names : List (List ℕ)) (given : GivenNames) (noted : List NotedAlternate) (kept m1 m3 m4 m5 : List ModuleNames) (chosen c2 c8 : List (Vec Bool Global)) (firsts f5 : List (Option FirstLive)) (clash : Option Clash) (commons k6 : List (Option GreatestCommon)) (weaks w7 : List (Option FirstWeak)) (alternates a9 : List (Option ℕ)) (links : List Link) → KeepsLink names given kept → noted ≡ given.noted.items → m1 ≡ kept → c2 ≡ chosen → m3 ≡ kept → m4 ≡ kept → m5 ≡ kept → f5 ≡ firsts → k6 ≡ commons → w7 ≡ weaks → a9 ≡ alternates → c8 ≡ chosen → AreLives names (live_definitions (map noted_view m1) (rows_of c2)) firsts clash → AreGreatest names (all_commons (map noted_view m3)) commons → AreWeaks names (all_weaks (map noted_view m4)) weaks → ((pairs : List (List ℕ × List ℕ)) → AllZip (NotesAlternate names) pairs noted → AreAlternates names (pairs ++ of_all alternates_by (map noted_view m5)) alternates) → ((view : LinkView) → AreFirst names (live_definitions view.modules (rows_of c8)) f5 → AreGreatest names (all_commons view.modules) k6 → AreWeaks names (all_weaks view.modules) w7 → AreAlternates names (all_alternates view) a9 → AreSteps view (rows_of c8) names links) → AreSteps (link_view given kept) (rows_of chosen) names links
 steps_hold names given noted kept m1 m3 m4 m5 chosen c2 c8 firsts f5 clash commons k6 weaks w7 alternates a9 links is e0 e1 e2 e3 e4 e5 e6 e7 e8 e9 e10 lives greatest first alternate each =
     let view = link_view given kept in
     let live = subst (λ (ms : List ModuleNames). AreFirst names (live_definitions (map noted_view ms) (rows_of c2)) firsts) e1 lives.first in
@@ -105,4 +207,4 @@ steps_hold names given noted kept m1 m3 m4 m5 chosen c2 c8 firsts f5 clash commo
     (subst (AreFirst names (live_definitions view.modules (rows_of c8))) (sym e6) live_here)
     (subst (AreGreatest names (all_commons view.modules)) (sym e7) (subst (λ (ms : List ModuleNames). AreGreatest names (all_commons (map noted_view ms)) commons) e3 greatest))
     (subst (AreWeaks names (all_weaks view.modules)) (sym e8) (subst (λ (ms : List ModuleNames). AreWeaks names (all_weaks (map noted_view ms)) weaks) e4 first))
-    (subst (AreAlternates names (all_alternates view)) (sym e9) (subst (λ (ms : List ModuleNames). AreAlternates names (all_alternates (record { alternates = given.pairs.items; modules = map noted_view ms })) alternates) e5 stand)))
+    (subst (AreAlternates names (all_alternates view)) (sym e9) (subst (λ (ms : List ModuleNames). AreAlternates names (given.pairs.items ++ of_all alternates_by (map noted_view ms)) alternates) e5 stand)))

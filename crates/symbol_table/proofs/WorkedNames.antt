@@ -1,5 +1,5 @@
 -- The definitions on small lists.
-use Rattle.std.proofs.Common.{◌≡◌, ℕ, Bool, true, false, List, [], ◌∷◌, Some, Ok, Err, codes, map, filter, refl}
+use Rattle.std.proofs.Common.{◌≡◌, ℕ, Bool, true, false, List, [], ◌∷◌, Some, None, Ok, Err, codes, map, filter, refl}
 use Rattle.std.specs.List.{find}
 use Rattle.link_base.specs.Bytes.{first_below}
 use Rattle.link_base.specs.Refusals.{first_refusal_below}
@@ -13,6 +13,7 @@ use Rattle.symbol_table.specs.LinkerNames.{linker_meaning}
 use Rattle.symbol_table.specs.Lists.{Provided, provided, is_chosen_in, is_live, Offered, offered, offers, Said, says}
 use Rattle.symbol_table.specs.LinkView.{LinkView}
 use Rattle.symbol_table.specs.Alternates.{is_left}
+use Rattle.symbol_table.specs.References.{is_provided, is_open_name, open_from}
 use Rattle.symbol_table.specs.Clash.{clash_in}
 use Rattle.symbol_table.specs.Resolution.{Ends, Leads, greatest_of, own_or, default_step, alternate_step, weak_step, step, meaning_within, meaning_of}
 
@@ -102,6 +103,7 @@ behind_its_weak = refl
 -- no modules, and alternates that lead from `a` to `b` and on to the image's address, and from `c` to `d` and back
 standing : LinkView
 standing = record {
+  words = [];
   alternates = (97 ∷ [], 98 ∷ []) ∷ (98 ∷ [], codes "__ImageBase") ∷ (99 ∷ [], 100 ∷ []) ∷ (100 ∷ [], 99 ∷ []) ∷ [];
   modules = [];
 }
@@ -117,3 +119,22 @@ back_again = refl
 without_any : meaning_of standing [] (101 ∷ []) ≡ Err Undefined
 unfolding meaning_of meaning_within step linker_meaning standing
 without_any = refl
+
+-- ---- names that are asked for
+
+-- no modules, and words for `a`, the image's address and `b`
+asking : LinkView
+asking = record {
+  words = (97 ∷ []) ∷ codes "__ImageBase" ∷ (98 ∷ []) ∷ [];
+  alternates = [];
+  modules = [];
+}
+
+-- the linker provides the second
+open_words : open_from asking 0 ∷ open_from asking 1 ∷ open_from asking 3 ∷ [] ≡ Some (0, 97 ∷ []) ∷ Some (2, 98 ∷ []) ∷ None ∷ []
+unfolding open_from is_provided linker_meaning asking
+open_words = refl
+
+open_name : is_open_name asking (98 ∷ []) ∷ is_open_name asking (codes "__ImageBase") ∷ is_open_name asking (99 ∷ []) ∷ [] ≡ true ∷ false ∷ false ∷ []
+unfolding is_provided linker_meaning asking
+open_name = refl

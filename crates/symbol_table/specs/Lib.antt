@@ -9,4 +9,5 @@ pub mod Clash
 pub mod Interning
 pub mod Passes
 pub mod Links
+pub mod AskedParts
 pub mod TableParts

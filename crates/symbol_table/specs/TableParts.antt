@@ -1,18 +1,21 @@
 -- What a table of names keeps of the modules that were added, and of what their names mean. Own.
 use Rattle.std.specs.Prelude.{◌≡◌, ◌≤◌, ℕ, Bool, List, length, map, Option, Result}
-use Rattle.std.specs.List.{All, AllZip}
+use Rattle.std.specs.List.{All, AllZip, IsDistinct}
 use Rattle.link_base.specs.Limits.{MODULE_LIMIT}
+use Rattle.link_base.specs.NameText.{same_name}
 use Rattle.module_view.specs.Opening.{IsOpened}
 use Rattle.symbol_table.specs.declared.meaning.Meaning.{Meaning}
 use Rattle.symbol_table.specs.declared.meaning.NoMeaning.{NoMeaning}
 use Rattle.symbol_table.specs.declared.meaning.Clash.{Clash}
-use Rattle.symbol_table.specs.declared.alternates.GivenAlternates.{GivenAlternates}
+use Rattle.symbol_table.specs.declared.asked.AskedNames.{AskedNames}
+use Rattle.symbol_table.specs.declared.given.GivenNames.{GivenNames}
 use Rattle.symbol_table.specs.declared.noted.ModuleNames.{ModuleNames}
 use Rattle.symbol_table.specs.LinkView.{LinkView}
 use Rattle.symbol_table.specs.Clash.{clash_of}
 use Rattle.symbol_table.specs.Interning.{NotesAlternate, NotesModule}
 use Rattle.symbol_table.specs.Passes.{noted_view}
 use Rattle.symbol_table.specs.Links.{AreMeanings}
+use Rattle.symbol_table.specs.AskedParts.{KeepsAsked}
 
 pub record KeepsModules (names : List (List ℕ)) (kept : List ModuleNames) : Type 0 where
   pub noted : All (NotesModule names) kept
@@ -20,19 +23,24 @@ pub record KeepsModules (names : List (List ℕ)) (kept : List ModuleNames) : Ty
   pub few : length kept ≤ MODULE_LIMIT
 
 -- what takes part in a link, by what is kept of it
-abbrev pub link_view : GivenAlternates → List ModuleNames → LinkView
-link_view given kept = record { alternates = given.pairs.items; modules = map noted_view kept }
+abbrev pub link_view : GivenNames → List ModuleNames → LinkView
+link_view given kept = record { words = given.words.items; alternates = given.pairs.items; modules = map noted_view kept }
 
-pub record KeepsLink (names : List (List ℕ)) (given : GivenAlternates) (kept : List ModuleNames) : Type 0 where
+pub record KeepsLink (names : List (List ℕ)) (given : GivenNames) (kept : List ModuleNames) : Type 0 where
   pub alternates : AllZip (NotesAlternate names) given.pairs.items given.noted.items
   pub modules : KeepsModules names kept
+
+pub record KeepsTable (names : List (List ℕ)) (given : GivenNames) (kept : List ModuleNames) (asked : AskedNames) : Type 0 where
+  pub distinct : IsDistinct same_name names
+  pub whole : KeepsLink names given kept
+  pub asked_for : KeepsAsked names (link_view given kept) kept asked
 
 -- what names mean in modules of which some sections are chosen
 pub record ResolvedView : Type 0 where
   pub link : LinkView
   pub chosen : List (List Bool)
 
-pub record KeepsMeanings (names : List (List ℕ)) (given : GivenAlternates) (kept : List ModuleNames) (chosen : List (List Bool)) (meanings : List (Result Meaning NoMeaning)) (clash : Option Clash) : Type 0 where
+pub record KeepsMeanings (names : List (List ℕ)) (given : GivenNames) (kept : List ModuleNames) (chosen : List (List Bool)) (meanings : List (Result Meaning NoMeaning)) (clash : Option Clash) : Type 0 where
   pub whole : KeepsLink names given kept
   pub meant : AreMeanings (link_view given kept) chosen names meanings
   pub clash_is : clash ≡ clash_of (map noted_view kept) chosen

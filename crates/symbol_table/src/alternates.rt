@@ -13,27 +13,6 @@ use indexmap::IndexSet;
 use link_base::{Memory, Name};
 use std::alloc::Global;
 
-/// The alternates that the command line gives, and what is noted of each.
-#[derive(Drop)]
-pub(crate) struct GivenAlternates<'a> {
-    pub(crate) pairs: Vec<(Name<'a>, Name<'a>)>,
-    pub(crate) noted: Vec<NotedAlternate>,
-}
-
-/// The alternates that the command line gives, with the numbers of their names.
-pub(crate) fn given_alternates<'a>(
-    alloc: Global,
-    names: &mut IndexSet<Name<'a>>,
-    pairs: &[(Name<'a>, Name<'a>)],
-) -> Result<GivenAlternates<'a>, Memory>
-    ensures pairs { IfOk result (λ given. given.pairs.items ≡ pairs.now) }
-    ensures noted { IfOk result (λ given. AllZip (NotesAlternate names.new.keys) given.pairs.items given.noted.items) }
-{
-    let noted = note_alternates(alloc, names, pairs)?;
-    let pairs = again(alloc, pairs)?;
-    Ok(GivenAlternates { pairs, noted })
-}
-
 /// The alternates among directives, by the numbers of their names.
 pub(crate) fn note_directives<'a>(
     alloc: Global,
@@ -78,7 +57,7 @@ fn alternate_said<'a>(directive: &Directive<'a>) -> Option<(Name<'a>, Name<'a>)>
 }
 
 /// Alternates, by the numbers of their names.
-fn note_alternates<'a>(
+pub(crate) fn note_alternates<'a>(
     alloc: Global,
     names: &mut IndexSet<Name<'a>>,
     pairs: &[(Name<'a>, Name<'a>)],
@@ -93,18 +72,4 @@ fn note_alternates<'a>(
         noted.push(NotedAlternate { left, right })?;
     }
     Ok(noted)
-}
-
-/// The same alternates.
-fn again<'a>(
-    alloc: Global,
-    pairs: &[(Name<'a>, Name<'a>)],
-) -> Result<Vec<(Name<'a>, Name<'a>)>, Memory>
-    ensures { IfOk result (λ same. same.items ≡ pairs.now) }
-{
-    let same = pairs
-        .iter()
-        .map(|pair| (pair.0.again(), pair.1.again()))
-        .collect(alloc)?;
-    Ok(same)
 }

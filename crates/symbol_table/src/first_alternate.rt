@@ -3,7 +3,8 @@
 ghost use Rattle.std.specs.Prelude.{◌≡◌, ◌<◌, ◌++◌, ◌∷◌, [], ℕ, List, length, map, IfOk};
 ghost use Rattle.std.specs.List.{All, AllZip, IsDistinct};
 ghost use Rattle.link_base.specs.NameText.{same_name};
-ghost use Rattle.symbol_table.specs.Alternates.{all_alternates};
+ghost use Rattle.symbol_table.specs.Alternates.{alternates_by};
+ghost use Rattle.symbol_table.specs.Lists.{of_all};
 ghost use Rattle.symbol_table.specs.Interning.{NotesAlternate, NotesModule};
 ghost use Rattle.symbol_table.specs.Passes.{noted_view, AreAlternates};
 
@@ -19,11 +20,11 @@ pub(crate) fn first_alternates<'a>(
     names: &IndexSet<Name<'a>>,
     given: &[NotedAlternate],
     modules: &[ModuleNames<'a>],
-) -> Result<Vec<Option<usize>>, Memory>
+) -> Result<Vec<Option<u32>>, Memory>
     requires given { All (λ alternate. alternate.left < length names.now.keys) given.now }
     requires noted { All (NotesModule names.now.keys) modules.now }
     ensures { IfOk result (λ alternates. (pairs : List (List ℕ × List ℕ)) → AllZip (NotesAlternate names.now.keys) pairs given.now
-        → AreAlternates names.now.keys (all_alternates (record { alternates = pairs; modules = map noted_view modules.now })) alternates.items) }
+        → AreAlternates names.now.keys (pairs ++ of_all alternates_by (map noted_view modules.now)) alternates.items) }
 {
     let mut alternates = vec![in alloc; None; names.len()]?;
     note_alternates(&mut alternates, names, given);
@@ -35,7 +36,7 @@ pub(crate) fn first_alternates<'a>(
 
 /// Notes alternates.
 fn note_alternates<'a>(
-    alternates: &mut Vec<Option<usize>>,
+    alternates: &mut Vec<Option<u32>>,
     names: &IndexSet<Name<'a>>,
     noted: &[NotedAlternate],
 )
@@ -54,7 +55,7 @@ fn note_alternates<'a>(
 
 /// Notes an alternate, where it is the first of its name.
 fn note_alternate<'a>(
-    alternates: &mut Vec<Option<usize>>,
+    alternates: &mut Vec<Option<u32>>,
     names: &IndexSet<Name<'a>>,
     noted: &NotedAlternate,
 )
@@ -66,7 +67,7 @@ fn note_alternate<'a>(
         → AreAlternates names.now.keys earlier alternates.old.items
         → AreAlternates names.now.keys (earlier ++ entry ∷ []) alternates.new.items }
 {
-    if alternates[noted.left].is_none() {
-        alternates[noted.left] = Some(noted.right);
+    if alternates[noted.left as usize].is_none() {
+        alternates[noted.left as usize] = Some(noted.right);
     }
 }

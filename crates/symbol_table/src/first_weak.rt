@@ -71,8 +71,8 @@ fn note_weak<'a>(
         → AreWeaks names.now.keys earlier weaks.old.items
         → AreWeaks names.now.keys (earlier ++ said position bytes entry ∷ []) weaks.new.items }
 {
-    if weaks[weak.name].is_none() {
-        weaks[weak.name] = Some(FirstWeak {
+    if weaks[weak.name as usize].is_none() {
+        weaks[weak.name as usize] = Some(FirstWeak {
             module: position,
             default: weak.default,
         });

@@ -72,8 +72,8 @@ fn note_common<'a>(
         → AreGreatest names.now.keys earlier commons.old.items
         → AreGreatest names.now.keys (earlier ++ offered position entry ∷ []) commons.new.items }
 {
-    if is_greater(common.size, &commons[common.name]) {
-        commons[common.name] = Some(GreatestCommon {
+    if is_greater(common.size, &commons[common.name as usize]) {
+        commons[common.name as usize] = Some(GreatestCommon {
             module: position,
             symbol: common.symbol,
             size: common.size,

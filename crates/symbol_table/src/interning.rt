@@ -1,26 +1,40 @@
-//! How the names of a module get numbers.
+//! How names get numbers.
 
-ghost use Rattle.std.specs.Prelude.{◌≡◌, ◌<◌, length, IfOk};
-ghost use Rattle.std.specs.List.{AllZip};
-ghost use Rattle.symbol_table.specs.Interning.{Numbers, KeepsNumbers, NotesDefinition, NotesCommon, NotesDefault, NotesWeak};
-ghost use Rattle.module_view.specs.SymbolLists.{weaks_of};
+ghost use Rattle.std.specs.Prelude.{◌≡◌, ◌<◌, ℕ, List, length, IfOk, OnOk};
+ghost use Rattle.coff_records.specs.ObjectFile.{symbol_name_of};
+ghost use Rattle.symbol_table.specs.Interning.{NO_NUMBER, Numbers, KeepsNumbers, AreRecords};
 
-use crate::noted::{NotedCommon, NotedDefault, NotedDefinition, NotedWeak};
-use crate::weak_default::{WeakDefault, default_of};
+use crate::records::{NO_NUMBER, note_record};
 use indexmap::IndexSet;
 use link_base::{Memory, Name};
-use module_view::{Common, Definition, Module};
-use std::alloc::Global;
 
 /// The number of a name: its own, or the next one.
-pub(crate) fn number_of<'a>(
-    names: &mut IndexSet<Name<'a>>,
-    name: &Name<'a>,
-) -> Result<usize, Memory>
+pub(crate) fn number_of<'a>(names: &mut IndexSet<Name<'a>>, name: &Name<'a>) -> Result<u32, Memory>
     ensures kept { KeepsNumbers names.old.keys names.new.keys }
     ensures numbered { IfOk result (λ number. Numbers names.new.keys number name.now) }
+    ensures below { IfOk result (λ number. number < NO_NUMBER) }
 {
     let (number, _) = names.insert_full(name.again())?;
+    if number >= NO_NUMBER as usize {
+        return Err(Memory);
+    }
+    Ok(number as u32)
+}
+
+/// The number of the name of a symbol, which is noted at its record.
+pub(crate) fn number_symbol<'a>(
+    names: &mut IndexSet<Name<'a>>,
+    records: &mut Vec<u32>,
+    symbol: u32,
+    name: &Name<'a>,
+) -> Result<u32, Memory>
+    ensures kept { KeepsNumbers names.old.keys names.new.keys }
+    ensures numbered { IfOk result (λ number. Numbers names.new.keys number name.now) }
+    ensures records { OnOk result ((bytes : List ℕ) → name.now ≡ symbol_name_of bytes symbol
+        → AreRecords names.old.keys bytes records.old.items → AreRecords names.new.keys bytes records.new.items) }
+{
+    let number = number_of(names, name)?;
+    note_record(records, symbol, number);
     Ok(number)
 }
 
@@ -32,85 +46,5 @@ pub(crate) fn name_at<'a>(names: &IndexSet<Name<'a>>, number: usize) -> Name<'a>
     match names.get_index(number) {
         Some(name) => name.again(),
         None => unreachable!(),
-    }
-}
-
-/// Definitions, by the numbers of their names.
-pub(crate) fn note_definitions<'a>(
-    alloc: Global,
-    names: &mut IndexSet<Name<'a>>,
-    definitions: &[Definition<'a>],
-) -> Result<Vec<NotedDefinition>, Memory>
-    ensures kept { KeepsNumbers names.old.keys names.new.keys }
-    ensures noted { IfOk result (λ noted. AllZip (NotesDefinition names.new.keys) definitions.now noted.items) }
-{
-    let mut noted = Vec::with_capacity(alloc, definitions.len())?;
-    for definition in definitions {
-        let name = number_of(names, &definition.name)?;
-        noted.push(NotedDefinition {
-            name,
-            place: definition.place,
-        })?;
-    }
-    Ok(noted)
-}
-
-/// Commons, by the numbers of their names.
-pub(crate) fn note_commons<'a>(
-    alloc: Global,
-    names: &mut IndexSet<Name<'a>>,
-    commons: &[Common<'a>],
-) -> Result<Vec<NotedCommon>, Memory>
-    ensures kept { KeepsNumbers names.old.keys names.new.keys }
-    ensures noted { IfOk result (λ noted. AllZip (NotesCommon names.new.keys) commons.now noted.items) }
-{
-    let mut noted = Vec::with_capacity(alloc, commons.len())?;
-    for common in commons {
-        let name = number_of(names, &common.name)?;
-        noted.push(NotedCommon {
-            name,
-            symbol: common.symbol,
-            size: common.size,
-        })?;
-    }
-    Ok(noted)
-}
-
-/// The weak externals of a module, by the numbers of their names.
-pub(crate) fn note_weaks<'a>(
-    alloc: Global,
-    names: &mut IndexSet<Name<'a>>,
-    module: &Module<'a>,
-) -> Result<Vec<NotedWeak>, Memory>
-    ensures kept { KeepsNumbers names.old.keys names.new.keys }
-    ensures noted { IfOk result (λ noted.
-        AllZip (NotesWeak names.new.keys «module».now.bytes) (weaks_of «module».now.bytes) noted.items) }
-{
-    let weaks = module.weaks();
-    let mut noted = Vec::with_capacity(alloc, weaks.len())?;
-    for weak in weaks {
-        let name = number_of(names, &weak.name)?;
-        let default = note_default(names, default_of(module, weak.tag))?;
-        noted.push(NotedWeak { name, default })?;
-    }
-    Ok(noted)
-}
-
-/// A default, by the number of its name.
-fn note_default<'a>(
-    names: &mut IndexSet<Name<'a>>,
-    default: WeakDefault<'a>,
-) -> Result<NotedDefault, Memory>
-    ensures kept { KeepsNumbers names.old.keys names.new.keys }
-    ensures noted { IfOk result (λ noted. NotesDefault names.new.keys default.entry noted) }
-{
-    match default {
-        WeakDefault::Name(name) => {
-            let number = number_of(names, &name)?;
-            Ok(NotedDefault::Name(number))
-        }
-        WeakDefault::Place { section, value } => Ok(NotedDefault::Place { section, value }),
-        WeakDefault::Absolute(value) => Ok(NotedDefault::Absolute(value)),
-        WeakDefault::Nothing => Ok(NotedDefault::Nothing),
     }
 }

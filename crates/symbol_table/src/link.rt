@@ -39,7 +39,7 @@ pub(crate) fn links<'a>(
     firsts: &[Option<FirstLive>],
     commons: &[Option<GreatestCommon>],
     weaks: &[Option<FirstWeak>],
-    alternates: &[Option<usize>],
+    alternates: &[Option<u32>],
     chosen: &[Vec<bool>],
 ) -> Result<Vec<Link<'a>>, Memory>
     requires firsts { length firsts.now ≡ length names.now.keys }
@@ -66,7 +66,7 @@ pub(crate) fn links<'a>(
 fn link_of<'a>(
     own: Option<Meaning<'a>>,
     weak: Option<FirstWeak>,
-    alternate: Option<usize>,
+    alternate: Option<u32>,
     chosen: &[Vec<bool>],
 ) -> Link<'a>
     ensures { (names : List (List ℕ)) (entry : Option Said) (pair : Option (List ℕ × List ℕ)) → KeepsWeak names entry weak
@@ -124,7 +124,7 @@ fn weak_link<'a>(weak: FirstWeak, chosen: &[Vec<bool>]) -> Link<'a>
         → IsStep names (default_step (rows_of chosen.now) entry.«module» entry.default) result }
 {
     match weak.default {
-        NotedDefault::Name(number) => Link::Leads(number),
+        NotedDefault::Name(number) => Link::Leads(number as usize),
         NotedDefault::Place { section, value } => {
             Link::Ends(place_meaning(weak.module, section, value, chosen))
         }
@@ -134,12 +134,12 @@ fn weak_link<'a>(weak: FirstWeak, chosen: &[Vec<bool>]) -> Link<'a>
 }
 
 /// Where a name leads by its first alternate.
-fn alternate_link<'a>(alternate: Option<usize>) -> Link<'a>
+fn alternate_link<'a>(alternate: Option<u32>) -> Link<'a>
     ensures { (names : List (List ℕ)) (pair : Option (List ℕ × List ℕ)) → KeepsAlternate names pair alternate
         → IsStep names (alternate_step pair) result }
 {
     match alternate {
-        Some(number) => Link::Leads(number),
+        Some(number) => Link::Leads(number as usize),
         None => Link::Ends(Err(NoMeaning::Undefined)),
     }
 }

@@ -99,9 +99,9 @@ fn note_live<'a>(
         → AreLives names.now.keys earlier lives.old.firsts.items lives.old.clash
         → AreLives names.now.keys (earlier ++ provided position entry ∷ []) lives.new.firsts.items lives.new.clash }
 {
-    match lives.firsts[definition.name] {
+    match lives.firsts[definition.name as usize] {
         None => {
-            lives.firsts[definition.name] = Some(FirstLive {
+            lives.firsts[definition.name as usize] = Some(FirstLive {
                 module: position,
                 place: definition.place,
             });
@@ -129,7 +129,7 @@ fn clash_with<'a>(
         return None;
     }
     Some(Clash {
-        name: name_at(names, definition.name),
+        name: name_at(names, definition.name as usize),
         first: first.module,
         second: position,
     })

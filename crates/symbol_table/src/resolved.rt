@@ -2,17 +2,21 @@
 
 ghost use Rattle.std.specs.Prelude.{◌≡◌};
 ghost use Rattle.std.specs.List.{All};
+ghost use Rattle.coff_records.specs.ObjectFile.{symbol_at, name_in};
+ghost use Rattle.module_view.specs.Module.{module_at};
 ghost use Rattle.module_view.specs.Opening.{IsOpened};
 ghost use Rattle.symbol_table.specs.Lists.{is_chosen_in};
 ghost use Rattle.symbol_table.specs.Clash.{clash_of};
 ghost use Rattle.symbol_table.specs.Resolution.{meaning_of};
 
-use crate::alternates::GivenAlternates;
 use crate::chains::again;
 use crate::chosen::{Chosen, is_chosen};
+use crate::given::GivenNames;
 use crate::linker_names::linker_meaning;
 use crate::meaning::{Clash, Meaning, NoMeaning};
 use crate::noted::ModuleNames;
+use crate::records::noted_number;
+use coff_object::SymbolRecord;
 use indexmap::IndexSet;
 use link_base::Name;
 use std::marker::Model;
@@ -21,7 +25,7 @@ use std::marker::Model;
 #[derive(Drop)]
 pub struct ResolvedNames<'a> {
     pub(crate) names: IndexSet<Name<'a>>,
-    pub(crate) given: GivenAlternates<'a>,
+    pub(crate) given: GivenNames<'a>,
     pub(crate) modules: Vec<ModuleNames<'a>>,
     pub(crate) chosen: Chosen,
     /// What each name means, by its number.
@@ -72,6 +76,23 @@ impl<'a> ResolvedNames<'a> {
         match self.names.get_index_of(&name) {
             Some(number) => again(&self.meanings[number]),
             None => linker_meaning(&name).ok_or(NoMeaning::Undefined),
+        }
+    }
+
+    /// What the name of a symbol means, by the position of its module and its record.
+    pub fn resolve_symbol(
+        &self,
+        module: u32,
+        index: u32,
+        symbol: &SymbolRecord<'a>,
+    ) -> Result<Meaning<'a>, NoMeaning>
+        requires { symbol.now ≡ symbol_at (module_at self.now.link.modules «module»).bytes index }
+        ensures meaning { result ≡ meaning_of self.now.link self.now.chosen (name_in symbol.now) }
+        ensures opened { All IsOpened self.now.link.modules }
+    {
+        match noted_number(&self.modules, module, index) {
+            Some(number) => again(&self.meanings[number as usize]),
+            None => self.resolve(symbol.name()),
         }
     }
 }

@@ -3,18 +3,22 @@
 ghost use Rattle.std.specs.Prelude.{◌≡◌, ◌<◌, ◌++◌, ◌∷◌, [], length, IfOk, OnOk, OnErr};
 ghost use Rattle.link_base.specs.Limits as limit;
 ghost use Rattle.symbol_table.specs.Passes.{rows_of};
+ghost use Rattle.symbol_table.specs.References.{is_provided, is_open_name, open_from};
 ghost use Rattle.symbol_table.specs.TableParts.{ResolvedView};
 
-use crate::alternates::{GivenAlternates, given_alternates, note_directives};
+use crate::asked::{AskedNames, add_lists, asked_by_words, is_open, is_sought, is_there};
 use crate::chains::meanings;
 use crate::chosen::Chosen;
 use crate::first_alternate::first_alternates;
 use crate::first_weak::first_weaks;
+use crate::given::{GivenNames, given_names};
 use crate::greatest::greatest_commons;
-use crate::interning::{note_commons, note_definitions, note_weaks};
+use crate::interning::name_at;
 use crate::link::links;
+use crate::linker_names::linker_meaning;
+use crate::lists::note_lists;
 use crate::lives::{Lives, live_definitions};
-use crate::noted::ModuleNames;
+use crate::noted::{ModuleNames, NotedLists};
 use crate::resolved::ResolvedNames;
 use indexmap::IndexSet;
 use link_base::{Memory, Name};
@@ -22,41 +26,47 @@ use module_view::Module;
 use std::alloc::Global;
 use std::marker::Model;
 
-/// The alternates that the command line gives, and the names of the modules that were added, in order.
+/// The names that the command line asks for, the alternates that it gives, and the names of the modules that were added, in
+/// order.
 #[derive(Drop)]
 pub struct SymbolTable<'a> {
     alloc: Global,
     names: IndexSet<Name<'a>>,
-    given: GivenAlternates<'a>,
+    given: GivenNames<'a>,
     modules: Vec<ModuleNames<'a>>,
+    asked: AskedNames,
 }
 
 impl<'a> Model for SymbolTable<'a> {
     ghost use Rattle.symbol_table.specs.LinkView.{LinkView};
-    ghost use Rattle.symbol_table.specs.TableParts.{link_view, KeepsLink};
+    ghost use Rattle.symbol_table.specs.TableParts.{link_view, KeepsTable};
 
     ghost Value = { LinkView };
 
     ghost view = { λ t. link_view t.given t.modules.items };
 
-    ghost invariant = { λ t. KeepsLink t.names.keys t.given t.modules.items };
+    ghost invariant = { λ t. KeepsTable t.names.keys t.given t.modules.items t.asked };
 }
 
 impl<'a> SymbolTable<'a> {
-    /// A table of no modules, with the alternates that the command line gives: each by its left name and its right one.
+    /// A table of no modules, with the names that the command line asks for and the alternates that it gives: each by its left
+    /// name and its right one.
     pub fn new(
         alloc: Global,
+        words: &[Name<'a>],
         alternates: &[(Name<'a>, Name<'a>)],
     ) -> Result<SymbolTable<'a>, Memory>
-        ensures { IfOk result (λ table. table ≡ record { alternates = alternates.now; modules = [] }) }
+        ensures { IfOk result (λ table. table ≡ record { words = words.now; alternates = alternates.now; modules = [] }) }
     {
         let mut names = IndexSet::new(alloc);
-        let given = given_alternates(alloc, &mut names, alternates)?;
+        let given = given_names(alloc, &mut names, words, alternates)?;
+        let asked = asked_by_words(alloc, &mut names, words)?;
         Ok(SymbolTable {
             alloc,
             names,
             given,
             modules: Vec::new(alloc),
+            asked,
         })
     }
 
@@ -68,11 +78,19 @@ impl<'a> SymbolTable<'a> {
         ensures added { OnOk result (self.new ≡ record self.old { modules = self.old.modules ++ «module».now ∷ [] }) }
         ensures unchanged { OnErr result (self.new ≡ self.old) }
     {
-        let alloc = self.alloc;
-        let definitions = note_definitions(alloc, &mut self.names, module.definitions())?;
-        let commons = note_commons(alloc, &mut self.names, module.commons())?;
-        let weaks = note_weaks(alloc, &mut self.names, module)?;
-        let alternates = note_directives(alloc, &mut self.names, module.directives())?;
+        let noted = note_lists(self.alloc, &mut self.names, module);
+        let count = self.names.len();
+        let lists = noted?;
+        self.modules.reserve(1)?;
+        add_lists(&mut self.asked, count, &lists)?;
+        let NotedLists {
+            definitions,
+            commons,
+            weaks,
+            alternates,
+            records,
+            ..
+        } = lists;
         let position = self.modules.len() as u32;
         self.modules.push(ModuleNames {
             origin: module.origin(),
@@ -81,8 +99,43 @@ impl<'a> SymbolTable<'a> {
             commons,
             weaks,
             alternates,
+            records,
         })?;
         Ok(position)
+    }
+
+    /// Whether a module that was added defines or shares a name, or the linker gives it a meaning.
+    pub fn provided(&self, name: Name<'a>) -> bool
+        ensures { result ≡ is_provided self.now.modules name.entry }
+    {
+        match self.names.get_index_of(&name) {
+            Some(number) => is_there(&self.asked, number, &name),
+            None => linker_meaning(&name).is_some(),
+        }
+    }
+
+    /// Whether a name is asked for with a search, and is not provided.
+    pub fn is_open(&self, name: Name<'a>) -> bool
+        ensures { result ≡ is_open_name self.now name.entry }
+    {
+        match self.names.get_index_of(&name) {
+            Some(number) => is_sought(&self.asked, number, &name),
+            None => false,
+        }
+    }
+
+    /// The first name that is open, of those that are asked for from a number on, and its number: the names that the command
+    /// line asks for come first, then those of each module.
+    pub fn open_from(&self, number: usize) -> Option<(usize, Name<'a>)>
+        ensures { result ≡ open_from self.now number }
+    {
+        for at in number..self.asked.list.len() {
+            let asked = self.asked.list[at];
+            if is_open(&self.asked, &self.names, asked) {
+                return Some((at, name_at(&self.names, asked.name as usize)));
+            }
+        }
+        None
     }
 
     /// What the names mean where these sections are chosen. Each name's definitions and its chain are followed once.
