@@ -3,11 +3,14 @@
 ghost use Rattle.std.specs.Prelude.{◌≡◌, ◌≤◌, None, Some, map, length, IfOk, OnOk, IfErr};
 ghost use Rattle.link_base.specs.Limits.{MODULE_LIMIT};
 ghost use Rattle.link_base.specs.Refusals.{RefusesFor};
+ghost use Rattle.coff_records.specs.ObjectFile.{symbol_at, name_in};
+ghost use Rattle.module_view.specs.Module.{module_at};
 ghost use Rattle.symbol_table.specs.Passes.{rows_of};
 ghost use Rattle.comdat.specs.Selection.{chosen_sections};
 ghost use Rattle.link_pieces.specs.NameMeaning.{name_meaning, takes_part};
 ghost use Rattle.link_pieces.specs.ChoiceFaults.{conflict_fault, clash_fault};
 
+use coff_object::SymbolRecord;
 use comdat::{ChooseError, choose_all};
 use link_base::{Fault, Memory, Name, Refusal};
 use module_view::Module;
@@ -41,6 +44,19 @@ impl<'a> LinkNames<'a> {
         self.names.resolve(name)
     }
 
+    /// What the name of a symbol means, by the position of its module and its record.
+    pub fn resolve_symbol(
+        &self,
+        module: u32,
+        index: u32,
+        symbol: &SymbolRecord<'a>,
+    ) -> Result<Meaning<'a>, NoMeaning>
+        requires { symbol.now ≡ symbol_at (module_at self.now.modules «module»).bytes index }
+        ensures { result ≡ name_meaning self.now (name_in symbol.now) }
+    {
+        self.names.resolve_symbol(module, index, symbol)
+    }
+
     /// Whether a section takes part in the link, by the position of its module and its number: it is chosen.
     pub fn takes_part(&self, module: u32, section: u32) -> bool
         ensures { result ≡ takes_part self.now «module» section }
@@ -49,20 +65,21 @@ impl<'a> LinkNames<'a> {
     }
 }
 
-/// The names of the modules, with the alternates that the command line gives. COMDAT sections that conflict are refused
-/// (`ComdatConflict`).
+/// The names of the modules, with the names that the command line asks for and the alternates that it gives. COMDAT sections
+/// that conflict are refused (`ComdatConflict`).
 pub fn link_names<'a>(
     alloc: Global,
+    words: &[Name<'a>],
     alternates: &[(Name<'a>, Name<'a>)],
     modules: &[Module<'a>],
 ) -> Result<LinkNames<'a>, Refusal<'a>>
     requires { length modules.now ≤ MODULE_LIMIT }
-    ensures names { IfOk result (λ names. names ≡ record { alternates = alternates.now; modules = modules.now }) }
+    ensures names { IfOk result (λ names. names ≡ record { words = words.now; alternates = alternates.now; modules = modules.now }) }
     ensures accepted { OnOk result (conflict_fault modules.now ≡ None) }
     ensures refused { IfErr result (RefusesFor (conflict_fault modules.now)) }
 {
     let chosen = choose(alloc, modules)?;
-    let table = table_of(alloc, alternates, modules)?;
+    let table = table_of(alloc, words, alternates, modules)?;
     let names = table.resolved(alloc, chosen)?;
     Ok(LinkNames { names })
 }
@@ -91,16 +108,17 @@ fn choose<'a>(alloc: Global, modules: &[Module<'a>]) -> Result<Chosen, Refusal<'
     }
 }
 
-/// The table of the names of all modules, and of these alternates.
+/// The table of the names of all modules, of these words and of these alternates.
 fn table_of<'a>(
     alloc: Global,
+    words: &[Name<'a>],
     alternates: &[(Name<'a>, Name<'a>)],
     modules: &[Module<'a>],
 ) -> Result<SymbolTable<'a>, Memory>
     requires { length modules.now ≤ MODULE_LIMIT }
-    ensures { IfOk result (λ table. table ≡ record { alternates = alternates.now; modules = modules.now }) }
+    ensures { IfOk result (λ table. table ≡ record { words = words.now; alternates = alternates.now; modules = modules.now }) }
 {
-    let mut table = SymbolTable::new(alloc, alternates)?;
+    let mut table = SymbolTable::new(alloc, words, alternates)?;
     for module in modules {
         table.add_module(module)?;
     }
