@@ -11,13 +11,19 @@ use Rattle.directives.specs.Said.{said}
 use Rattle.directives.specs.declared.item.Directive.{Directive}
 use Rattle.module_view.specs.Module.{ModuleView, no_module, module_at}
 use Rattle.symbol_table.specs.LinkView.{LinkView}
-use Rattle.link_plan.specs.References.{include_said, included_fault, includes_fault, object_fault_among, references_fault_at}
+use Rattle.symbol_table.specs.References.{include_said}
+use Rattle.link_plan.specs.References.{included_fault, includes_fault, object_fault_among, references_fault_at}
 
 -- the references of a module are those of the one that was read
 pub module_here : (link : LinkView) (modules : List ModuleView) (k : ℕ) (m : ModuleView) → link.modules ≡ modules → k < length modules → m ≡ get_or modules k m → references_fault_at link k ≡ object_fault_among link k m.bytes
 module_here link modules k m are lt read =
     ap (λ (ms : List ModuleView). object_fault_among link k (module_at ms k).bytes) are
     ∙ ap (λ (v : ModuleView). object_fault_among link k v.bytes) (sym (get_or_default modules k m no_module lt) ∙ sym read)
+
+-- its bytes are those of the one at the position
+pub bytes_here : (link : LinkView) (modules : List ModuleView) (k : ℕ) (m : ModuleView) → link.modules ≡ modules → k < length modules → m ≡ get_or modules k m → m.bytes ≡ (module_at link.modules k).bytes
+bytes_here link modules k m are lt read =
+    ap (λ (v : ModuleView). v.bytes) (read ∙ get_or_default modules k m no_module lt) ∙ ap (λ (ms : List ModuleView). (module_at ms k).bytes) (sym are)
 
 -- ---- the first refusal of a list that is walked
 

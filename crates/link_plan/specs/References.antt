@@ -1,5 +1,5 @@
 -- The names that modules refer to, and which of them mean nothing. Own.
-use Rattle.std.specs.Prelude.{ℕ, Bool, ◌&&◌, ◌||◌, not, if◌then◌else◌, List, length, map, filter_map, Option, Some, None, Result, Ok, Err}
+use Rattle.std.specs.Prelude.{ℕ, Bool, ◌&&◌, ◌||◌, not, if◌then◌else◌, List, length, map, Option, Some, None, Result, Ok, Err}
 use Rattle.std.specs.Option.{option_or}
 use Rattle.link_base.specs.Refusals.{first_standing, first_refusal_below}
 use Rattle.link_base.specs.declared.fault.Fault.{Fault}
@@ -8,10 +8,8 @@ use Rattle.module_view.specs.Module.{module_at}
 use Rattle.symbol_table.specs.LinkView.{LinkView}
 use Rattle.coff_records.specs.ObjectFile.{SymbolView, SymbolEntry, name_in, symbol_entries}
 use Rattle.module_view.specs.SymbolLists.{is_definition, place_of, is_reference}
-use Rattle.directives.specs.Said.{Said}
-use Rattle.directives.specs.Said as says
-use Rattle.module_view.specs.ModuleDirectives.{module_directives}
 use Rattle.symbol_table.specs.Lists.{is_live_at}
+use Rattle.symbol_table.specs.References.{includes_by}
 use Rattle.comdat.specs.Selection.{chosen_sections}
 use Rattle.symbol_table.specs.declared.meaning.Meaning.{Meaning}
 use Rattle.symbol_table.specs.declared.meaning.NoMeaning.{NoMeaning}
@@ -46,25 +44,12 @@ symbols_fault link position bytes = first_standing (map (symbol_fault link posit
 
 -- ---- names that are included (MSVC linker reference, "/INCLUDE")
 
-abbrev pub include_said : Said → Option (List ℕ)
-include_said (says.Include name) = Some name
-include_said (says.AlignComm name log) = None
-include_said (says.AlternateName left right) = None
-include_said (says.DefaultLib text) = None
-include_said (says.Exports row) = None
-include_said (says.FailIfMismatch key value) = None
-include_said (says.Merge left right) = None
-
 abbrev pub included_fault : LinkView → Option ℕ → List ℕ → Option Fault
 included_fault link at name = name_fault link name at
 
 -- the first of several names that means nothing
 abbrev pub includes_fault : LinkView → Option ℕ → List (List ℕ) → Option Fault
 includes_fault link at names = first_standing (map (included_fault link at) names)
-
--- those of the directives of a module
-abbrev pub includes_by : List ℕ → List (List ℕ)
-includes_by bytes = filter_map include_said (module_directives bytes)
 
 -- ---- all of them
 

@@ -13,6 +13,7 @@ mod mismatch;
 mod plan;
 mod references;
 mod targets;
+mod words;
 
 pub use entry::EntryPlace;
 pub use plan::{LinkPlan, plan_of};

@@ -12,6 +12,7 @@ use crate::judge::judge_pieces;
 use crate::meant::{mark_entry, name_meant};
 use crate::mismatch::check_mismatch;
 use crate::references::{check_includes, check_references};
+use crate::words::asked_words;
 use link_base::{Name, Refusal};
 use link_directives::link_merges;
 use link_pieces::{LinkNames, PieceIndex, check_clash, link_names, pieces_of};
@@ -53,7 +54,8 @@ pub fn plan_of<'a>(
     ensures refused { IfErr result (RefusesFor (plan_fault (options_said options.now) (link_of (options_said options.now) modules.entry.items))) }
 {
     check_mismatch(alloc, &modules)?;
-    let names = link_names(alloc, &options.alternates, &modules)?;
+    let words = asked_words(alloc, options)?;
+    let names = link_names(alloc, &words, &options.alternates, &modules)?;
     check_clash(&names)?;
     let meaning = entry_meaning(&names, &options.entry)?;
     check_includes(&names, &options.includes)?;

@@ -3,7 +3,10 @@
 ghost use Rattle.std.specs.Prelude.{◌≡◌, ◌≤◌, ◌∷◌, [], length, map, filter_map, Some, None, Err, OnOk, IfErr};
 ghost use Rattle.link_base.specs.Limits.{MODULE_LIMIT};
 ghost use Rattle.directives.specs.Said.{said};
-ghost use Rattle.link_plan.specs.References.{no_meaning_fault, name_fault, asks, symbol_fault, symbols_fault, include_said, includes_fault, object_fault_among, references_fault};
+ghost use Rattle.coff_records.specs.ObjectFile.{symbol_at};
+ghost use Rattle.module_view.specs.Module.{module_at};
+ghost use Rattle.symbol_table.specs.References.{include_said};
+ghost use Rattle.link_plan.specs.References.{no_meaning_fault, name_fault, asks, symbol_fault, symbols_fault, includes_fault, object_fault_among, references_fault};
 
 use coff_object::{Object, SymbolRecord};
 use directives::Directive;
@@ -50,6 +53,7 @@ fn check_module<'a>(
     module: &Module<'a>,
     position: u32,
 ) -> Result<(), Fault<'a>>
+    requires { «module».now.bytes ≡ (module_at names.now.modules position).bytes }
     ensures accepted { OnOk result (object_fault_among names.now position «module».now.bytes ≡ None) }
     ensures refused { IfErr result (λ fault. object_fault_among names.now position «module».now.bytes ≡ Some fault) }
 {
@@ -95,11 +99,12 @@ fn check_object<'a>(
     object: &Object<'a>,
     position: u32,
 ) -> Result<(), Fault<'a>>
+    requires { object.now ≡ (module_at names.now.modules position).bytes }
     ensures accepted { OnOk result (symbols_fault names.now position object.now ≡ None) }
     ensures refused { IfErr result (λ fault. symbols_fault names.now position object.now ≡ Some fault) }
 {
-    for entry in object.symbols() {
-        check_symbol(names, &entry, position)?;
+    for (index, symbol) in object.symbols() {
+        check_symbol(names, index, &symbol, position)?;
     }
     Ok(())
 }
@@ -107,17 +112,21 @@ fn check_object<'a>(
 /// That the name of a symbol of the module at a position means something, where it asks for a meaning.
 fn check_symbol<'a>(
     names: &LinkNames<'a>,
-    entry: &(u32, SymbolRecord<'a>),
+    index: u32,
+    symbol: &SymbolRecord<'a>,
     position: u32,
 ) -> Result<(), Fault<'a>>
-    ensures accepted { OnOk result (symbol_fault names.now position (entry.now.0, entry.now.1) ≡ None) }
-    ensures refused { IfErr result (λ fault. symbol_fault names.now position (entry.now.0, entry.now.1) ≡ Some fault) }
+    requires { symbol.now ≡ symbol_at (module_at names.now.modules position).bytes index }
+    ensures accepted { OnOk result (symbol_fault names.now position (index, symbol.now) ≡ None) }
+    ensures refused { IfErr result (λ fault. symbol_fault names.now position (index, symbol.now) ≡ Some fault) }
 {
-    let symbol = &entry.1;
-    if asks(names, symbol, position) {
-        check_name(names, &symbol.name(), Some(position))?;
+    if !asks(names, symbol, position) {
+        return Ok(());
     }
-    Ok(())
+    match names.resolve_symbol(position, index, symbol) {
+        Ok(_) => Ok(()),
+        Err(none) => Err(name_fault(&symbol.name(), Some(position), none)),
+    }
 }
 
 /// Whether a symbol of the module at a position stands for what its name means: it is undefined or weak, or it is defined in

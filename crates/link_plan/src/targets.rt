@@ -2,20 +2,21 @@
 
 ghost use Rattle.std.specs.Prelude.{◌≡◌, ◌==◌, ◌<◌, ℕ, List, None, Some, Err, length, slice_index_or, replicate, IfOk, if◌then◌else◌};
 ghost use Rattle.std.specs.Option.{option_or};
+ghost use Rattle.coff_records.specs.ObjectFile.{symbol_at};
+ghost use Rattle.module_view.specs.Module.{module_at};
 ghost use Rattle.symbol_table.specs.LinkView.{LinkView};
 ghost use Rattle.link_pieces.specs.PieceIndex.{IsPieceIndex};
 ghost use Rattle.link_plan.specs.Targets.{section_target, common_target, own_target, meant_target, has_meaning, local_target, symbol_target, AreTargets};
-ghost use Rattle.link_pieces.specs.NameMeaning.{name_meaning};
 
 use coff_object::{Object, SymbolRecord};
 use link_base::pe_format::{
     SYM_ABSOLUTE, SYM_CLASS_EXTERNAL, SYM_CLASS_WEAK_EXTERNAL, SYM_DEBUG, SYM_UNDEFINED,
 };
-use link_base::{Memory, Name, TargetFault};
+use link_base::{Memory, TargetFault};
 use link_pieces::{LinkNames, PieceIndex};
 use relocate::Target;
 use std::alloc::Global;
-use symbol_table::Meaning;
+use symbol_table::{Meaning, NoMeaning};
 
 /// What a symbol means to a relocation: a target, or why it has none; nothing where a record is no symbol.
 pub(crate) type RecordTarget = Option<Result<Target, TargetFault>>;
@@ -28,12 +29,13 @@ pub(crate) fn targets_of<'a>(
     object: &Object<'a>,
     position: u32,
 ) -> Result<Vec<RecordTarget>, Memory>
-    requires { IsPieceIndex names.now index.now }
+    requires indexed { IsPieceIndex names.now index.now }
+    requires here { object.now ≡ (module_at names.now.modules position).bytes }
     ensures { IfOk result (λ targets. AreTargets names.now position object.now targets.items) }
 {
     let mut targets = nothing_yet(alloc, object.record_count())?;
     for (at, symbol) in object.symbols() {
-        let target = symbol_target(names, index, &symbol, position);
+        let target = symbol_target(names, index, at, &symbol, position);
         note(&mut targets, at as usize, target);
     }
     Ok(targets)
@@ -43,10 +45,7 @@ pub(crate) fn targets_of<'a>(
 fn nothing_yet(alloc: Global, count: u32) -> Result<Vec<RecordTarget>, Memory>
     ensures { IfOk result (λ targets. targets.items ≡ replicate count None) }
 {
-    let mut targets = Vec::with_capacity(alloc, count as usize)?;
-    for _ in 0..count {
-        targets.push(None)?;
-    }
+    let targets = vec![in alloc; None; count as usize]?;
     Ok(targets)
 }
 
@@ -62,18 +61,20 @@ fn note(targets: &mut Vec<RecordTarget>, at: usize, target: Result<Target, Targe
     }
 }
 
-/// What a symbol of the module at a position means.
+/// What a symbol of the module at a position means, by its record.
 fn symbol_target<'a>(
     names: &LinkNames<'a>,
     index: &PieceIndex,
+    at: u32,
     symbol: &SymbolRecord<'a>,
     position: u32,
 ) -> Result<Target, TargetFault>
-    requires { IsPieceIndex names.now index.now }
+    requires indexed { IsPieceIndex names.now index.now }
+    requires here { symbol.now ≡ symbol_at (module_at names.now.modules position).bytes at }
     ensures { result ≡ symbol_target names.now position symbol.now }
 {
     if has_meaning(symbol) {
-        return name_target(names, index, symbol.name());
+        return meant_target(index, names.resolve_symbol(position, at, symbol));
     }
     local_target(names, index, symbol, position)
 }
@@ -90,16 +91,14 @@ fn has_meaning(symbol: &SymbolRecord<'_>) -> bool
     symbol.section() != SYM_DEBUG
 }
 
-/// What a name means to a relocation.
-fn name_target<'a>(
-    names: &LinkNames<'a>,
+/// What a meaning is to a relocation.
+fn meant_target<'a>(
     index: &PieceIndex,
-    name: Name<'a>,
+    meaning: Result<Meaning<'a>, NoMeaning>,
 ) -> Result<Target, TargetFault>
-    requires { IsPieceIndex names.now index.now }
-    ensures { result ≡ meant_target names.now (name_meaning names.now name.entry) }
+    ensures { (link : LinkView) → IsPieceIndex link index.now → result ≡ meant_target link meaning.entry }
 {
-    match names.resolve(name) {
+    match meaning {
         Ok(
             Meaning::Section {
                 module,

@@ -3,12 +3,16 @@ use Rattle.std.proofs.lemmas.Result.{err_from_is_err_and}
 use Rattle.link_base.specs.Refusals.{first_refusal_below}
 use Rattle.link_base.proofs.RefusalLemmas.{first_refusal_below-more, first_refusal_below-found}
 use Rattle.link_plan.specs.References.{references_fault_at}
-use Rattle.link_plan.proofs.ReferenceLemmas.{module_here}
+use Rattle.link_plan.proofs.ReferenceLemmas.{module_here, bytes_here}
 use Rattle.link_plan.proofs.references.check_references.Goals as goal
 
 pub loop-position-init : goal.loop-position-init
 unfolding first_refusal_below
 loop-position-init c = refl
+
+pub check_module-requires : goal.check_module-requires
+check_module-requires c =
+    bytes_here c.args.names.now c.args.modules.now c.loop-position.position c.index-modules-position.result c.requires.same (omega arith) c.index-modules-position.is
 
 pub returns-in_err-check_module-clause-refused : goal.returns-in_err-check_module-clause-refused
 returns-in_err-check_module-clause-refused c =

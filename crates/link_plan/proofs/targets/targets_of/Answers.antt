@@ -1,8 +1,8 @@
-use Rattle.std.proofs.Common.{List, None, Some, cond, eqb, slice_index_or, length, ap, ◌∙◌, option_map, arith}
+use Rattle.std.proofs.Common.{ℕ, List, None, Some, cond, eqb, slice_index_or, length, ap, ◌∙◌, option_map, arith}
 use Rattle.std.specs.List.{find}
 use Rattle.std.specs.Option.{option_or}
 use Rattle.std.proofs.lemmas.List.{length-replicate}
-use Rattle.coff_records.specs.ObjectFile.{SymbolEntry}
+use Rattle.coff_records.specs.ObjectFile.{SymbolEntry, symbol_at}
 use Rattle.coff_object.proofs.CallerLemmas.{symbols_left-all, symbols_left-step}
 use Rattle.link_plan.specs.Targets.{symbol_target, is_record}
 use Rattle.link_plan.proofs.TargetLemmas.{nothing_noted, noted_more}
@@ -21,6 +21,11 @@ loop-at-init c =
           ap (λ o. option_or o (option_map (λ (e : SymbolEntry). symbol_target c.args.names.now c.args.position e.1) (find (is_record other) c.into_iter-at-iterator.result))) (nothing_noted c.in_ok-targets.targets.items c.record_count.result other c.in_ok-targets.ensures)
           ∙ ap (λ (es : List SymbolEntry). option_map (λ (e : SymbolEntry). symbol_target c.args.names.now c.args.position e.1) (find (is_record other) es)) all;
     }
+
+pub symbol_target-target-requires-clause-here : goal.symbol_target-target-requires-clause-here
+symbol_target-target-requires-clause-here c =
+    (symbols_left-step c.args.object.now c.loop-at.at-iterator c.next.new.self c.in-Some.at c.in-Some.symbol c.loop-at.invariant.left c.in-Some.ensures.steps).is
+    ∙ ap (λ (bytes : List ℕ). symbol_at bytes c.in-Some.at) c.requires.here
 
 pub note-requires : goal.note-requires
 note-requires c =
