@@ -1,4 +1,4 @@
-use Rattle.std.proofs.Common.{ℕ, true, false, List, map, subst, sym, ap, ◌∙◌}
+use Rattle.std.proofs.Common.{ℕ, true, false, List, subst, sym, ap, ◌∙◌}
 use Rattle.std.specs.List.{list_any}
 use Rattle.std.specs.Prelude.{option_map}
 use Rattle.link_base.specs.declared.kinds.form.Kind.TheVariants as form
@@ -6,7 +6,6 @@ use Rattle.coff_records.specs.ObjectFile.{starts_symbol}
 use Rattle.module_view.specs.declared.error.ModuleError.TheVariants as error
 use Rattle.module_view.specs.SymbolLists.{definitions_of, references_of, weaks_of, commons_of}
 use Rattle.coff_aux.specs.AuxFaults.{aux_fault}
-use Rattle.directives.specs.Said.{said}
 use Rattle.module_view.specs.ModuleDirectives.{module_directives, bad_directive}
 use Rattle.module_view.specs.Unbuilt.{has_unbuilt_section, has_unbuilt_symbol, is_unbuilt_directive}
 use Rattle.coff_aux.specs.Steps.{KeepsSymbols}
