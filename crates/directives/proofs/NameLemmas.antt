@@ -1,5 +1,6 @@
 -- Names in either case.
-use Rattle.std.proofs.Common.{◌≡◌, ℕ, Bool, true, false, List, map, IsTrue, ◌↔◌, refl, sym}
+use Rattle.std.proofs.Common.{◌≡◌, ℕ, Bool, true, false, List, map, IsTrue, ◌↔◌, nat_eq, refl, sym, ap, ◌∙◌}
+use lib.Pointwise.{pointwise}
 use Rattle.std.specs.Char.{to_ascii_lowercase}
 use Rattle.std.proofs.lemmas.Slice.Eq.{bytes_eq-Decides}
 use Rattle.directives.specs.Names.{is_word}
@@ -15,3 +16,9 @@ unfolding is_word
 is_word_is r text word h =
     let d = bytes_eq-Decides (map to_ascii_lowercase text) (map to_ascii_lowercase word) in
     same _ _ (λ e. d.1 (h.0 e)) (λ e. h.1 (d.0 e))
+
+-- a word in its own case
+pub is_word_own : (r : Bool) (text word : List ℕ) → r ≡ pointwise nat_eq text word → r ≡ true → r ≡ is_word text word
+is_word_own r text word is e =
+    let same : text ≡ word = (bytes_eq-Decides text word).0 (sym is ∙ e) in
+    e ∙ is_word_is true text word ((λ t. ap (map to_ascii_lowercase) same), (λ t. refl))

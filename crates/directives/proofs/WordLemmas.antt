@@ -72,3 +72,17 @@ goes_on-none text = refl
 pub later_within : (b : Bool) (last k later : ℕ) → later ≡ cond b k last → last ≤ k → later ≤ k + 1
 later_within true last k later e le = omega (arith, e)
 later_within false last k later e le = omega (arith, e)
+
+-- no quote stays open
+pub none_left_open : (text : List ℕ) → leaves_open text ≡ false → None ≡ open_quote text
+unfolding open_quote
+none_left_open text e = rw e refl
+
+-- a byte more that is neither a blank nor a quote
+pub inner-more : (text : List ℕ) (k : ℕ) (is_open : Bool) → k < length text → is_open ≡ leaves_open (take k text) → is_quote (get_or text k 0) ≡ false → is_open ≡ leaves_open (take (k + 1) text)
+inner-more text k is_open lt is e =
+    ap (λ (b : Bool). cond b (not is_open) is_open) (sym e) ∙ leaves_open-more text k is_open lt is
+
+pub inner-goes_on : (text : List ℕ) (k : ℕ) (is_open : Bool) → first_below k (ends_word text) ≡ None → is_open ≡ leaves_open (take k text) → is_blank (get_or text k 0) ≡ false → first_below (k + 1) (ends_word text) ≡ None
+inner-goes_on text k is_open none is e =
+    goes_on-more text k is_open none is (ap (λ (b : Bool). b && not is_open) e)

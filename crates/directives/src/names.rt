@@ -47,9 +47,9 @@ pub fn lookup<T: Copy>(mut table: &[(&[u8], T)], name: &[u8]) -> Option<T>
     None
 }
 
-/// Whether the text is the word, in either case of ASCII letters.
+/// Whether the text is the word, in either case of ASCII letters. The word's own case is tried first, as it costs least.
 pub fn is_word(text: &[u8], word: &[u8]) -> bool
     ensures { result ≡ is_word text.now word.now }
 {
-    text.eq_ignore_ascii_case(word)
+    text == word || text.eq_ignore_ascii_case(word)
 }

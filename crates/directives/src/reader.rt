@@ -58,8 +58,9 @@ impl<'a> Iterator for Directives<'a> {
             let start = self.at;
             let len = word_len(rest);
             let (word, _) = rest.split_at(len);
+            let is_last = len == rest.len();
             self.at += len;
-            match word_says(start, word) {
+            match word_says(start, word, is_last) {
                 None => {}
                 Some(Ok(directive)) => return Some(Ok(directive)),
                 Some(Err(bad)) => {

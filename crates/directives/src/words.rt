@@ -1,6 +1,6 @@
 //! A text as words, and what a word says.
 
-ghost use Rattle.std.specs.Prelude.{◌≡◌, ◌≤◌, ◌<◌, ◌+◌, ◌^◌, length, option_map, IsTrue, IfSome};
+ghost use Rattle.std.specs.Prelude.{◌≡◌, ◌≤◌, ◌<◌, ◌+◌, ◌^◌, length, take, false, option_map, IsTrue, IfSome};
 ghost use Rattle.std.specs.Prelude.{◌&&◌, not, if◌then◌else◌};
 ghost use Rattle.directives.specs.Text.{is_quote, is_colon};
 ghost use Rattle.directives.specs.Said.{said, item_said};
@@ -33,13 +33,26 @@ fn ends(is_open: bool, b: u8) -> bool
     is_blank(b) && !is_open
 }
 
-/// How long the word is that the text begins with: up to the first blank outside quotes.
+/// Whether the byte is neither a blank nor a quote, as most are: all of those come before it.
+fn is_inner(b: u8) -> bool
+    ensures blank { IsTrue result → is_blank b ≡ false }
+    ensures quote { IsTrue result → is_quote b ≡ false }
+{
+    b > b'"'
+}
+
+/// How long the word is that the text begins with: up to the first blank outside quotes. Where it ends before the text, each
+/// of its quotes is closed.
 pub(crate) fn word_len(text: &[u8]) -> usize
     ensures is { result ≡ word_len text.now }
     ensures within { result ≤ length text.now }
+    ensures closed { result < length text.now → leaves_open (take result text.now) ≡ false }
 {
     let mut is_open = false;
     for (k, b) in text.iter().enumerate() {
+        if is_inner(*b) {
+            continue;
+        }
         if ends(is_open, *b) {
             return k;
         }
@@ -48,7 +61,16 @@ pub(crate) fn word_len(text: &[u8]) -> usize
     text.len()
 }
 
-/// Where the quote stands that stays open in a word, where one does.
+/// Where the quote stands that stays open in a word, where one does: only the last word of a text has to be searched.
+fn quote_left_open(word: &[u8], is_last: bool) -> Option<usize>
+    requires { is_last ≡ false → leaves_open word.now ≡ false }
+    ensures is { result ≡ open_quote word.now }
+    ensures within { IfSome result (λ k. k ≤ length word.now) }
+{
+    if is_last { open_quote(word) } else { None }
+}
+
+/// Where the last quote of a word stands, where it is open.
 fn open_quote(word: &[u8]) -> Option<usize>
     ensures is { result ≡ open_quote word.now }
     ensures within { IfSome result (λ k. k ≤ length word.now) }
@@ -94,13 +116,19 @@ fn quoted_contents(word: &[u8]) -> Option<&[u8]>
     Some(inner)
 }
 
-/// What a word says that stands at `start`: a directive, a malformed place, or nothing.
+/// What a word says that stands at `start`: a directive, a malformed place, or nothing. Only in the last word of a text can a
+/// quote be open.
 #[tactic(auto, unfolding(crate::specs::Words::word_says))]
-pub(crate) fn word_says(start: usize, word: &[u8]) -> Option<Result<Directive<'_>, BadDirective>>
-    requires { start + length word.now < 2 ^ 64 }
+pub(crate) fn word_says(
+    start: usize,
+    word: &[u8],
+    is_last: bool,
+) -> Option<Result<Directive<'_>, BadDirective>>
+    requires place { start + length word.now < 2 ^ 64 }
+    requires closed { is_last ≡ false → leaves_open word.now ≡ false }
     ensures { option_map item_said result ≡ word_says (record { start = start; text = word.now }) }
 {
-    match open_quote(word) {
+    match quote_left_open(word, is_last) {
         Some(at) => Some(Err(BadDirective { at: start + at })),
         None => contents_say(start, contents(word)),
     }

@@ -48,3 +48,8 @@ raised_next key other log power alignment old new is now = ap (λ (o : Option �
         ap (λ (n : ℕ). raised_by (Some n) alignment) (is ∙ ap (λ (name : List ℕ). power_with (old name) log) (same_is key other same))
         ∙ raised_with (old other) log alignment
     go false differs = refl
+
+-- of two that are noted one after another the last counts
+pub noted_last : (here : Bool) (last first : ℕ) (between old : Option ℕ) → between ≡ cond here (Some first) old → cond here (Some last) between ≡ cond here (Some last) old
+noted_last true last first between old is = refl
+noted_last false last first between old is = is

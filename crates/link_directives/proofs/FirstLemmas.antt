@@ -125,6 +125,27 @@ keeps_known earlier key value first old told was known is = record {
         there ∙ ap (λ (o : Option (List ℕ)). option_or o (Some value)) (sym there ∙ was.firsts refl other)
     go other false differs = was.firsts refl other ∙ sym (or_none (first_value earlier other))
 
+-- another one, noted in the place of the first
+pub keeps_again : (earlier : List (List ℕ × List ℕ)) (key value first : List ℕ) (old new : List ℕ → Option (List ℕ)) (told : Option Mismatch) → KeepsFirsts earlier old None → old key ≡ Some first → told ≡ mismatch_with (key, value) (key, first) → ((other : List ℕ) → new other ≡ cond (same_name key other) (Some value) (old other)) → KeepsFirsts (earlier ++ (key, value) ∷ []) new told
+keeps_again earlier key value first old new told was known is now =
+    let kept = keeps_known earlier key value first old told was known is in
+    record {
+      told_is = kept.told_is;
+      firsts = λ e other. now other ∙ go e other (same_name key other) refl ∙ kept.firsts e other;
+    }
+  where
+    other_value : Mismatch
+    other_value = record { key = key; first = first; second = value }
+
+    one_value : (b : Bool) → same_name first value ≡ b → cond b None (Some other_value) ≡ None → first ≡ value
+    one_value true same e = same_is first value same
+    one_value false same e = absurd cc
+
+    go : told ≡ None → (other : List ℕ) (b : Bool) → same_name key other ≡ b → cond b (Some value) (old other) ≡ old other
+    go e other true same =
+        ap Some (sym (one_value (same_name first value) refl (sym is ∙ e))) ∙ sym known ∙ ap old (same_is key other same)
+    go e other false differs = refl
+
 -- once one is told, it stays the first
 pub keeps_told : (entries more all : List (List ℕ × List ℕ)) (value_at : List ℕ → Option (List ℕ)) (told : Option Mismatch) (mismatch : Mismatch) → entries ++ more ≡ all → told ≡ Some mismatch → KeepsFirsts entries value_at told → KeepsFirsts all value_at (Some mismatch)
 keeps_told entries more all value_at told mismatch joined is was = record {

@@ -79,7 +79,7 @@ fn note_directive<'a>(
     }
 }
 
-/// Notes an alignment of a name, where it is greater than those before.
+/// Notes an alignment of a name, unless a greater one is noted. The name is hashed once, or twice for a lower one.
 fn note_power<'a>(
     powers: &mut IndexMap<Name<'a>, u8>,
     name: &Name<'a>,
@@ -89,10 +89,12 @@ fn note_power<'a>(
         ≡ (if same_name name.now other then max (raised_by (get same_name powers.old other) alignment) (asked_alignment log)
         else raised_by (get same_name powers.old other) alignment)) }
 {
-    let power = match powers.get(name) {
-        Some(before) => log.max(*before),
-        None => log,
+    let Some(before) = powers.insert(name.again(), log)? else {
+        return Ok(());
     };
-    powers.insert(name.again(), power)?;
+    if before <= log {
+        return Ok(());
+    }
+    powers.insert(name.again(), before)?;
     Ok(())
 }

@@ -72,7 +72,7 @@ fn note_directive<'a>(
     }
 }
 
-/// Notes the value of a key, where it has none yet. One that differs is told.
+/// Notes the value of a key. One that differs from the value before is told. The key is hashed once.
 fn note_value<'a>(
     values: &mut IndexMap<Name<'a>, Name<'a>>,
     key: &Name<'a>,
@@ -81,12 +81,9 @@ fn note_value<'a>(
     ensures { IfOk result (λ told. (earlier : List (List ℕ × List ℕ)) → KeepsFirsts earlier (get same_name values.old) None
         → KeepsFirsts (earlier ++ (key.now, value.now) ∷ []) (get same_name values.new) told) }
 {
-    match values.get(key) {
-        None => {
-            values.insert(key.again(), value.again())?;
-            Ok(None)
-        }
-        Some(first) => Ok(differing(key, first, value)),
+    match values.insert(key.again(), value.again())? {
+        None => Ok(None),
+        Some(first) => Ok(differing(key, &first, value)),
     }
 }
 

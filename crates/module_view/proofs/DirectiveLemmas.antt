@@ -1,5 +1,5 @@
 -- The directives of a text, of a section and of an object, one part after another.
-use Rattle.std.proofs.Common.{◌≡◌, ℕ, suc, ◌+◌, ◌-◌, ◌<◌, ◌≤◌, Bool, false, ◌||◌, List, [], ◌∷◌, ◌++◌, map, filter, Option, Some, None, Result, refl, sym, ap, subst, ◌∙◌, append_assoc, arith}
+use Rattle.std.proofs.Common.{◌≡◌, ℕ, suc, ◌+◌, ◌-◌, ◌<◌, ◌≤◌, Bool, false, List, [], ◌∷◌, ◌++◌, map, filter, Option, Some, None, Result, refl, sym, ap, subst, ◌∙◌, append_assoc, arith}
 use Rattle.std.specs.Prelude.{flat_map, filter_map, option_map}
 use Rattle.std.specs.List.{list_any, range_with_len}
 use Rattle.std.specs.Option.{option_or}
@@ -8,9 +8,8 @@ use Rattle.std.proofs.lemmas.List.Elements.{filter-append, filter_map-append}
 use Rattle.link_base.specs.Refusals.{first_standing}
 use Rattle.link_base.proofs.TestLemmas.{or_left, or_right}
 use Rattle.coff_records.specs.ObjectFile.{section_total}
-use Rattle.directives.specs.Said.{Said, said}
+use Rattle.directives.specs.Said.{Said}
 use Rattle.directives.specs.declared.item.BadDirective.{BadDirective}
-use Rattle.directives.specs.declared.item.Directive.{Directive}
 use Rattle.module_view.specs.declared.error.ModuleError.{ModuleError}
 use Rattle.module_view.specs.declared.error.ModuleError.TheVariants as error
 use Rattle.module_view.specs.ModuleDirectives.{sections_in, holds_directives, section_says, sections_say, module_says, well_formed, malformed}
@@ -98,9 +97,3 @@ none_pass test (x ∷ xs) none =
 pub nothing_said : (bytes : List ℕ) → list_any (holds_directives bytes) (sections_in bytes) ≡ false → module_says bytes ≡ []
 unfolding module_says
 nothing_said bytes none = ap (flat_map (section_says bytes)) (none_pass (holds_directives bytes) (sections_in bytes) none)
-
--- ---- a test of directives
-
-pub any_said : (test : Said → Bool) (directives : List Directive) → list_any (λ directive. test (said directive)) directives ≡ list_any test (map said directives)
-any_said test [] = refl
-any_said test (directive ∷ rest) = ap (λ (b : Bool). test (said directive) || b) (any_said test rest)

@@ -5,4 +5,3 @@ pub mod SymbolLemmas
 pub mod OpeningLemmas
 pub mod AuxLemmas
 pub mod DirectiveLemmas
-pub mod CountLemmas

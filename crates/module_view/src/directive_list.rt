@@ -1,6 +1,6 @@
 //! The directives of a module.
 
-ghost use Rattle.std.specs.Prelude.{◌≡◌, ◌≤◌, ◌++◌, ◌∷◌, [], None, is_some, length, map, filter_map, option_map, IfOk, OnOk, IfErr};
+ghost use Rattle.std.specs.Prelude.{◌≡◌, ◌≤◌, ◌++◌, ◌∷◌, [], None, is_some, map, filter_map, option_map, IfOk, OnOk, IfErr};
 ghost use Rattle.std.specs.List.{list_any};
 ghost use Rattle.link_base.specs.Refusals.{first_standing};
 ghost use Rattle.coff_records.specs.ObjectFile.{section_total};
@@ -8,12 +8,22 @@ ghost use Rattle.directives.specs.Said.{said};
 ghost use Rattle.directives.specs.Words.{directives_of};
 ghost use Rattle.module_view.specs.ModuleDirectives.{sections_in, has_directives_by, holds_directives, sections_say, module_directives, bad_directive, well_formed, malformed};
 ghost use Rattle.module_view.specs.Opening.{bad_directive_error, directive_error, RefusesToOpen};
+ghost use Rattle.module_view.specs.Unbuilt.{is_unbuilt_directive};
 
 use crate::error::ModuleError;
+use crate::unbuilt::is_unbuilt_directive;
 use coff_object::{Object, Section};
 use directives::{Directive, Directives};
 use link_base::{Memory, Name};
 use std::alloc::Global;
+
+/// Directives, and whether one of them has a form that is not linked yet.
+#[derive(Drop)]
+pub(crate) struct DirectiveList<'a> {
+    pub(crate) directives: Vec<Directive<'a>>,
+    pub(crate) is_unbuilt: bool,
+    ghost unbuilt: { is_unbuilt ≡ list_any is_unbuilt_directive (map said directives.items) },
+}
 
 /// Whether a section holds directives: it has their name, and data.
 pub(crate) fn holds_directives(section: &Section<'_>) -> bool
@@ -22,46 +32,59 @@ pub(crate) fn holds_directives(section: &Section<'_>) -> bool
     section.name == Name::of(b".drectve") && section.body.is_some()
 }
 
-/// The directives of an object, in the order of its sections and of their texts. The first that is malformed is refused.
+/// The directives of an object, in the order of its sections and of their texts. The first that is malformed is refused. They
+/// take no more room than they need.
 pub(crate) fn read_directives<'a>(
     alloc: Global,
     object: &Object<'a>,
     has_any: bool,
-) -> Result<Vec<Directive<'a>>, ModuleError>
+) -> Result<DirectiveList<'a>, ModuleError>
     requires { has_any ≡ list_any (holds_directives object.now) (sections_in object.now) }
-    ensures directives { IfOk result (λ directives. map said directives.items ≡ module_directives object.now) }
+    ensures directives { IfOk result (λ list. map said list.directives.items ≡ module_directives object.now) }
     ensures accepted { OnOk result (bad_directive object.now ≡ None) }
     ensures refused { IfErr result (RefusesToOpen (directive_error object.now)) }
 {
     if !has_any {
-        return Ok(Vec::new(alloc));
+        return Ok(no_directives(alloc));
     }
-    read_sections(alloc, object)
+    let mut list = read_sections(alloc, object)?;
+    list.directives.shrink_to_fit();
+    Ok(list)
+}
+
+/// No directives yet.
+fn no_directives<'a>(alloc: Global) -> DirectiveList<'a>
+    ensures { result.directives.items ≡ [] }
+{
+    DirectiveList {
+        directives: Vec::new(alloc),
+        is_unbuilt: false,
+    }
 }
 
 /// The directives of all sections of an object.
-fn read_sections<'a>(alloc: Global, object: &Object<'a>) -> Result<Vec<Directive<'a>>, ModuleError>
-    ensures directives { IfOk result (λ directives. map said directives.items ≡ module_directives object.now) }
+fn read_sections<'a>(alloc: Global, object: &Object<'a>) -> Result<DirectiveList<'a>, ModuleError>
+    ensures directives { IfOk result (λ list. map said list.directives.items ≡ module_directives object.now) }
     ensures accepted { OnOk result (bad_directive object.now ≡ None) }
     ensures refused { IfErr result (RefusesToOpen (directive_error object.now)) }
 {
-    let mut directives = Vec::new(alloc);
+    let mut list = no_directives(alloc);
     for index in 0..object.section_count() {
-        append_section(&mut directives, object, index + 1)?;
+        append_section(&mut list, object, index + 1)?;
     }
-    Ok(directives)
+    Ok(list)
 }
 
 /// Appends the directives of a section, where it holds any.
 fn append_section<'a>(
-    directives: &mut Vec<Directive<'a>>,
+    list: &mut DirectiveList<'a>,
     object: &Object<'a>,
     section: u32,
 ) -> Result<(), ModuleError>
     requires first { 1 ≤ section }
     requires last { section ≤ section_total object.now }
-    ensures directives { OnOk result (map said directives.new.items
-        ≡ map said directives.old.items ++ filter_map well_formed (sections_say object.now (section ∷ []))) }
+    ensures directives { OnOk result (map said list.new.directives.items
+        ≡ map said list.old.directives.items ++ filter_map well_formed (sections_say object.now (section ∷ []))) }
     ensures accepted { OnOk result (first_standing (map malformed (sections_say object.now (section ∷ []))) ≡ None) }
     ensures refused { IfErr result (RefusesToOpen (option_map bad_directive_error (first_standing (map malformed (sections_say object.now (section ∷ [])))))) }
 {
@@ -70,40 +93,33 @@ fn append_section<'a>(
         return Ok(());
     }
     match section.body {
-        Some(text) => append(directives, text),
+        Some(text) => append(list, text),
         None => Ok(()),
     }
 }
 
-/// Appends the directives of a text, up to the first that is malformed. They are counted before, so that they take no more
-/// room than they need.
-fn append<'a>(directives: &mut Vec<Directive<'a>>, text: &'a [u8]) -> Result<(), ModuleError>
-    ensures directives { OnOk result (map said directives.new.items
-        ≡ map said directives.old.items ++ filter_map well_formed (directives_of text.now)) }
+/// Appends the directives of a text, up to the first that is malformed.
+fn append<'a>(list: &mut DirectiveList<'a>, text: &'a [u8]) -> Result<(), ModuleError>
+    ensures directives { OnOk result (map said list.new.directives.items
+        ≡ map said list.old.directives.items ++ filter_map well_formed (directives_of text.now)) }
     ensures accepted { OnOk result (first_standing (map malformed (directives_of text.now)) ≡ None) }
     ensures refused { IfErr result (RefusesToOpen (option_map bad_directive_error (first_standing (map malformed (directives_of text.now))))) }
 {
-    directives.reserve_exact(count(text))?;
     for item in Directives::new(text) {
         match item {
-            Ok(directive) => keep(directives, directive)?,
+            Ok(directive) => keep(list, directive)?,
             Err(bad) => return Err(ModuleError::Directive { at: bad.at }),
         }
     }
     Ok(())
 }
 
-/// How many directives a text holds, with the malformed one where there is one.
-fn count(text: &[u8]) -> usize
-    ensures { result ≡ length (directives_of text.now) }
-{
-    Directives::new(text).count()
-}
-
 /// Appends a directive.
-fn keep<'a>(directives: &mut Vec<Directive<'a>>, directive: Directive<'a>) -> Result<(), Memory>
-    ensures { OnOk result (directives.new.items ≡ directives.old.items ++ directive.entry ∷ []) }
+fn keep<'a>(list: &mut DirectiveList<'a>, directive: Directive<'a>) -> Result<(), Memory>
+    ensures { OnOk result (list.new.directives.items ≡ list.old.directives.items ++ directive.entry ∷ []) }
 {
-    directives.push(directive)?;
+    let is_unbuilt = is_unbuilt_directive(&directive);
+    list.directives.push(directive)?;
+    list.is_unbuilt |= is_unbuilt;
     Ok(())
 }

@@ -11,7 +11,6 @@ use crate::first_bytes::form_shown;
 use crate::input_module::{Module, Origin};
 use crate::sections::judge_sections;
 use crate::symbols::read_symbols;
-use crate::unbuilt::has_unbuilt_directive;
 use coff_object::{LongTexts, Object};
 use link_base::Kind;
 use std::alloc::Global;
@@ -53,7 +52,7 @@ pub fn open_module<'a>(
         Ok(directives) => directives,
         Err(error) => return Err(error),
     };
-    let is_unbuilt = sections.is_unbuilt | lists.is_unbuilt | has_unbuilt_directive(&directives);
+    let is_unbuilt = sections.is_unbuilt | lists.is_unbuilt | directives.is_unbuilt;
     if is_unbuilt {
         return Err(ModuleError::Unsupported(Kind::NotBuilt));
     }
@@ -63,6 +62,6 @@ pub fn open_module<'a>(
         object,
         lists,
         comdats,
-        directives,
+        directives: directives.directives,
     })
 }

@@ -1,7 +1,6 @@
 //! Which sections, symbols and directives have a form that is not linked yet.
 
-ghost use Rattle.std.specs.Prelude.{◌≡◌, ◌||◌, map};
-ghost use Rattle.std.specs.List.{list_any};
+ghost use Rattle.std.specs.Prelude.{◌≡◌, ◌||◌};
 ghost use Rattle.directives.specs.Said.{said};
 ghost use Rattle.module_view.specs.Unbuilt.{is_unbuilt_form, is_unbuilt_directive, is_unbuilt_name, is_loader_name, is_in_no_section, is_in_comdat, is_external_name, is_unbuilt_symbol};
 
@@ -22,18 +21,9 @@ pub(crate) fn is_unbuilt_section(name: &Name<'_>, flags: u32) -> bool
     (has_base_name(name, b".pdata") && comes_in(flags, name)) || has_base_name(name, b".rsrc")
 }
 
-/// Whether one of the directives has a form that is not linked yet.
-pub(crate) fn has_unbuilt_directive(directives: &[Directive<'_>]) -> bool
-    ensures { result ≡ list_any is_unbuilt_directive (map said directives.now) }
-{
-    directives
-        .iter()
-        .any(|directive| is_unbuilt_directive(directive))
-}
-
 /// Whether a directive has a form that is not linked yet: it names a library to search, exports a name, or names an entry of
 /// the import address table or what the loader of a program looks for.
-fn is_unbuilt_directive(directive: &Directive<'_>) -> bool
+pub(crate) fn is_unbuilt_directive(directive: &Directive<'_>) -> bool
     ensures { result ≡ is_unbuilt_directive (said directive.now) }
 {
     match directive {

@@ -1,4 +1,4 @@
-use Rattle.std.proofs.Common.{ℕ, true, false, List, map, subst, sym, ap, ◌∙◌}
+use Rattle.std.proofs.Common.{ℕ, true, false, List, subst, sym, ap, ◌∙◌}
 use Rattle.std.specs.List.{list_any}
 use Rattle.std.specs.Prelude.{option_map}
 use Rattle.link_base.specs.declared.kinds.form.Kind.TheVariants as form
@@ -6,7 +6,6 @@ use Rattle.coff_records.specs.ObjectFile.{starts_symbol}
 use Rattle.module_view.specs.declared.error.ModuleError.TheVariants as error
 use Rattle.module_view.specs.SymbolLists.{definitions_of, references_of, weaks_of, commons_of}
 use Rattle.coff_aux.specs.AuxFaults.{aux_fault}
-use Rattle.directives.specs.Said.{said}
 use Rattle.module_view.specs.ModuleDirectives.{module_directives, bad_directive}
 use Rattle.module_view.specs.Unbuilt.{has_unbuilt_section, has_unbuilt_symbol, is_unbuilt_directive}
 use Rattle.coff_aux.specs.Steps.{KeepsSymbols}
@@ -49,8 +48,8 @@ returns-in-Err-read_directives-clause-refused c =
 pub returns-then-is_unbuilt-clause-refused : goal.returns-then-is_unbuilt-clause-refused
 returns-then-is_unbuilt-clause-refused c =
     let same = c.in-Ok.ensures.same_bytes in
-    by_unbuilt c.args.bytes.now c.in-Ok-judge_sections.sections.is_unbuilt c.in-Ok-read_symbols.lists.is_unbuilt c.has_unbuilt_directive.result true c.in_default.ensures c.in-Ok.ensures.well_formed (ap section_form (sym same) ∙ c.in-Ok-judge_sections.ensures.accepted) (ap has_long_symbol_name (sym same) ∙ c.in-Ok-read_symbols.ensures.accepted) (ap aux_fault (sym same) ∙ c.in-Ok-judge_aux.ensures.accepted) (ap bad_directive (sym same) ∙ c.in-Ok-read_directives.ensures.accepted) (c.in-Ok-judge_sections.ensures.unbuilt ∙ ap has_unbuilt_section same) (c.in-Ok-read_symbols.ensures.unbuilt ∙ ap has_unbuilt_symbol same)
-    (c.has_unbuilt_directive.ensures ∙ ap (list_any is_unbuilt_directive) (ap (map said) c.deref.ensures.value ∙ c.in-Ok-read_directives.ensures.directives ∙ ap module_directives same)) c.if-is_unbuilt.true
+    by_unbuilt c.args.bytes.now c.in-Ok-judge_sections.sections.is_unbuilt c.in-Ok-read_symbols.lists.is_unbuilt c.in-Ok-read_directives.directives.is_unbuilt true c.in_default.ensures c.in-Ok.ensures.well_formed (ap section_form (sym same) ∙ c.in-Ok-judge_sections.ensures.accepted) (ap has_long_symbol_name (sym same) ∙ c.in-Ok-read_symbols.ensures.accepted) (ap aux_fault (sym same) ∙ c.in-Ok-judge_aux.ensures.accepted) (ap bad_directive (sym same) ∙ c.in-Ok-read_directives.ensures.accepted) (c.in-Ok-judge_sections.ensures.unbuilt ∙ ap has_unbuilt_section same) (c.in-Ok-read_symbols.ensures.unbuilt ∙ ap has_unbuilt_symbol same)
+    (c.in-Ok-read_directives.directives.unbuilt ∙ ap (list_any is_unbuilt_directive) (c.in-Ok-read_directives.ensures.directives ∙ ap module_directives same)) c.if-is_unbuilt.true
 
 pub invariant_of-result : goal.invariant_of-result
 invariant_of-result c =
@@ -58,8 +57,8 @@ invariant_of-result c =
     let lists = c.in-Ok-read_symbols.ensures in
     let listed = c.in-Ok-read_directives.ensures.directives ∙ ap module_directives same in
     record {
-      opened = by_unbuilt c.args.bytes.now c.in-Ok-judge_sections.sections.is_unbuilt c.in-Ok-read_symbols.lists.is_unbuilt c.has_unbuilt_directive.result false c.in_default.ensures c.in-Ok.ensures.well_formed (ap section_form (sym same) ∙ c.in-Ok-judge_sections.ensures.accepted) (ap has_long_symbol_name (sym same) ∙ lists.accepted) (ap aux_fault (sym same) ∙ c.in-Ok-judge_aux.ensures.accepted) (ap bad_directive (sym same) ∙ c.in-Ok-read_directives.ensures.accepted) (c.in-Ok-judge_sections.ensures.unbuilt ∙ ap has_unbuilt_section same) (lists.unbuilt ∙ ap has_unbuilt_symbol same)
-          (c.has_unbuilt_directive.ensures ∙ ap (list_any is_unbuilt_directive) (ap (map said) c.deref.ensures.value ∙ listed)) c.if-is_unbuilt.false;
+      opened = by_unbuilt c.args.bytes.now c.in-Ok-judge_sections.sections.is_unbuilt c.in-Ok-read_symbols.lists.is_unbuilt c.in-Ok-read_directives.directives.is_unbuilt false c.in_default.ensures c.in-Ok.ensures.well_formed (ap section_form (sym same) ∙ c.in-Ok-judge_sections.ensures.accepted) (ap has_long_symbol_name (sym same) ∙ lists.accepted) (ap aux_fault (sym same) ∙ c.in-Ok-judge_aux.ensures.accepted) (ap bad_directive (sym same) ∙ c.in-Ok-read_directives.ensures.accepted) (c.in-Ok-judge_sections.ensures.unbuilt ∙ ap has_unbuilt_section same) (lists.unbuilt ∙ ap has_unbuilt_symbol same)
+          (c.in-Ok-read_directives.directives.unbuilt ∙ ap (list_any is_unbuilt_directive) listed) c.if-is_unbuilt.false;
       viewed = same;
       defined = lists.definitions ∙ ap definitions_of same;
       referred = lists.references ∙ ap references_of same;
@@ -73,5 +72,5 @@ invariant_of-result c =
 pub returns-clause-accepted : goal.returns-clause-accepted
 returns-clause-accepted c =
     let same = c.in-Ok.ensures.same_bytes in
-    by_unbuilt c.args.bytes.now c.in-Ok-judge_sections.sections.is_unbuilt c.in-Ok-read_symbols.lists.is_unbuilt c.has_unbuilt_directive.result false c.in_default.ensures c.in-Ok.ensures.well_formed (ap section_form (sym same) ∙ c.in-Ok-judge_sections.ensures.accepted) (ap has_long_symbol_name (sym same) ∙ c.in-Ok-read_symbols.ensures.accepted) (ap aux_fault (sym same) ∙ c.in-Ok-judge_aux.ensures.accepted) (ap bad_directive (sym same) ∙ c.in-Ok-read_directives.ensures.accepted) (c.in-Ok-judge_sections.ensures.unbuilt ∙ ap has_unbuilt_section same) (c.in-Ok-read_symbols.ensures.unbuilt ∙ ap has_unbuilt_symbol same)
-    (c.has_unbuilt_directive.ensures ∙ ap (list_any is_unbuilt_directive) (ap (map said) c.deref.ensures.value ∙ c.in-Ok-read_directives.ensures.directives ∙ ap module_directives same)) c.if-is_unbuilt.false
+    by_unbuilt c.args.bytes.now c.in-Ok-judge_sections.sections.is_unbuilt c.in-Ok-read_symbols.lists.is_unbuilt c.in-Ok-read_directives.directives.is_unbuilt false c.in_default.ensures c.in-Ok.ensures.well_formed (ap section_form (sym same) ∙ c.in-Ok-judge_sections.ensures.accepted) (ap has_long_symbol_name (sym same) ∙ c.in-Ok-read_symbols.ensures.accepted) (ap aux_fault (sym same) ∙ c.in-Ok-judge_aux.ensures.accepted) (ap bad_directive (sym same) ∙ c.in-Ok-read_directives.ensures.accepted) (c.in-Ok-judge_sections.ensures.unbuilt ∙ ap has_unbuilt_section same) (c.in-Ok-read_symbols.ensures.unbuilt ∙ ap has_unbuilt_symbol same)
+    (c.in-Ok-read_directives.directives.unbuilt ∙ ap (list_any is_unbuilt_directive) (c.in-Ok-read_directives.ensures.directives ∙ ap module_directives same)) c.if-is_unbuilt.false
