@@ -35,6 +35,7 @@ pub record RefusesFile (name : List ℕ) (before_total after_total : ℕ) (befor
 pub record RefusesSum (name : List ℕ) (before_total after_total : ℕ) (before after : FilesView) (sum : ℕ) : Type 0 where
   pub refuses : RefusesFile name before_total after_total before after (InputLimit sum)
   pub above : INPUT_LIMIT < sum
+  pub within : sum ≤ before_total + FILE_LIMIT
 
 -- its read failed
 pub record FailsFile (before_total after_total : ℕ) (before after : FilesView) : Type 0 where
