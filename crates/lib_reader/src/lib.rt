@@ -19,7 +19,7 @@ mod texts;
 mod walk;
 
 pub use error::LibError;
-pub use library::{Library, Member};
+pub use library::{Library, Member, begins_library};
 pub use link_base::LibFault;
 pub use listings::Listings;
 

@@ -6,7 +6,7 @@ ghost use Rattle.lib_reader.specs.ArchiveMember.{name_text, data_of};
 ghost use Rattle.lib_reader.specs.MemberName.{member_name};
 ghost use Rattle.lib_reader.specs.MemberFault.{member_fault};
 ghost use Rattle.lib_reader.specs.Listing.{first_of_name};
-ghost use Rattle.lib_reader.specs.LibraryWalk.{library_fault, listing_of, long_names_of};
+ghost use Rattle.lib_reader.specs.LibraryWalk.{has_magic, library_fault, listing_of, long_names_of};
 
 use crate::constants::ARCHIVE_START;
 use crate::error::LibError;
@@ -44,6 +44,13 @@ pub struct Member<'a> {
     pub bytes: &'a [u8],
 }
 
+/// Whether bytes begin as a library does.
+pub fn begins_library(bytes: &[u8]) -> bool
+    ensures { result ≡ has_magic bytes.now }
+{
+    bytes.starts_with(ARCHIVE_START)
+}
+
 impl<'a> Library<'a> {
     /// The library with these bytes. A malformed one is refused for the first fault of a walk along the members at
     /// its start, as `LibFault` and `LibError` say: the directories, the long names and the members for other
@@ -55,7 +62,7 @@ impl<'a> Library<'a> {
         ensures refused { IfErr result (λ error. library_fault bytes.now ≡ Some error) }
         ensures opens { is_ok result ≡ is_none (library_fault bytes.now) }
     {
-        if !bytes.starts_with(ARCHIVE_START) {
+        if !begins_library(bytes) {
             return Err(LibError {
                 kind: LibFault::Magic,
                 at: 0,

@@ -3,7 +3,7 @@
 ghost use Rattle.std.specs.Prelude.{◌≡◌, ◌<◌, ◌++◌, ◌∷◌, [], length, IfOk, OnOk, OnErr};
 ghost use Rattle.link_base.specs.Limits as limit;
 ghost use Rattle.symbol_table.specs.Passes.{rows_of};
-ghost use Rattle.symbol_table.specs.References.{is_provided, is_open_name, open_from};
+ghost use Rattle.symbol_table.specs.References.{all_asked, is_provided, is_open_name, open_from};
 ghost use Rattle.symbol_table.specs.TableParts.{ResolvedView};
 
 use crate::asked::{AskedNames, add_lists, asked_by_words, is_open, is_sought, is_there};
@@ -136,6 +136,13 @@ impl<'a> SymbolTable<'a> {
             }
         }
         None
+    }
+
+    /// How many names are asked for.
+    pub fn asked_count(&self) -> usize
+        ensures { result ≡ length (all_asked self.now) }
+    {
+        self.asked.list.len()
     }
 
     /// What the names mean where these sections are chosen. Each name's definitions and its chain are followed once.
