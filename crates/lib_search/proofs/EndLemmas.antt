@@ -1,0 +1,76 @@
+-- A loading begins with its inputs, and comes to its end.
+use Rattle.std.proofs.Common.{◌≡◌, ℕ, ◌<◌, ◌≤◌, List, length, get_or, map, Some, None, Err, Ok, Result, refl, sym, ap, subst, ◌∙◌, inl, inr, arith}
+use Rattle.std.specs.Prelude.{All}
+use Rattle.std.specs.Option.{ForSome}
+use Rattle.std.proofs.lemmas.List.{length-map, get_or-map}
+use Rattle.link_base.specs.Limits.{FILE_LIMIT}
+use Rattle.link_base.specs.Refusals.{RefusesFor}
+use Rattle.link_base.specs.declared.fault.Fault.{Fault}
+use Rattle.link_base.specs.declared.stop.Refusal.{Refusal}
+use Rattle.link_base.specs.declared.stop.Refusal.TheVariants as refusal
+use Rattle.link_base.specs.declared.stop.Stop.{Stop}
+use Rattle.link_base.specs.declared.stop.Stop.TheVariants as stop
+use Rattle.link_files.specs.Store.{Store}
+use Rattle.link_files.specs.Outside.{FilesView}
+use Rattle.link_words.specs.Outcome.{LinkOptions}
+use Rattle.lib_search.specs.declared.found.FoundFile.{FoundFile as Found}
+use Rattle.lib_search.specs.declared.link_list.LinkList.{LinkList}
+use Rattle.lib_search.specs.FoundFiles.{FoundFile, no_file}
+use Rattle.lib_search.specs.InputFiles.{input_files, input_total}
+use Rattle.lib_search.specs.Inputs.{opening_fault}
+use Rattle.lib_search.specs.Reading.{file_found, files_found, GivesInputs, ReadsInputs}
+use Rattle.lib_search.specs.SearchSteps.{SearchState}
+use Rattle.lib_search.specs.Loading.{inputs_state, first_state, state_after, Reaches, HasLoadingFault, AtRead, AtOpening}
+use Rattle.lib_search.specs.LoadingSteps.{stop_of, CompletesFrom}
+use Rattle.lib_search.specs.Completion.{Completes}
+use Rattle.lib_search.proofs.LoadingLemmas.{untouched_further, failed_further, left_further}
+
+-- each file that was read is short enough
+pub short_files : (files items : List Found) → items ≡ files → All (λ file. length file.bytes ≤ FILE_LIMIT) (files_found files) → (k : ℕ) (d : Found) → k < length items → length (get_or items k d).bytes.now ≤ FILE_LIMIT
+short_files files items same within k d lt =
+    let long = ap (λ (fs : List Found). length fs) same in
+    let inside : k < length files = omega (arith, lt, long) in
+    let item : get_or (files_found files) k (file_found d) ≡ file_found (get_or items k d) =
+    get_or-map file_found files k d (file_found d) inside ∙ ap (λ (fs : List Found). file_found (get_or fs k d)) (sym same) in
+    let len = ap (λ (f : FoundFile). length f.bytes) item in
+    omega (arith, within k (file_found d) (omega (arith, inside, length-map files file_found)), len)
+
+-- they do not all open
+pub stops_opening : (options : LinkOptions) (total : ℕ) (before after : FilesView) (found : List FoundFile) (refused : Refusal) → GivesInputs options total before after found → RefusesFor (opening_fault found) refused → Completes options before after (Err (stop_of refused))
+stops_opening options total before after found (refusal.Fault fault) gives bad = record {
+  files = gives.files;
+  told = λ store is. AtOpening (gives.no_fault store is) (ap opening_fault (sym (gives.told store is)) ∙ bad);
+}
+stops_opening options total before after found refusal.Memory gives bad = record { store = gives.files.store; writes = gives.files.writes }
+
+-- the search begins with them
+begins : (store : Store) (options : LinkOptions) (total : ℕ) (before after : FilesView) (found : List FoundFile) (state : SearchState) → before.store ≡ Some store → GivesInputs options total before after found → opening_fault found ≡ None → state ≡ inputs_state options found total → Reaches store options state
+unfolding state_after
+begins store options total before after found state is gives opened state_is = record {
+  read = gives.no_fault store is;
+  opened = ap opening_fault (sym (gives.told store is)) ∙ opened;
+  steps = 0;
+  is =
+      ap Some
+      (ap (inputs_state options (input_files store options)) (sym (gives.total_is store is))
+      ∙ ap (λ (files : List FoundFile). inputs_state options files total) (sym (gives.told store is))
+      ∙ sym state_is);
+}
+
+-- and ends
+pub ends_loading : (options : LinkOptions) (total : ℕ) (before after later : FilesView) (found : List FoundFile) (state : SearchState) (result : Result LinkList Stop) → GivesInputs options total before after found → opening_fault found ≡ None → state ≡ inputs_state options found total → CompletesFrom options state after later result → Completes options before later result
+ends_loading options total before after later found state (Ok list) gives opened state_is ends = record {
+  files = untouched_further before after later gives.files ends.files;
+  few = ends.few;
+  names_are = ends.names_are;
+  told = λ store is. ends.told store (gives.files.store ∙ is) (begins store options total before after found state is gives opened state_is);
+}
+ends_loading options total before after later found state (Err (stop.Fault fault)) gives opened state_is ends = record {
+  files = untouched_further before after later gives.files ends.files;
+  told = λ store is. ends.told store (gives.files.store ∙ is) (begins store options total before after found state is gives opened state_is);
+}
+ends_loading options total before after later found state (Err (stop.Read failed)) gives opened state_is ends = record {
+  files = failed_further before after later gives.files ends.files;
+  told = λ store is. inr (ends.told store (gives.files.store ∙ is) (begins store options total before after found state is gives opened state_is));
+}
+ends_loading options total before after later found state (Err stop.Memory) gives opened state_is ends = left_further before after later gives.files ends

@@ -1,0 +1,15 @@
+pub mod FindLemmas
+pub mod ReadLemmas
+pub mod NotedLemmas
+pub mod DefaultLemmas
+pub mod LibraryLemmas
+pub mod InputLemmas
+pub mod ModuleLemmas
+pub mod ListingLemmas
+pub mod AlternateLemmas
+pub mod FromLemmas
+pub mod NextLemmas
+pub mod PassedLemmas
+pub mod LoadingLemmas
+pub mod GoneLemmas
+pub mod EndLemmas

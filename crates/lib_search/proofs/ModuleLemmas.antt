@@ -1,0 +1,61 @@
+-- The lists of all modules, with one module more.
+use Rattle.std.proofs.Common.{◌≡◌, ℕ, zero, suc, ◌+◌, ◌-◌, ◌<◌, ◌≤◌, List, [], ◌∷◌, ◌++◌, length, take, get_or, refl, sym, ap, ◌∙◌, arith}
+use Rattle.std.specs.List.{flat_map, range_with_len}
+use Rattle.std.proofs.lemmas.List.{length-append, get_or_append_left, get_or_push}
+use Rattle.std.proofs.lemmas.List.Concat.{flat_map-append}
+use Rattle.link_base.proofs.RangeLemmas.{joined_more}
+use Rattle.module_view.specs.Module.{ModuleView, no_module, module_at}
+use Rattle.symbol_table.specs.Lists.{of_all}
+
+-- the lists of the first modules
+abbrev pub of_first : {A : Type 0} → (ℕ → List ℕ → List A) → List ModuleView → ℕ → List A
+of_first list modules n = flat_map (λ k. list k (module_at modules k).bytes) (range_with_len 0 n)
+
+pub of_first_more : {A : Type 0} (list : ℕ → List ℕ → List A) (modules : List ModuleView) (n : ℕ) (m : ModuleView) → n < length modules → m ≡ module_at modules n → of_first list modules (n + 1) ≡ of_first list modules n ++ list n m.bytes
+of_first_more {A} list modules n m lt is =
+    joined_more (λ k. list k (module_at modules k).bytes) 0 n n (omega arith)
+    ∙ ap (λ (v : ModuleView). of_first list modules n ++ list n v.bytes) (sym is)
+
+same_joined : {A : Type 0} (f g : ℕ → List A) (a n : ℕ) → ((k : ℕ) → a ≤ k → k < a + n → f k ≡ g k) → flat_map f (range_with_len a n) ≡ flat_map g (range_with_len a n)
+same_joined f g a zero same = refl
+same_joined {A} f g a (suc n) same =
+    ap (λ (xs : List A). xs ++ flat_map f (range_with_len (a + 1) n)) (same a (omega arith) (omega arith))
+    ∙ ap (λ (ys : List A). g a ++ ys) (same_joined f g (a + 1) n (λ k low high. same k (omega arith) (omega arith)))
+
+-- those of one module more come after the others
+pub of_all_push : {A : Type 0} (list : ℕ → List ℕ → List A) (modules : List ModuleView) (m : ModuleView) → of_all list (modules ++ m ∷ []) ≡ of_all list modules ++ list (length modules) m.bytes
+of_all_push {A} list modules m =
+    let more = modules ++ m ∷ [] in
+    let n = length modules in
+    let longer : length more ≡ n + 1 = length-append modules (m ∷ []) in
+    ap (of_first list more) longer
+    ∙ of_first_more list more n m (omega (arith, longer)) (sym (get_or_push modules m no_module n refl))
+    ∙ ap (λ (xs : List A). xs ++ list n m.bytes)
+    (same_joined (λ k. list k (module_at more k).bytes) (λ k. list k (module_at modules k).bytes) 0 n (λ k low high.
+    ap (λ (v : ModuleView). list k v.bytes) (get_or_append_left modules (m ∷ []) no_module k (omega (arith, high)))))
+
+-- the lists of the later modules
+abbrev pub of_later : {A : Type 0} → (ℕ → List ℕ → List A) → List ModuleView → ℕ → List A
+of_later list modules n = flat_map (λ k. list k (module_at modules k).bytes) (range_with_len n (length modules - n))
+
+range_split : (a n m : ℕ) → range_with_len a (n + m) ≡ range_with_len a n ++ range_with_len (a + n) m
+range_split a zero m =
+    let none : 0 + m ≡ m = omega arith in
+    let start : a ≡ a + 0 = omega arith in
+    ap (range_with_len a) none ∙ ap (λ (b : ℕ). range_with_len b m) start
+range_split a (suc n) m =
+    let longer : suc n + m ≡ suc (n + m) = omega arith in
+    let start : a + 1 + n ≡ a + suc n = omega arith in
+    ap (range_with_len a) longer
+    ∙ ap (λ (rest : List ℕ). a ∷ rest)
+    (range_split (a + 1) n m ∙ ap (λ (b : ℕ). range_with_len (a + 1) n ++ range_with_len b m) start)
+
+pub of_all_split : {A : Type 0} (list : ℕ → List ℕ → List A) (modules : List ModuleView) (n : ℕ) → n ≤ length modules → of_all list modules ≡ of_first list modules n ++ of_later list modules n
+of_all_split {A} list modules n le =
+    let each = λ (k : ℕ). list k (module_at modules k).bytes in
+    let whole : length modules ≡ n + (length modules - n) = omega (arith, le) in
+    let same : 0 + n ≡ n = omega arith in
+    ap (λ (len : ℕ). flat_map each (range_with_len 0 len)) whole
+    ∙ ap (flat_map each) (range_split 0 n (length modules - n))
+    ∙ flat_map-append each (range_with_len 0 n) (range_with_len (0 + n) (length modules - n))
+    ∙ ap (λ (start : ℕ). of_first list modules n ++ flat_map each (range_with_len start (length modules - n))) same

@@ -1,0 +1,28 @@
+use Rattle.std.proofs.Common.{List, Err, sym, ap, subst, ◌∙◌}
+use Rattle.link_base.specs.Refusals.{RefusesFor}
+use Rattle.link_base.specs.declared.stop.Stop.{Stop}
+use Rattle.link_files.specs.Outside.{files_of}
+use Rattle.link_words.specs.Outcome.{options_said}
+use Rattle.lib_search.specs.declared.found.FoundFile.{FoundFile as Found}
+use Rattle.lib_search.specs.Inputs.{opening_fault}
+use Rattle.lib_search.specs.Reading.{files_found}
+use Rattle.lib_search.specs.Loading.{inputs_state}
+use Rattle.lib_search.specs.LoadingSteps.{state_now}
+use Rattle.lib_search.specs.Completion.{Completes}
+use Rattle.lib_search.proofs.EndLemmas.{short_files, stops_opening, ends_loading}
+use Rattle.lib_search.proofs.link_list.complete.Goals as goal
+
+pub start-requires : goal.start-requires
+start-requires g c = short_files c.in-Ok.read.items c.deref.result.now c.deref.ensures.value c.in-Ok.ensures.within
+
+pub returns-in-Ok-start : goal.returns-in-Ok-start
+returns-in-Ok-start g c =
+    let options = options_said c.args.options.now in
+    let before = files_of g.F.Files.store g.F.Files.read_faults g.F.Files.write_faults c.args.files.now in
+    let after = files_of g.F.Files.store g.F.Files.read_faults g.F.Files.write_faults c.read_inputs.new.files in
+    let later = files_of g.F.Files.store g.F.Files.read_faults g.F.Files.write_faults c.search.new.files in
+    let total = c.read_inputs.new.inputs in
+    ends_loading options total before after later (files_found c.in-Ok.read.items) (state_now c.in-Ok-start.loading c.start.new.inputs) c.search.result c.in-Ok.ensures
+    (ap (λ (fs : List Found). opening_fault (files_found fs)) (sym c.deref.ensures.value) ∙ c.in-Ok-start.ensures.accepted)
+    (c.in-Ok-start.ensures.state ∙ ap (λ (fs : List Found). inputs_state options (files_found fs) total) c.deref.ensures.value)
+    c.search.ensures

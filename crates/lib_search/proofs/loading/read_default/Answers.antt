@@ -1,0 +1,40 @@
+use Rattle.std.proofs.Common.{ap, subst, ◌∙◌}
+use Rattle.link_base.specs.Refusals.{RefusesFor}
+use Rattle.lib_search.specs.Joining.{no_library}
+use Rattle.link_files.specs.Outside.{files_of}
+use Rattle.link_words.specs.Outcome.{options_said}
+use Rattle.link_words.specs.SettingsView.{texts_of}
+use Rattle.lib_search.specs.Reading.{file_found}
+use Rattle.lib_search.specs.SearchSteps.{next_default}
+use Rattle.lib_search.specs.LoadingSteps.{state_now}
+use Rattle.lib_search.proofs.LoadingLemmas.{next_named, reads_next, bad_next, stops_next}
+use Rattle.lib_search.proofs.loading.read_default.Goals as goal
+
+pub returns-in-Ok-with_default : goal.returns-in-Ok-with_default
+returns-in-Ok-with_default g c =
+    let options = options_said c.args.options.now in
+    let before = files_of g.F.Files.store g.F.Files.read_faults g.F.Files.write_faults c.args.files.now in
+    let after = files_of g.F.Files.store g.F.Files.read_faults g.F.Files.write_faults c.find_file.new.files in
+    let named = c.name_at-name.ensures ∙ next_named options c.args.loading c.args.inputs.now c.requires.kept in
+    reads_next options c.args.loading c.in-Ok-with_default.later c.args.inputs.now c.find_file.new.inputs (texts_of c.deref.result.now) c.name_at-name.result.now before after (file_found c.in-Ok.found)
+    c.requires.kept c.requires.wants (ap texts_of c.deref.ensures.value) named c.in-Ok.ensures
+    c.in-Ok-with_default.ensures.search c.in-Ok-with_default.ensures.defaults c.in-Ok-with_default.ensures.read c.in-Ok-with_default.ensures.accepted
+
+pub returns-in-Err-Fault : goal.returns-in-Err-Fault
+returns-in-Err-Fault g c =
+    let options = options_said c.args.options.now in
+    let before = files_of g.F.Files.store g.F.Files.read_faults g.F.Files.write_faults c.args.files.now in
+    let after = files_of g.F.Files.store g.F.Files.read_faults g.F.Files.write_faults c.find_file.new.files in
+    let named = c.name_at-name.ensures ∙ next_named options c.args.loading c.args.inputs.now c.requires.kept in
+    bad_next options c.args.loading c.args.inputs.now c.find_file.new.inputs (texts_of c.deref.result.now) c.name_at-name.result.now before after (file_found c.in-Ok.found) c.in-Err-Fault.fault
+    c.requires.wants (ap texts_of c.deref.ensures.value) named c.in-Ok.ensures
+    (subst (RefusesFor (no_library (file_found c.in-Ok.found))) c.in-Err-Fault.field-0-is c.in-Err-Fault.ensures.refused)
+
+pub returns : goal.returns
+returns g c =
+    let options = options_said c.args.options.now in
+    let before = files_of g.F.Files.store g.F.Files.read_faults g.F.Files.write_faults c.args.files.now in
+    let after = files_of g.F.Files.store g.F.Files.read_faults g.F.Files.write_faults c.find_file.new.files in
+    let named = c.name_at-name.ensures ∙ next_named options c.args.loading c.args.inputs.now c.requires.kept in
+    stops_next options c.args.loading c.args.inputs.now c.find_file.new.inputs (texts_of c.deref.result.now) c.name_at-name.result.now before after c.in-Err.stop
+    c.requires.wants (ap texts_of c.deref.ensures.value) named c.in-Err.ensures

@@ -1,0 +1,37 @@
+-- The inputs, opened in the order of the words: those that begin as a library are libraries, the others are modules. The
+-- first that does not open, and the first module that is one too many, is the fault. Own.
+use Rattle.std.specs.Prelude.{ℕ, Bool, not, if◌then◌else◌, List, length, map, filter, take, slice_index_or, Option, None}
+use Rattle.link_base.specs.Refusals.{first_refusal_below}
+use Rattle.link_base.specs.declared.fault.Fault.{Fault}
+use Rattle.lib_reader.specs.LibraryWalk.{has_magic}
+use Rattle.module_view.specs.Module.{ModuleView}
+use Rattle.lib_search.specs.FoundFiles.{FoundFile, no_file}
+use Rattle.lib_search.specs.Joining.{joining_fault, no_library}
+
+abbrev pub is_library : FoundFile → Bool
+is_library found = has_magic found.bytes
+
+abbrev pub is_module : FoundFile → Bool
+is_module found = not (has_magic found.bytes)
+
+-- a file as a module
+abbrev pub file_module : FoundFile → ModuleView
+file_module found = record { file = found.file; member = None; bytes = found.bytes }
+
+-- the modules and the libraries among files, in their order
+abbrev pub modules_among : List FoundFile → List ModuleView
+modules_among files = map file_module (filter is_module files)
+
+abbrev pub libraries_among : List FoundFile → List FoundFile
+libraries_among files = filter is_library files
+
+-- why a file does not open, after as many modules
+abbrev pub file_fault : FoundFile → ℕ → Option Fault
+file_fault found position = if has_magic found.bytes then no_library found else joining_fault (file_module found) position
+
+abbrev pub opening_fault_at : List FoundFile → ℕ → Option Fault
+opening_fault_at files k = file_fault (slice_index_or files k no_file) (length (modules_among (take k files)))
+
+-- why the inputs do not all open
+abbrev pub opening_fault : List FoundFile → Option Fault
+opening_fault files = first_refusal_below (length files) (opening_fault_at files)

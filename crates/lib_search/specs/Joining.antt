@@ -1,0 +1,41 @@
+-- Why a file or a member does not open as a module, does not join, or is no library. Own.
+use Rattle.std.specs.Prelude.{ℕ, nat_le, if◌then◌else◌, List, Option, Some, None, option_map}
+use Rattle.std.specs.Option.{option_or}
+use Rattle.link_base.specs.Limits.{MODULE_LIMIT}
+use Rattle.link_base.specs.declared.fault.Fault.{Fault}
+use Rattle.link_base.specs.declared.fault.Fault.TheVariants.{InputLimit, BadObject, BadLibrary, BadDirective, Unsupported}
+use Rattle.lib_reader.specs.declared.error.LibError.{LibError}
+use Rattle.lib_reader.specs.LibraryWalk.{library_fault}
+use Rattle.module_view.specs.declared.error.ModuleError.{ModuleError}
+use Rattle.module_view.specs.declared.error.ModuleError.TheVariants as bad
+use Rattle.module_view.specs.Module.{ModuleView}
+use Rattle.module_view.specs.Opening.{opening_error}
+use Rattle.lib_search.specs.FoundFiles.{FoundFile}
+
+-- ---- a module
+
+-- an error of opening, with the file and the member; of want of memory nothing is said
+abbrev pub module_fault : List ℕ → Option (List ℕ) → Option ModuleError → Option Fault
+module_fault file member (Some (bad.Object error)) = Some (BadObject file member error.kind error.index)
+module_fault file member (Some (bad.Directive at)) = Some (BadDirective file member at)
+module_fault file member (Some (bad.Unsupported kind)) = Some (Unsupported file member kind)
+module_fault file member (Some bad.Memory) = None
+module_fault file member None = None
+
+-- modules are counted from 0
+abbrev pub count_fault : ℕ → Option Fault
+count_fault position = if nat_le MODULE_LIMIT position then Some (InputLimit 65535) else None
+
+-- why it does not join as the module at a position
+abbrev pub joining_fault : ModuleView → ℕ → Option Fault
+joining_fault view position = option_or (module_fault view.file view.member (opening_error view.bytes)) (count_fault position)
+
+-- ---- a library
+
+-- what is wrong with a library, with its file
+abbrev pub bad_library : List ℕ → LibError → Fault
+bad_library file error = BadLibrary file None error.kind error.at
+
+-- why a file is no library
+abbrev pub no_library : FoundFile → Option Fault
+no_library found = option_map (bad_library found.file) (library_fault found.bytes)

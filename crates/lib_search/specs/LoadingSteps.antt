@@ -1,0 +1,96 @@
+-- What the steps of a loading promise to one another.
+use Rattle.std.specs.Prelude.{◌≡◌, ◌+◌, ◌≤◌, ◌⊎◌, ℕ, true, false, List, length, Result, Ok, Err}
+use Rattle.std.specs.Option.{ForSome}
+use Rattle.link_base.specs.Limits.{MODULE_LIMIT}
+use Rattle.link_base.specs.declared.fault.Fault.{Fault}
+use Rattle.link_base.specs.declared.stop.Refusal.{Refusal}
+use Rattle.link_base.specs.declared.stop.Refusal.TheVariants as refusal
+use Rattle.link_base.specs.declared.stop.Stop.{Stop}
+use Rattle.link_base.specs.declared.stop.Stop.TheVariants as stop
+use Rattle.link_files.specs.Outside.{FilesView, AreUntouched, ReadFailed}
+use Rattle.link_words.specs.Outcome.{LinkOptions}
+use Rattle.lib_search.specs.declared.link_list.LinkList.{LinkList}
+use Rattle.lib_search.specs.declared.loading.Loading.{Loading}
+use Rattle.lib_search.specs.LinkOf.{link_of}
+use Rattle.lib_search.specs.FileNames.{tried_names}
+use Rattle.lib_search.specs.DefaultLibraries.{default_names}
+use Rattle.lib_search.specs.DefaultSteps.{KeepsDefaults}
+use Rattle.lib_search.specs.Reading.{LeavesFiles, Tries, TriesInput}
+use Rattle.lib_search.specs.SearchSteps.{SearchState, Faults, Goes, next_step, wants_library, next_default}
+use Rattle.lib_search.specs.Loading.{Reaches, HasLoadingFault, Loads, TriesDefault}
+
+-- what a refusal stops
+abbrev pub stop_of : Refusal → Stop
+stop_of (refusal.Fault fault) = stop.Fault fault
+stop_of refusal.Memory = stop.Memory
+
+-- where a loading stands, after as many bytes
+abbrev pub state_now : Loading → ℕ → SearchState
+state_now loading total = record { searched = loading.search; total = total; defaults = loading.read }
+
+-- it has the names of its modules, and the default libraries that these name
+pub record KeepsLoading (options : LinkOptions) (loading : Loading) : Type 0 where
+  pub link_is : loading.search.link ≡ link_of options loading.search.link.modules
+  pub few : length loading.search.link.modules ≤ MODULE_LIMIT
+  pub defaults : KeepsDefaults options (default_names options loading.search.link.modules) loading.defaults
+
+-- ---- a default library is read
+
+-- the next step leads on
+pub record ReadsNext (options : LinkOptions) (state : SearchState) (after_total : ℕ) (before after : FilesView) (loading : Loading) : Type 0 where
+  pub files : AreUntouched before after
+  pub kept : KeepsLoading options loading
+  pub link_kept : loading.search.link ≡ state.searched.link
+  pub one_more : loading.read ≡ state.defaults + 1
+  pub told : ForSome before.store (λ store. next_step store options state ≡ Goes (state_now loading after_total))
+
+pub record FaultsNext (options : LinkOptions) (state : SearchState) (before after : FilesView) (fault : Fault) : Type 0 where
+  pub files : AreUntouched before after
+  pub told : ForSome before.store (λ store. next_step store options state ≡ Faults fault)
+
+pub record FailsNext (options : LinkOptions) (state : SearchState) (before after : FilesView) (name : List ℕ) : Type 0 where
+  pub files : ReadFailed before after
+  pub told : ForSome before.store (λ store. Tries store (tried_names options.lib_paths (next_default options state)) name)
+
+abbrev pub ReadsDefault : LinkOptions → SearchState → ℕ → FilesView → FilesView → Result Loading Stop → Type 0
+ReadsDefault options state after_total before after (Ok loading) = ReadsNext options state after_total before after loading
+ReadsDefault options state after_total before after (Err (stop.Fault fault)) = FaultsNext options state before after fault
+ReadsDefault options state after_total before after (Err (stop.Read name)) = FailsNext options state before after name
+ReadsDefault options state after_total before after (Err stop.Memory) = LeavesFiles before after
+
+-- ---- from a state that is reached on
+
+pub record FaultsFrom (options : LinkOptions) (state : SearchState) (before after : FilesView) (fault : Fault) : Type 0 where
+  pub files : AreUntouched before after
+  pub told : ForSome before.store (λ store. Reaches store options state → HasLoadingFault store options fault)
+
+pub record FailsFrom (options : LinkOptions) (state : SearchState) (before after : FilesView) (name : List ℕ) : Type 0 where
+  pub files : ReadFailed before after
+  pub told : ForSome before.store (λ store. Reaches store options state → TriesDefault store options name)
+
+-- no default library is left to read
+pub record ReadsAll (options : LinkOptions) (state : SearchState) (after_total : ℕ) (before after : FilesView) (loading : Loading) : Type 0 where
+  pub files : AreUntouched before after
+  pub kept : KeepsLoading options loading
+  pub link_kept : loading.search.link ≡ state.searched.link
+  pub none_left : wants_library options (state_now loading after_total) ≡ false
+  pub told : ForSome before.store (λ store. Reaches store options state → Reaches store options (state_now loading after_total))
+
+abbrev pub ReadsDefaults : LinkOptions → SearchState → ℕ → FilesView → FilesView → Result Loading Stop → Type 0
+ReadsDefaults options state after_total before after (Ok loading) = ReadsAll options state after_total before after loading
+ReadsDefaults options state after_total before after (Err (stop.Fault fault)) = FaultsFrom options state before after fault
+ReadsDefaults options state after_total before after (Err (stop.Read name)) = FailsFrom options state before after name
+ReadsDefaults options state after_total before after (Err stop.Memory) = LeavesFiles before after
+
+-- the modules that join
+pub record GivesFrom (options : LinkOptions) (state : SearchState) (before after : FilesView) (list : LinkList) : Type 0 where
+  pub files : AreUntouched before after
+  pub few : length list.modules.items ≤ MODULE_LIMIT
+  pub names_are : list.table ≡ link_of options list.modules.items
+  pub told : ForSome before.store (λ store. Reaches store options state → Loads store options list.modules.items)
+
+abbrev pub CompletesFrom : LinkOptions → SearchState → FilesView → FilesView → Result LinkList Stop → Type 0
+CompletesFrom options state before after (Ok list) = GivesFrom options state before after list
+CompletesFrom options state before after (Err (stop.Fault fault)) = FaultsFrom options state before after fault
+CompletesFrom options state before after (Err (stop.Read name)) = FailsFrom options state before after name
+CompletesFrom options state before after (Err stop.Memory) = LeavesFiles before after

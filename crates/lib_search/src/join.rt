@@ -1,0 +1,67 @@
+//! A file or a member joins as a module.
+
+ghost use Rattle.std.specs.Prelude.{◌≡◌, ◌≤◌, ◌<◌, length, None, Some, IfOk, OnOk, IfErr};
+ghost use Rattle.link_base.specs.Limits.{FILE_LIMIT as most_bytes, MODULE_LIMIT as most_modules};
+ghost use Rattle.link_base.specs.Refusals.{RefusesFor};
+ghost use Rattle.module_view.specs.ModuleParts.{view_of};
+ghost use Rattle.module_view.specs.Opening.{opening_error};
+ghost use Rattle.lib_search.specs.Joining.{module_fault, joining_fault};
+
+use link_base::{Fault, MODULE_LIMIT, Name, Refusal};
+use module_view::{Module, ModuleError, Origin, open_module};
+use std::alloc::Global;
+
+/// Opens a file or a member as the module at a position, from 0. One that does not open is refused, and so is one too many.
+pub(crate) fn join<'a>(
+    alloc: Global,
+    origin: Origin<'a>,
+    bytes: &'a [u8],
+    position: usize,
+) -> Result<Module<'a>, Refusal<'a>>
+    requires { length bytes.now ≤ most_bytes }
+    ensures opened { IfOk result (λ opened. opened ≡ view_of origin.entry bytes.now) }
+    ensures accepted { OnOk result (joining_fault (view_of origin.entry bytes.now) position ≡ None) }
+    ensures few { OnOk result (position < most_modules) }
+    ensures refused { IfErr result (RefusesFor (joining_fault (view_of origin.entry bytes.now) position)) }
+{
+    let file = origin.file.again();
+    let member = again(&origin.member);
+    match open_module(alloc, origin, bytes) {
+        Ok(module) => {
+            if position >= MODULE_LIMIT {
+                return Err(Refusal::Fault(Fault::InputLimit {
+                    sum: MODULE_LIMIT as u64 + 1,
+                }));
+            }
+            Ok(module)
+        }
+        Err(error) => Err(refusal_of(file, member, error)),
+    }
+}
+
+/// The same name, where there is one.
+fn again<'a>(name: &Option<Name<'a>>) -> Option<Name<'a>>
+    ensures { result ≡ name.now }
+{
+    match name {
+        Some(name) => Some(name.again()),
+        None => None,
+    }
+}
+
+/// What an error of opening says of a file, or of a member of it.
+fn refusal_of<'a>(file: Name<'a>, member: Option<Name<'a>>, error: ModuleError) -> Refusal<'a>
+    ensures { RefusesFor (module_fault file.entry member.entry (Some error)) result }
+{
+    match error {
+        ModuleError::Object(error) => Refusal::Fault(Fault::BadObject {
+            file,
+            member,
+            kind: error.kind,
+            index: error.index,
+        }),
+        ModuleError::Directive { at } => Refusal::Fault(Fault::BadDirective { file, member, at }),
+        ModuleError::Unsupported(kind) => Refusal::Fault(Fault::Unsupported { file, member, kind }),
+        ModuleError::Memory => Refusal::Memory,
+    }
+}

@@ -1,0 +1,22 @@
+//! The modules of a link: its inputs, and the members of libraries that define what these ask for. It takes files from
+//! `link_files` by `input_arena`, opens them by `module_view` and `lib_reader`, and gives the modules and the table of their
+//! names to the crates that plan a link. Its contract promises that the modules are those that the search of libraries joins,
+//! in its order, or that its first fault is told. What names mean is left to `symbol_table`.
+#![tactic(auto)]
+
+mod default_libraries;
+mod find;
+mod found;
+mod join;
+mod library;
+mod library_name;
+mod link_list;
+mod loading;
+mod open;
+mod read;
+mod search;
+
+pub use link_list::{LinkList, complete};
+
+#[cfg(test)]
+mod tests;

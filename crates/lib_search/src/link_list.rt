@@ -1,0 +1,92 @@
+//! The modules of a link.
+
+ghost use Rattle.std.specs.Prelude.{◌≡◌, ◌<◌, ◌-◌, ◌^◌};
+ghost use Rattle.link_files.specs.Outside.{files_of};
+ghost use Rattle.link_words.specs.Outcome.{options_said};
+ghost use Rattle.lib_search.specs.Completion.{Completes};
+ghost use Rattle.lib_search.specs.LoadingSteps.{state_now, stop_of, KeepsLoading, CompletesFrom};
+
+use crate::loading::{Loading, join_member, read_defaults, start};
+use crate::read::read_inputs;
+use input_arena::Inputs;
+use link_base::{Refusal, Stop};
+use link_files::Files;
+use link_words::Options;
+use module_view::Module;
+use std::alloc::Global;
+use symbol_table::SymbolTable;
+
+/// What takes part in a link: the modules, in the order of joining, and the table of their names.
+#[derive(Drop)]
+pub struct LinkList<'a> {
+    pub modules: Vec<Module<'a>>,
+    pub table: SymbolTable<'a>,
+}
+
+/// Reads and opens the inputs that the options name, and searches libraries for what they ask for: those among the inputs, then
+/// the default libraries. The first fault of an input, of a default library or of a member that is to join is refused
+/// (`NotFound`, `FileTooLarge`, `InputLimit`, `BadObject`, `BadLibrary`, `BadDirective`, `Unsupported`).
+pub fn complete<'a, F: Files>(
+    alloc: Global,
+    files: &mut F,
+    inputs: &mut Inputs<'a>,
+    options: &Options<'a>,
+) -> Result<LinkList<'a>, Stop<'a>>
+    requires reads_below { F.read_faults files.old < 2 ^ 64 - 1 }
+    requires writes_below { F.write_faults files.old < 2 ^ 64 - 1 }
+    requires none_read { inputs.old ≡ 0 }
+    ensures { Completes (options_said options.now)
+        (files_of F.store F.read_faults F.write_faults files.old)
+        (files_of F.store F.read_faults F.write_faults files.new) result }
+{
+    let read = match read_inputs(alloc, files, inputs, options) {
+        Ok(read) => read,
+        Err(stop) => return Err(stop),
+    };
+    match start(alloc, inputs, options, &read) {
+        Ok(loading) => search(alloc, files, inputs, options, loading),
+        Err(refusal) => Err(stop_of(refusal)),
+    }
+}
+
+/// Searches libraries until nothing is left to join.
+fn search<'a, F: Files>(
+    alloc: Global,
+    files: &mut F,
+    inputs: &mut Inputs<'a>,
+    options: &Options<'a>,
+    loading: Loading<'a>,
+) -> Result<LinkList<'a>, Stop<'a>>
+    requires reads_below { F.read_faults files.old < 2 ^ 64 - 1 }
+    requires writes_below { F.write_faults files.old < 2 ^ 64 - 1 }
+    requires kept { KeepsLoading (options_said options.now) loading }
+    ensures { CompletesFrom (options_said options.now) (state_now loading.entry inputs.old)
+        (files_of F.store F.read_faults F.write_faults files.old)
+        (files_of F.store F.read_faults F.write_faults files.new) result }
+{
+    let mut loading = loading;
+    loop {
+        loading = match read_defaults(alloc, files, inputs, options, loading) {
+            Ok(later) => later,
+            Err(stop) => return Err(stop),
+        };
+        let Some(place) = loading.search.next_member(&options.alternates) else {
+            let (modules, table) = loading.search.finish();
+            return Ok(LinkList { modules, table });
+        };
+        loading = match join_member(alloc, inputs, loading, place) {
+            Ok(later) => later,
+            Err(refusal) => return Err(stop_of(refusal)),
+        };
+    }
+}
+
+/// What a refusal stops.
+fn stop_of<'a>(refusal: Refusal<'a>) -> Stop<'a>
+    ensures { result ≡ stop_of refusal.entry }
+{
+    match refusal {
+        Refusal::Fault(fault) => Stop::Fault(fault),
+        Refusal::Memory => Stop::Memory,
+    }
+}
