@@ -2,12 +2,12 @@
 use Rattle.std.proofs.Common.{◌≡◌, ℕ, ◌+◌, ◌<◌, List, [], ◌∷◌, ◌++◌, length, map, take, drop, get_or, Option, Some, None, refl, sym, ap, ◌∙◌, arith}
 use Rattle.std.specs.Prelude.{filter_map}
 use Rattle.std.specs.Option.{option_or}
-use Rattle.std.proofs.lemmas.List.{map-append, take_more, take-append-drop, take_all}
+use Rattle.std.proofs.lemmas.List.{map-append, take_more, take-append-drop}
 use Rattle.std.proofs.lemmas.List.Elements.{filter_map-append}
 use Rattle.link_base.specs.Refusals.{first_standing}
 use Rattle.link_base.proofs.RefusalLemmas.{or_none}
 use Rattle.directives.specs.declared.item.Directive.{Directive}
-use Rattle.directives.specs.Said.{Said, said}
+use Rattle.directives.specs.Said.{said}
 use Rattle.module_view.specs.Module.{ModuleView, no_module, module_at}
 use Rattle.symbol_table.specs.Alternates.{alternate_said, alternates_by}
 use Rattle.symbol_table.specs.Lists.{of_all}

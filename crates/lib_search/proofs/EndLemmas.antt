@@ -1,11 +1,9 @@
 -- A loading begins with its inputs, and comes to its end.
-use Rattle.std.proofs.Common.{◌≡◌, ℕ, ◌<◌, ◌≤◌, List, length, get_or, map, Some, None, Err, Ok, Result, refl, sym, ap, subst, ◌∙◌, inl, inr, arith}
+use Rattle.std.proofs.Common.{◌≡◌, ℕ, ◌<◌, ◌≤◌, List, length, get_or, Some, None, Err, Ok, Result, sym, ap, ◌∙◌, inr, arith}
 use Rattle.std.specs.Prelude.{All}
-use Rattle.std.specs.Option.{ForSome}
 use Rattle.std.proofs.lemmas.List.{length-map, get_or-map}
 use Rattle.link_base.specs.Limits.{FILE_LIMIT}
 use Rattle.link_base.specs.Refusals.{RefusesFor}
-use Rattle.link_base.specs.declared.fault.Fault.{Fault}
 use Rattle.link_base.specs.declared.stop.Refusal.{Refusal}
 use Rattle.link_base.specs.declared.stop.Refusal.TheVariants as refusal
 use Rattle.link_base.specs.declared.stop.Stop.{Stop}
@@ -15,12 +13,12 @@ use Rattle.link_files.specs.Outside.{FilesView}
 use Rattle.link_words.specs.Outcome.{LinkOptions}
 use Rattle.lib_search.specs.declared.found.FoundFile.{FoundFile as Found}
 use Rattle.lib_search.specs.declared.link_list.LinkList.{LinkList}
-use Rattle.lib_search.specs.FoundFiles.{FoundFile, no_file}
-use Rattle.lib_search.specs.InputFiles.{input_files, input_total}
+use Rattle.lib_search.specs.FoundFiles.{FoundFile}
+use Rattle.lib_search.specs.InputFiles.{input_files}
 use Rattle.lib_search.specs.Inputs.{opening_fault}
-use Rattle.lib_search.specs.Reading.{file_found, files_found, GivesInputs, ReadsInputs}
+use Rattle.lib_search.specs.Reading.{file_found, files_found, GivesInputs}
 use Rattle.lib_search.specs.SearchSteps.{SearchState}
-use Rattle.lib_search.specs.Loading.{inputs_state, first_state, state_after, Reaches, HasLoadingFault, AtRead, AtOpening}
+use Rattle.lib_search.specs.Loading.{inputs_state, state_after, Reaches, AtOpening}
 use Rattle.lib_search.specs.LoadingSteps.{stop_of, CompletesFrom}
 use Rattle.lib_search.specs.Completion.{Completes}
 use Rattle.lib_search.proofs.LoadingLemmas.{untouched_further, failed_further, left_further}

@@ -1,7 +1,6 @@
 -- A loading that has gone on from a state, and how it goes on from there or ends.
-use Rattle.std.proofs.Common.{◌≡◌, ℕ, ◌+◌, ◌-◌, ◌<◌, ◌≤◌, true, false, List, ◌∷◌, [], length, Option, Some, None, Err, Ok, refl, sym, ap, subst, ◌∙◌, arith}
+use Rattle.std.proofs.Common.{◌≡◌, ℕ, ◌-◌, ◌<◌, true, false, List, length, Option, Some, None, Err, Ok, sym, ap, ◌∙◌, arith}
 use Rattle.std.specs.Option.{ForSome}
-use Rattle.link_base.specs.Limits.{MODULE_LIMIT}
 use Rattle.link_base.specs.declared.fault.Fault.{Fault}
 use Rattle.link_base.specs.declared.stop.Refusal.{Refusal}
 use Rattle.link_base.specs.declared.stop.Refusal.TheVariants as refusal
@@ -15,11 +14,11 @@ use Rattle.lib_search.specs.declared.link_list.LinkList.{LinkList}
 use Rattle.lib_search.specs.declared.loading.Loading.{Loading}
 use Rattle.lib_search.specs.DefaultLibraries.{default_libraries}
 use Rattle.lib_search.specs.DefaultSteps.{wanted_by}
-use Rattle.lib_search.specs.SearchSteps.{MemberPlace, Searched, SearchState, Step, Ends, Faults, Goes, goes_unless, with_member, join_fault, join_step, next_member, next_step, wants_library}
-use Rattle.lib_search.specs.Loading.{Reaches, Loads}
+use Rattle.lib_search.specs.SearchSteps.{MemberPlace, Searched, SearchState, Goes, goes_unless, with_member, join_fault, join_step, next_member, next_step, wants_library}
+use Rattle.lib_search.specs.Loading.{Reaches}
 use Rattle.lib_search.specs.LinkOf.{link_of}
 use Rattle.lib_search.specs.LoadingSteps.{stop_of, state_now, KeepsLoading, ReadsNext, ReadsDefault, ReadsDefaults, GivesFrom, CompletesFrom}
-use Rattle.lib_search.proofs.LoadingLemmas.{untouched, untouched_further, failed_further, left_further, state_of, wants_member, none_wanted, reaches_next, faults_there}
+use Rattle.lib_search.proofs.LoadingLemmas.{untouched, untouched_further, failed_further, left_further, state_of, wants_member, reaches_next, faults_there}
 
 pub record GoneOn (options : LinkOptions) (state : SearchState) (before after : FilesView) (loading : Loading) (total : ℕ) : Type 0 where
   pub files : AreUntouched before after

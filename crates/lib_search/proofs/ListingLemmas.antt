@@ -1,10 +1,10 @@
 -- The first library that lists a name.
-use Rattle.std.proofs.Common.{◌≡◌, ℕ, zero, suc, ◌<◌, List, [], ◌∷◌, length, get_or, Option, Some, None, refl, sym, ap, ◌∙◌, arith}
+use Rattle.std.proofs.Common.{◌≡◌, ℕ, zero, suc, ◌<◌, List, [], ◌∷◌, length, get_or, Option, refl, sym, ap, ◌∙◌, arith}
 use Rattle.std.specs.Prelude.{option_map}
 use Rattle.lib_reader.specs.Listing.{first_of_name}
 use Rattle.lib_reader.specs.LibraryWalk.{listing_of}
 use Rattle.lib_search.specs.FoundFiles.{FoundFile, no_file}
-use Rattle.lib_search.specs.SearchSteps.{MemberPlace, place_in, library_at, listing_at}
+use Rattle.lib_search.specs.SearchSteps.{place_in, listing_at}
 
 pub same_item : {A : Type 0} (xs : List A) (k : ℕ) (d e : A) → k < length xs → get_or xs k d ≡ get_or xs k e
 same_item [] k d e lt = absurd (omega arith)

@@ -1,8 +1,8 @@
 -- The steps of a loading.
-use Rattle.std.proofs.Common.{◌≡◌, ℕ, suc, ◌+◌, ◌<◌, ◌≤◌, Bool, true, false, cond, List, [], ◌∷◌, ◌++◌, length, get_or, Option, Some, None, Result, Err, refl, sym, ap, subst, ◌∙◌, lt-ltb, le-ltb, ◌⊎◌, inl, inr, arith}
+use Rattle.std.proofs.Common.{◌≡◌, ℕ, suc, ◌+◌, ◌<◌, ◌≤◌, Bool, true, false, cond, List, [], ◌∷◌, ◌++◌, length, Option, Some, None, Err, refl, sym, ap, subst, ◌∙◌, lt-ltb, le-ltb, ◌⊎◌, inl, inr, arith}
 use Rattle.std.proofs.lemmas.Bool.{cases_lt}
-use Rattle.std.specs.Prelude.{option_map, unwrap_or}
-use Rattle.std.specs.Option.{ForSome, option_or}
+use Rattle.std.specs.Prelude.{unwrap_or}
+use Rattle.std.specs.Option.{option_or}
 use Rattle.std.proofs.lemmas.List.{length-append}
 use Rattle.link_base.specs.Limits.{MODULE_LIMIT}
 use Rattle.link_base.specs.declared.fault.Fault.{Fault}
@@ -14,7 +14,6 @@ use Rattle.link_words.specs.Outcome.{LinkOptions}
 use Rattle.module_view.specs.Module.{ModuleView}
 use Rattle.symbol_table.specs.LinkView.{LinkView}
 use Rattle.lib_search.specs.declared.default_libraries.DefaultLibraries.{DefaultLibraries}
-use Rattle.lib_search.specs.declared.found.FoundFile.{FoundFile as Found}
 use Rattle.lib_search.specs.declared.loading.Loading.{Loading}
 use Rattle.lib_search.specs.LinkOf.{link_of}
 use Rattle.lib_search.specs.FileNames.{tried_names}
@@ -23,10 +22,10 @@ use Rattle.lib_search.specs.InputFiles.{text_at, input_file}
 use Rattle.lib_search.specs.DefaultLibraries.{default_names, default_libraries}
 use Rattle.lib_search.specs.DefaultSteps.{KeepsDefaults, wanted_by}
 use Rattle.lib_search.specs.Joining.{no_library}
-use Rattle.lib_search.specs.Reading.{LeavesFiles, Tries, GivesNamed, FaultsNamed, FailsNamed, ReadsNamed}
-use Rattle.lib_search.specs.SearchSteps.{MemberPlace, Searched, SearchState, Step, Faults, Goes, goes_unless, member_at, with_module, with_member, with_library, after_default, default_fault, default_step_as, default_step, join_step, wants_library, next_default, next_member, next_step}
-use Rattle.lib_search.specs.Loading.{state_in, state_after_one, state_after, Reaches, FaultsAt, HasLoadingFault, AtStep, TriesDefault}
-use Rattle.lib_search.specs.LoadingSteps.{state_now, KeepsLoading, ReadsNext, FaultsNext, FailsNext, ReadsDefault, ReadsAll, FaultsFrom, FailsFrom, ReadsDefaults}
+use Rattle.lib_search.specs.Reading.{LeavesFiles, Tries, GivesNamed, ReadsNamed}
+use Rattle.lib_search.specs.SearchSteps.{MemberPlace, Searched, SearchState, Faults, Goes, goes_unless, member_at, with_module, with_member, with_library, after_default, default_step_as, default_step, join_step, wants_library, next_default, next_member, next_step}
+use Rattle.lib_search.specs.Loading.{state_in, state_after_one, state_after, Reaches, HasLoadingFault, AtStep}
+use Rattle.lib_search.specs.LoadingSteps.{state_now, KeepsLoading, ReadsNext, FaultsNext, ReadsDefault}
 
 -- ---- files that stay as they are
 

@@ -1,5 +1,5 @@
 -- What the steps of a loading promise to one another.
-use Rattle.std.specs.Prelude.{◌≡◌, ◌+◌, ◌≤◌, ◌⊎◌, ℕ, true, false, List, length, Result, Ok, Err}
+use Rattle.std.specs.Prelude.{◌≡◌, ◌+◌, ◌≤◌, ℕ, false, List, length, Result, Ok, Err}
 use Rattle.std.specs.Option.{ForSome}
 use Rattle.link_base.specs.Limits.{MODULE_LIMIT}
 use Rattle.link_base.specs.declared.fault.Fault.{Fault}
@@ -15,7 +15,7 @@ use Rattle.lib_search.specs.LinkOf.{link_of}
 use Rattle.lib_search.specs.FileNames.{tried_names}
 use Rattle.lib_search.specs.DefaultLibraries.{default_names}
 use Rattle.lib_search.specs.DefaultSteps.{KeepsDefaults}
-use Rattle.lib_search.specs.Reading.{LeavesFiles, Tries, TriesInput}
+use Rattle.lib_search.specs.Reading.{LeavesFiles, Tries}
 use Rattle.lib_search.specs.SearchSteps.{SearchState, Faults, Goes, next_step, wants_library, next_default}
 use Rattle.lib_search.specs.Loading.{Reaches, HasLoadingFault, Loads, TriesDefault}
 

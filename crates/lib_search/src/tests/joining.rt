@@ -106,10 +106,7 @@ fn members_join_for_what_is_open(rt: HostRuntime) -> Result<(), Fail> {
             &["link", "a.obj", "y.lib", "/entry:e", "/alternatename:x=y"],
             "a.obj y.lib ",
         ),
-        (
-            &["link", "a.obj", "/entry:e", "/defaultlib:z"],
-            "no z.lib",
-        ),
+        (&["link", "a.obj", "/entry:e", "/defaultlib:z"], "no z.lib"),
     ];
     for (words, want) in rows {
         let words = owned(rt.alloc(), words)?;

@@ -1,4 +1,4 @@
-use Rattle.std.proofs.Common.{cond, ℕ, Some, sym, ap, ◌∙◌}
+use Rattle.std.proofs.Common.{sym}
 use Rattle.indexmap.specs.IndexMap.{get}
 use Rattle.link_base.specs.NameText.{same_name}
 use Rattle.lib_search.proofs.LibraryLemmas.{lists_new, lists_known}

@@ -1,4 +1,3 @@
-use Rattle.std.proofs.Common.{◌≡◌}
 use Rattle.indexmap.specs.IndexMap.{get}
 use Rattle.link_base.specs.NameText.{same_name}
 use Rattle.lib_reader.specs.LibraryWalk.{listing_of}

@@ -1,6 +1,4 @@
-use Rattle.std.proofs.Common.{List, Err, sym, ap, subst, ◌∙◌}
-use Rattle.link_base.specs.Refusals.{RefusesFor}
-use Rattle.link_base.specs.declared.stop.Stop.{Stop}
+use Rattle.std.proofs.Common.{List, sym, ap, ◌∙◌}
 use Rattle.link_files.specs.Outside.{files_of}
 use Rattle.link_words.specs.Outcome.{options_said}
 use Rattle.lib_search.specs.declared.found.FoundFile.{FoundFile as Found}
@@ -8,8 +6,7 @@ use Rattle.lib_search.specs.Inputs.{opening_fault}
 use Rattle.lib_search.specs.Reading.{files_found}
 use Rattle.lib_search.specs.Loading.{inputs_state}
 use Rattle.lib_search.specs.LoadingSteps.{state_now}
-use Rattle.lib_search.specs.Completion.{Completes}
-use Rattle.lib_search.proofs.EndLemmas.{short_files, stops_opening, ends_loading}
+use Rattle.lib_search.proofs.EndLemmas.{short_files, ends_loading}
 use Rattle.lib_search.proofs.link_list.complete.Goals as goal
 
 pub start-requires : goal.start-requires

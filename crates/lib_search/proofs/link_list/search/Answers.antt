@@ -2,8 +2,7 @@ use Rattle.std.proofs.Common.{ℕ, Err, sym, ap, subst, ◌∙◌}
 use Rattle.link_base.specs.declared.stop.Stop.{Stop}
 use Rattle.link_files.specs.Outside.{files_of}
 use Rattle.link_words.specs.Outcome.{options_said}
-use Rattle.lib_search.specs.declared.loading.Loading.{Loading}
-use Rattle.lib_search.specs.SearchSteps.{MemberPlace, Searched, join_fault, with_member, next_member}
+use Rattle.lib_search.specs.SearchSteps.{Searched, join_fault, with_member}
 use Rattle.lib_search.specs.LoadingSteps.{state_now, KeepsLoading, CompletesFrom}
 use Rattle.lib_search.proofs.GoneLemmas.{GoneOn, gone_all, gone_stopped, gone_joins, gone_refused, gone_ends, loading_with}
 use Rattle.lib_search.proofs.link_list.search.Goals as goal

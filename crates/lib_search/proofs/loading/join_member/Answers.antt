@@ -1,4 +1,3 @@
-use Rattle.std.proofs.Common.{◌∙◌}
 use Rattle.lib_search.proofs.LoadingLemmas.{keeps_member}
 use Rattle.lib_search.proofs.loading.join_member.Goals as goal
 

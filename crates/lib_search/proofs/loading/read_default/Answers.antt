@@ -5,8 +5,6 @@ use Rattle.link_files.specs.Outside.{files_of}
 use Rattle.link_words.specs.Outcome.{options_said}
 use Rattle.link_words.specs.SettingsView.{texts_of}
 use Rattle.lib_search.specs.Reading.{file_found}
-use Rattle.lib_search.specs.SearchSteps.{next_default}
-use Rattle.lib_search.specs.LoadingSteps.{state_now}
 use Rattle.lib_search.proofs.LoadingLemmas.{next_named, reads_next, bad_next, stops_next}
 use Rattle.lib_search.proofs.loading.read_default.Goals as goal
 

@@ -1,4 +1,4 @@
-use Rattle.std.proofs.Common.{◌≡◌, None, Option, sym, ap, subst, ◌∙◌}
+use Rattle.std.proofs.Common.{◌≡◌, None, Option, subst}
 use Rattle.std.specs.Prelude.{IfErr}
 use Rattle.link_base.specs.Refusals.{RefusesFor}
 use Rattle.link_base.specs.declared.fault.Fault.{Fault}

@@ -1,8 +1,8 @@
-use Rattle.std.proofs.Common.{◌≡◌, Bool, true, false, cond, List, Some, None, Option, sym, ap, ◌∙◌}
+use Rattle.std.proofs.Common.{◌≡◌, Bool, true, false, cond, List, Some, None, sym, ap, ◌∙◌}
 use Rattle.std.specs.Prelude.{option_and_then}
 use Rattle.std.specs.List.{list_any}
 use Rattle.lib_search.specs.FoundFiles.{FoundFile}
-use Rattle.lib_search.specs.SearchSteps.{MemberPlace, Searched, is_place, unless_joined, first_listing}
+use Rattle.lib_search.specs.SearchSteps.{Searched, is_place, unless_joined, first_listing}
 use Rattle.lib_search.proofs.search.Search.listed_member.Goals as goal
 
 pub returns-then-contains : goal.returns-then-contains

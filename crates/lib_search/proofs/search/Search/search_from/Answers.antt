@@ -1,4 +1,4 @@
-use Rattle.std.proofs.Common.{◌≡◌, ℕ, length, Some, None, sym, ap, ◌∙◌, arith}
+use Rattle.std.proofs.Common.{◌≡◌, length, Some, None, sym, ap, ◌∙◌, arith}
 use Rattle.symbol_table.specs.References.{all_asked, open_from}
 use Rattle.lib_search.specs.SearchSteps.{Searched}
 use Rattle.lib_search.proofs.FromLemmas.{first_open, passed_to, passed_behind, passed_all, member_found, member_none}

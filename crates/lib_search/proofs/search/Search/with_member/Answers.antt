@@ -1,9 +1,7 @@
-use Rattle.std.proofs.Common.{◌≡◌, Bool, false, List, [], ◌∷◌, ◌++◌, refl, sym, ap, ◌∙◌}
+use Rattle.std.proofs.Common.{◌≡◌, false, [], ◌∷◌, ◌++◌, refl, sym, ap, ◌∙◌}
 use Rattle.std.specs.List.{list_any}
-use Rattle.symbol_table.specs.LinkView.{LinkView}
 use Rattle.module_view.specs.Module.{ModuleView}
-use Rattle.lib_search.specs.FoundFiles.{FoundFile}
-use Rattle.lib_search.specs.SearchSteps.{MemberPlace, Searched, is_place, member_at, with_member}
+use Rattle.lib_search.specs.SearchSteps.{Searched, is_place, member_at, with_member}
 use Rattle.lib_search.proofs.PassedLemmas.{searched_of, joins_now, keeps_now, fresh_joined}
 use Rattle.lib_search.proofs.search.Search.with_member.Goals as goal
 
