@@ -18,7 +18,7 @@ use Rattle.module_view.specs.Module.{ModuleView}
 use Rattle.coff_aux.specs.AuxFaults.{aux_fault}
 use Rattle.directives.specs.declared.item.BadDirective.{BadDirective}
 use Rattle.module_view.specs.ModuleDirectives.{sections_in, bad_directive}
-use Rattle.module_view.specs.Unbuilt.{is_unread_form, has_unbuilt_section, has_unbuilt_symbol, has_unbuilt_directive}
+use Rattle.module_view.specs.Unbuilt.{is_short_import, has_unbuilt_section, has_unbuilt_symbol, has_unbuilt_directive}
 
 -- ---- the first bytes
 
@@ -56,7 +56,7 @@ unsupported stands kind = shown stands (error.Unsupported kind)
 unfoldable pub form_error : List ℕ → Option ModuleError
 form_error bytes =
     first_standing
-    (unsupported (is_unread_form bytes) form.NotBuilt
+    (unsupported (is_short_import bytes) form.NotBuilt
     ∷ unsupported (begins bytes thin_library_start) form.ThinLibrary
     ∷ unsupported (begins bytes bitcode_start) form.Bitcode
     ∷ unsupported (begins bytes image_start) form.Image

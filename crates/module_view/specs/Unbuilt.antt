@@ -1,5 +1,5 @@
 -- Forms of files that are not linked yet. Own.
-use Rattle.std.specs.Prelude.{ℕ, Bool, true, false, ◌&&◌, ◌||◌, ◌==◌, List, [], ◌∷◌, ◌++◌, codes}
+use Rattle.std.specs.Prelude.{ℕ, Bool, true, false, ◌&&◌, ◌||◌, ◌==◌, List, [], ◌∷◌, codes}
 use Rattle.std.specs.List.{list_any}
 use Rattle.std.specs.Int.Signed.{lt_z}
 use Rattle.std.specs.Ordering.{int_eq}
@@ -15,16 +15,12 @@ use Rattle.directives.specs.Said as says
 
 -- ---- files that have no reader yet
 
--- a library (PE Format, "Archive (Library) File Signature")
-abbrev pub library_start : List ℕ
-library_start = codes "!<arch>" ++ 10 ∷ []
-
 -- a short import: no machine, 0xFFFF, and version 0 (PE Format, "Import Header")
 abbrev pub short_import_start : List ℕ
 short_import_start = 0 ∷ 0 ∷ 0xFF ∷ 0xFF ∷ 0 ∷ 0 ∷ []
 
-abbrev pub is_unread_form : List ℕ → Bool
-is_unread_form bytes = begins bytes library_start || begins bytes short_import_start
+abbrev pub is_short_import : List ℕ → Bool
+is_short_import bytes = begins bytes short_import_start
 
 -- ---- sections
 
@@ -71,9 +67,9 @@ is_unbuilt_symbol bytes symbol =
 abbrev pub is_unbuilt_name : List ℕ → Bool
 is_unbuilt_name name = begins_import name || is_loader_name name
 
--- a library to search, a row of the export table, or such a name
+-- a row of the export table, or such a name
 abbrev pub is_unbuilt_directive : Said → Bool
-is_unbuilt_directive (says.DefaultLib text) = true
+is_unbuilt_directive (says.DefaultLib text) = false
 is_unbuilt_directive (says.Exports row) = true
 is_unbuilt_directive (says.Include name) = is_unbuilt_name name
 is_unbuilt_directive (says.AlternateName left right) = is_unbuilt_name left || is_unbuilt_name right

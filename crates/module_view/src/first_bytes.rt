@@ -3,7 +3,7 @@
 ghost use Rattle.std.specs.Prelude.{◌≡◌, option_map, Some, None};
 ghost use Rattle.module_view.specs.declared.error.ModuleError.TheVariants.{Unsupported};
 ghost use Rattle.module_view.specs.Opening.{form_error, resource_start, is_anonymous};
-ghost use Rattle.module_view.specs.Unbuilt.{is_unread_form};
+ghost use Rattle.module_view.specs.Unbuilt.{is_short_import};
 
 use coff_object::is_big_object;
 use link_base::{Kind, field_u16};
@@ -13,7 +13,7 @@ use link_base::{Kind, field_u16};
 pub(crate) fn form_shown(bytes: &[u8]) -> Option<Kind>
     ensures { option_map Unsupported result ≡ form_error bytes.now }
 {
-    if is_unread_form(bytes) {
+    if is_short_import(bytes) {
         return Some(Kind::NotBuilt);
     }
     if bytes.starts_with(b"!<thin>") {
@@ -34,11 +34,11 @@ pub(crate) fn form_shown(bytes: &[u8]) -> Option<Kind>
     None
 }
 
-/// Whether the first bytes are those of a library or of a short import.
-fn is_unread_form(bytes: &[u8]) -> bool
-    ensures { result ≡ is_unread_form bytes.now }
+/// Whether the first bytes are those of a short import.
+fn is_short_import(bytes: &[u8]) -> bool
+    ensures { result ≡ is_short_import bytes.now }
 {
-    bytes.starts_with(b"!<arch>\n") || bytes.starts_with(b"\x00\x00\xff\xff\x00\x00")
+    bytes.starts_with(b"\x00\x00\xff\xff\x00\x00")
 }
 
 /// The empty entry that a compiled resource file begins with.

@@ -12,7 +12,7 @@ use std::test::Fail;
 
 /// The first bytes of a file, and the form that they show; with none they are a malformed object.
 const STARTS: [(&[u8], Option<Kind>); 11] = [
-    (b"!<arch>\n", Some(Kind::NotBuilt)),
+    (b"!<arch>\n", None),
     (b"\0\0\xff\xff\0\0", Some(Kind::NotBuilt)),
     (b"!<thin>\n", Some(Kind::ThinLibrary)),
     (b"BC\xc0\xde", Some(Kind::Bitcode)),

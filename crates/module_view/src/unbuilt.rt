@@ -21,17 +21,19 @@ pub(crate) fn is_unbuilt_section(name: &Name<'_>, flags: u32) -> bool
     (has_base_name(name, b".pdata") && comes_in(flags, name)) || has_base_name(name, b".rsrc")
 }
 
-/// Whether a directive has a form that is not linked yet: it names a library to search, exports a name, or names an entry of
-/// the import address table or what the loader of a program looks for.
+/// Whether a directive has a form that is not linked yet: it exports a name, or names an entry of the import address table or
+/// what the loader of a program looks for.
 pub(crate) fn is_unbuilt_directive(directive: &Directive<'_>) -> bool
     ensures { result ≡ is_unbuilt_directive (said directive.now) }
 {
     match directive {
-        Directive::DefaultLib(_) | Directive::Export(_) => true,
+        Directive::Export(_) => true,
         Directive::Include(name) => is_unbuilt_name(name),
         Directive::AlternateName { left, right } => is_unbuilt_name(left) || is_unbuilt_name(right),
-        Directive::AlignComm { .. } | Directive::FailIfMismatch { .. } | Directive::Merge { .. } =>
-            false,
+        Directive::DefaultLib(_)
+        | Directive::AlignComm { .. }
+        | Directive::FailIfMismatch { .. }
+        | Directive::Merge { .. } => false,
     }
 }
 

@@ -59,7 +59,7 @@ const ROWS: [(&str, &[Section], &str); 8] = [
     (
         "a malformed one before one that is not linked yet",
         &[
-            (b".drectve", b"/defaultlib:libcmt.lib"),
+            (b".drectve", b"/export:api"),
             (b".drectve", b"  /merge:.b"),
         ],
         "2",
@@ -67,8 +67,7 @@ const ROWS: [(&str, &[Section], &str); 8] = [
 ];
 
 /// Directives that are not linked yet.
-const UNBUILT: [&str; 7] = [
-    "/DEFAULTLIB:libcmt.lib",
+const UNBUILT: [&str; 6] = [
     "/include:a /export:api",
     "/include:__imp_x",
     "/include:_tls_used",
