@@ -3,7 +3,7 @@ use Rattle.std.proofs.Common.{◌≡◌, ℕ, ◌<◌, ◌≤◌, List, length, 
 use Rattle.std.specs.Prelude.{All}
 use Rattle.std.proofs.lemmas.List.{length-map, get_or-map}
 use Rattle.link_base.specs.Limits.{FILE_LIMIT}
-use Rattle.link_base.specs.Refusals.{RefusesFor}
+use Rattle.link_base.specs.Refusals.{RefusesFor, stop_of}
 use Rattle.link_base.specs.declared.stop.Refusal.{Refusal}
 use Rattle.link_base.specs.declared.stop.Refusal.TheVariants as refusal
 use Rattle.link_base.specs.declared.stop.Stop.{Stop}
@@ -19,7 +19,7 @@ use Rattle.lib_search.specs.Inputs.{opening_fault}
 use Rattle.lib_search.specs.Reading.{file_found, files_found, GivesInputs}
 use Rattle.lib_search.specs.SearchSteps.{SearchState}
 use Rattle.lib_search.specs.Loading.{inputs_state, state_after, Reaches, AtOpening}
-use Rattle.lib_search.specs.LoadingSteps.{stop_of, CompletesFrom}
+use Rattle.lib_search.specs.LoadingSteps.{CompletesFrom}
 use Rattle.lib_search.specs.Completion.{Completes}
 use Rattle.lib_search.proofs.LoadingLemmas.{untouched_further, failed_further, left_further}
 

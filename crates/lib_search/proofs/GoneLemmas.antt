@@ -6,7 +6,7 @@ use Rattle.link_base.specs.declared.stop.Refusal.{Refusal}
 use Rattle.link_base.specs.declared.stop.Refusal.TheVariants as refusal
 use Rattle.link_base.specs.declared.stop.Stop.{Stop}
 use Rattle.link_base.specs.declared.stop.Stop.TheVariants as stop
-use Rattle.link_base.specs.Refusals.{RefusesFor}
+use Rattle.link_base.specs.Refusals.{RefusesFor, stop_of}
 use Rattle.link_files.specs.Store.{Store}
 use Rattle.link_files.specs.Outside.{FilesView, AreUntouched}
 use Rattle.link_words.specs.Outcome.{LinkOptions}
@@ -17,7 +17,7 @@ use Rattle.lib_search.specs.DefaultSteps.{wanted_by}
 use Rattle.lib_search.specs.SearchSteps.{MemberPlace, Searched, SearchState, Goes, goes_unless, with_member, join_fault, join_step, next_member, next_step, wants_library}
 use Rattle.lib_search.specs.Loading.{Reaches}
 use Rattle.lib_search.specs.LinkOf.{link_of}
-use Rattle.lib_search.specs.LoadingSteps.{stop_of, state_now, KeepsLoading, ReadsNext, ReadsDefault, ReadsDefaults, GivesFrom, CompletesFrom}
+use Rattle.lib_search.specs.LoadingSteps.{state_now, KeepsLoading, ReadsNext, ReadsDefault, ReadsDefaults, GivesFrom, CompletesFrom}
 use Rattle.lib_search.proofs.LoadingLemmas.{untouched, untouched_further, failed_further, left_further, state_of, wants_member, reaches_next, faults_there}
 
 pub record GoneOn (options : LinkOptions) (state : SearchState) (before after : FilesView) (loading : Loading) (total : ℕ) : Type 0 where

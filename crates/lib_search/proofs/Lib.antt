@@ -13,3 +13,4 @@ pub mod PassedLemmas
 pub mod LoadingLemmas
 pub mod GoneLemmas
 pub mod EndLemmas
+pub mod OneLoading

@@ -3,8 +3,6 @@ use Rattle.std.specs.Prelude.{◌≡◌, ◌+◌, ◌≤◌, ℕ, false, List, l
 use Rattle.std.specs.Option.{ForSome}
 use Rattle.link_base.specs.Limits.{MODULE_LIMIT}
 use Rattle.link_base.specs.declared.fault.Fault.{Fault}
-use Rattle.link_base.specs.declared.stop.Refusal.{Refusal}
-use Rattle.link_base.specs.declared.stop.Refusal.TheVariants as refusal
 use Rattle.link_base.specs.declared.stop.Stop.{Stop}
 use Rattle.link_base.specs.declared.stop.Stop.TheVariants as stop
 use Rattle.link_files.specs.Outside.{FilesView, AreUntouched, ReadFailed}
@@ -18,11 +16,6 @@ use Rattle.lib_search.specs.DefaultSteps.{KeepsDefaults}
 use Rattle.lib_search.specs.Reading.{LeavesFiles, Tries}
 use Rattle.lib_search.specs.SearchSteps.{SearchState, Faults, Goes, next_step, wants_library, next_default}
 use Rattle.lib_search.specs.Loading.{Reaches, HasLoadingFault, Loads, TriesDefault}
-
--- what a refusal stops
-abbrev pub stop_of : Refusal → Stop
-stop_of (refusal.Fault fault) = stop.Fault fault
-stop_of refusal.Memory = stop.Memory
 
 -- where a loading stands, after as many bytes
 abbrev pub state_now : Loading → ℕ → SearchState

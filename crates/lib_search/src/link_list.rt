@@ -4,12 +4,12 @@ ghost use Rattle.std.specs.Prelude.{◌≡◌, ◌<◌, ◌-◌, ◌^◌};
 ghost use Rattle.link_files.specs.Outside.{files_of};
 ghost use Rattle.link_words.specs.Outcome.{options_said};
 ghost use Rattle.lib_search.specs.Completion.{Completes};
-ghost use Rattle.lib_search.specs.LoadingSteps.{state_now, stop_of, KeepsLoading, CompletesFrom};
+ghost use Rattle.lib_search.specs.LoadingSteps.{state_now, KeepsLoading, CompletesFrom};
 
 use crate::loading::{Loading, join_member, read_defaults, start};
 use crate::read::read_inputs;
 use input_arena::Inputs;
-use link_base::{Refusal, Stop};
+use link_base::Stop;
 use link_files::Files;
 use link_words::Options;
 use module_view::Module;
@@ -45,7 +45,7 @@ pub fn complete<'a, F: Files>(
     };
     match start(alloc, inputs, options, &read) {
         Ok(loading) => search(alloc, files, inputs, options, loading),
-        Err(refusal) => Err(stop_of(refusal)),
+        Err(refusal) => Err(Stop::from(refusal)),
     }
 }
 
@@ -76,17 +76,7 @@ fn search<'a, F: Files>(
         };
         loading = match join_member(alloc, inputs, loading, place) {
             Ok(later) => later,
-            Err(refusal) => return Err(stop_of(refusal)),
+            Err(refusal) => return Err(Stop::from(refusal)),
         };
-    }
-}
-
-/// What a refusal stops.
-fn stop_of<'a>(refusal: Refusal<'a>) -> Stop<'a>
-    ensures { result ≡ stop_of refusal.entry }
-{
-    match refusal {
-        Refusal::Fault(fault) => Stop::Fault(fault),
-        Refusal::Memory => Stop::Memory,
     }
 }

@@ -122,8 +122,7 @@ fn read_default<'a, F: Files>(
     match find_file(alloc, files, inputs, &options.lib_paths, name) {
         Ok(found) => match with_default(alloc, loading, found) {
             Ok(later) => Ok(later),
-            Err(Refusal::Fault(fault)) => Err(Stop::Fault(fault)),
-            Err(Refusal::Memory) => Err(Stop::Memory),
+            Err(refusal) => Err(Stop::from(refusal)),
         },
         Err(stop) => Err(stop),
     }

@@ -4,6 +4,8 @@ use Rattle.std.specs.Option.{option_or}
 use Rattle.link_base.specs.declared.fault.Fault.{Fault}
 use Rattle.link_base.specs.declared.stop.Refusal.{Refusal}
 use Rattle.link_base.specs.declared.stop.Refusal.TheVariants as refusal
+use Rattle.link_base.specs.declared.stop.Stop.{Stop}
+use Rattle.link_base.specs.declared.stop.Stop.TheVariants as stop
 
 -- a refusal that stands where its condition does
 abbrev pub shown : {A : Type 0} → Bool → A → Option A
@@ -23,3 +25,8 @@ first_refusal_below (suc n) refusal_at = option_or (first_refusal_below n refusa
 abbrev pub RefusesFor : Option Fault → Refusal → Type 0
 RefusesFor standing (refusal.Fault fault) = standing ≡ Some fault
 RefusesFor standing refusal.Memory = Unit {0}
+
+-- what a refusal stops
+abbrev pub stop_of : Refusal → Stop
+stop_of (refusal.Fault fault) = stop.Fault fault
+stop_of refusal.Memory = stop.Memory

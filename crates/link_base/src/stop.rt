@@ -57,3 +57,17 @@ impl<'a> From<Fault<'a>> for Refusal<'a> {
         Refusal::Fault(fault)
     }
 }
+
+impl<'a> From<Refusal<'a>> for Stop<'a> {
+    ghost use Rattle.std.specs.Prelude.{◌≡◌};
+    ghost use Rattle.link_base.specs.Refusals.{stop_of};
+
+    ghost from_gives = { λ refusal e. e ≡ stop_of refusal };
+
+    fn from(refusal: Refusal<'a>) -> Stop<'a> {
+        match refusal {
+            Refusal::Fault(fault) => Stop::Fault(fault),
+            Refusal::Memory => Stop::Memory,
+        }
+    }
+}

@@ -12,7 +12,7 @@ ghost use Rattle.link_pieces.specs.ChoiceFaults.{conflict_fault, clash_fault};
 
 use coff_object::SymbolRecord;
 use comdat::{ChooseError, choose_all};
-use link_base::{Fault, Memory, Name, Refusal};
+use link_base::{Fault, Name, Refusal};
 use module_view::Module;
 use std::alloc::Global;
 use std::marker::Model;
@@ -65,21 +65,19 @@ impl<'a> LinkNames<'a> {
     }
 }
 
-/// The names of the modules, with the names that the command line asks for and the alternates that it gives. COMDAT sections
-/// that conflict are refused (`ComdatConflict`).
+/// What the names of a table mean, whose modules these are. COMDAT sections that conflict are refused (`ComdatConflict`).
 pub fn link_names<'a>(
     alloc: Global,
-    words: &[Name<'a>],
-    alternates: &[(Name<'a>, Name<'a>)],
+    table: SymbolTable<'a>,
     modules: &[Module<'a>],
 ) -> Result<LinkNames<'a>, Refusal<'a>>
-    requires { length modules.now ≤ MODULE_LIMIT }
-    ensures names { IfOk result (λ names. names ≡ record { words = words.now; alternates = alternates.now; modules = modules.now }) }
+    requires few { length modules.now ≤ MODULE_LIMIT }
+    requires same { table.modules ≡ modules.now }
+    ensures names { IfOk result (λ names. names ≡ table.entry) }
     ensures accepted { OnOk result (conflict_fault modules.now ≡ None) }
     ensures refused { IfErr result (RefusesFor (conflict_fault modules.now)) }
 {
     let chosen = choose(alloc, modules)?;
-    let table = table_of(alloc, words, alternates, modules)?;
     let names = table.resolved(alloc, chosen)?;
     Ok(LinkNames { names })
 }
@@ -106,23 +104,6 @@ fn choose<'a>(alloc: Global, modules: &[Module<'a>]) -> Result<Chosen, Refusal<'
         })),
         Err(ChooseError::Memory) => Err(Refusal::Memory),
     }
-}
-
-/// The table of the names of all modules, of these words and of these alternates.
-fn table_of<'a>(
-    alloc: Global,
-    words: &[Name<'a>],
-    alternates: &[(Name<'a>, Name<'a>)],
-    modules: &[Module<'a>],
-) -> Result<SymbolTable<'a>, Memory>
-    requires { length modules.now ≤ MODULE_LIMIT }
-    ensures { IfOk result (λ table. table ≡ record { words = words.now; alternates = alternates.now; modules = modules.now }) }
-{
-    let mut table = SymbolTable::new(alloc, words, alternates)?;
-    for module in modules {
-        table.add_module(module)?;
-    }
-    Ok(table)
 }
 
 /// That no name is defined twice: else the input is refused (`Duplicate`).

@@ -7,3 +7,4 @@ pub mod FixLemmas
 pub mod MeantLemmas
 pub mod JudgeLemmas
 pub mod NamedLemmas
+pub mod PlanningLemmas

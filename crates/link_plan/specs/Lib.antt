@@ -4,4 +4,5 @@ pub mod Fixes
 pub mod Entry
 pub mod PlanFaults
 pub mod Plan
+pub mod Planning
 pub mod Steps

@@ -1,5 +1,5 @@
 -- What a plan says of the modules that it was made for.
-use Rattle.std.specs.Prelude.{◌≡◌, ◌<◌, ◌≤◌, ℕ, ◌^◌, true, List, ◌++◌, length, map, slice_index_or, None, option_to_list}
+use Rattle.std.specs.Prelude.{◌≡◌, ◌<◌, ◌≤◌, ℕ, ◌^◌, true, List, length, map, slice_index_or, None}
 use Rattle.std.specs.List.{All}
 use Rattle.std.specs.Option.{ForSome}
 use Rattle.section_group.specs.declared.piece.Piece.{Piece}
@@ -24,14 +24,6 @@ pub record StandsNamed (pieces : List Piece) (place : EntryPlace) : Type 0 where
   pub within : place.piece < length pieces
   pub named : (slice_index_or pieces place.piece no_piece).named ≡ true
   pub inside : place.value ≤ (slice_index_or pieces place.piece no_piece).size
-
--- the names that the command line asks for: that of the entry, where there is one, then those that it includes
-abbrev pub asked_words : LinkOptions → List (List ℕ)
-asked_words options = option_to_list options.entry_name ++ options.includes
-
--- what takes part in a link with these options
-abbrev pub link_of : LinkOptions → List ModuleView → LinkView
-link_of options modules = record { words = asked_words options; alternates = options.alternates; modules = modules }
 
 -- the merges of a link: those of the options, then those of the directives
 abbrev pub merges_of : LinkOptions → LinkView → List (List ℕ × List ℕ)

@@ -1,20 +1,25 @@
 //! The plan of a link.
 
-ghost use Rattle.std.specs.Prelude.{◌≤◌, length, IfOk, IfErr};
+ghost use Rattle.std.specs.Prelude.{◌≡◌, ◌≤◌, ◌<◌, ◌-◌, ◌^◌, length, IfOk, IfErr};
 ghost use Rattle.link_base.specs.Limits.{MODULE_LIMIT};
 ghost use Rattle.link_base.specs.Refusals.{RefusesFor};
 ghost use Rattle.link_words.specs.Outcome.{options_said};
+ghost use Rattle.link_files.specs.Outside.{files_of};
+ghost use Rattle.lib_search.specs.LinkOf.{link_of};
 ghost use Rattle.link_plan.specs.PlanFaults.{plan_fault};
-ghost use Rattle.link_plan.specs.Plan.{IsPlanOf, link_of};
+ghost use Rattle.link_plan.specs.Plan.{IsPlanOf};
+ghost use Rattle.link_plan.specs.Planning.{Plans};
 
 use crate::entry::{EntryPlace, entry_meaning, entry_place};
 use crate::judge::judge_pieces;
 use crate::meant::{mark_entry, name_meant};
 use crate::mismatch::check_mismatch;
 use crate::references::{check_includes, check_references};
-use crate::words::asked_words;
-use link_base::{Name, Refusal};
+use input_arena::Inputs;
+use lib_search::{LinkList, complete};
+use link_base::{Name, Refusal, Stop};
 use link_directives::link_merges;
+use link_files::Files;
 use link_pieces::{LinkNames, PieceIndex, check_clash, link_names, pieces_of};
 use link_words::Options;
 use module_view::Module;
@@ -39,23 +44,48 @@ pub struct LinkPlan<'a> {
     pub entry: Option<EntryPlace>,
 }
 
-/// The plan of a link of these modules. The input is refused for the first of: directives that give one key different values
-/// (`Mismatch`), COMDAT sections that conflict (`ComdatConflict`), two definitions of one name (`Duplicate`), an entry or
-/// another name that nothing defines (`Undefined`) or whose default or alternate leads back to it (`WeakCycle`), an entry that
-/// has no place in the image (`BadTarget`), and a relocation that is malformed or whose target cannot be used (`BadReloc`,
-/// `BadTarget`).
-pub fn plan_of<'a>(
+/// The plan of a link with these options. Its inputs are read and opened, and the search of libraries joins what these ask
+/// for; what ends that ends the link. Then the input is refused for the first of: directives that give one key different values (`Mismatch`),
+/// COMDAT sections that conflict (`ComdatConflict`), two definitions of one name (`Duplicate`), an entry or another name that
+/// nothing defines (`Undefined`) or whose default or alternate leads back to it (`WeakCycle`), an entry that has no place in
+/// the image (`BadTarget`), and a relocation that is malformed or whose target cannot be used (`BadReloc`, `BadTarget`).
+pub fn plan<'a, F: Files>(
     alloc: Global,
-    modules: Vec<Module<'a>>,
+    files: &mut F,
+    inputs: &mut Inputs<'a>,
+    options: &Options<'a>,
+) -> Result<LinkPlan<'a>, Stop<'a>>
+    requires reads_below { F.read_faults files.old < 2 ^ 64 - 1 }
+    requires writes_below { F.write_faults files.old < 2 ^ 64 - 1 }
+    requires none_read { inputs.old ≡ 0 }
+    ensures { Plans (options_said options.now)
+        (files_of F.store F.read_faults F.write_faults files.old)
+        (files_of F.store F.read_faults F.write_faults files.new) result }
+{
+    match complete(alloc, files, inputs, options) {
+        Ok(list) => match plan_of(alloc, list, options) {
+            Ok(plan) => Ok(plan),
+            Err(refusal) => Err(Stop::from(refusal)),
+        },
+        Err(stop) => Err(stop),
+    }
+}
+
+/// The plan of a link of these modules.
+fn plan_of<'a>(
+    alloc: Global,
+    list: LinkList<'a>,
     options: &Options<'a>,
 ) -> Result<LinkPlan<'a>, Refusal<'a>>
-    requires few { length modules.items ≤ MODULE_LIMIT }
-    ensures planned { IfOk result (IsPlanOf (options_said options.now) (link_of (options_said options.now) modules.entry.items)) }
-    ensures refused { IfErr result (RefusesFor (plan_fault (options_said options.now) (link_of (options_said options.now) modules.entry.items))) }
+    requires few { length list.modules.items ≤ MODULE_LIMIT }
+    requires names { list.table ≡ link_of (options_said options.now) list.modules.items }
+    ensures planned { IfOk result (IsPlanOf (options_said options.now) (link_of (options_said options.now) list.entry.modules.items)) }
+    ensures modules { IfOk result (λ plan. plan.modules.items ≡ list.entry.modules.items) }
+    ensures refused { IfErr result (RefusesFor (plan_fault (options_said options.now) (link_of (options_said options.now) list.entry.modules.items))) }
 {
+    let LinkList { modules, table } = list;
     check_mismatch(alloc, &modules)?;
-    let words = asked_words(alloc, options)?;
-    let names = link_names(alloc, &words, &options.alternates, &modules)?;
+    let names = link_names(alloc, table, &modules)?;
     check_clash(&names)?;
     let meaning = entry_meaning(&names, &options.entry)?;
     check_includes(&names, &options.includes)?;

@@ -24,7 +24,10 @@ use Rattle.image_writer.specs.ExpectedImage.{ImagePlan}
 use Rattle.image_writer.specs.WrittenImage.{written_plan}
 use Rattle.module_view.specs.Module.{ModuleView}
 use Rattle.symbol_table.specs.LinkView.{LinkView}
-use Rattle.link_plan.specs.Plan.{link_of, merges_of}
+use Rattle.lib_search.specs.LinkOf.{link_of}
+use Rattle.lib_search.proofs.OneLoading.{one_fault, fault_or_loads, one_loading}
+use Rattle.link_plan.specs.Plan.{merges_of}
+use Rattle.link_plan.specs.PlanFaults.{plan_fault}
 use Rattle.link_plan.specs.Fixes.{plan_pieces}
 use Rattle.link_words.specs.Outcome.{LinkOptions, CommandSaid, Link, At, Show, Gen, Refused as RefusedWord}
 use Rattle.link_words.specs.Commands.{words_say}
@@ -36,10 +39,9 @@ use Rattle.link_image.specs.LinkedBytes.{linked_contents, image_contents, fields
 use Rattle.link_image.specs.BuildFaults.{IsBadMerge, HasTooManySections, HasLargeTable, IsTooLarge, HasBadBase, HasBadRange, IsBuildFault}
 use Rattle.link_image.proofs.PlaceLemmas.{range_by_places, contents_by_places}
 use Rattle.link_image.proofs.OnePlacement.{same_rows, same_layout, same_fields, one_refused_size, one_grown_size, SamePlacement, one_placement}
-use Rattle.linker_program.specs.Loading.{reading_fault, read_files, joined}
 use Rattle.linker_program.specs.Unbuilt.{is_unbuilt_link}
 use Rattle.linker_program.specs.Ending.{Plan, Outcome, Usage, Refused, Linked, Shown}
-use Rattle.linker_program.specs.Outcome.{inputs_fault, IsPlan, BuildOutcome, OutcomeAfter, InputsOutcome, LinkOutcome, AskedOutcome, CommandOutcome, WordsOutcome, HasOutcome}
+use Rattle.linker_program.specs.Outcome.{IsPlan, BuildOutcome, OutcomeAfter, ModulesOutcome, LinkOutcome, AtLoading, AtModules, AskedOutcome, CommandOutcome, WordsOutcome, HasOutcome}
 
 -- ---- the bad merge
 
@@ -275,15 +277,18 @@ same_after : (fault : Option Fault) (later : Outcome → Type 0) (a b : Outcome)
 same_after None later a b one x y = one a b x y
 same_after (Some f) later a b one x y = x ∙ sym y
 
-same_inputs : (options : LinkOptions) (files : List (List ℕ)) (a b : Outcome) → InputsOutcome options files a → InputsOutcome options files b → a ≡ b
-same_inputs options files a b x y =
-    let modules = joined options.inputs files in
-    same_after (inputs_fault options files) (BuildOutcome options modules) a b (same_built options modules) x y
+same_modules : (options : LinkOptions) (modules : List ModuleView) (a b : Outcome) → ModulesOutcome options modules a → ModulesOutcome options modules b → a ≡ b
+same_modules options modules a b x y =
+    same_after (plan_fault options (link_of options modules)) (BuildOutcome options modules) a b (same_built options modules) x y
 
 same_link : (options : LinkOptions) (store : Store) (a b : Outcome) → LinkOutcome options store a → LinkOutcome options store b → a ≡ b
-same_link options store a b x y =
-    let files = read_files store options.inputs in
-    same_after (reading_fault store options.inputs) (InputsOutcome options files) a b (same_inputs options files) x y
+same_link options store a b (AtLoading f x is) (AtLoading g y same) =
+    is ∙ ap (λ (h : Fault). Refused h) (one_fault store options f g x y) ∙ sym same
+same_link options store a b (AtLoading f x is) (AtModules modules loads has) = absurd (fault_or_loads store options f modules x loads)
+same_link options store a b (AtModules modules loads has) (AtLoading f x is) = absurd (fault_or_loads store options f modules x loads)
+same_link options store a b (AtModules modules loads has) (AtModules others loads_too has_too) =
+    same_modules options modules a b has
+    (subst (λ (ms : List ModuleView). ModulesOutcome options ms b) (sym (one_loading store options modules others loads loads_too)) has_too)
 
 same_asked : (asks : Bool) (options : LinkOptions) (store : Store) (a b : Outcome) → AskedOutcome asks options store a → AskedOutcome asks options store b → a ≡ b
 same_asked true options store a b x y = x ∙ sym y

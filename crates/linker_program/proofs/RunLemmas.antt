@@ -1,5 +1,5 @@
 -- The status that is owed, from what a run promises.
-use Rattle.std.proofs.Common.{◌≡◌, ℕ, List, [], ◌∷◌, Some, Result, Ok, Err, refl, ap, ◌∙◌, inl, inr, ◌⊎◌, arith}
+use Rattle.std.proofs.Common.{◌≡◌, ℕ, List, Option, Some, Result, Ok, Err, refl, ap, ◌∙◌, inl, inr, ◌⊎◌, arith}
 use Rattle.link_files.specs.Store.{Store}
 use Rattle.link_files.specs.Outside.{FilesView, SinkView}
 use Rattle.link_words.specs.Outcome.{CommandSaid, Link, At, Show, Gen, Refused as RefusedWord}
@@ -8,43 +8,43 @@ use Rattle.linker_program.specs.declared.status.Status.{Status}
 use Rattle.linker_program.specs.declared.status.Status.TheVariants as status
 use Rattle.linker_program.specs.Ending.{Outcome, Usage, Refused, Linked, Shown}
 use Rattle.linker_program.specs.Outcome.{HasOutcome}
-use Rattle.linker_program.specs.LinkRun.{status_code, LinkAnswers, ShowAnswers, CommandAnswers, RanWith, Ran, outcome_code, IsQuiet, IsOwed}
+use Rattle.linker_program.specs.LinkRun.{status_code, LinkTries, ImageTries, LinkAnswers, ShowAnswers, CommandAnswers, RanWith, Ran, outcome_code, IsQuiet, IsOwed}
 use Rattle.linker_program.proofs.OutcomeLemmas.{one_outcome}
 
 -- the outcome of an answer is the expected one
-code_of_link : (words : List (List ℕ)) (inputs : List (List ℕ)) (before after : FilesView) (store : Store) (outcome : Outcome) (answer : Status) (line : List ℕ)
+code_of_link : (words : List (List ℕ)) (tries : Option Store → List ℕ → Type 0) (before after : FilesView) (store : Store) (outcome : Outcome) (answer : Status) (line : List ℕ)
     → before.store ≡ Some store → after.read_faults ≡ before.read_faults → after.write_faults ≡ before.write_faults → HasOutcome words store outcome
-    → LinkAnswers (HasOutcome words) inputs before after answer line → status_code answer ≡ outcome_code outcome
-code_of_link words inputs before after store outcome status.Done line told reads writes has h =
+    → LinkAnswers (HasOutcome words) tries before after answer line → status_code answer ≡ outcome_code outcome
+code_of_link words tries before after store outcome status.Done line told reads writes has h =
     ap outcome_code (one_outcome words store (Linked h.0) outcome (h.1.1.made.outcome.told store told) has)
-code_of_link words inputs before after store outcome status.Refused line told reads writes has h =
+code_of_link words tries before after store outcome status.Refused line told reads writes has h =
     ap outcome_code (one_outcome words store (Refused h.0) outcome (h.1.outcome.told store told) has)
-code_of_link words inputs before after store outcome status.ReadFailed line told reads writes has h = absurd (omega (arith, h.1.files.reads, reads))
-code_of_link words inputs before after store outcome status.WriteFailed line told reads writes has h = absurd (omega (arith, h.1.1.1.files.writes, writes))
-code_of_link words inputs before after store outcome status.Usage line told reads writes has h = absurd h
-code_of_link words inputs before after store outcome status.OutOfMemory line told reads writes has h = absurd h
-code_of_link words inputs before after store outcome status.PutFailed line told reads writes has h = absurd h
+code_of_link words tries before after store outcome status.ReadFailed line told reads writes has h = absurd (omega (arith, h.1.files.reads, reads))
+code_of_link words tries before after store outcome status.WriteFailed line told reads writes has h = absurd (omega (arith, h.1.1.1.files.writes, writes))
+code_of_link words tries before after store outcome status.Usage line told reads writes has h = absurd h
+code_of_link words tries before after store outcome status.OutOfMemory line told reads writes has h = absurd h
+code_of_link words tries before after store outcome status.PutFailed line told reads writes has h = absurd h
 
-code_of_show : (words : List (List ℕ)) (inputs : List (List ℕ)) (before after : FilesView) (store : Store) (outcome : Outcome) (answer : Status) (line : List ℕ)
+code_of_show : (words : List (List ℕ)) (tries : Option Store → List ℕ → Type 0) (before after : FilesView) (store : Store) (outcome : Outcome) (answer : Status) (line : List ℕ)
     → before.store ≡ Some store → after.read_faults ≡ before.read_faults → HasOutcome words store outcome
-    → ShowAnswers (HasOutcome words) inputs before after answer line → status_code answer ≡ outcome_code outcome
-code_of_show words inputs before after store outcome status.Done line told reads has h =
+    → ShowAnswers (HasOutcome words) tries before after answer line → status_code answer ≡ outcome_code outcome
+code_of_show words tries before after store outcome status.Done line told reads has h =
     ap outcome_code (one_outcome words store (Shown line) outcome (h.outcome.told store told) has)
-code_of_show words inputs before after store outcome status.Refused line told reads has h =
+code_of_show words tries before after store outcome status.Refused line told reads has h =
     ap outcome_code (one_outcome words store (Refused h.0) outcome (h.1.outcome.told store told) has)
-code_of_show words inputs before after store outcome status.ReadFailed line told reads has h = absurd (omega (arith, h.1.files.reads, reads))
-code_of_show words inputs before after store outcome status.WriteFailed line told reads has h = absurd h
-code_of_show words inputs before after store outcome status.Usage line told reads has h = absurd h
-code_of_show words inputs before after store outcome status.OutOfMemory line told reads has h = absurd h
-code_of_show words inputs before after store outcome status.PutFailed line told reads has h = absurd h
+code_of_show words tries before after store outcome status.ReadFailed line told reads has h = absurd (omega (arith, h.1.files.reads, reads))
+code_of_show words tries before after store outcome status.WriteFailed line told reads has h = absurd h
+code_of_show words tries before after store outcome status.Usage line told reads has h = absurd h
+code_of_show words tries before after store outcome status.OutOfMemory line told reads has h = absurd h
+code_of_show words tries before after store outcome status.PutFailed line told reads has h = absurd h
 
 code_of_command : (said : Result CommandSaid RefusedWord) (words : List (List ℕ)) (before after : FilesView) (store : Store) (outcome : Outcome) (answer : Status) (line : List ℕ)
     → before.store ≡ Some store → after.read_faults ≡ before.read_faults → after.write_faults ≡ before.write_faults → HasOutcome words store outcome
     → CommandAnswers said (HasOutcome words) before after answer line → status_code answer ≡ outcome_code outcome
 code_of_command (Ok (Link options)) words before after store outcome answer line told reads writes has h =
-    code_of_link words options.inputs before after store outcome answer line told reads writes has h
+    code_of_link words (LinkTries options) before after store outcome answer line told reads writes has h
 code_of_command (Ok (At image base rva len)) words before after store outcome answer line told reads writes has h =
-    code_of_show words (image ∷ []) before after store outcome answer line told reads has h
+    code_of_show words (ImageTries image) before after store outcome answer line told reads has h
 code_of_command (Ok (Show image pdb base symbol len)) words before after store outcome answer line told reads writes has h = absurd h
 code_of_command (Ok (Gen n)) words before after store outcome answer line told reads writes has h = absurd h
 code_of_command (Err word) words before after store outcome answer line told reads writes has h = absurd h

@@ -7,7 +7,6 @@ use Rattle.link_base.specs.Bytes.{has_bytes, bytes_at}
 use Rattle.link_base.specs.declared.fault.Fault.{Fault}
 use Rattle.link_base.specs.declared.fault.Fault.TheVariants as faults
 use Rattle.link_base.specs.declared.kinds.image.ImageKind.{ImageKind}
-use Rattle.link_base.specs.Refusals.{first_refusal_below}
 use Rattle.link_base.specs.declared.memory.Memory.{Memory}
 use Rattle.link_files.specs.Store.{Store, file_of}
 use Rattle.link_files.specs.Outside.{FilesView, AreUntouched, ReadFailed}
@@ -21,7 +20,7 @@ use Rattle.linker_program.specs.declared.status.Status.TheVariants as status
 use Rattle.linker_program.specs.Ending.{Outcome, Usage, Refused, Linked, Shown}
 use Rattle.linker_program.specs.Outcome.{HasOutcome}
 use Rattle.linker_program.specs.Shown.{IMAGE_FILE_LIMIT, shown_line, memory_shown, image_shown, file_shown, AtOutcome}
-use Rattle.linker_program.specs.LinkRun.{Expects, ShowAnswers, NothingWritten, LeftByMemory, Answers}
+use Rattle.linker_program.specs.LinkRun.{Expects, ImageTries, ShowAnswers, NothingWritten, LeftByMemory, Answers}
 use Rattle.linker_program.specs.Steps.{Refuses, TellsReadFailure, Says}
 use Rattle.linker_program.proofs.StepLemmas.{commanded}
 
@@ -99,16 +98,16 @@ says_shown (Err error) outcome line is done says = tt
 expects : (name : List ℕ) (base rva len : ℕ) (before : FilesView) (outcome : Outcome) → ForSome before.store (λ store. outcome ≡ file_shown name base rva len (file_of store name)) → Expects (AtOutcome name base rva len) before outcome
 expects name base rva len before outcome told = record { told = told }
 
-answers_said : (name : List ℕ) (base rva len : ℕ) (before after : FilesView) (answer : Answer) (outcome : Outcome) → AreUntouched before after → Expects (AtOutcome name base rva len) before outcome → Says answer outcome → ShowAnswers (AtOutcome name base rva len) (name ∷ []) before after answer.status answer.line.items
+answers_said : (name : List ℕ) (base rva len : ℕ) (before after : FilesView) (answer : Answer) (outcome : Outcome) → AreUntouched before after → Expects (AtOutcome name base rva len) before outcome → Says answer outcome → ShowAnswers (AtOutcome name base rva len) (ImageTries name) before after answer.status answer.line.items
 answers_said name base rva len before after answer (Shown line) kept has says =
-    subst (λ (s : Status). ShowAnswers (AtOutcome name base rva len) (name ∷ []) before after s answer.line.items) (sym says.0)
+    subst (λ (s : Status). ShowAnswers (AtOutcome name base rva len) (ImageTries name) before after s answer.line.items) (sym says.0)
     (record { outcome = subst (λ (l : List ℕ). Expects (AtOutcome name base rva len) before (Shown l)) (sym says.1) has; files = kept })
 answers_said name base rva len before after answer (Refused fault) kept has says =
-    subst (λ (s : Status). ShowAnswers (AtOutcome name base rva len) (name ∷ []) before after s answer.line.items) (sym says.status) (fault, record { outcome = has; files = kept; says = says.line })
+    subst (λ (s : Status). ShowAnswers (AtOutcome name base rva len) (ImageTries name) before after s answer.line.items) (sym says.status) (fault, record { outcome = has; files = kept; says = says.line })
 answers_said name base rva len before after answer (Usage index kind) kept has says = absurd says
 answers_said name base rva len before after answer (Linked plan) kept has says = absurd says
 
-pub if_said : (r : Result Answer Memory) (name : List ℕ) (base rva len : ℕ) (before after : FilesView) (outcome : Outcome) → AreUntouched before after → ForSome before.store (λ store. outcome ≡ file_shown name base rva len (file_of store name)) → IfOk r (λ answer. Says answer outcome) → IfOk r (λ answer. ShowAnswers (AtOutcome name base rva len) (name ∷ []) before after answer.status answer.line.items)
+pub if_said : (r : Result Answer Memory) (name : List ℕ) (base rva len : ℕ) (before after : FilesView) (outcome : Outcome) → AreUntouched before after → ForSome before.store (λ store. outcome ≡ file_shown name base rva len (file_of store name)) → IfOk r (λ answer. Says answer outcome) → IfOk r (λ answer. ShowAnswers (AtOutcome name base rva len) (ImageTries name) before after answer.status answer.line.items)
 if_said (Ok answer) name base rva len before after outcome kept told says = answers_said name base rva len before after answer outcome kept (expects name base rva len before outcome told) says
 if_said (Err error) name base rva len before after outcome kept told says = tt
 
@@ -124,11 +123,10 @@ file_larger name base rva len store image told large =
     ∙ ap (λ (b : Bool). cond b (Refused (faults.FileTooLarge name None)) (image_shown base rva len (image_fault image) (loaded image base))) (lt-ltb IMAGE_FILE_LIMIT (length image) large))
 
 -- a read that failed
-pub if_unread : (r : Result Answer Memory) (name : List ℕ) (base rva len : ℕ) (before after : FilesView) → ReadFailed before after → IfOk r (λ answer. TellsReadFailure answer name) → IfOk r (λ answer. ShowAnswers (AtOutcome name base rva len) (name ∷ []) before after answer.status answer.line.items)
-unfolding first_refusal_below
+pub if_unread : (r : Result Answer Memory) (name : List ℕ) (base rva len : ℕ) (before after : FilesView) → ReadFailed before after → IfOk r (λ answer. TellsReadFailure answer name) → IfOk r (λ answer. ShowAnswers (AtOutcome name base rva len) (ImageTries name) before after answer.status answer.line.items)
 if_unread (Ok answer) name base rva len before after failed tells =
-    subst (λ (s : Status). ShowAnswers (AtOutcome name base rva len) (name ∷ []) before after s answer.line.items) (sym tells.status)
-    (0, record { within = omega arith; reached = λ store told. refl; files = failed; says = tells.line })
+    subst (λ (s : Status). ShowAnswers (AtOutcome name base rva len) (ImageTries name) before after s answer.line.items) (sym tells.status)
+    (name, record { tried = refl; files = failed; says = tells.line })
 if_unread (Err error) name base rva len before after failed tells = tt
 
 -- ---- the words
@@ -136,7 +134,7 @@ if_unread (Err error) name base rva len before after failed tells = tt
 at_has : (words : List (List ℕ)) (name : List ℕ) (base rva len : ℕ) (store : Store) (outcome : Outcome) → words_say words ≡ Ok (At name base rva len) → AtOutcome name base rva len store outcome → HasOutcome words store outcome
 at_has words name base rva len store outcome said is = record { is = rw said is }
 
-at_answers : (words : List (List ℕ)) (name : List ℕ) (base rva len : ℕ) (before after : FilesView) (answer : Status) (line : List ℕ) → words_say words ≡ Ok (At name base rva len) → ShowAnswers (AtOutcome name base rva len) (name ∷ []) before after answer line → Answers words before after answer line
+at_answers : (words : List (List ℕ)) (name : List ℕ) (base rva len : ℕ) (before after : FilesView) (answer : Status) (line : List ℕ) → words_say words ≡ Ok (At name base rva len) → ShowAnswers (AtOutcome name base rva len) (ImageTries name) before after answer line → Answers words before after answer line
 at_answers words name base rva len before after status.Done line said h =
     commanded words (At name base rva len) before after status.Done line said
     (record { outcome = record { told = λ store told. at_has words name base rva len store (Shown line) said (h.outcome.told store told) }; files = h.files })
@@ -150,7 +148,7 @@ at_answers words name base rva len before after status.Usage line said h = absur
 at_answers words name base rva len before after status.OutOfMemory line said h = absurd h
 at_answers words name base rva len before after status.PutFailed line said h = absurd h
 
-pub if_at : (r : Result Answer Memory) (words : List (List ℕ)) (name : List ℕ) (base rva len : ℕ) (before after : FilesView) → words_say words ≡ Ok (At name base rva len) → IfOk r (λ answer. ShowAnswers (AtOutcome name base rva len) (name ∷ []) before after answer.status answer.line.items) → IfOk r (λ answer. Answers words before after answer.status answer.line.items)
+pub if_at : (r : Result Answer Memory) (words : List (List ℕ)) (name : List ℕ) (base rva len : ℕ) (before after : FilesView) → words_say words ≡ Ok (At name base rva len) → IfOk r (λ answer. ShowAnswers (AtOutcome name base rva len) (ImageTries name) before after answer.status answer.line.items) → IfOk r (λ answer. Answers words before after answer.status answer.line.items)
 if_at (Ok answer) words name base rva len before after said h = at_answers words name base rva len before after answer.status answer.line.items said h
 if_at (Err error) words name base rva len before after said h = tt
 

@@ -1,28 +1,25 @@
 -- From what the steps of a run promise to what the run promises.
-use Rattle.std.proofs.Common.{◌≡◌, ℕ, ◌<◌, ◌≤◌, List, [], ◌∷◌, length, Option, Result, Ok, Err, refl, sym, ap, ◌∙◌, subst, arith, inl, inr}
+use Rattle.std.proofs.Common.{◌≡◌, ℕ, List, length, Option, Result, Ok, Err, refl, sym, ap, ◌∙◌, ◌⊎◌, subst, inl, inr}
 use Rattle.std.specs.Prelude.{IfOk, OnErr, Some, None, false, codes}
-use Rattle.std.specs.Prelude.{Vec}
-use Rattle.std.specs.declared.alloc.Global.{Global}
-use Rattle.std.specs.Borrow.{Bor}
-use Rattle.std.specs.List.{All}
-use Rattle.std.proofs.lemmas.List.{length-map, get_or-map}
-use Rattle.link_base.specs.Limits.{FILE_LIMIT}
 use Rattle.link_base.specs.declared.fault.Fault.{Fault}
 use Rattle.link_base.specs.declared.memory.Memory.{Memory}
 use Rattle.link_base.specs.declared.stop.Refusal.{Refusal}
 use Rattle.link_base.specs.declared.stop.Refusal.TheVariants as refusal
-use Rattle.link_base.specs.Refusals.{RefusesFor}
 use Rattle.link_files.specs.Store.{Store}
 use Rattle.link_files.specs.Outside.{FilesView, AreUntouched, ReadFailed}
 use Rattle.link_files.specs.Outputs.{output_at}
 use Rattle.module_view.specs.Module.{ModuleView}
 use Rattle.link_words.specs.Outcome.{LinkOptions, CommandSaid, Link, At, Show, Gen, Refused as RefusedWord, refuse}
-use Rattle.link_words.specs.SettingsView.{texts_of}
 use Rattle.link_words.specs.declared.errors.UsageKind.{UsageKind}
 use Rattle.link_words.specs.UsageWord.{usage_word}
 use Rattle.link_words.specs.Commands.{words_say}
 use Rattle.link_plan.specs.PlanFaults.{plan_fault}
-use Rattle.link_plan.specs.Plan.{link_of}
+use Rattle.lib_search.specs.LinkOf.{link_of}
+use Rattle.lib_search.specs.Reading.{LeavesFiles}
+use Rattle.lib_search.specs.Loading.{HasLoadingFault}
+use Rattle.lib_search.specs.Completion.{FailsLoading}
+use Rattle.link_plan.specs.declared.plan.LinkPlan.{LinkPlan}
+use Rattle.link_plan.specs.Planning.{GivesPlan, JoinsBadly, FaultsPlan}
 use Rattle.link_image.specs.declared.make.Built.{Built}
 use Rattle.link_image.specs.LinkedImage.{IsBuilt}
 use Rattle.link_image.specs.BuildFaults.{RefusesBuild}
@@ -30,14 +27,12 @@ use Rattle.linker_program.specs.declared.answer.Answer.{Answer}
 use Rattle.linker_program.specs.declared.linked.Linked.{Linked as LinkedBytes}
 use Rattle.linker_program.specs.declared.status.Status.{Status}
 use Rattle.linker_program.specs.declared.status.Status.TheVariants as status
-use Rattle.linker_program.specs.Loading.{opening_fault, joined}
 use Rattle.linker_program.specs.Ending.{Outcome, Usage, Refused, Linked, Plan}
-use Rattle.linker_program.specs.Outcome.{inputs_fault, IsPlan, LinkOutcome, unbuilt, CommandOutcome, HasOutcome}
+use Rattle.linker_program.specs.Outcome.{IsPlan, LinkOutcome, AtLoading, AtModules, unbuilt, CommandOutcome, HasOutcome}
 use Rattle.linker_program.specs.Unbuilt.{is_unbuilt_link}
 use Rattle.linker_program.specs.RunLines.{read_failure_line, write_failure_line}
-use Rattle.linker_program.specs.LinkRun.{outputs_of, Expects, IsMade, LinkAnswers, ShowAnswers, CommandAnswers, LeftByMemory, Answers}
-use Rattle.linker_program.specs.ReadingSteps.{GivesInputs, FaultsInputs, FailsInputs, file_bytes}
-use Rattle.linker_program.specs.Steps.{Refuses, RefusesWords, TellsReadFailure, InputsHave, IsLinked, RefusesInputs, AnswersWrite, LeftByWrites}
+use Rattle.linker_program.specs.LinkRun.{outputs_of, Expects, IsMade, LinkTries, ImageTries, LinkAnswers, ShowAnswers, CommandAnswers, LeftByMemory, Answers}
+use Rattle.linker_program.specs.Steps.{Refuses, RefusesWords, TellsReadFailure, ModulesHave, IsLinked, RefusesModules, AnswersWrite, LeftByWrites}
 use Rattle.linker_program.specs.WriteSteps.{linked_outputs, linked_summary}
 
 pub untouched : (files : FilesView) → AreUntouched files files
@@ -72,24 +67,24 @@ made_later has later files plan image follows made = record {
   means = made.means;
 }
 
-answers_later : (has later : Store → Outcome → Type 0) (inputs : List (List ℕ)) (before after : FilesView) (answer : Status) (line : List ℕ) → Follows has later before → LinkAnswers has inputs before after answer line → LinkAnswers later inputs before after answer line
-answers_later has later inputs before after status.Done line follows h = (
+answers_later : (has later : Store → Outcome → Type 0) (tries : Option Store → List ℕ → Type 0) (before after : FilesView) (answer : Status) (line : List ℕ) → Follows has later before → LinkAnswers has tries before after answer line → LinkAnswers later tries before after answer line
+answers_later has later tries before after status.Done line follows h = (
   h.0,
   (h.1.0, record { made = made_later has later before h.0 h.1.0 follows h.1.1.made; files = h.1.1.files; says = h.1.1.says }),
 )
-answers_later has later inputs before after status.Refused line follows h =
+answers_later has later tries before after status.Refused line follows h =
     (h.0, record { outcome = expects_later has later before (Refused h.0) follows h.1.outcome; files = h.1.files; says = h.1.says })
-answers_later has later inputs before after status.ReadFailed line follows h = h
-answers_later has later inputs before after status.WriteFailed line follows h = (
+answers_later has later tries before after status.ReadFailed line follows h = h
+answers_later has later tries before after status.WriteFailed line follows h = (
   h.0,
   (
     h.1.0,
     (h.1.1.0, record { made = made_later has later before h.0 h.1.0 follows h.1.1.1.made; files = h.1.1.1.files; says = h.1.1.1.says }),
   ),
 )
-answers_later has later inputs before after status.Usage line follows h = absurd h
-answers_later has later inputs before after status.OutOfMemory line follows h = absurd h
-answers_later has later inputs before after status.PutFailed line follows h = absurd h
+answers_later has later tries before after status.Usage line follows h = absurd h
+answers_later has later tries before after status.OutOfMemory line follows h = absurd h
+answers_later has later tries before after status.PutFailed line follows h = absurd h
 
 left_later : (has later : Store → Outcome → Type 0) (before after : FilesView) → Follows has later before → LeftByMemory has before after → LeftByMemory later before after
 left_later has later before after follows left = elim left [
@@ -102,18 +97,18 @@ left_later has later before after follows left = elim left [
 
 -- ---- an input that is refused
 
-refused_answer : (has : Store → Outcome → Type 0) (inputs : List (List ℕ)) (before after : FilesView) (fault : Fault) (answer : Answer) → AreUntouched before after → Refuses answer fault → Expects has before (Refused fault) → LinkAnswers has inputs before after answer.status answer.line.items
-refused_answer has inputs before after fault answer kept refuses expects =
-    subst (λ (s : Status). LinkAnswers has inputs before after s answer.line.items) (sym refuses.status) (fault, record { outcome = expects; files = kept; says = refuses.line })
+refused_answer : (has : Store → Outcome → Type 0) (tries : Option Store → List ℕ → Type 0) (before after : FilesView) (fault : Fault) (answer : Answer) → AreUntouched before after → Refuses answer fault → Expects has before (Refused fault) → LinkAnswers has tries before after answer.status answer.line.items
+refused_answer has tries before after fault answer kept refuses expects =
+    subst (λ (s : Status). LinkAnswers has tries before after s answer.line.items) (sym refuses.status) (fault, record { outcome = expects; files = kept; says = refuses.line })
 
-pub if_refused : (r : Result Answer Memory) (has : Store → Outcome → Type 0) (inputs : List (List ℕ)) (before after : FilesView) (fault : Fault) → AreUntouched before after → Expects has before (Refused fault) → IfOk r (λ answer. Refuses answer fault) → IfOk r (λ answer. LinkAnswers has inputs before after answer.status answer.line.items)
-if_refused (Ok answer) has inputs before after fault kept expects refuses = refused_answer has inputs before after fault answer kept refuses expects
-if_refused (Err error) has inputs before after fault kept expects refuses = tt
+pub if_refused : (r : Result Answer Memory) (has : Store → Outcome → Type 0) (tries : Option Store → List ℕ → Type 0) (before after : FilesView) (fault : Fault) → AreUntouched before after → Expects has before (Refused fault) → IfOk r (λ answer. Refuses answer fault) → IfOk r (λ answer. LinkAnswers has tries before after answer.status answer.line.items)
+if_refused (Ok answer) has tries before after fault kept expects refuses = refused_answer has tries before after fault answer kept refuses expects
+if_refused (Err error) has tries before after fault kept expects refuses = tt
 
 -- ---- outputs that are written
 
-written_answers : (options : LinkOptions) (files inputs : List (List ℕ)) (before after : FilesView) (linked : LinkedBytes) (answer : Status) (line : List ℕ) → IsLinked options files linked → AnswersWrite before after (linked_outputs options.out linked) (linked_summary options.out linked) answer line → LinkAnswers (InputsHave options files) inputs before after answer line
-written_answers options files inputs before after linked status.Done line is wrote = (
+written_answers : (options : LinkOptions) (modules : List ModuleView) (tries : Option Store → List ℕ → Type 0) (before after : FilesView) (linked : LinkedBytes) (answer : Status) (line : List ℕ) → IsLinked options modules linked → AnswersWrite before after (linked_outputs options.out linked) (linked_summary options.out linked) answer line → LinkAnswers (ModulesHave options modules) tries before after answer line
+written_answers options modules tries before after linked status.Done line is wrote = (
   is.plan,
   (
     linked.image.items,
@@ -124,7 +119,7 @@ written_answers options files inputs before after linked status.Done line is wro
     },
   ),
 )
-written_answers options files inputs before after linked status.WriteFailed line is wrote = (
+written_answers options modules tries before after linked status.WriteFailed line is wrote = (
   is.plan,
   (
     linked.image.items,
@@ -138,23 +133,23 @@ written_answers options files inputs before after linked status.WriteFailed line
     ),
   ),
 )
-written_answers options files inputs before after linked status.Refused line is none = absurd none
-written_answers options files inputs before after linked status.Usage line is none = absurd none
-written_answers options files inputs before after linked status.OutOfMemory line is none = absurd none
-written_answers options files inputs before after linked status.ReadFailed line is none = absurd none
-written_answers options files inputs before after linked status.PutFailed line is none = absurd none
+written_answers options modules tries before after linked status.Refused line is none = absurd none
+written_answers options modules tries before after linked status.Usage line is none = absurd none
+written_answers options modules tries before after linked status.OutOfMemory line is none = absurd none
+written_answers options modules tries before after linked status.ReadFailed line is none = absurd none
+written_answers options modules tries before after linked status.PutFailed line is none = absurd none
 
-pub if_written : (r : Result Answer Memory) (options : LinkOptions) (files inputs : List (List ℕ)) (before after : FilesView) (linked : LinkedBytes) → IsLinked options files linked
+pub if_written : (r : Result Answer Memory) (options : LinkOptions) (modules : List ModuleView) (tries : Option Store → List ℕ → Type 0) (before after : FilesView) (linked : LinkedBytes) → IsLinked options modules linked
     → IfOk r (λ answer. AnswersWrite before after (linked_outputs options.out linked) (linked_summary options.out linked) answer.status answer.line.items)
-    → IfOk r (λ answer. LinkAnswers (InputsHave options files) inputs before after answer.status answer.line.items)
-if_written (Ok answer) options files inputs before after linked is wrote = written_answers options files inputs before after linked answer.status answer.line.items is wrote
-if_written (Err error) options files inputs before after linked is wrote = tt
+    → IfOk r (λ answer. LinkAnswers (ModulesHave options modules) tries before after answer.status answer.line.items)
+if_written (Ok answer) options modules tries before after linked is wrote = written_answers options modules tries before after linked answer.status answer.line.items is wrote
+if_written (Err error) options modules tries before after linked is wrote = tt
 
-pub on_left : (r : Result Answer Memory) (options : LinkOptions) (files : List (List ℕ)) (before after : FilesView) (linked : LinkedBytes) → IsLinked options files linked
+pub on_left : (r : Result Answer Memory) (options : LinkOptions) (modules : List ModuleView) (before after : FilesView) (linked : LinkedBytes) → IsLinked options modules linked
     → OnErr r (LeftByWrites before after (linked_outputs options.out linked))
-    → OnErr r (LeftByMemory (InputsHave options files) before after)
-on_left (Ok answer) options files before after linked is left = tt
-on_left (Err error) options files before after linked is left = elim left [
+    → OnErr r (LeftByMemory (ModulesHave options modules) before after)
+on_left (Ok answer) options modules before after linked is left = tt
+on_left (Err error) options modules before after linked is left = elim left [
   | inl nothing ↦ inl nothing
   | inr some ↦ inr (
     is.plan,
@@ -169,45 +164,44 @@ on_left (Err error) options files before after linked is left = elim left [
   )
 ]
 
--- ---- inputs that are read
+-- ---- modules that join
 
--- where the inputs were read, the outcome of a link is that of the inputs
-read_follows : (options : LinkOptions) (before later : FilesView) (files : List (List ℕ)) → GivesInputs options.inputs before later files → Follows (InputsHave options files) (LinkOutcome options) before
-read_follows options before later files given = λ store told outcome has. rw (given.no_fault store told, given.told store told) has
+-- where these modules join, the outcome of a link is theirs
+plan_follows : (options : LinkOptions) (before later : FilesView) (plan : LinkPlan) → GivesPlan options before later plan → Follows (ModulesHave options plan.modules.items) (LinkOutcome options) before
+plan_follows options before later plan given = λ store told outcome has. AtModules plan.modules.items (given.told store told) has
 
-pub if_read : (r : Result Answer Memory) (options : LinkOptions) (before later after : FilesView) (files : List (List ℕ)) → GivesInputs options.inputs before later files
-    → IfOk r (λ answer. LinkAnswers (InputsHave options files) options.inputs later after answer.status answer.line.items)
-    → IfOk r (λ answer. LinkAnswers (LinkOutcome options) options.inputs before after answer.status answer.line.items)
-if_read (Ok answer) options before later after files given goes_on =
-    answers_later (InputsHave options files) (LinkOutcome options) options.inputs before after answer.status answer.line.items (read_follows options before later files given)
-    (subst (λ (view : FilesView). LinkAnswers (InputsHave options files) options.inputs view after answer.status answer.line.items) (same_files before later given.files) goes_on)
-if_read (Err error) options before later after files given goes_on = tt
+pub if_planned : (r : Result Answer Memory) (options : LinkOptions) (before later after : FilesView) (plan : LinkPlan) → GivesPlan options before later plan
+    → IfOk r (λ answer. LinkAnswers (ModulesHave options plan.modules.items) (LinkTries options) later after answer.status answer.line.items)
+    → IfOk r (λ answer. LinkAnswers (LinkOutcome options) (LinkTries options) before after answer.status answer.line.items)
+if_planned (Ok answer) options before later after plan given goes_on =
+    answers_later (ModulesHave options plan.modules.items) (LinkOutcome options) (LinkTries options) before after answer.status answer.line.items (plan_follows options before later plan given)
+    (subst (λ (view : FilesView). LinkAnswers (ModulesHave options plan.modules.items) (LinkTries options) view after answer.status answer.line.items) (same_files before later given.files) goes_on)
+if_planned (Err error) options before later after plan given goes_on = tt
 
-pub on_left_read : (r : Result Answer Memory) (options : LinkOptions) (before later after : FilesView) (files : List (List ℕ)) → GivesInputs options.inputs before later files
-    → OnErr r (LeftByMemory (InputsHave options files) later after)
+pub on_left_planned : (r : Result Answer Memory) (options : LinkOptions) (before later after : FilesView) (plan : LinkPlan) → GivesPlan options before later plan
+    → OnErr r (LeftByMemory (ModulesHave options plan.modules.items) later after)
     → OnErr r (LeftByMemory (LinkOutcome options) before after)
-on_left_read (Ok answer) options before later after files given left = tt
-on_left_read (Err error) options before later after files given left =
-    left_later (InputsHave options files) (LinkOutcome options) before after (read_follows options before later files given)
-    (subst (λ (view : FilesView). LeftByMemory (InputsHave options files) view after) (same_files before later given.files) left)
+on_left_planned (Ok answer) options before later after plan given left = tt
+on_left_planned (Err error) options before later after plan given left =
+    left_later (ModulesHave options plan.modules.items) (LinkOutcome options) before after (plan_follows options before later plan given)
+    (subst (λ (view : FilesView). LeftByMemory (ModulesHave options plan.modules.items) view after) (same_files before later given.files) left)
 
--- an input is refused at its read
-pub unread : (options : LinkOptions) (before after : FilesView) (fault : Fault) → FaultsInputs options.inputs before after fault → Expects (LinkOutcome options) before (Refused fault)
-unread options before after fault faults = record { told = λ store told. rw (faults.told store told) refl }
+-- modules that do not join, or that have a fault
+fault_follows : (options : LinkOptions) (store : Store) (fault : Fault) → HasLoadingFault store options fault ⊎ JoinsBadly store options fault → LinkOutcome options store (Refused fault)
+fault_follows options store fault faults = elim faults [
+  | inl loading ↦ AtLoading fault loading refl
+  | inr joins ↦ AtModules joins.modules joins.joined (rw joins.is refl)
+]
 
--- the read of an input failed
-pub if_read_failed : (r : Result Answer Memory) (has : Store → Outcome → Type 0) (inputs : List (List ℕ)) (before after : FilesView) (name : List ℕ) → FailsInputs inputs before after name → IfOk r (λ answer. TellsReadFailure answer name) → IfOk r (λ answer. LinkAnswers has inputs before after answer.status answer.line.items)
-if_read_failed (Ok answer) has inputs before after name fails tells =
-    subst (λ (s : Status). LinkAnswers has inputs before after s answer.line.items) (sym tells.status) (
-      fails.input,
-      record {
-        within = fails.within;
-        reached = fails.earlier;
-        files = fails.files;
-        says = tells.line ∙ ap read_failure_line fails.named;
-      },
-    )
-if_read_failed (Err error) has inputs before after name fails tells = tt
+pub unplanned : (options : LinkOptions) (before after : FilesView) (fault : Fault) → FaultsPlan options before after fault → Expects (LinkOutcome options) before (Refused fault)
+unplanned options before after fault faults = record { told = λ store told. fault_follows options store fault (faults.told store told) }
+
+-- the read of a file failed
+pub if_read_failed : (r : Result Answer Memory) (options : LinkOptions) (before after : FilesView) (name : List ℕ) → FailsLoading options before after name → IfOk r (λ answer. TellsReadFailure answer name) → IfOk r (λ answer. LinkAnswers (LinkOutcome options) (LinkTries options) before after answer.status answer.line.items)
+if_read_failed (Ok answer) options before after name fails tells =
+    subst (λ (s : Status). LinkAnswers (LinkOutcome options) (LinkTries options) before after s answer.line.items) (sym tells.status)
+    (name, record { tried = fails.told; files = fails.files; says = tells.line })
+if_read_failed (Err error) options before after name fails tells = tt
 
 pub nothing_written : (has : Store → Outcome → Type 0) (before after : FilesView) → AreUntouched before after → LeftByMemory has before after
 nothing_written has before after kept = inl (record { store = kept.store; writes = kept.writes })
@@ -220,47 +214,26 @@ pub on_unread : (r : Result Answer Memory) (has : Store → Outcome → Type 0) 
 on_unread (Ok answer) has before after failed = tt
 on_unread (Err error) has before after failed = inl (record { store = failed.store; writes = failed.writes })
 
--- as many inputs as names, none too large
-pub given_count : (names : List (Bor (List ℕ))) (before later : FilesView) (inputs : List (Vec ℕ Global)) → GivesInputs (texts_of names) before later (file_bytes inputs) → length names ≡ length inputs
-given_count names before later inputs given =
-    sym (length-map names (λ (name : Bor (List ℕ)). name.now)) ∙ sym given.count ∙ length-map inputs (λ (file : Vec ℕ Global). file.items)
+-- memory was wanting before anything was written
+pub left_alone : (has : Store → Outcome → Type 0) (before after : FilesView) → LeavesFiles before after → LeftByMemory has before after
+left_alone has before after leaves = inl (record { store = leaves.store; writes = leaves.writes })
 
-pub given_small : (names : List (Bor (List ℕ))) (before later : FilesView) (inputs : List (Vec ℕ Global)) → GivesInputs (texts_of names) before later (file_bytes inputs) → All (λ file. length file.items ≤ FILE_LIMIT) inputs
-given_small names before later inputs given = λ k d lt.
-    let within : k < length (file_bytes inputs) = omega (arith, length-map inputs (λ (file : Vec ℕ Global). file.items), lt) in
-    let small = given.within k [] within in
-    subst (λ (bytes : List ℕ). length bytes ≤ FILE_LIMIT) (get_or-map (λ (file : Vec ℕ Global). file.items) inputs k d [] lt) small
-
--- ---- the stages of a link
-
--- files that do not open
-pub refused_opening : (options : LinkOptions) (files : List (List ℕ)) (r : Refusal) → RefusesFor (opening_fault options.inputs files) r → RefusesInputs options files r
-unfolding inputs_fault
-refused_opening options files (refusal.Fault fault) is = rw is refl
-refused_opening options files refusal.Memory is = tt
-
--- modules that are not linked
-pub refused_plan : (options : LinkOptions) (files : List (List ℕ)) (modules : List ModuleView) (r : Refusal) → opening_fault options.inputs files ≡ None → modules ≡ joined options.inputs files → RefusesFor (plan_fault options (link_of options modules)) r → RefusesInputs options files r
-unfolding inputs_fault
-refused_plan options files modules (refusal.Fault fault) opened are is = rw (opened, ← are, is) refl
-refused_plan options files modules refusal.Memory opened are is = tt
+-- ---- the image of a plan
 
 -- pieces that make no image
-pub refused_build : (options : LinkOptions) (files : List (List ℕ)) (modules : List ModuleView) (r : Refusal) → opening_fault options.inputs files ≡ None → modules ≡ joined options.inputs files → plan_fault options (link_of options modules) ≡ None → RefusesBuild options (link_of options modules) r → RefusesInputs options files r
-unfolding inputs_fault
-refused_build options files modules (refusal.Fault fault) opened are planned is = rw (opened, ← are, planned) is
-refused_build options files modules refusal.Memory opened are planned is = tt
+pub refused_build : (options : LinkOptions) (modules : List ModuleView) (r : Refusal) → plan_fault options (link_of options modules) ≡ None → RefusesBuild options (link_of options modules) r → RefusesModules options modules r
+refused_build options modules (refusal.Fault fault) planned is = rw planned is
+refused_build options modules refusal.Memory planned is = tt
 
 -- an image that is made
-pub linked : (options : LinkOptions) (files : List (List ℕ)) (modules : List ModuleView) (built : Built) (made : LinkedBytes) → opening_fault options.inputs files ≡ None → modules ≡ joined options.inputs files → plan_fault options (link_of options modules) ≡ None → IsBuilt options (link_of options modules) built → made.image ≡ built.image → made.sections ≡ built.sections → made.modules ≡ length modules → IsLinked options files made
-unfolding inputs_fault
-linked options files modules built made opened are planned is image sections count =
+pub linked : (options : LinkOptions) (modules : List ModuleView) (built : Built) (made : LinkedBytes) → plan_fault options (link_of options modules) ≡ None → IsBuilt options (link_of options modules) built → made.image ≡ built.image → made.sections ≡ built.sections → made.modules ≡ length modules → IsLinked options modules made
+linked options modules built made planned is image sections count =
     let plan : Plan = record { options = options; modules = modules; image = is.image } in
     let made_plan : IsPlan options modules plan = record { options_are = refl; modules_are = refl; image_is = is.is_image } in
     record {
       plan = plan;
       asked = refl;
-      outcome = rw (opened, ← are, planned) made_plan;
+      outcome = rw planned made_plan;
       means = rw image is.means;
       modules_are = count;
       sections_are = sections ∙ is.count;
@@ -274,7 +247,7 @@ commanded words command before after answer line said h =
     subst (λ (r : Result CommandSaid RefusedWord). CommandAnswers r (HasOutcome words) before after answer line) (sym said) h
 
 -- an answer of the link that the words ask for
-link_answers : (words : List (List ℕ)) (options : LinkOptions) (before after : FilesView) (answer : Status) (line : List ℕ) → words_say words ≡ Ok (Link options) → LinkAnswers (HasOutcome words) options.inputs before after answer line → Answers words before after answer line
+link_answers : (words : List (List ℕ)) (options : LinkOptions) (before after : FilesView) (answer : Status) (line : List ℕ) → words_say words ≡ Ok (Link options) → LinkAnswers (HasOutcome words) (LinkTries options) before after answer line → Answers words before after answer line
 link_answers words options before after status.Done line said h = commanded words (Link options) before after status.Done line said h
 link_answers words options before after status.Refused line said h = commanded words (Link options) before after status.Refused line said h
 link_answers words options before after status.ReadFailed line said h = commanded words (Link options) before after status.ReadFailed line said h
@@ -308,11 +281,11 @@ asked_follows : (words : List (List ℕ)) (files : FilesView) (options : LinkOpt
 asked_follows words files options said built = λ store told outcome has. record { is = rw (said, built) has }
 
 pub if_linked : (r : Result Answer Memory) (words : List (List ℕ)) (before after : FilesView) (options : LinkOptions) → words_say words ≡ Ok (Link options) → is_unbuilt_link options ≡ false
-    → IfOk r (λ answer. LinkAnswers (LinkOutcome options) options.inputs before after answer.status answer.line.items)
+    → IfOk r (λ answer. LinkAnswers (LinkOutcome options) (LinkTries options) before after answer.status answer.line.items)
     → IfOk r (λ answer. Answers words before after answer.status answer.line.items)
 if_linked (Ok answer) words before after options said built h =
     link_answers words options before after answer.status answer.line.items said
-    (answers_later (LinkOutcome options) (HasOutcome words) options.inputs before after answer.status answer.line.items (asked_follows words before options said built) h)
+    (answers_later (LinkOutcome options) (HasOutcome words) (LinkTries options) before after answer.status answer.line.items (asked_follows words before options said built) h)
 if_linked (Err error) words before after options said built h = tt
 
 pub on_linked : (r : Result Answer Memory) (words : List (List ℕ)) (before after : FilesView) (options : LinkOptions) → words_say words ≡ Ok (Link options) → is_unbuilt_link options ≡ false
@@ -323,29 +296,29 @@ on_linked (Err error) words before after options said built h =
     left_later (LinkOutcome options) (HasOutcome words) before after (asked_follows words before options said built) h
 
 -- what an answer left, where memory ran out before its line was printed
-left_by_link : (has : Store → Outcome → Type 0) (inputs : List (List ℕ)) (before after : FilesView) (answer : Status) (line : List ℕ) → LinkAnswers has inputs before after answer line → LeftByMemory has before after
-left_by_link has inputs before after status.Done line h =
+left_by_link : (has : Store → Outcome → Type 0) (tries : Option Store → List ℕ → Type 0) (before after : FilesView) (answer : Status) (line : List ℕ) → LinkAnswers has tries before after answer line → LeftByMemory has before after
+left_by_link has tries before after status.Done line h =
     inr (h.0, (h.1.0, record { made = h.1.1.made; count = length (outputs_of h.0 h.1.0); files = inl h.1.1.files }))
-left_by_link has inputs before after status.Refused line h = nothing_written has before after h.1.files
-left_by_link has inputs before after status.ReadFailed line h = inl (record { store = h.1.files.store; writes = h.1.files.writes })
-left_by_link has inputs before after status.WriteFailed line h =
+left_by_link has tries before after status.Refused line h = nothing_written has before after h.1.files
+left_by_link has tries before after status.ReadFailed line h = inl (record { store = h.1.files.store; writes = h.1.files.writes })
+left_by_link has tries before after status.WriteFailed line h =
     inr (h.0, (h.1.0, record { made = h.1.1.1.made; count = h.1.1.0; files = inr h.1.1.1.files }))
-left_by_link has inputs before after status.Usage line h = absurd h
-left_by_link has inputs before after status.OutOfMemory line h = absurd h
-left_by_link has inputs before after status.PutFailed line h = absurd h
+left_by_link has tries before after status.Usage line h = absurd h
+left_by_link has tries before after status.OutOfMemory line h = absurd h
+left_by_link has tries before after status.PutFailed line h = absurd h
 
-left_by_show : (has : Store → Outcome → Type 0) (inputs : List (List ℕ)) (before after : FilesView) (answer : Status) (line : List ℕ) → ShowAnswers has inputs before after answer line → LeftByMemory has before after
-left_by_show has inputs before after status.Done line h = nothing_written has before after h.files
-left_by_show has inputs before after status.Refused line h = nothing_written has before after h.1.files
-left_by_show has inputs before after status.ReadFailed line h = inl (record { store = h.1.files.store; writes = h.1.files.writes })
-left_by_show has inputs before after status.WriteFailed line h = absurd h
-left_by_show has inputs before after status.Usage line h = absurd h
-left_by_show has inputs before after status.OutOfMemory line h = absurd h
-left_by_show has inputs before after status.PutFailed line h = absurd h
+left_by_show : (has : Store → Outcome → Type 0) (tries : Option Store → List ℕ → Type 0) (before after : FilesView) (answer : Status) (line : List ℕ) → ShowAnswers has tries before after answer line → LeftByMemory has before after
+left_by_show has tries before after status.Done line h = nothing_written has before after h.files
+left_by_show has tries before after status.Refused line h = nothing_written has before after h.1.files
+left_by_show has tries before after status.ReadFailed line h = inl (record { store = h.1.files.store; writes = h.1.files.writes })
+left_by_show has tries before after status.WriteFailed line h = absurd h
+left_by_show has tries before after status.Usage line h = absurd h
+left_by_show has tries before after status.OutOfMemory line h = absurd h
+left_by_show has tries before after status.PutFailed line h = absurd h
 
 left_by_command : (said : Result CommandSaid RefusedWord) (has : Store → Outcome → Type 0) (before after : FilesView) (answer : Status) (line : List ℕ) → CommandAnswers said has before after answer line → LeftByMemory has before after
-left_by_command (Ok (Link options)) has before after answer line h = left_by_link has options.inputs before after answer line h
-left_by_command (Ok (At image base rva len)) has before after answer line h = left_by_show has (image ∷ []) before after answer line h
+left_by_command (Ok (Link options)) has before after answer line h = left_by_link has (LinkTries options) before after answer line h
+left_by_command (Ok (At image base rva len)) has before after answer line h = left_by_show has (ImageTries image) before after answer line h
 left_by_command (Ok (Show image pdb base symbol len)) has before after answer line h = absurd h
 left_by_command (Ok (Gen n)) has before after answer line h = absurd h
 left_by_command (Err word) has before after answer line h = absurd h

@@ -2,6 +2,7 @@
 -- start.
 use Rattle.std.proofs.Common.{◌≡◌, ℕ, List, [], ◌∷◌, ◌++◌, true, false, refl}
 use Rattle.std.specs.Prelude.{Some, None, Ok, codes}
+use Rattle.module_view.specs.Module.{ModuleView}
 use Rattle.directives.specs.Text.{is_text}
 use Rattle.directives.specs.Names.{is_word}
 use Rattle.link_words.specs.Known.{known}
@@ -13,7 +14,7 @@ use Rattle.link_words.specs.LinkWords.{word_refusal, settings, line_refusal, lin
 use Rattle.link_words.specs.Commands.{words_say}
 use Rattle.link_plan.specs.Fixes.{fixes_from}
 use Rattle.link_plan.specs.Entry.{entry_place}
-use Rattle.link_plan.specs.Plan.{link_of}
+use Rattle.lib_search.specs.LinkOf.{link_of}
 use Rattle.link_directives.specs.LinkDirectives.{mismatch_of}
 use Rattle.module_view.specs.ModuleDirectives.{module_says}
 use Rattle.link_base.specs.Bytes.{number_at, first_below}
@@ -40,8 +41,6 @@ use Rattle.coff_aux.specs.AuxFaults.{is_bad_weak, aux_place, parent_place, aux_f
 use Rattle.module_view.specs.Unbuilt.{is_unbuilt_form, is_in_comdat, is_unbuilt_symbol}
 use Rattle.link_pieces.specs.Pieces.{is_named, link_pieces, link_contents}
 use Rattle.link_plan.specs.PlanFaults.{plan_fault}
-use Rattle.linker_program.specs.Loading.{joined}
-use Rattle.linker_program.specs.Outcome.{inputs_fault}
 use Rattle.linker_program.specs.Unbuilt.{is_unbuilt_link}
 
 file_header : List ℕ
@@ -86,21 +85,25 @@ built : is_unbuilt_link options ≡ false
 unfolding is_unbuilt_link settings options_of word_says known is_word is_text default_entry with_extension stem
 built = refl
 
+-- the modules that join
+modules : List ModuleView
+modules = record { file = codes "a.obj"; member = None; bytes = object } ∷ []
+
 -- no stage before the tables has a fault
-accepted : inputs_fault options (object ∷ []) ≡ None
-unfolding module_says mismatch_of settings options_of word_says known is_word is_text object file_header section_header code symbol_record string_row number_at first_below decimal_number first_refusal_below first_section first_of is_truncated is_other_machine body_leaves counted_leave relocations_leave first_torn_record symbol_range_fault table_leaves lacks_section_name lacks_symbol_name string_table_fault has_no_alignment has_no_section value_exceeds object_fault section_at record_offset record_at symbol_at starts_within big_object_class is_big_object header_size symbol_size machine_of section_total section_headers_offset symbols_offset record_total relocations_place relocation_count_in relocations_from short_name_in name_offset long_section_name section_name_in is_uninitialised_in has_overflow_count_in string_table_offset string_table_size string_table text_in long_name_offset_in name_in section_number_in class_in aux_count_in resource_start form_error is_linker_section content_error opening_error comes_in is_definition definitions_of is_common is_undefined is_reference references_of stands_in section_symbols_of said_by_symbol leader_name comdat_of chain_end weaks_of commons_of linker_meaning step meaning_within meaning_of asks is_bad_weak comdat_record_of parent_in parents_of ancestor aux_place parent_place aux_fault is_unbuilt_form is_in_comdat is_unbuilt_symbol is_named fixes_from plan_fault inputs_fault
+accepted : plan_fault options (link_of options modules) ≡ None
+unfolding module_says mismatch_of settings options_of word_says known is_word is_text object file_header section_header code symbol_record string_row number_at first_below decimal_number first_refusal_below first_section first_of is_truncated is_other_machine body_leaves counted_leave relocations_leave first_torn_record symbol_range_fault table_leaves lacks_section_name lacks_symbol_name string_table_fault has_no_alignment has_no_section value_exceeds object_fault section_at record_offset record_at symbol_at starts_within big_object_class is_big_object header_size symbol_size machine_of section_total section_headers_offset symbols_offset record_total relocations_place relocation_count_in relocations_from short_name_in name_offset long_section_name section_name_in is_uninitialised_in has_overflow_count_in string_table_offset string_table_size string_table text_in long_name_offset_in name_in section_number_in class_in aux_count_in resource_start form_error is_linker_section content_error opening_error comes_in is_definition definitions_of is_common is_undefined is_reference references_of stands_in section_symbols_of said_by_symbol leader_name comdat_of chain_end weaks_of commons_of linker_meaning step meaning_within meaning_of asks is_bad_weak comdat_record_of parent_in parents_of ancestor aux_place parent_place aux_fault is_unbuilt_form is_in_comdat is_unbuilt_symbol is_named fixes_from plan_fault modules
 accepted = refl
 
 -- what is laid out
-pieces : link_pieces (link_of options (joined options.inputs (object ∷ []))) ≡ record { «module» = 0; number = 1; name = codes ".text"; flags = 0x60500020; size = 3; align = 16; body = None; init = true; named = true } ∷ []
-unfolding module_says mismatch_of settings options_of word_says known is_word is_text object file_header section_header code symbol_record string_row number_at first_below decimal_number first_refusal_below first_section first_of is_truncated is_other_machine body_leaves counted_leave relocations_leave first_torn_record symbol_range_fault table_leaves lacks_section_name lacks_symbol_name string_table_fault has_no_alignment has_no_section value_exceeds object_fault section_at record_offset record_at symbol_at starts_within big_object_class is_big_object header_size symbol_size machine_of section_total section_headers_offset symbols_offset record_total relocations_place relocation_count_in relocations_from short_name_in name_offset long_section_name section_name_in is_uninitialised_in has_overflow_count_in string_table_offset string_table_size string_table text_in long_name_offset_in name_in section_number_in class_in aux_count_in resource_start form_error is_linker_section content_error opening_error comes_in is_definition definitions_of is_common is_undefined is_reference references_of is_bad_weak comdat_record_of parent_in parents_of ancestor aux_place parent_place aux_fault is_unbuilt_form is_in_comdat is_unbuilt_symbol is_named plan_fault inputs_fault stands_in section_symbols_of said_by_symbol leader_name comdat_of chain_end weaks_of commons_of linker_meaning step meaning_within meaning_of
+pieces : link_pieces (link_of options modules) ≡ record { «module» = 0; number = 1; name = codes ".text"; flags = 0x60500020; size = 3; align = 16; body = None; init = true; named = true } ∷ []
+unfolding module_says mismatch_of settings options_of word_says known is_word is_text object file_header section_header code symbol_record string_row number_at first_below decimal_number first_refusal_below first_section first_of is_truncated is_other_machine body_leaves counted_leave relocations_leave first_torn_record symbol_range_fault table_leaves lacks_section_name lacks_symbol_name string_table_fault has_no_alignment has_no_section value_exceeds object_fault section_at record_offset record_at symbol_at starts_within big_object_class is_big_object header_size symbol_size machine_of section_total section_headers_offset symbols_offset record_total relocations_place relocation_count_in relocations_from short_name_in name_offset long_section_name section_name_in is_uninitialised_in has_overflow_count_in string_table_offset string_table_size string_table text_in long_name_offset_in name_in section_number_in class_in aux_count_in resource_start form_error is_linker_section content_error opening_error comes_in is_definition definitions_of is_common is_undefined is_reference references_of is_bad_weak comdat_record_of parent_in parents_of ancestor aux_place parent_place aux_fault is_unbuilt_form is_in_comdat is_unbuilt_symbol is_named plan_fault modules stands_in section_symbols_of said_by_symbol leader_name comdat_of chain_end weaks_of commons_of linker_meaning step meaning_within meaning_of
 pieces = refl
 
-contents : link_contents (link_of options (joined options.inputs (object ∷ []))) ≡ code ∷ []
-unfolding module_says mismatch_of settings options_of word_says known is_word is_text object file_header section_header code symbol_record string_row number_at first_below decimal_number first_refusal_below first_section first_of is_truncated is_other_machine body_leaves counted_leave relocations_leave first_torn_record symbol_range_fault table_leaves lacks_section_name lacks_symbol_name string_table_fault has_no_alignment has_no_section value_exceeds object_fault section_at record_offset record_at symbol_at starts_within big_object_class is_big_object header_size symbol_size machine_of section_total section_headers_offset symbols_offset record_total relocations_place relocation_count_in relocations_from short_name_in name_offset long_section_name section_name_in is_uninitialised_in has_overflow_count_in string_table_offset string_table_size string_table text_in long_name_offset_in name_in section_number_in class_in aux_count_in resource_start form_error is_linker_section content_error opening_error comes_in is_definition definitions_of is_common is_undefined is_reference references_of is_bad_weak comdat_record_of parent_in parents_of ancestor aux_place parent_place aux_fault is_unbuilt_form is_in_comdat is_unbuilt_symbol is_named plan_fault inputs_fault stands_in section_symbols_of said_by_symbol leader_name comdat_of chain_end weaks_of commons_of linker_meaning step meaning_within meaning_of
+contents : link_contents (link_of options modules) ≡ code ∷ []
+unfolding module_says mismatch_of settings options_of word_says known is_word is_text object file_header section_header code symbol_record string_row number_at first_below decimal_number first_refusal_below first_section first_of is_truncated is_other_machine body_leaves counted_leave relocations_leave first_torn_record symbol_range_fault table_leaves lacks_section_name lacks_symbol_name string_table_fault has_no_alignment has_no_section value_exceeds object_fault section_at record_offset record_at symbol_at starts_within big_object_class is_big_object header_size symbol_size machine_of section_total section_headers_offset symbols_offset record_total relocations_place relocation_count_in relocations_from short_name_in name_offset long_section_name section_name_in is_uninitialised_in has_overflow_count_in string_table_offset string_table_size string_table text_in long_name_offset_in name_in section_number_in class_in aux_count_in resource_start form_error is_linker_section content_error opening_error comes_in is_definition definitions_of is_common is_undefined is_reference references_of is_bad_weak comdat_record_of parent_in parents_of ancestor aux_place parent_place aux_fault is_unbuilt_form is_in_comdat is_unbuilt_symbol is_named plan_fault modules stands_in section_symbols_of said_by_symbol leader_name comdat_of chain_end weaks_of commons_of linker_meaning step meaning_within meaning_of
 contents = refl
 
 -- where the image begins
-entry : entry_place (link_of options (joined options.inputs (object ∷ []))) options.entry_name ≡ Some (record { piece = 0; value = 0 })
-unfolding module_says mismatch_of settings options_of word_says known is_word is_text object file_header section_header code symbol_record string_row number_at first_below decimal_number first_refusal_below first_section first_of is_truncated is_other_machine body_leaves counted_leave relocations_leave first_torn_record symbol_range_fault table_leaves lacks_section_name lacks_symbol_name string_table_fault has_no_alignment has_no_section value_exceeds object_fault section_at record_offset record_at symbol_at starts_within big_object_class is_big_object header_size symbol_size machine_of section_total section_headers_offset symbols_offset record_total relocations_place relocation_count_in relocations_from short_name_in name_offset long_section_name section_name_in is_uninitialised_in has_overflow_count_in string_table_offset string_table_size string_table text_in long_name_offset_in name_in section_number_in class_in aux_count_in resource_start form_error is_linker_section content_error opening_error comes_in is_definition definitions_of is_common is_undefined is_reference references_of stands_in section_symbols_of said_by_symbol leader_name comdat_of chain_end weaks_of commons_of linker_meaning step meaning_within meaning_of asks is_bad_weak comdat_record_of parent_in parents_of ancestor aux_place parent_place aux_fault is_unbuilt_form is_in_comdat is_unbuilt_symbol is_named plan_fault inputs_fault
+entry : entry_place (link_of options modules) options.entry_name ≡ Some (record { piece = 0; value = 0 })
+unfolding module_says mismatch_of settings options_of word_says known is_word is_text object file_header section_header code symbol_record string_row number_at first_below decimal_number first_refusal_below first_section first_of is_truncated is_other_machine body_leaves counted_leave relocations_leave first_torn_record symbol_range_fault table_leaves lacks_section_name lacks_symbol_name string_table_fault has_no_alignment has_no_section value_exceeds object_fault section_at record_offset record_at symbol_at starts_within big_object_class is_big_object header_size symbol_size machine_of section_total section_headers_offset symbols_offset record_total relocations_place relocation_count_in relocations_from short_name_in name_offset long_section_name section_name_in is_uninitialised_in has_overflow_count_in string_table_offset string_table_size string_table text_in long_name_offset_in name_in section_number_in class_in aux_count_in resource_start form_error is_linker_section content_error opening_error comes_in is_definition definitions_of is_common is_undefined is_reference references_of stands_in section_symbols_of said_by_symbol leader_name comdat_of chain_end weaks_of commons_of linker_meaning step meaning_within meaning_of asks is_bad_weak comdat_record_of parent_in parents_of ancestor aux_place parent_place aux_fault is_unbuilt_form is_in_comdat is_unbuilt_symbol is_named plan_fault modules
 entry = refl

@@ -1,8 +1,7 @@
 -- What a run of the linker promises, by the status that it ends with: what is printed, what the files hold
 -- afterwards, and where each status comes from. Own.
-use Rattle.std.specs.Prelude.{◌≡◌, ◌<◌, ℕ, List, [], ◌∷◌, length, Some, None, Result, Ok, ◌⊎◌}
+use Rattle.std.specs.Prelude.{◌≡◌, ℕ, List, [], ◌∷◌, length, Option, Some, Result, Ok, ◌⊎◌}
 use Rattle.std.specs.Option.{ForSome}
-use Rattle.link_base.specs.Refusals.{first_refusal_below}
 use Rattle.link_base.specs.declared.fault.Fault.{Fault}
 use Rattle.diagnostics.specs.FaultLine.{fault_line_text}
 use Rattle.link_files.specs.Store.{Store}
@@ -10,11 +9,12 @@ use Rattle.link_files.specs.Outside.{FilesView, SinkView, AreUntouched, ReadFail
 use Rattle.link_files.specs.Outputs.{NamedBytes, output_at, FirstWritten, NextTorn}
 use Rattle.image_writer.specs.ExpectedImage.{MeansPlan}
 use Rattle.link_words.specs.Outcome.{Refused as RefusedWord}
-use Rattle.link_words.specs.Outcome.{CommandSaid, Link, At}
+use Rattle.link_words.specs.Outcome.{LinkOptions, CommandSaid, Link, At}
 use Rattle.link_words.specs.Commands.{words_say}
+use Rattle.lib_search.specs.Reading.{TriesInput}
+use Rattle.lib_search.specs.Loading.{TriesDefault}
 use Rattle.linker_program.specs.declared.status.Status.{Status}
 use Rattle.linker_program.specs.declared.status.Status.TheVariants as status
-use Rattle.linker_program.specs.Loading.{bytes_in, read_fault_at}
 use Rattle.linker_program.specs.Ending.{Outcome, Usage, Refused, Linked, Shown, Plan}
 use Rattle.linker_program.specs.Outcome.{HasOutcome}
 use Rattle.linker_program.specs.RunLines.{usage_line, summary_line, read_failure_line, write_failure_line}
@@ -55,12 +55,15 @@ pub record InputRefused (has : Store → Outcome → Type 0) (before after : Fil
   pub files : AreUntouched before after
   pub says : line ≡ fault_line_text fault
 
--- the read of an input failed, and where the files are told, no earlier input has a fault
-pub record InputUnread (inputs : List (List ℕ)) (before after : FilesView) (index : ℕ) (line : List ℕ) : Type 0 where
-  pub within : index < length inputs
-  pub reached : ForSome before.store (λ store. first_refusal_below index (read_fault_at store inputs) ≡ None)
+-- the read of a file that the command looks for failed; `tries` says which these are, by the files as far as they are told
+pub record FileUnread (tries : Option Store → List ℕ → Type 0) (before after : FilesView) (name line : List ℕ) : Type 0 where
+  pub tried : tries before.store name
   pub files : ReadFailed before after
-  pub says : line ≡ read_failure_line (bytes_in inputs index)
+  pub says : line ≡ read_failure_line name
+
+-- a link looks for its inputs, and then for its default libraries
+abbrev pub LinkTries : LinkOptions → Option Store → List ℕ → Type 0
+LinkTries options told name = ForSome told (λ store. TriesInput store options name ⊎ TriesDefault store options name)
 
 -- the write of an output failed
 pub record OutputUnwritten (has : Store → Outcome → Type 0) (before after : FilesView) (plan : Plan) (image : List ℕ) (index : ℕ) (line : List ℕ) : Type 0 where
@@ -68,31 +71,35 @@ pub record OutputUnwritten (has : Store → Outcome → Type 0) (before after : 
   pub files : NextTorn before after (outputs_of plan image) index
   pub says : line ≡ write_failure_line (output_at (outputs_of plan image) index).name
 
--- an answer of a link with these inputs, with its line: what was found and done before the line is printed
-abbrev pub LinkAnswers : (Store → Outcome → Type 0) → List (List ℕ) → FilesView → FilesView → Status → List ℕ → Type 0
-LinkAnswers has inputs before after status.Done line = (plan : Plan) × ((image : List ℕ) × LinkDone has before after plan image line)
-LinkAnswers has inputs before after status.Refused line = (fault : Fault) × InputRefused has before after fault line
-LinkAnswers has inputs before after status.ReadFailed line = (index : ℕ) × InputUnread inputs before after index line
-LinkAnswers has inputs before after status.WriteFailed line =
+-- an answer of a link, with its line: what was found and done before the line is printed
+abbrev pub LinkAnswers : (Store → Outcome → Type 0) → (Option Store → List ℕ → Type 0) → FilesView → FilesView → Status → List ℕ → Type 0
+LinkAnswers has tries before after status.Done line = (plan : Plan) × ((image : List ℕ) × LinkDone has before after plan image line)
+LinkAnswers has tries before after status.Refused line = (fault : Fault) × InputRefused has before after fault line
+LinkAnswers has tries before after status.ReadFailed line = (name : List ℕ) × FileUnread tries before after name line
+LinkAnswers has tries before after status.WriteFailed line =
     (plan : Plan) × ((image : List ℕ) × ((index : ℕ) × OutputUnwritten has before after plan image index line))
-LinkAnswers has inputs before after status.Usage line = ⊥
-LinkAnswers has inputs before after status.OutOfMemory line = ⊥
-LinkAnswers has inputs before after status.PutFailed line = ⊥
+LinkAnswers has tries before after status.Usage line = ⊥
+LinkAnswers has tries before after status.OutOfMemory line = ⊥
+LinkAnswers has tries before after status.PutFailed line = ⊥
 
 -- what was asked for is shown; every file is as it was
 pub record LineShown (has : Store → Outcome → Type 0) (before after : FilesView) (line : List ℕ) : Type 0 where
   pub outcome : Expects has before (Shown line)
   pub files : AreUntouched before after
 
--- an answer of a command that shows something of these files, with its line
-abbrev pub ShowAnswers : (Store → Outcome → Type 0) → List (List ℕ) → FilesView → FilesView → Status → List ℕ → Type 0
-ShowAnswers has inputs before after status.Done line = LineShown has before after line
-ShowAnswers has inputs before after status.Refused line = (fault : Fault) × InputRefused has before after fault line
-ShowAnswers has inputs before after status.ReadFailed line = (index : ℕ) × InputUnread inputs before after index line
-ShowAnswers has inputs before after status.WriteFailed line = ⊥
-ShowAnswers has inputs before after status.Usage line = ⊥
-ShowAnswers has inputs before after status.OutOfMemory line = ⊥
-ShowAnswers has inputs before after status.PutFailed line = ⊥
+-- a command that shows something of an image looks for that
+abbrev pub ImageTries : List ℕ → Option Store → List ℕ → Type 0
+ImageTries image told name = name ≡ image
+
+-- an answer of a command that shows something, with its line
+abbrev pub ShowAnswers : (Store → Outcome → Type 0) → (Option Store → List ℕ → Type 0) → FilesView → FilesView → Status → List ℕ → Type 0
+ShowAnswers has tries before after status.Done line = LineShown has before after line
+ShowAnswers has tries before after status.Refused line = (fault : Fault) × InputRefused has before after fault line
+ShowAnswers has tries before after status.ReadFailed line = (name : List ℕ) × FileUnread tries before after name line
+ShowAnswers has tries before after status.WriteFailed line = ⊥
+ShowAnswers has tries before after status.Usage line = ⊥
+ShowAnswers has tries before after status.OutOfMemory line = ⊥
+ShowAnswers has tries before after status.PutFailed line = ⊥
 
 -- ---- what the files hold where memory ran out
 
@@ -115,8 +122,8 @@ LeftByMemory has before after =
 
 -- an answer of the command that the words say
 abbrev pub CommandAnswers : Result CommandSaid RefusedWord → (Store → Outcome → Type 0) → FilesView → FilesView → Status → List ℕ → Type 0
-CommandAnswers (Ok (Link options)) has before after answer line = LinkAnswers has options.inputs before after answer line
-CommandAnswers (Ok (At image base rva len)) has before after answer line = ShowAnswers has (image ∷ []) before after answer line
+CommandAnswers (Ok (Link options)) has before after answer line = LinkAnswers has (LinkTries options) before after answer line
+CommandAnswers (Ok (At image base rva len)) has before after answer line = ShowAnswers has (ImageTries image) before after answer line
 CommandAnswers other has before after answer line = ⊥
 
 -- the words are refused, or ask for what is not built

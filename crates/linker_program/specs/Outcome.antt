@@ -1,7 +1,6 @@
 -- The expected outcome of a run: what its words and files decide, stage by stage. The first stage that has a fault ends it,
 -- and where none has, the plan is linked. The order of the stages is own.
 use Rattle.std.specs.Prelude.{◌≡◌, ℕ, List, Option, Some, None, Result, Ok, Err, Bool, true, false, codes}
-use Rattle.std.specs.Option.{option_or}
 use Rattle.link_base.specs.declared.fault.Fault.{Fault}
 use Rattle.link_files.specs.Store.{Store}
 use Rattle.module_view.specs.Module.{ModuleView}
@@ -9,21 +8,16 @@ use Rattle.link_words.specs.Outcome.{Refused as RefusedWord}
 use Rattle.link_words.specs.Outcome.{LinkOptions, CommandSaid, Link, At}
 use Rattle.link_words.specs.Commands.{words_say}
 use Rattle.link_words.specs.UsageWord.{usage_word}
+use Rattle.lib_search.specs.LinkOf.{link_of}
+use Rattle.lib_search.specs.Loading.{HasLoadingFault, Loads}
 use Rattle.link_plan.specs.PlanFaults.{plan_fault}
-use Rattle.link_plan.specs.Plan.{link_of}
 use Rattle.link_image.specs.LinkedImage.{IsImageOf}
 use Rattle.link_image.specs.BuildFaults.{IsBuildFault}
 use Rattle.linker_program.specs.Ending.{Plan, Outcome, Usage, Refused, Linked, Shown}
 use Rattle.linker_program.specs.Shown.{AtOutcome}
-use Rattle.linker_program.specs.Loading.{reading_fault, read_files, opening_fault, joined}
 use Rattle.linker_program.specs.Unbuilt.{is_unbuilt_link}
 
--- ---- inputs that were read
-
--- the stages that are functions of the inputs: opening, mismatch, choice, meaning, fields
-unfoldable pub inputs_fault : LinkOptions → List (List ℕ) → Option Fault
-inputs_fault options files =
-    option_or (opening_fault options.inputs files) (plan_fault options (link_of options (joined options.inputs files)))
+-- ---- the modules of a link
 
 -- the plan of modules
 pub record IsPlan (options : LinkOptions) (modules : List ModuleView) (plan : Plan) : Type 0 where
@@ -43,17 +37,17 @@ abbrev pub OutcomeAfter : Option Fault → (Outcome → Type 0) → Outcome → 
 OutcomeAfter (Some fault) later outcome = outcome ≡ Refused fault
 OutcomeAfter None later outcome = later outcome
 
--- the outcome of inputs that were read
-abbrev pub InputsOutcome : LinkOptions → List (List ℕ) → Outcome → Type 0
-InputsOutcome options files outcome =
-    OutcomeAfter (inputs_fault options files) (BuildOutcome options (joined options.inputs files)) outcome
+-- the outcome of modules: the first fault of the stages from mismatch to fields, else what they come to
+abbrev pub ModulesOutcome : LinkOptions → List ModuleView → Outcome → Type 0
+ModulesOutcome options modules outcome =
+    OutcomeAfter (plan_fault options (link_of options modules)) (BuildOutcome options modules) outcome
 
 -- ---- the whole
 
--- the outcome of a link with these options
-abbrev pub LinkOutcome : LinkOptions → Store → Outcome → Type 0
-LinkOutcome options store outcome =
-    OutcomeAfter (reading_fault store options.inputs) (InputsOutcome options (read_files store options.inputs)) outcome
+-- the outcome of a link with these options: the fault of its loading, or the outcome of the modules that join
+pub data LinkOutcome (options : LinkOptions) (store : Store) (outcome : Outcome) : Type 0 where
+  AtLoading : (fault : Fault) → HasLoadingFault store options fault → outcome ≡ Refused fault → LinkOutcome options store outcome
+  AtModules : (modules : List ModuleView) → Loads store options modules → ModulesOutcome options modules outcome → LinkOutcome options store outcome
 
 abbrev pub unbuilt : Outcome
 unbuilt = Usage 0 (codes "NotBuilt")

@@ -8,13 +8,14 @@ use Rattle.link_files.specs.Store.{Store}
 use Rattle.link_files.specs.Outside.{FilesView}
 use Rattle.link_files.specs.Outputs.{NamedBytes, output_at, FirstWritten, NextTorn}
 use Rattle.image_writer.specs.ExpectedImage.{MeansPlan}
+use Rattle.module_view.specs.Module.{ModuleView}
 use Rattle.link_words.specs.Outcome.{LinkOptions}
 use Rattle.linker_program.specs.declared.answer.Answer.{Answer}
 use Rattle.linker_program.specs.declared.linked.Linked.{Linked as LinkedBytes}
 use Rattle.linker_program.specs.declared.status.Status.{Status}
 use Rattle.linker_program.specs.declared.status.Status.TheVariants as status
 use Rattle.linker_program.specs.Ending.{Outcome, Usage, Refused, Linked, Shown, Plan}
-use Rattle.linker_program.specs.Outcome.{InputsOutcome}
+use Rattle.linker_program.specs.Outcome.{ModulesOutcome}
 use Rattle.linker_program.specs.RunLines.{usage_line, read_failure_line, write_failure_line}
 use Rattle.linker_program.specs.LinkRun.{NothingWritten}
 
@@ -42,25 +43,25 @@ Says answer (Refused fault) = Refuses answer fault
 Says answer (Usage index kind) = ⊥
 Says answer (Linked plan) = ⊥
 
--- ---- a link of inputs that were read
+-- ---- a link of modules that joined
 
--- the outcome of any files, once the inputs are read
-abbrev pub InputsHave : LinkOptions → List (List ℕ) → Store → Outcome → Type 0
-InputsHave options files store outcome = InputsOutcome options files outcome
+-- the outcome of any files, once the modules have joined
+abbrev pub ModulesHave : LinkOptions → List ModuleView → Store → Outcome → Type 0
+ModulesHave options modules store outcome = ModulesOutcome options modules outcome
 
--- what was made is the outcome of the inputs
-pub record IsLinked (options : LinkOptions) (files : List (List ℕ)) (linked : LinkedBytes) : Type 0 where
+-- what was made is the outcome of the modules
+pub record IsLinked (options : LinkOptions) (modules : List ModuleView) (linked : LinkedBytes) : Type 0 where
   pub plan : Plan
   pub asked : plan.options ≡ options
-  pub outcome : InputsOutcome options files (Linked plan)
+  pub outcome : ModulesOutcome options modules (Linked plan)
   pub means : MeansPlan plan.image linked.image.items
   pub modules_are : linked.modules ≡ length plan.modules
   pub sections_are : linked.sections ≡ length plan.image.rows
 
--- the fault is the outcome of the inputs; of want of memory nothing is said
-abbrev pub RefusesInputs : LinkOptions → List (List ℕ) → Refusal → Type 0
-RefusesInputs options files (refusal.Fault fault) = InputsOutcome options files (Refused fault)
-RefusesInputs options files refusal.Memory = Unit {0}
+-- the fault is the outcome of the modules; of want of memory nothing is said
+abbrev pub RefusesModules : LinkOptions → List ModuleView → Refusal → Type 0
+RefusesModules options modules (refusal.Fault fault) = ModulesOutcome options modules (Refused fault)
+RefusesModules options modules refusal.Memory = Unit {0}
 
 -- ---- the outputs
 

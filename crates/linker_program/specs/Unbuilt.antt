@@ -28,12 +28,6 @@ abbrev pub drops_sections : Option Bool → Bool
 drops_sections None = false
 drops_sections (Some refs) = refs
 
--- libraries and how they are searched
-abbrev pub asks_for_libraries : LinkOptions → Bool
-asks_for_libraries options =
-    is_some_text options.default_libs
-    || (is_some_text options.no_default || (options.no_default_all || is_some_text options.lib_paths))
-
 -- exports, and a DLL
 abbrev pub asks_for_exports : LinkOptions → Bool
 asks_for_exports options = is_some_text options.exports || (options.dll || options.noentry)
@@ -44,6 +38,5 @@ asks_for_outputs options = options.debug || (not (has_default_pdb options) || is
 
 unfoldable pub is_unbuilt_link : LinkOptions → Bool
 is_unbuilt_link options =
-    asks_for_libraries options
-    || (asks_for_exports options
-    || (asks_for_outputs options || (drops_sections options.refs || asks_for_imports options)))
+    asks_for_exports options
+    || (asks_for_outputs options || (drops_sections options.refs || asks_for_imports options))

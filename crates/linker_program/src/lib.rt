@@ -10,8 +10,6 @@ mod lines;
 mod link;
 mod linked;
 mod linker;
-mod opening;
-mod reading;
 mod show;
 mod status;
 mod unbuilt;

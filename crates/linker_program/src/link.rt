@@ -1,27 +1,27 @@
-//! One link: its inputs are read, linked, and the outputs written.
+//! One link: its modules are read and joined, the image is made, and the outputs are written.
 
-ghost use Rattle.std.specs.Prelude.{◌≡◌, ◌≤◌, ◌<◌, ◌-◌, ◌^◌, length, All, IfOk, IfErr, OnErr};
-ghost use Rattle.link_base.specs.Limits.{FILE_LIMIT as most_bytes};
+ghost use Rattle.std.specs.Prelude.{◌≡◌, ◌<◌, ◌-◌, ◌^◌, IfOk, IfErr, OnErr};
 ghost use Rattle.link_files.specs.Outside.{files_of};
 ghost use Rattle.link_words.specs.Outcome.{options_said};
+ghost use Rattle.lib_search.specs.LinkOf.{link_of};
+ghost use Rattle.link_plan.specs.Plan.{IsPlanOf};
 ghost use Rattle.linker_program.specs.Outcome.{LinkOutcome};
-ghost use Rattle.linker_program.specs.LinkRun.{LinkAnswers, LeftByMemory};
-ghost use Rattle.linker_program.specs.ReadingSteps.{file_bytes};
-ghost use Rattle.linker_program.specs.Steps.{InputsHave, IsLinked, RefusesInputs};
+ghost use Rattle.linker_program.specs.LinkRun.{LinkAnswers, LinkTries, LeftByMemory};
+ghost use Rattle.linker_program.specs.Steps.{ModulesHave, IsLinked, RefusesModules};
 
 use crate::answer::{Answer, read_failed, refused};
 use crate::linked::Linked;
-use crate::opening::open_modules;
-use crate::reading::read_inputs;
 use crate::write::write_linked;
+use bumpalo::Bump;
+use input_arena::Inputs;
 use link_base::{Memory, Refusal, Stop};
 use link_files::Files;
 use link_image::build;
-use link_plan::plan_of;
+use link_plan::{LinkPlan, plan};
 use link_words::Options;
 use std::alloc::Global;
 
-/// Reads the inputs that the options name, and links them.
+/// Links what the options name. The inputs stand in an arena as long as that takes.
 pub(crate) fn link<F: Files>(
     alloc: Global,
     files: &mut F,
@@ -29,63 +29,79 @@ pub(crate) fn link<F: Files>(
 ) -> Result<Answer, Memory>
     requires reads_below { F.read_faults files.old < 2 ^ 64 - 1 }
     requires writes_below { F.write_faults files.old < 2 ^ 64 - 1 }
-    ensures answered { IfOk result (λ answer. LinkAnswers (LinkOutcome (options_said options.now)) (options_said options.now).inputs
+    ensures answered { IfOk result (λ answer. LinkAnswers (LinkOutcome (options_said options.now)) (LinkTries (options_said options.now))
         (files_of F.store F.read_faults F.write_faults files.old)
         (files_of F.store F.read_faults F.write_faults files.new) answer.status answer.line.items) }
     ensures memory { OnErr result (LeftByMemory (LinkOutcome (options_said options.now))
         (files_of F.store F.read_faults F.write_faults files.old)
         (files_of F.store F.read_faults F.write_faults files.new)) }
 {
-    match read_inputs(alloc, files, &options.inputs) {
-        Ok(inputs) => link_inputs(alloc, files, options, &inputs),
+    let arena = Bump::new(alloc);
+    link_in(alloc, files, &arena, options)
+}
+
+/// Links what the options name, with the inputs in this arena.
+fn link_in<'a, F: Files>(
+    alloc: Global,
+    files: &mut F,
+    arena: &'a Bump,
+    options: &Options<'a>,
+) -> Result<Answer, Memory>
+    requires reads_below { F.read_faults files.old < 2 ^ 64 - 1 }
+    requires writes_below { F.write_faults files.old < 2 ^ 64 - 1 }
+    ensures answered { IfOk result (λ answer. LinkAnswers (LinkOutcome (options_said options.now)) (LinkTries (options_said options.now))
+        (files_of F.store F.read_faults F.write_faults files.old)
+        (files_of F.store F.read_faults F.write_faults files.new) answer.status answer.line.items) }
+    ensures memory { OnErr result (LeftByMemory (LinkOutcome (options_said options.now))
+        (files_of F.store F.read_faults F.write_faults files.old)
+        (files_of F.store F.read_faults F.write_faults files.new)) }
+{
+    let mut inputs = Inputs::new(arena);
+    match plan(alloc, files, &mut inputs, options) {
+        Ok(plan) => link_planned(alloc, files, options, &plan),
         Err(Stop::Fault(fault)) => refused(alloc, &fault),
         Err(Stop::Read(name)) => read_failed(alloc, &name),
         Err(Stop::Memory) => Err(Memory),
     }
 }
 
-/// Links inputs that were read, and writes what comes of them.
-fn link_inputs<F: Files>(
+/// Makes the image of a plan, and writes what comes of it.
+fn link_planned<'a, F: Files>(
     alloc: Global,
     files: &mut F,
-    options: &Options<'_>,
-    inputs: &[Vec<u8>],
+    options: &Options<'a>,
+    plan: &LinkPlan<'a>,
 ) -> Result<Answer, Memory>
     requires reads_below { F.read_faults files.old < 2 ^ 64 - 1 }
     requires writes_below { F.write_faults files.old < 2 ^ 64 - 1 }
-    requires same { length options.now.inputs.items ≡ length inputs.now }
-    requires small { All (λ file. length file.items ≤ most_bytes) inputs.now }
-    ensures answered { IfOk result (λ answer. LinkAnswers (InputsHave (options_said options.now) (file_bytes inputs.now)) (options_said options.now).inputs
+    requires planned { IsPlanOf (options_said options.now) (link_of (options_said options.now) plan.now.modules.items) plan.now }
+    ensures answered { IfOk result (λ answer. LinkAnswers (ModulesHave (options_said options.now) plan.now.modules.items) (LinkTries (options_said options.now))
         (files_of F.store F.read_faults F.write_faults files.old)
         (files_of F.store F.read_faults F.write_faults files.new) answer.status answer.line.items) }
-    ensures memory { OnErr result (LeftByMemory (InputsHave (options_said options.now) (file_bytes inputs.now))
+    ensures memory { OnErr result (LeftByMemory (ModulesHave (options_said options.now) plan.now.modules.items)
         (files_of F.store F.read_faults F.write_faults files.old)
         (files_of F.store F.read_faults F.write_faults files.new)) }
 {
-    match make(alloc, options, inputs) {
+    match make(alloc, options, plan) {
         Ok(linked) => write_linked(alloc, files, options, linked),
         Err(Refusal::Fault(fault)) => refused(alloc, &fault),
         Err(Refusal::Memory) => Err(Memory),
     }
 }
 
-/// Makes the image of inputs that were read.
+/// Makes the image of a plan.
 fn make<'a>(
     alloc: Global,
     options: &Options<'a>,
-    inputs: &'a [Vec<u8>],
+    plan: &LinkPlan<'a>,
 ) -> Result<Linked, Refusal<'a>>
-    requires same { length options.now.inputs.items ≡ length inputs.now }
-    requires small { All (λ file. length file.items ≤ most_bytes) inputs.now }
-    ensures linked { IfOk result (IsLinked (options_said options.now) (file_bytes inputs.now)) }
-    ensures refused { IfErr result (RefusesInputs (options_said options.now) (file_bytes inputs.now)) }
+    requires { IsPlanOf (options_said options.now) (link_of (options_said options.now) plan.now.modules.items) plan.now }
+    ensures linked { IfOk result (IsLinked (options_said options.now) plan.now.modules.items) }
+    ensures refused { IfErr result (RefusesModules (options_said options.now) plan.now.modules.items) }
 {
-    let modules = open_modules(alloc, &options.inputs, inputs)?;
-    let count = modules.len();
-    let plan = plan_of(alloc, modules, options)?;
-    let built = build(alloc, &plan, options)?;
+    let built = build(alloc, plan, options)?;
     Ok(Linked {
-        modules: count,
+        modules: plan.modules.len(),
         sections: built.sections,
         image: built.image,
     })

@@ -1,14 +1,13 @@
 //! The bytes of an image, as they stand in memory at a base.
 
-ghost use Rattle.std.specs.Prelude.{◌≡◌, ◌∷◌, [], ◌<◌, ◌-◌, ◌^◌, IfOk, OnErr};
+ghost use Rattle.std.specs.Prelude.{◌≡◌, None, ◌<◌, ◌-◌, ◌^◌, IfOk, OnErr};
 ghost use Rattle.link_files.specs.Outside.{files_of};
 ghost use Rattle.pe_loader.specs.LoadedImage.{image_fault, loaded};
-ghost use Rattle.linker_program.specs.LinkRun.{ShowAnswers, NothingWritten};
+ghost use Rattle.linker_program.specs.LinkRun.{ShowAnswers, ImageTries, NothingWritten};
 ghost use Rattle.linker_program.specs.Shown.{shown_line, image_shown, AtOutcome};
 ghost use Rattle.linker_program.specs.Steps.{Says};
 
 use crate::answer::{Answer, read_failed, refused};
-use crate::reading::{not_found, too_large};
 use crate::status::Status;
 use diagnostics::push_hex_address;
 use link_base::{Fault, Memory, Name};
@@ -30,7 +29,7 @@ pub(crate) fn show_at<F: Files>(
 ) -> Result<Answer, Memory>
     requires reads_below { F.read_faults files.old < 2 ^ 64 - 1 }
     requires writes_below { F.write_faults files.old < 2 ^ 64 - 1 }
-    ensures answered { IfOk result (λ answer. ShowAnswers (AtOutcome image.now base rva length) (image.now ∷ [])
+    ensures answered { IfOk result (λ answer. ShowAnswers (AtOutcome image.now base rva length) (ImageTries image.now)
         (files_of F.store F.read_faults F.write_faults files.old)
         (files_of F.store F.read_faults F.write_faults files.new) answer.status answer.line.items) }
     ensures memory { OnErr result (NothingWritten
@@ -43,6 +42,26 @@ pub(crate) fn show_at<F: Files>(
         Err(FileError::TooLarge) => refused(alloc, &too_large(image)),
         Err(FileError::Fault) => read_failed(alloc, &Name::of(image.as_bytes())),
         Err(FileError::Memory) => Err(Memory),
+    }
+}
+
+/// The fault of an image that is not there.
+fn not_found(image: &str) -> Fault<'_>
+    ensures { result ≡ Fault.NotFound image.now None }
+{
+    Fault::NotFound {
+        file: Name::of(image.as_bytes()),
+        member: None,
+    }
+}
+
+/// The fault of an image that has too many bytes.
+fn too_large(image: &str) -> Fault<'_>
+    ensures { result ≡ Fault.FileTooLarge image.now None }
+{
+    Fault::FileTooLarge {
+        file: Name::of(image.as_bytes()),
+        member: None,
     }
 }
 

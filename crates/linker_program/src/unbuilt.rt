@@ -4,7 +4,7 @@ ghost use Rattle.std.specs.Prelude.{◌≡◌};
 ghost use Rattle.std.specs.List.{list_any};
 ghost use Rattle.module_view.specs.Unbuilt.{is_unbuilt_name};
 ghost use Rattle.link_words.specs.Outcome.{options_said};
-ghost use Rattle.linker_program.specs.Unbuilt.{is_unbuilt_entry, is_unbuilt_alternate, drops_sections, asks_for_libraries, asks_for_exports, asks_for_imports, asks_for_outputs, is_unbuilt_link};
+ghost use Rattle.linker_program.specs.Unbuilt.{is_unbuilt_entry, is_unbuilt_alternate, drops_sections, asks_for_exports, asks_for_imports, asks_for_outputs, is_unbuilt_link};
 
 use link_base::Name;
 use link_words::{Options, has_default_pdb};
@@ -15,21 +15,10 @@ use module_view::is_unbuilt_name;
 pub(crate) fn is_unbuilt_link(options: &Options<'_>) -> bool
     ensures { result ≡ is_unbuilt_link (options_said options.now) }
 {
-    asks_for_libraries(options)
-        || asks_for_exports(options)
+    asks_for_exports(options)
         || asks_for_outputs(options)
         || drops_sections(options.refs)
         || asks_for_imports(options)
-}
-
-/// Libraries, and how they are searched.
-fn asks_for_libraries(options: &Options<'_>) -> bool
-    ensures { result ≡ asks_for_libraries (options_said options.now) }
-{
-    !options.default_libs.is_empty()
-        || !options.no_default.is_empty()
-        || options.no_default_all
-        || !options.lib_paths.is_empty()
 }
 
 /// Exports, and a DLL.

@@ -12,7 +12,7 @@ use Rattle.link_words.specs.Outcome.{options_said}
 use Rattle.link_plan.specs.References.{includes_fault, references_fault}
 use Rattle.link_plan.specs.Entry.{entry_meant, entry_meaning_fault, meant_fault, meant_place, piece_of_place}
 use Rattle.link_plan.specs.Fixes.{HaveFields, is_meant, is_that, fixes_fault}
-use Rattle.link_plan.specs.Plan.{asked_words, link_of}
+use Rattle.lib_search.specs.LinkOf.{link_of}
 use Rattle.link_plan.specs.PlanFaults.{mismatch_fault}
 use Rattle.link_plan.specs.declared.entry.EntryPlace.{EntryPlace}
 use Rattle.link_pieces.specs.ChoiceFaults.{conflict_fault, clash_fault}
@@ -22,15 +22,11 @@ use Rattle.link_plan.proofs.MeantLemmas.{planned}
 use Rattle.link_plan.proofs.NamedLemmas.{count_named, contents_named, aligned_named, bodies_named}
 use Rattle.link_plan.proofs.plan.plan_of.Goals as goal
 
--- what takes part in a link, by its parts
-same_link : (words asked : List (List ℕ)) (alternates others : List (List ℕ × List ℕ)) (modules joined : List ModuleView) (link : LinkView) → link ≡ record { words = words; alternates = alternates; modules = modules } → words ≡ asked → alternates ≡ others → modules ≡ joined → link ≡ record { words = asked; alternates = others; modules = joined }
-same_link words asked alternates others modules joined link is first second third = is ∙ rw (first, second, third) refl
-
 pub returns-in_err-check_mismatch-clause-refused :
     goal.returns-in_err-check_mismatch-clause-refused
 returns-in_err-check_mismatch-clause-refused c =
     let options = options_said c.args.options.now in
-    let link = link_of options c.args.modules.items in
+    let link = link_of options c.args.list.modules.items in
     let given = err_from_is_err_and c.from_residual.result c.from_residual.ensures.1 in
     rw (given.1, given.2)
     (mismatch_stage options link c.in_err-check_mismatch.field-0.0
@@ -39,33 +35,33 @@ returns-in_err-check_mismatch-clause-refused c =
 pub returns-in_err-names-clause-refused : goal.returns-in_err-names-clause-refused
 returns-in_err-names-clause-refused c =
     let options = options_said c.args.options.now in
-    let link = link_of options c.args.modules.items in
+    let link = link_of options c.args.list.modules.items in
     let given = err_from_is_err_and c.from_residual-in_err-names.result c.from_residual-in_err-names.ensures.1 in
     rw (given.1, given.2)
     (conflict_stage options link c.in_err-names.field-0.0
     (ap mismatch_fault (sym c.deref.ensures.value) ∙ c.in_ok-check_mismatch.ensures.accepted)
-    (subst (λ (ms : List ModuleView). RefusesFor (conflict_fault ms) c.in_err-names.field-0.0) c.deref-4.ensures.value c.in_err-names.ensures.refused))
+    (subst (λ (ms : List ModuleView). RefusesFor (conflict_fault ms) c.in_err-names.field-0.0) c.deref-2.ensures.value c.in_err-names.ensures.refused))
 
 pub returns-in_err-check_clash-clause-refused : goal.returns-in_err-check_clash-clause-refused
 returns-in_err-check_clash-clause-refused c =
     let options = options_said c.args.options.now in
-    let link = link_of options c.args.modules.items in
-    let names_are = same_link _ (asked_words options) _ options.alternates _ c.args.modules.items _ c.in_ok-names.ensures.names (c.deref-2.ensures.value ∙ c.in_ok-words.ensures) c.deref-3.ensures.value c.deref-4.ensures.value in
+    let link = link_of options c.args.list.modules.items in
+    let names_are = c.in_ok-names.ensures.names ∙ c.requires.names in
     let given = err_from_is_err_and c.from_residual-in_err-check_clash.result c.from_residual-in_err-check_clash.ensures.1 in
     rw (given.1, given.2)
     (clash_stage options link c.in_err-check_clash.field-0.0
     (ap mismatch_fault (sym c.deref.ensures.value) ∙ c.in_ok-check_mismatch.ensures.accepted)
-    (ap conflict_fault (sym c.deref-4.ensures.value) ∙ c.in_ok-names.ensures.accepted)
+    (ap conflict_fault (sym c.deref-2.ensures.value) ∙ c.in_ok-names.ensures.accepted)
     (ap (λ (l : LinkView). clash_fault l.modules) (sym names_are) ∙ c.in_err-check_clash.ensures.refused))
 
 pub returns-in_err-meaning-clause-refused : goal.returns-in_err-meaning-clause-refused
 returns-in_err-meaning-clause-refused c =
     let options = options_said c.args.options.now in
-    let link = link_of options c.args.modules.items in
-    let names_are = same_link _ (asked_words options) _ options.alternates _ c.args.modules.items _ c.in_ok-names.ensures.names (c.deref-2.ensures.value ∙ c.in_ok-words.ensures) c.deref-3.ensures.value c.deref-4.ensures.value in
+    let link = link_of options c.args.list.modules.items in
+    let names_are = c.in_ok-names.ensures.names ∙ c.requires.names in
     let well = chosen_well link
     (ap mismatch_fault (sym c.deref.ensures.value) ∙ c.in_ok-check_mismatch.ensures.accepted)
-    (ap conflict_fault (sym c.deref-4.ensures.value) ∙ c.in_ok-names.ensures.accepted)
+    (ap conflict_fault (sym c.deref-2.ensures.value) ∙ c.in_ok-names.ensures.accepted)
     (ap (λ (l : LinkView). clash_fault l.modules) (sym names_are) ∙ c.in_ok-check_clash.ensures.accepted) in
     let given = err_from_is_err_and c.from_residual-in_err-meaning.result c.from_residual-in_err-meaning.ensures.1 in
     rw (given.1, given.2)
@@ -76,31 +72,31 @@ pub returns-in_err-check_includes-clause-refused :
     goal.returns-in_err-check_includes-clause-refused
 returns-in_err-check_includes-clause-refused c =
     let options = options_said c.args.options.now in
-    let link = link_of options c.args.modules.items in
-    let names_are = same_link _ (asked_words options) _ options.alternates _ c.args.modules.items _ c.in_ok-names.ensures.names (c.deref-2.ensures.value ∙ c.in_ok-words.ensures) c.deref-3.ensures.value c.deref-4.ensures.value in
+    let link = link_of options c.args.list.modules.items in
+    let names_are = c.in_ok-names.ensures.names ∙ c.requires.names in
     let well = chosen_well link
     (ap mismatch_fault (sym c.deref.ensures.value) ∙ c.in_ok-check_mismatch.ensures.accepted)
-    (ap conflict_fault (sym c.deref-4.ensures.value) ∙ c.in_ok-names.ensures.accepted)
+    (ap conflict_fault (sym c.deref-2.ensures.value) ∙ c.in_ok-names.ensures.accepted)
     (ap (λ (l : LinkView). clash_fault l.modules) (sym names_are) ∙ c.in_ok-check_clash.ensures.accepted) in
     let given = err_from_is_err_and c.from_residual-in_err-check_includes.result c.from_residual-in_err-check_includes.ensures.1 in
     rw (given.1, given.2)
     (includes_stage options link c.in_err-check_includes.field-0.0 well
     (ap (λ (l : LinkView). entry_meaning_fault l options.entry_name) (sym names_are) ∙ c.in_ok-meaning.ensures.accepted)
-    (ap (includes_fault link None) (sym c.deref-5.ensures.value) ∙ ap (λ (l : LinkView). includes_fault l None c.deref-5.result.now) (sym names_are) ∙ c.in_err-check_includes.ensures.refused))
+    (ap (includes_fault link None) (sym c.deref-3.ensures.value) ∙ ap (λ (l : LinkView). includes_fault l None c.deref-3.result.now) (sym names_are) ∙ c.in_err-check_includes.ensures.refused))
 
 pub returns-in_err-check_references-clause-refused :
     goal.returns-in_err-check_references-clause-refused
 returns-in_err-check_references-clause-refused c =
     let options = options_said c.args.options.now in
-    let link = link_of options c.args.modules.items in
-    let names_are = same_link _ (asked_words options) _ options.alternates _ c.args.modules.items _ c.in_ok-names.ensures.names (c.deref-2.ensures.value ∙ c.in_ok-words.ensures) c.deref-3.ensures.value c.deref-4.ensures.value in
+    let link = link_of options c.args.list.modules.items in
+    let names_are = c.in_ok-names.ensures.names ∙ c.requires.names in
     let meant : AreMeant options link = record {
       well = chosen_well link
           (ap mismatch_fault (sym c.deref.ensures.value) ∙ c.in_ok-check_mismatch.ensures.accepted)
-          (ap conflict_fault (sym c.deref-4.ensures.value) ∙ c.in_ok-names.ensures.accepted)
+          (ap conflict_fault (sym c.deref-2.ensures.value) ∙ c.in_ok-names.ensures.accepted)
           (ap (λ (l : LinkView). clash_fault l.modules) (sym names_are) ∙ c.in_ok-check_clash.ensures.accepted);
       entry = ap (λ (l : LinkView). entry_meaning_fault l options.entry_name) (sym names_are) ∙ c.in_ok-meaning.ensures.accepted;
-      included = ap (includes_fault link None) (sym c.deref-5.ensures.value) ∙ ap (λ (l : LinkView). includes_fault l None c.deref-5.result.now) (sym names_are) ∙ c.in_ok-check_includes.ensures.accepted;
+      included = ap (includes_fault link None) (sym c.deref-3.ensures.value) ∙ ap (λ (l : LinkView). includes_fault l None c.deref-3.result.now) (sym names_are) ∙ c.in_ok-check_includes.ensures.accepted;
     } in
     let given = err_from_is_err_and c.from_residual-in_err-check_references.result c.from_residual-in_err-check_references.ensures.1 in
     rw (given.1, given.2)
@@ -109,24 +105,24 @@ returns-in_err-check_references-clause-refused c =
 
 pub pieces_of-requires-clause-same : goal.pieces_of-requires-clause-same
 pieces_of-requires-clause-same c =
-    let names_are = same_link _ (asked_words (options_said c.args.options.now)) _ (options_said c.args.options.now).alternates _ c.args.modules.items _ c.in_ok-names.ensures.names (c.deref-2.ensures.value ∙ c.in_ok-words.ensures) c.deref-3.ensures.value c.deref-4.ensures.value in
-    ap (λ (l : LinkView). l.modules) names_are ∙ sym c.deref-7.ensures.value
+    let names_are = c.in_ok-names.ensures.names ∙ c.requires.names in
+    ap (λ (l : LinkView). l.modules) names_are ∙ sym c.deref-5.ensures.value
 
 pub returns-in_err-entry-clause-refused : goal.returns-in_err-entry-clause-refused
 returns-in_err-entry-clause-refused c =
     let options = options_said c.args.options.now in
-    let link = link_of options c.args.modules.items in
-    let names_are = same_link _ (asked_words options) _ options.alternates _ c.args.modules.items _ c.in_ok-names.ensures.names (c.deref-2.ensures.value ∙ c.in_ok-words.ensures) c.deref-3.ensures.value c.deref-4.ensures.value in
+    let link = link_of options c.args.list.modules.items in
+    let names_are = c.in_ok-names.ensures.names ∙ c.requires.names in
     let meant : AreMeant options link = record {
       well = chosen_well link
           (ap mismatch_fault (sym c.deref.ensures.value) ∙ c.in_ok-check_mismatch.ensures.accepted)
-          (ap conflict_fault (sym c.deref-4.ensures.value) ∙ c.in_ok-names.ensures.accepted)
+          (ap conflict_fault (sym c.deref-2.ensures.value) ∙ c.in_ok-names.ensures.accepted)
           (ap (λ (l : LinkView). clash_fault l.modules) (sym names_are) ∙ c.in_ok-check_clash.ensures.accepted);
       entry = ap (λ (l : LinkView). entry_meaning_fault l options.entry_name) (sym names_are) ∙ c.in_ok-meaning.ensures.accepted;
-      included = ap (includes_fault link None) (sym c.deref-5.ensures.value) ∙ ap (λ (l : LinkView). includes_fault l None c.deref-5.result.now) (sym names_are) ∙ c.in_ok-check_includes.ensures.accepted;
+      included = ap (includes_fault link None) (sym c.deref-3.ensures.value) ∙ ap (λ (l : LinkView). includes_fault l None c.deref-3.result.now) (sym names_are) ∙ c.in_ok-check_includes.ensures.accepted;
     } in
     let given = err_from_is_err_and c.from_residual-in_err-entry.result c.from_residual-in_err-entry.ensures.1 in
-    let pieces_are : map bare c.deref-9.result.now ≡ link_pieces link = ap (map bare) c.deref-9.ensures.value ∙ c.in_ok-pieces.ensures.pieces ∙ ap link_pieces names_are in
+    let pieces_are : map bare c.deref-7.result.now ≡ link_pieces link = ap (map bare) c.deref-7.ensures.value ∙ c.in_ok-pieces.ensures.pieces ∙ ap link_pieces names_are in
     let refused = c.in_err-entry.ensures.refused link (c.in_ok-index.ensures link pieces_are) in
     let is = c.in_ok-meaning.ensures.meant ∙ ap (λ (l : LinkView). entry_meant l options.entry_name) names_are in
     rw (given.1, given.2)
@@ -136,23 +132,23 @@ returns-in_err-entry-clause-refused c =
 
 pub judge_pieces-requires-clause-indexed : goal.judge_pieces-requires-clause-indexed
 judge_pieces-requires-clause-indexed c =
-    c.in_ok-index.ensures c.in_ok-names.names (ap (map bare) c.deref-9.ensures.value ∙ c.in_ok-pieces.ensures.pieces)
+    c.in_ok-index.ensures c.in_ok-names.names (ap (map bare) c.deref-7.ensures.value ∙ c.in_ok-pieces.ensures.pieces)
 
 pub returns-in_err-fixes-clause-refused : goal.returns-in_err-fixes-clause-refused
 returns-in_err-fixes-clause-refused c =
     let options = options_said c.args.options.now in
-    let link = link_of options c.args.modules.items in
-    let names_are = same_link _ (asked_words options) _ options.alternates _ c.args.modules.items _ c.in_ok-names.ensures.names (c.deref-2.ensures.value ∙ c.in_ok-words.ensures) c.deref-3.ensures.value c.deref-4.ensures.value in
+    let link = link_of options c.args.list.modules.items in
+    let names_are = c.in_ok-names.ensures.names ∙ c.requires.names in
     let meant : AreMeant options link = record {
       well = chosen_well link
           (ap mismatch_fault (sym c.deref.ensures.value) ∙ c.in_ok-check_mismatch.ensures.accepted)
-          (ap conflict_fault (sym c.deref-4.ensures.value) ∙ c.in_ok-names.ensures.accepted)
+          (ap conflict_fault (sym c.deref-2.ensures.value) ∙ c.in_ok-names.ensures.accepted)
           (ap (λ (l : LinkView). clash_fault l.modules) (sym names_are) ∙ c.in_ok-check_clash.ensures.accepted);
       entry = ap (λ (l : LinkView). entry_meaning_fault l options.entry_name) (sym names_are) ∙ c.in_ok-meaning.ensures.accepted;
-      included = ap (includes_fault link None) (sym c.deref-5.ensures.value) ∙ ap (λ (l : LinkView). includes_fault l None c.deref-5.result.now) (sym names_are) ∙ c.in_ok-check_includes.ensures.accepted;
+      included = ap (includes_fault link None) (sym c.deref-3.ensures.value) ∙ ap (λ (l : LinkView). includes_fault l None c.deref-3.result.now) (sym names_are) ∙ c.in_ok-check_includes.ensures.accepted;
     } in
     let given = err_from_is_err_and c.from_residual-in_err-fixes.result c.from_residual-in_err-fixes.ensures.1 in
-    let pieces_are : map bare c.deref-9.result.now ≡ link_pieces link = ap (map bare) c.deref-9.ensures.value ∙ c.in_ok-pieces.ensures.pieces ∙ ap link_pieces names_are in
+    let pieces_are : map bare c.deref-7.result.now ≡ link_pieces link = ap (map bare) c.deref-7.ensures.value ∙ c.in_ok-pieces.ensures.pieces ∙ ap link_pieces names_are in
     let accepted = c.in_ok-entry.ensures.accepted link (c.in_ok-index.ensures link pieces_are) in
     let is = c.in_ok-meaning.ensures.meant ∙ ap (λ (l : LinkView). entry_meant l options.entry_name) names_are in
     let fault = fields_stage options link meant
@@ -164,35 +160,35 @@ returns-in_err-fixes-clause-refused c =
 pub returns-clause-planned : goal.returns-clause-planned
 returns-clause-planned c =
     let options = options_said c.args.options.now in
-    let link = link_of options c.args.modules.items in
-    let names_are = same_link _ (asked_words options) _ options.alternates _ c.args.modules.items _ c.in_ok-names.ensures.names (c.deref-2.ensures.value ∙ c.in_ok-words.ensures) c.deref-3.ensures.value c.deref-4.ensures.value in
+    let link = link_of options c.args.list.modules.items in
+    let names_are = c.in_ok-names.ensures.names ∙ c.requires.names in
     let meant_well : AreMeant options link = record {
       well = chosen_well link
           (ap mismatch_fault (sym c.deref.ensures.value) ∙ c.in_ok-check_mismatch.ensures.accepted)
-          (ap conflict_fault (sym c.deref-4.ensures.value) ∙ c.in_ok-names.ensures.accepted)
+          (ap conflict_fault (sym c.deref-2.ensures.value) ∙ c.in_ok-names.ensures.accepted)
           (ap (λ (l : LinkView). clash_fault l.modules) (sym names_are) ∙ c.in_ok-check_clash.ensures.accepted);
       entry = ap (λ (l : LinkView). entry_meaning_fault l options.entry_name) (sym names_are) ∙ c.in_ok-meaning.ensures.accepted;
-      included = ap (includes_fault link None) (sym c.deref-5.ensures.value) ∙ ap (λ (l : LinkView). includes_fault l None c.deref-5.result.now) (sym names_are) ∙ c.in_ok-check_includes.ensures.accepted;
+      included = ap (includes_fault link None) (sym c.deref-3.ensures.value) ∙ ap (λ (l : LinkView). includes_fault l None c.deref-3.result.now) (sym names_are) ∙ c.in_ok-check_includes.ensures.accepted;
     } in
-    let pieces_there : map bare c.deref-9.result.now ≡ link_pieces link = ap (map bare) c.deref-9.ensures.value ∙ c.in_ok-pieces.ensures.pieces ∙ ap link_pieces names_are in
+    let pieces_there : map bare c.deref-7.result.now ≡ link_pieces link = ap (map bare) c.deref-7.ensures.value ∙ c.in_ok-pieces.ensures.pieces ∙ ap link_pieces names_are in
     let indexed = c.in_ok-index.ensures link pieces_there in
     let meant = c.in_ok-meaning.ensures.meant ∙ ap (λ (l : LinkView). entry_meant l options.entry_name) names_are in
     let placed = c.in_ok-entry.ensures.placed link indexed in
     let accepted = c.in_ok-entry.ensures.accepted link indexed in
     let old = c.in_ok-pieces.pieces.items in
-    let marks = c.deref-12.result.now in
+    let marks = c.deref-10.result.now in
     let now = c.name_meant.new.pieces.items in
     let named = c.name_meant.ensures in
     let pieces_are = c.in_ok-pieces.ensures.pieces ∙ ap link_pieces names_are in
-    let opened = subst (All IsOpened) c.deref-7.ensures.value c.in_ok-pieces.ensures.opened in
+    let opened = subst (All IsOpened) c.deref-5.ensures.value c.in_ok-pieces.ensures.opened in
     let entry_is = placed ∙ ap (meant_place link) meant in
     let entry = c.in_ok-entry.entry in
     let marked = λ (k : ℕ) (lt : k < length old).
-    ap (λ (ms : List Bool). get_or ms k false) c.deref-12.ensures.value
-    ∙ c.mark_entry.ensures.marked k (omega (arith, lt, ap length c.deref-11.ensures.value, c.in_ok-fixes.ensures.len))
-    ∙ ap (λ (b : Bool). b || is_that k (piece_of_place entry)) (c.in_ok-fixes.ensures.meant k (omega (arith, lt, ap length c.deref-11.ensures.value)) ∙ ap (λ (l : LinkView). is_meant l k) names_are)
+    ap (λ (ms : List Bool). get_or ms k false) c.deref-10.ensures.value
+    ∙ c.mark_entry.ensures.marked k (omega (arith, lt, ap length c.deref-9.ensures.value, c.in_ok-fixes.ensures.len))
+    ∙ ap (λ (b : Bool). b || is_that k (piece_of_place entry)) (c.in_ok-fixes.ensures.meant k (omega (arith, lt, ap length c.deref-9.ensures.value)) ∙ ap (λ (l : LinkView). is_meant l k) names_are)
     ∙ ap (λ (place : Option EntryPlace). is_meant link k || is_that k (piece_of_place place)) entry_is in
-    let fields = subst (λ (l : LinkView). HaveFields l (length c.deref-11.result.now) c.in_ok-fixes.fixes.fixups.items) names_are c.in_ok-fixes.ensures.fields in
+    let fields = subst (λ (l : LinkView). HaveFields l (length c.deref-9.result.now) c.in_ok-fixes.fixes.fixups.items) names_are c.in_ok-fixes.ensures.fields in
     let planned_are = planned options link old marks now pieces_are marked named in
     record {
       opened = opened;
@@ -203,8 +199,8 @@ returns-clause-planned c =
       aligned = aligned_named old marks now named c.in_ok-pieces.ensures.aligned;
       bodies = bodies_named old marks now named c.in_ok-pieces.ensures.bodies;
       few = let count = count_named old marks now named in omega (arith, c.in_ok-pieces.ensures.count, count);
-      fields = subst (λ (n : ℕ). HaveFields link n c.in_ok-fixes.fixes.fixups.items) (ap length c.deref-11.ensures.value ∙ sym (count_named old marks now named)) fields;
-      merges_are = c.in_ok-merges.ensures ∙ ap (λ (given : List (List ℕ × List ℕ)). link_merges given c.deref-14.result.now) c.deref-13.ensures.value ∙ ap (link_merges options.merges) c.deref-14.ensures.value;
+      fields = subst (λ (n : ℕ). HaveFields link n c.in_ok-fixes.fixes.fixups.items) (ap length c.deref-9.ensures.value ∙ sym (count_named old marks now named)) fields;
+      merges_are = c.in_ok-merges.ensures ∙ ap (λ (given : List (List ℕ × List ℕ)). link_merges given c.deref-12.result.now) c.deref-11.ensures.value ∙ ap (link_merges options.merges) c.deref-12.ensures.value;
       entry_is = entry_is;
       stands = rw entry_is (entry_stands options link now planned_are opened);
       no_fault =
