@@ -6,6 +6,9 @@ use Rattle.std.specs.Option.{option_or}
 use Rattle.std.proofs.lemmas.List.{length-append}
 use Rattle.link_base.specs.Limits.{MODULE_LIMIT}
 use Rattle.link_base.specs.declared.fault.Fault.{Fault}
+use Rattle.link_base.specs.Refusals.{RefusesFor, stop_of}
+use Rattle.link_base.specs.declared.stop.Refusal.{Refusal}
+use Rattle.link_base.specs.declared.stop.Refusal.TheVariants as refusal
 use Rattle.link_base.specs.declared.stop.Stop.{Stop}
 use Rattle.link_base.specs.declared.stop.Stop.TheVariants as stop
 use Rattle.link_files.specs.Store.{Store}
@@ -25,7 +28,7 @@ use Rattle.lib_search.specs.Joining.{no_library}
 use Rattle.lib_search.specs.Reading.{LeavesFiles, Tries, GivesNamed, ReadsNamed}
 use Rattle.lib_search.specs.SearchSteps.{MemberPlace, Searched, SearchState, Faults, Goes, goes_unless, member_at, with_module, with_member, with_library, after_default, default_step_as, default_step, join_step, wants_library, next_default, next_member, next_step}
 use Rattle.lib_search.specs.Loading.{state_in, state_after_one, state_after, Reaches, HasLoadingFault, AtStep}
-use Rattle.lib_search.specs.LoadingSteps.{state_now, KeepsLoading, ReadsNext, FaultsNext, ReadsDefault}
+use Rattle.lib_search.specs.LoadingSteps.{state_now, KeepsLoading, ReadsNext, ReadsDefault}
 
 -- ---- files that stay as they are
 
@@ -168,14 +171,18 @@ reads_next options loading later total after_total folders name before after fou
       ∙ ap (state_of later.search after_total) (sym read));
 }
 
-pub bad_next : (options : LinkOptions) (loading : Loading) (total after_total : ℕ) (folders : List (List ℕ)) (name : List ℕ) (before after : FilesView) (found : FoundFile) (fault : Fault) → wants_library options (state_now loading total) ≡ true → folders ≡ options.lib_paths → name ≡ next_default options (state_now loading total) → GivesNamed folders name total after_total before after found → no_library found ≡ Some fault → FaultsNext options (state_now loading total) before after fault
-bad_next options loading total after_total folders name before after found fault wants folders_are named gives bad = record {
+pub bad_next : (options : LinkOptions) (loading : Loading) (total after_total : ℕ) (folders : List (List ℕ)) (name : List ℕ) (before after : FilesView) (found : FoundFile) (refused : Refusal) → wants_library options (state_now loading total) ≡ true → folders ≡ options.lib_paths → name ≡ next_default options (state_now loading total) → GivesNamed folders name total after_total before after found → RefusesFor (no_library found) refused → ReadsDefault options (state_now loading total) after_total before after (Err (stop_of refused))
+bad_next options loading total after_total folders name before after found (refusal.Fault fault) wants folders_are named gives bad = record {
   files = gives.files;
   told = λ store is.
       default_bad store options (state_now loading total) name found fault wants named
       (ap (λ (fs : List (List ℕ)). input_file store fs name) (sym folders_are) ∙ gives.told store is)
       (ap (λ (fs : List (List ℕ)). read_fault name total (input_file store fs name)) (sym folders_are) ∙ gives.no_fault store is)
       bad;
+}
+bad_next options loading total after_total folders name before after found refusal.Memory wants folders_are named gives bad = record {
+  store = gives.files.store;
+  writes = gives.files.writes;
 }
 
 pub stops_next : (options : LinkOptions) (loading : Loading) (total after_total : ℕ) (folders : List (List ℕ)) (name : List ℕ) (before after : FilesView) (stop : Stop) → wants_library options (state_now loading total) ≡ true → folders ≡ options.lib_paths → name ≡ next_default options (state_now loading total) → ReadsNamed folders name total after_total before after (Err stop) → ReadsDefault options (state_now loading total) after_total before after (Err stop)

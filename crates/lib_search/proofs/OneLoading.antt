@@ -1,13 +1,11 @@
 -- A link has one loading: one fault of it, or one list of modules that join.
-use Rattle.std.proofs.Common.{◌≡◌, ℕ, ◌<◌, ◌≤◌, zero, suc, List, Option, Some, None, refl, sym, ap, ◌∙◌, inl, inr, arith}
+use Rattle.std.proofs.Common.{◌≡◌, ℕ, ◌<◌, ◌≤◌, zero, suc, List, Some, None, sym, ap, ◌∙◌, inl, inr, arith}
 use Rattle.std.proofs.lemmas.Bool.{cases_lt}
 use Rattle.link_base.specs.declared.fault.Fault.{Fault}
 use Rattle.link_files.specs.Store.{Store}
 use Rattle.module_view.specs.Module.{ModuleView}
 use Rattle.link_words.specs.Outcome.{LinkOptions}
-use Rattle.lib_search.specs.InputFiles.{input_files, reading_fault}
-use Rattle.lib_search.specs.Inputs.{opening_fault}
-use Rattle.lib_search.specs.SearchSteps.{SearchState, Step, Ends, Faults, Goes, next_step}
+use Rattle.lib_search.specs.SearchSteps.{SearchState, Ends, Faults, next_step}
 use Rattle.lib_search.specs.Loading.{state_in, state_after_one, state_after, EndsAt, FaultsAt, HasLoadingFault, AtRead, AtOpening, AtStep, Loads}
 
 no_some : {A : Type 0} → (x : A) → None ≡ Some x → ⊥
@@ -27,12 +25,15 @@ halted : (store : Store) (options : LinkOptions) (steps : ℕ) (state : SearchSt
 unfolding state_after
 halted store options steps state is halts = ap (state_after_one store options) is ∙ halts
 
+at_steps : (store : Store) (options : LinkOptions) (steps others : ℕ) → steps ≡ others → state_after store options steps ≡ state_after store options others
+at_steps store options steps others same = ap (state_after store options) same
+
 -- nor later
 none_later : (store : Store) (options : LinkOptions) (steps later : ℕ) → state_after store options steps ≡ None → steps ≤ later → state_after store options later ≡ None
 unfolding state_after
-none_later store options steps zero none le = ap (state_after store options) (omega (arith, le)) ∙ none
+none_later store options steps zero none le = at_steps store options zero steps (omega (arith, le)) ∙ none
 none_later store options steps (suc later) none le = elim (cases_lt later steps) [
-  | inl lt ↦ ap (state_after store options) (omega (arith, lt, le)) ∙ none
+  | inl lt ↦ at_steps store options (suc later) steps (omega (arith, lt, le)) ∙ none
   | inr ge ↦ ap (state_after_one store options) (none_later store options steps later none ge)
 ]
 
@@ -46,7 +47,7 @@ one_halt store options steps others state other is halts other_is other_halts = 
   | inl lt ↦ absurd (not_before store options steps others state other is halts other_is lt)
   | inr ge ↦ elim (cases_lt others steps) [
     | inl lt ↦ absurd (not_before store options others steps other state other_is other_halts is lt)
-    | inr le ↦ same_some state other (sym is ∙ ap (state_after store options) (omega (arith, ge, le)) ∙ other_is)
+    | inr le ↦ same_some state other (sym is ∙ at_steps store options steps others (omega (arith, ge, le)) ∙ other_is)
   ]
 ]
 

@@ -36,7 +36,7 @@ returns-in-Err-join_member g c =
     let after = files_of g.F.Files.store g.F.Files.read_faults g.F.Files.write_faults c.loop-later.files in
     let later = files_of g.F.Files.store g.F.Files.read_faults g.F.Files.write_faults c.read_defaults.new.files in
     let gone = gone_all options state before after later c.loop-later.loading c.in-Ok.later c.loop-later.inputs c.read_defaults.new.inputs c.loop-later.invariant c.in-Ok.ensures in
-    subst (λ (stop : Stop). CompletesFrom options state before later (Err stop)) (sym c.stop_of.ensures)
+    subst (λ (stop : Stop). CompletesFrom options state before later (Err stop)) (sym c.from.ensures)
     (gone_refused options state before later c.in-Ok.later c.next_member.new.self c.read_defaults.new.inputs c.in-Some.place c.in-Err-join_member.refusal gone c.in-Ok.ensures.none_left
     (sym c.next_member.ensures.place ∙ c.in-Some.is) c.next_member.ensures.kept c.in-Err-join_member.ensures.refused)
 
