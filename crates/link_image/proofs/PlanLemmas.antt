@@ -13,7 +13,7 @@ use Rattle.address_layout.specs.Layout.{all_pieces}
 use Rattle.address_layout.proofs.CallerLemmas.{stands}
 use Rattle.link_pieces.specs.Pieces.{link_pieces}
 use Rattle.link_words.specs.Outcome.{LinkOptions}
-use Rattle.link_plan.specs.declared.plan.LinkPlan.{LinkPlan}
+use Rattle.link_plan.specs.declared.planning.LinkPlan.{LinkPlan}
 use Rattle.link_plan.specs.Plan.{IsPlanOf}
 use Rattle.link_plan.proofs.CallerLemmas.{plan_count}
 use Rattle.link_image.specs.BaseFields.{AreBaseFields}

@@ -32,7 +32,7 @@ use Rattle.link_plan.specs.Plan.{merges_of}
 use Rattle.link_plan.specs.Fixes.{plan_pieces}
 use Rattle.link_words.specs.Outcome.{LinkOptions}
 use Rattle.link_plan.specs.declared.entry.EntryPlace.{EntryPlace}
-use Rattle.link_plan.specs.declared.plan.LinkPlan.{LinkPlan}
+use Rattle.link_plan.specs.declared.planning.LinkPlan.{LinkPlan}
 use Rattle.link_plan.specs.Plan.{IsPlanOf, StandsNamed}
 use Rattle.base_reloc.specs.declared.field.BaseField.{BaseField}
 use Rattle.base_reloc.specs.PageBlocks.{blocks_of}

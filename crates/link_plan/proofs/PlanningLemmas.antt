@@ -1,5 +1,5 @@
 -- From what the search of libraries says, and what the modules say, to what planning says.
-use Rattle.std.proofs.Common.{◌≡◌, ℕ, List, Some, Err, sym, ap, subst, ◌∙◌, inl, inr}
+use Rattle.std.proofs.Common.{◌≡◌, List, Err, sym, subst, inl, inr}
 use Rattle.link_base.specs.Refusals.{RefusesFor, stop_of}
 use Rattle.link_base.specs.declared.stop.Refusal.{Refusal}
 use Rattle.link_base.specs.declared.stop.Refusal.TheVariants as refusal
@@ -12,7 +12,7 @@ use Rattle.lib_search.specs.LinkOf.{link_of}
 use Rattle.lib_search.specs.declared.link_list.LinkList.{LinkList}
 use Rattle.lib_search.specs.Loading.{Loads}
 use Rattle.lib_search.specs.Completion.{GivesList, Completes}
-use Rattle.link_plan.specs.declared.plan.LinkPlan.{LinkPlan}
+use Rattle.link_plan.specs.declared.planning.LinkPlan.{LinkPlan}
 use Rattle.link_plan.specs.PlanFaults.{plan_fault}
 use Rattle.link_plan.specs.Plan.{IsPlanOf}
 use Rattle.link_plan.specs.Planning.{GivesPlan, Plans}

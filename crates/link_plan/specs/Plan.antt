@@ -7,14 +7,13 @@ use Rattle.section_group.specs.SectionOrder.{no_piece}
 use Rattle.section_group.specs.BarePieces.{bare}
 use Rattle.address_layout.specs.Layout.{IsAlignment}
 use Rattle.section_group.specs.PieceContents.{piece_contents, HasItsBytes}
-use Rattle.module_view.specs.Module.{ModuleView}
 use Rattle.symbol_table.specs.LinkView.{LinkView}
 use Rattle.module_view.specs.Opening.{IsOpened}
 use Rattle.link_directives.specs.LinkDirectives.{link_merges}
 use Rattle.link_pieces.specs.Pieces.{link_contents}
 use Rattle.link_words.specs.Outcome.{LinkOptions}
 use Rattle.link_plan.specs.declared.entry.EntryPlace.{EntryPlace}
-use Rattle.link_plan.specs.declared.plan.LinkPlan.{LinkPlan}
+use Rattle.link_plan.specs.declared.planning.LinkPlan.{LinkPlan}
 use Rattle.link_plan.specs.Entry.{entry_place}
 use Rattle.link_plan.specs.Fixes.{HaveFields, plan_pieces}
 use Rattle.link_plan.specs.PlanFaults.{plan_fault}

@@ -10,9 +10,9 @@ mod fixes;
 mod judge;
 mod meant;
 mod mismatch;
-mod plan;
+mod planning;
 mod references;
 mod targets;
 
 pub use entry::EntryPlace;
-pub use plan::{LinkPlan, plan};
+pub use planning::{LinkPlan, plan};

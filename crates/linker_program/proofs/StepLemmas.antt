@@ -18,7 +18,7 @@ use Rattle.lib_search.specs.LinkOf.{link_of}
 use Rattle.lib_search.specs.Reading.{LeavesFiles}
 use Rattle.lib_search.specs.Loading.{HasLoadingFault}
 use Rattle.lib_search.specs.Completion.{FailsLoading}
-use Rattle.link_plan.specs.declared.plan.LinkPlan.{LinkPlan}
+use Rattle.link_plan.specs.declared.planning.LinkPlan.{LinkPlan}
 use Rattle.link_plan.specs.Planning.{GivesPlan, JoinsBadly, FaultsPlan}
 use Rattle.link_image.specs.declared.make.Built.{Built}
 use Rattle.link_image.specs.LinkedImage.{IsBuilt}

@@ -8,7 +8,7 @@ use Rattle.section_group.specs.Uniqueness.{rows_of}
 use Rattle.address_layout.specs.Layout.{all_pieces}
 use Rattle.image_writer.specs.declared.headers.Headers.{Headers}
 use Rattle.link_words.specs.Outcome.{LinkOptions, options_said}
-use Rattle.link_plan.specs.declared.plan.LinkPlan.{LinkPlan}
+use Rattle.link_plan.specs.declared.planning.LinkPlan.{LinkPlan}
 use Rattle.link_image.specs.declared.placement.Placement.{Placement}
 use Rattle.link_image.specs.ImageHeaders.{headers_of}
 use Rattle.link_image.specs.LinkedBytes.{owners, owners_in, linked_contents, fields_range_fault}

@@ -20,7 +20,7 @@ use Rattle.link_plan.proofs.EntryLemmas.{entry_stands}
 use Rattle.link_plan.proofs.StageLemmas.{mismatch_stage, conflict_stage, clash_stage, chosen_well, AreMeant, entry_stage, includes_stage, references_stage, place_stage, fields_stage}
 use Rattle.link_plan.proofs.MeantLemmas.{planned}
 use Rattle.link_plan.proofs.NamedLemmas.{count_named, contents_named, aligned_named, bodies_named}
-use Rattle.link_plan.proofs.plan.plan_of.Goals as goal
+use Rattle.link_plan.proofs.planning.plan_of.Goals as goal
 
 pub returns-in_err-check_mismatch-clause-refused :
     goal.returns-in_err-check_mismatch-clause-refused
