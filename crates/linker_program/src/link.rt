@@ -21,27 +21,8 @@ use link_plan::{LinkPlan, plan};
 use link_words::Options;
 use std::alloc::Global;
 
-/// Links what the options name. The inputs stand in an arena as long as that takes.
-pub(crate) fn link<F: Files>(
-    alloc: Global,
-    files: &mut F,
-    options: &Options<'_>,
-) -> Result<Answer, Memory>
-    requires reads_below { F.read_faults files.old < 2 ^ 64 - 1 }
-    requires writes_below { F.write_faults files.old < 2 ^ 64 - 1 }
-    ensures answered { IfOk result (λ answer. LinkAnswers (LinkOutcome (options_said options.now)) (LinkTries (options_said options.now))
-        (files_of F.store F.read_faults F.write_faults files.old)
-        (files_of F.store F.read_faults F.write_faults files.new) answer.status answer.line.items) }
-    ensures memory { OnErr result (LeftByMemory (LinkOutcome (options_said options.now))
-        (files_of F.store F.read_faults F.write_faults files.old)
-        (files_of F.store F.read_faults F.write_faults files.new)) }
-{
-    let arena = Bump::new(alloc);
-    link_in(alloc, files, &arena, options)
-}
-
 /// Links what the options name, with the inputs in this arena.
-fn link_in<'a, F: Files>(
+pub(crate) fn link<'a, F: Files>(
     alloc: Global,
     files: &mut F,
     arena: &'a Bump,

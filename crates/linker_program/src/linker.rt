@@ -10,6 +10,7 @@ use crate::link::link;
 use crate::show::show_at;
 use crate::status::Status;
 use crate::unbuilt::is_unbuilt_link;
+use bumpalo::Bump;
 use link_base::Memory;
 use link_files::{Files, PutError, Sink};
 use link_words::{Command, WordsError, read_words, usage_word};
@@ -52,7 +53,8 @@ fn status_of<F: Files, O: Sink>(
         (files_of F.store F.read_faults F.write_faults files.new)
         (printed_by O.taken O.faults out.old) (printed_by O.taken O.faults out.new) result }
 {
-    match answer(alloc, files, words) {
+    let arena = Bump::new(alloc);
+    match answer(alloc, files, &arena, words) {
         Ok(answer) => match out.put(&answer.line) {
             Ok(()) => answer.status,
             Err(PutError::Fault) => Status::PutFailed,
@@ -62,8 +64,13 @@ fn status_of<F: Files, O: Sink>(
     }
 }
 
-/// Does the work of a run, before its line is printed.
-fn answer<F: Files>(alloc: Global, files: &mut F, words: &[String]) -> Result<Answer, Memory>
+/// Does the work of a run, before its line is printed. The inputs of a link stand in this arena.
+fn answer<'a, F: Files>(
+    alloc: Global,
+    files: &mut F,
+    arena: &'a Bump,
+    words: &'a [String],
+) -> Result<Answer, Memory>
     requires reads_below { F.read_faults files.old < 2 ^ 64 - 1 }
     requires writes_below { F.write_faults files.old < 2 ^ 64 - 1 }
     ensures answered { IfOk result (λ answer. Answers (map string_bytes words.now)
@@ -78,7 +85,7 @@ fn answer<F: Files>(alloc: Global, files: &mut F, words: &[String]) -> Result<An
             if is_unbuilt_link(&options) {
                 return words_refused(alloc, 0, b"NotBuilt");
             }
-            link(alloc, files, &options)
+            link(alloc, files, arena, &options)
         }
         Ok(
             Command::At {

@@ -8,7 +8,7 @@ use Rattle.link_plan.specs.Planning.{FaultsPlan}
 use Rattle.linker_program.specs.Outcome.{LinkOutcome}
 use Rattle.linker_program.specs.LinkRun.{LinkTries}
 use Rattle.linker_program.proofs.StepLemmas.{if_refused, unplanned, if_planned, on_left_planned, if_read_failed, on_nothing, on_unread}
-use Rattle.linker_program.proofs.link.link_in.Goals as goal
+use Rattle.linker_program.proofs.link.link.Goals as goal
 
 pub link_planned-requires-clause-planned : goal.link_planned-requires-clause-planned
 link_planned-requires-clause-planned g c = c.in-Ok.ensures.planned
