@@ -30,7 +30,7 @@ use Rattle.linker_program.specs.declared.status.Status.TheVariants as status
 use Rattle.linker_program.specs.Ending.{Outcome, Usage, Refused, Linked, Plan}
 use Rattle.linker_program.specs.Outcome.{IsPlan, LinkOutcome, AtLoading, AtModules, unbuilt, CommandOutcome, HasOutcome}
 use Rattle.linker_program.specs.Unbuilt.{is_unbuilt_link}
-use Rattle.linker_program.specs.RunLines.{read_failure_line, write_failure_line}
+use Rattle.linker_program.specs.RunLines.{write_failure_line}
 use Rattle.linker_program.specs.LinkRun.{outputs_of, Expects, IsMade, LinkTries, ImageTries, LinkAnswers, ShowAnswers, CommandAnswers, LeftByMemory, Answers}
 use Rattle.linker_program.specs.Steps.{Refuses, RefusesWords, TellsReadFailure, ModulesHave, IsLinked, RefusesModules, AnswersWrite, LeftByWrites}
 use Rattle.linker_program.specs.WriteSteps.{linked_outputs, linked_summary}

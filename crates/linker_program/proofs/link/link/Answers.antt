@@ -1,9 +1,6 @@
-use Rattle.std.proofs.Common.{subst}
-use Rattle.std.specs.Prelude.{IfOk, OnErr}
 use Rattle.link_files.specs.Outside.{files_of}
 use Rattle.link_words.specs.Outcome.{options_said}
 use Rattle.lib_search.specs.Completion.{FailsLoading}
-use Rattle.link_plan.specs.declared.planning.LinkPlan.{LinkPlan}
 use Rattle.link_plan.specs.Planning.{FaultsPlan}
 use Rattle.linker_program.specs.Outcome.{LinkOutcome}
 use Rattle.linker_program.specs.LinkRun.{LinkTries}

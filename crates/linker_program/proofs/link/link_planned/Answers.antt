@@ -25,4 +25,4 @@ returns-in-Err-Fault-clause-answered g c =
     let options = options_said c.args.options.now in
     let files = files_of g.F.Files.store g.F.Files.read_faults g.F.Files.write_faults c.args.files.now in
     if_refused c.refused.result (ModulesHave options c.args.plan.now.modules.items) (LinkTries options) files files c.in-Err-Fault.fault (untouched files)
-    (record { told = λ store told. rw c.in-Err-Fault.field-0-is at c.in-Err-Fault.ensures.refused }) (rw c.in-Err-Fault.field-0-is at c.refused.ensures)
+    (record { told = λ store told. rw c.in-Err-Fault.field-0-is at c.in-Err-Fault.ensures.refused }) c.refused.ensures

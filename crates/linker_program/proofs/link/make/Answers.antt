@@ -1,4 +1,4 @@
-use Rattle.std.proofs.Common.{◌≡◌, refl, sym, subst}
+use Rattle.std.proofs.Common.{refl, sym, subst, ◌∙◌}
 use Rattle.std.proofs.lemmas.Result.{err_from_is_err_and}
 use Rattle.symbol_table.specs.LinkView.{LinkView}
 use Rattle.link_words.specs.Outcome.{options_said}
@@ -30,4 +30,4 @@ returns-clause-linked c =
     (record { modules = c.len.result; sections = c.in_ok-built.built.sections; image = c.in_ok-built.built.image })
     planned.no_fault
     (subst (λ (link : LinkView). IsBuilt options link c.in_ok-built.built) planned.names_are c.in_ok-built.ensures.built) refl refl
-    c.len.ensures
+    (c.len.ensures ∙ c.args.plan.now.modules.ok.0)
