@@ -58,10 +58,7 @@ const ROWS: [(&str, &[Section], &str); 8] = [
     ),
     (
         "a malformed one before one that is not linked yet",
-        &[
-            (b".drectve", b"/export:api"),
-            (b".drectve", b"  /merge:.b"),
-        ],
+        &[(b".drectve", b"/export:api"), (b".drectve", b"  /merge:.b")],
         "2",
     ),
 ];
