@@ -6,6 +6,9 @@ use crate::numbers::number;
 use crate::words::Word;
 use std::alloc::Global;
 
+/// How often bytes are repeated before they are appended, where they are to stand more often.
+const AT_ONCE: u64 = 4096;
+
 /// The bytes that these words say.
 pub fn bytes_of(alloc: Global, words: &[Word]) -> Result<Vec<u8>, RowError> {
     let mut bytes = Vec::new(alloc);
@@ -24,16 +27,35 @@ fn push_bytes(alloc: Global, bytes: &mut Vec<u8>, word: &Word) -> Result<(), Row
     match text.split_once('*') {
         Some((digits, count)) => {
             let repeated = from_digits(alloc, digits)?;
-            for _ in 0..number(count)? {
-                bytes.extend_from_slice(&repeated)?;
-            }
-            Ok(())
+            push_repeated(alloc, bytes, &repeated, number(count)?)
         }
         None => {
             bytes.extend_from_slice(&from_digits(alloc, text)?)?;
             Ok(())
         }
     }
+}
+
+/// Appends the bytes so many times: many at once, as far as that goes.
+fn push_repeated(
+    alloc: Global,
+    bytes: &mut Vec<u8>,
+    repeated: &[u8],
+    count: u64,
+) -> Result<(), RowError> {
+    if count < AT_ONCE {
+        return push_times(bytes, repeated, count);
+    }
+    let many = repeated.repeat(alloc, AT_ONCE as usize)?;
+    push_times(bytes, &many, count / AT_ONCE)?;
+    push_times(bytes, repeated, count % AT_ONCE)
+}
+
+fn push_times(bytes: &mut Vec<u8>, repeated: &[u8], count: u64) -> Result<(), RowError> {
+    for _ in 0..count {
+        bytes.extend_from_slice(repeated)?;
+    }
+    Ok(())
 }
 
 /// The bytes that hexadecimal digits say, two for each.

@@ -2,6 +2,8 @@
 
 use crate::bytes::bytes_of;
 use crate::error::RowError;
+use crate::library::Library;
+use crate::library_lines::add_library_line;
 use crate::numbers::number_at;
 use crate::object::{Form, Object};
 use crate::object_lines::{add_object_line, len_at};
@@ -94,8 +96,9 @@ fn arguments(alloc: Global, words: &[Word]) -> Result<Vec<String>, RowError> {
 /// The file that a line begins, if it begins one.
 fn contents_of(alloc: Global, keyword: &str, words: &[Word]) -> Result<Option<Contents>, RowError> {
     let contents = match keyword {
-        "object" => Contents::Parts(Object::new(alloc, Form::Plain)),
-        "big" => Contents::Parts(Object::new(alloc, Form::Big)),
+        "object" => Contents::Object(Object::new(alloc, Form::Plain)),
+        "big" => Contents::Object(Object::new(alloc, Form::Big)),
+        "library" => Contents::Library(Library::new(alloc)),
         "file" => Contents::Plain(bytes_of(alloc, words_from(words, 1)?)?),
         _ => return Ok(None),
     };
@@ -110,7 +113,8 @@ fn add_file_line(
     words: &[Word],
 ) -> Result<(), RowError> {
     match &mut file.contents {
-        Contents::Parts(object) => add_object_line(alloc, object, keyword, words),
+        Contents::Object(object) => add_object_line(alloc, object, keyword, words),
+        Contents::Library(library) => add_library_line(alloc, library, keyword, words),
         Contents::Plain(bytes) => {
             if keyword != "bytes" {
                 return Err(RowError::Malformed("no such line"));

@@ -8,7 +8,11 @@
 mod bytes;
 mod checks;
 mod error;
+mod library;
+mod library_file;
+mod library_lines;
 mod line;
+mod numbered;
 mod numbers;
 mod object;
 mod object_file;
@@ -56,22 +60,22 @@ fn walk_input<R: Input + Print + AllocGlobal>(rt: &R) -> io::Result<bool> {
         Ok(rows) => rows,
         Err(AllocError) => return Err(io::Error::from(AllocError)),
     };
+    let count = rows.len();
     let mut all_right = true;
-    for row in &rows {
+    for row in rows {
         all_right = walk_row(rt, row)? && all_right;
     }
-    let count = rows.len();
     println!(rt; "{count} rows")?;
     Ok(all_right)
 }
 
 /// Runs a row, prints its line, and says whether it is right.
-fn walk_row<R: Print + AllocGlobal>(rt: &R, row: &Row) -> io::Result<bool> {
+fn walk_row<R: Print + AllocGlobal>(rt: &R, row: Row) -> io::Result<bool> {
+    let title = row.title.clone()?;
     let (is_right, text) = match run_row::run_row(rt.alloc(), row) {
         Ok(()) => (true, String::from_str(rt.alloc(), "ok")?),
         Err(failed) => (false, failed.text(rt.alloc())?),
     };
-    let title = row.title.as_str();
     println!(rt; "{title}: {text}")?;
     Ok(is_right)
 }

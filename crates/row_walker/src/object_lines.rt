@@ -2,6 +2,7 @@
 
 use crate::bytes::bytes_of;
 use crate::error::RowError;
+use crate::numbered::{Part, numbered};
 use crate::numbers::{TOO_GREAT, number_at, u8_at, u16_at, u32_at};
 use crate::object::{Aux, Object, Relocation, Section, Symbol};
 use crate::words::{Word, copy_at, word_at, words_from};
@@ -57,9 +58,10 @@ fn add_sections(alloc: Global, object: &mut Object, words: &[Word]) -> Result<()
     let name = word_at(words, 1)?;
     let flags = u32_at(words, 2)?;
     let data = bytes_of(alloc, words_from(words, 3)?)?;
-    for index in 0..u32_at(words, 0)? {
+    let count = len_at(words, 0)?;
+    for index in 0..count {
         let section = Section {
-            name: numbered(alloc, name, index)?,
+            name: numbered(alloc, name, Part { index, count })?,
             flags,
             data: Vec::from_slice(alloc, &data)?,
             uninitialised: None,
@@ -68,13 +70,6 @@ fn add_sections(alloc: Global, object: &mut Object, words: &[Word]) -> Result<()
         object.sections.push(section)?;
     }
     Ok(())
-}
-
-fn numbered(alloc: Global, name: &str, index: u32) -> Result<String, RowError> {
-    match name.split_once('#') {
-        Some((before, behind)) => Ok(format!(in alloc; "{before}{index}{behind}")?),
-        None => Ok(String::from_str(alloc, name)?),
-    }
 }
 
 /// `bytes BYTES`, `size NUMBER`, `reloc OFFSET SYMBOL TYPE` or `relocs COUNT SYMBOL TYPE`

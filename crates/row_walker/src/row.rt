@@ -1,6 +1,7 @@
 //! A row: files, and steps that are taken over them one after the other.
 
 use crate::error::FailedLine;
+use crate::library::Library;
 use crate::object::Object;
 use std::alloc::Global;
 
@@ -33,11 +34,12 @@ pub struct RowFile {
     pub contents: Contents,
 }
 
-/// What a file holds: bytes as they stand, or an object that is made of its parts.
+/// What a file holds: bytes as they stand, or an object or a library that is made of its parts.
 #[derive(Drop)]
 pub enum Contents {
     Plain(Vec<u8>),
-    Parts(Object),
+    Object(Object),
+    Library(Library),
 }
 
 /// What is done or expected, by the line of the input that says it.

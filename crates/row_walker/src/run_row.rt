@@ -8,50 +8,43 @@ use crate::checks::{
     check_status, held,
 };
 use crate::error::{FailedLine, RowError};
+use crate::library_file::library_file;
 use crate::object_file::object_file;
 use crate::row::{Action, Contents, Row, RowFile};
 use crate::stage::{NamedBytes, Stage};
 use std::alloc::Global;
 
 /// Takes the steps of the row up to the first that is not met.
-pub fn run_row(alloc: Global, row: &Row) -> Result<(), FailedLine> {
-    if let Some(unread) = &row.unread {
-        return Err(copy_of(alloc, unread));
+pub fn run_row(alloc: Global, row: Row) -> Result<(), FailedLine> {
+    let Row {
+        files,
+        steps,
+        unread,
+        ..
+    } = row;
+    if let Some(unread) = unread {
+        return Err(unread);
     }
     let mut given = Vec::new(alloc);
-    for file in &row.files {
+    for file in files {
         let line = file.line;
         push_given(alloc, &mut given, file).map_err(|error| FailedLine { line, error })?;
     }
     let mut stage = Stage::new(alloc, given).map_err(|error| FailedLine { line: 0, error })?;
-    for step in &row.steps {
+    for step in &steps {
         let line = step.line;
         take_step(alloc, &mut stage, &step.action).map_err(|error| FailedLine { line, error })?;
     }
     Ok(())
 }
 
-fn copy_of(alloc: Global, unread: &FailedLine) -> FailedLine {
-    let error = match &unread.error {
-        RowError::Malformed(text) => RowError::Malformed(text),
-        RowError::Wrong(text) => match text.clone() {
-            Ok(text) => RowError::Wrong(text),
-            Err(_) => RowError::Memory,
-        },
-        RowError::Memory => RowError::Memory,
+fn push_given(alloc: Global, given: &mut Vec<NamedBytes>, file: RowFile) -> Result<(), RowError> {
+    let RowFile { name, contents, .. } = file;
+    let bytes = match contents {
+        Contents::Plain(bytes) => bytes,
+        Contents::Object(object) => object_file(alloc, &object)?,
+        Contents::Library(library) => library_file(alloc, &library)?,
     };
-    FailedLine {
-        line: unread.line,
-        error,
-    }
-}
-
-fn push_given(alloc: Global, given: &mut Vec<NamedBytes>, file: &RowFile) -> Result<(), RowError> {
-    let bytes = match &file.contents {
-        Contents::Plain(bytes) => Vec::from_slice(alloc, bytes)?,
-        Contents::Parts(object) => object_file(alloc, object)?,
-    };
-    let name = file.name.clone()?;
     given.push(NamedBytes { name, bytes })?;
     Ok(())
 }
