@@ -41,6 +41,11 @@ use Rattle.coff_aux.specs.AuxFaults.{is_bad_weak, aux_place, parent_place, aux_f
 use Rattle.module_view.specs.Unbuilt.{is_unbuilt_form, is_in_comdat, is_unbuilt_symbol}
 use Rattle.link_pieces.specs.Pieces.{is_named, link_pieces, link_contents}
 use Rattle.link_plan.specs.PlanFaults.{plan_fault}
+use Rattle.symbol_table.specs.References.{is_provided}
+use Rattle.lib_search.specs.FoundFiles.{FoundFile}
+use Rattle.lib_search.specs.Inputs.{modules_among, opening_fault}
+use Rattle.lib_search.specs.SearchSteps.{wants_library, next_member, member_by_reference, member_by_alternate, first_listing}
+use Rattle.lib_search.specs.Loading.{inputs_state}
 use Rattle.linker_program.specs.Unbuilt.{is_unbuilt_link}
 
 file_header : List ℕ
@@ -107,3 +112,25 @@ contents = refl
 entry : entry_place (link_of options modules) options.entry_name ≡ Some (record { piece = 0; value = 0 })
 unfolding module_says mismatch_of settings options_of word_says known is_word is_text object file_header section_header code symbol_record string_row number_at first_below decimal_number first_refusal_below first_section first_of is_truncated is_other_machine body_leaves counted_leave relocations_leave first_torn_record symbol_range_fault table_leaves lacks_section_name lacks_symbol_name string_table_fault has_no_alignment has_no_section value_exceeds object_fault section_at record_offset record_at symbol_at starts_within big_object_class is_big_object header_size symbol_size machine_of section_total section_headers_offset symbols_offset record_total relocations_place relocation_count_in relocations_from short_name_in name_offset long_section_name section_name_in is_uninitialised_in has_overflow_count_in string_table_offset string_table_size string_table text_in long_name_offset_in name_in section_number_in class_in aux_count_in resource_start form_error is_linker_section content_error opening_error comes_in is_definition definitions_of is_common is_undefined is_reference references_of stands_in section_symbols_of said_by_symbol leader_name comdat_of chain_end weaks_of commons_of linker_meaning step meaning_within meaning_of asks is_bad_weak comdat_record_of parent_in parents_of ancestor aux_place parent_place aux_fault is_unbuilt_form is_in_comdat is_unbuilt_symbol is_named plan_fault modules
 entry = refl
+
+-- ---- the one input, once it is read, opens as that module, and nothing else joins
+
+input : FoundFile
+input = record { file = codes "a.obj"; bytes = object }
+
+joined : modules_among (input ∷ []) ≡ modules
+unfolding input modules object file_header section_header code symbol_record string_row
+joined = refl
+
+opened : opening_fault (input ∷ []) ≡ None
+unfolding input module_says mismatch_of settings options_of word_says known is_word is_text object file_header section_header code symbol_record string_row number_at first_below decimal_number first_refusal_below first_section first_of is_truncated is_other_machine body_leaves counted_leave relocations_leave first_torn_record symbol_range_fault table_leaves lacks_section_name lacks_symbol_name string_table_fault has_no_alignment has_no_section value_exceeds object_fault section_at record_offset record_at symbol_at starts_within big_object_class is_big_object header_size symbol_size machine_of section_total section_headers_offset symbols_offset record_total relocations_place relocation_count_in relocations_from short_name_in name_offset long_section_name section_name_in is_uninitialised_in has_overflow_count_in string_table_offset string_table_size string_table text_in long_name_offset_in name_in section_number_in class_in aux_count_in resource_start form_error is_linker_section content_error opening_error comes_in is_definition definitions_of is_common is_undefined is_reference references_of stands_in section_symbols_of said_by_symbol leader_name comdat_of chain_end weaks_of commons_of linker_meaning step meaning_within meaning_of asks is_bad_weak comdat_record_of parent_in parents_of ancestor aux_place parent_place aux_fault is_unbuilt_form is_in_comdat is_unbuilt_symbol is_named fixes_from
+opened = refl
+
+-- no default library is named, and the one name that is asked for is provided
+no_default : wants_library options (inputs_state options (input ∷ []) 85) ≡ false
+unfolding input module_says mismatch_of settings options_of word_says known is_word is_text object file_header section_header code symbol_record string_row number_at first_below decimal_number first_refusal_below first_section first_of is_truncated is_other_machine body_leaves counted_leave relocations_leave first_torn_record symbol_range_fault table_leaves lacks_section_name lacks_symbol_name string_table_fault has_no_alignment has_no_section value_exceeds object_fault section_at record_offset record_at symbol_at starts_within big_object_class is_big_object header_size symbol_size machine_of section_total section_headers_offset symbols_offset record_total relocations_place relocation_count_in relocations_from short_name_in name_offset long_section_name section_name_in is_uninitialised_in has_overflow_count_in string_table_offset string_table_size string_table text_in long_name_offset_in name_in section_number_in class_in aux_count_in resource_start form_error is_linker_section content_error opening_error comes_in is_definition definitions_of is_common is_undefined is_reference references_of stands_in section_symbols_of said_by_symbol leader_name comdat_of chain_end weaks_of commons_of linker_meaning step meaning_within meaning_of asks is_bad_weak comdat_record_of parent_in parents_of ancestor aux_place parent_place aux_fault is_unbuilt_form is_in_comdat is_unbuilt_symbol is_named fixes_from
+no_default = refl
+
+none_left : next_member (inputs_state options (input ∷ []) 85).searched ≡ None
+unfolding member_by_reference member_by_alternate first_listing is_provided input module_says mismatch_of settings options_of word_says known is_word is_text object file_header section_header code symbol_record string_row number_at first_below decimal_number first_refusal_below first_section first_of is_truncated is_other_machine body_leaves counted_leave relocations_leave first_torn_record symbol_range_fault table_leaves lacks_section_name lacks_symbol_name string_table_fault has_no_alignment has_no_section value_exceeds object_fault section_at record_offset record_at symbol_at starts_within big_object_class is_big_object header_size symbol_size machine_of section_total section_headers_offset symbols_offset record_total relocations_place relocation_count_in relocations_from short_name_in name_offset long_section_name section_name_in is_uninitialised_in has_overflow_count_in string_table_offset string_table_size string_table text_in long_name_offset_in name_in section_number_in class_in aux_count_in resource_start form_error is_linker_section content_error opening_error comes_in is_definition definitions_of is_common is_undefined is_reference references_of stands_in section_symbols_of said_by_symbol leader_name comdat_of chain_end weaks_of commons_of linker_meaning step meaning_within meaning_of asks is_bad_weak comdat_record_of parent_in parents_of ancestor aux_place parent_place aux_fault is_unbuilt_form is_in_comdat is_unbuilt_symbol is_named fixes_from
+none_left = refl
