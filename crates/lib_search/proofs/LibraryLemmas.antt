@@ -1,83 +1,146 @@
--- One more listing, of which the first of its name counts; and a member that is opened.
-use Rattle.std.proofs.Common.{◌≡◌, ℕ, Bool, true, false, cond, List, [], ◌∷◌, Option, Some, None, refl, sym, ap, ◌∙◌}
+-- One more listing, of which the first of its name counts; one more library; and a member that is opened.
+use Rattle.std.proofs.Common.{◌≡◌, ℕ, ◌<◌, ◌+◌, zero, suc, Bool, true, false, cond, List, [], ◌∷◌, ◌++◌, length, get_or, Option, Some, None, refl, sym, ap, ◌∙◌, subst, add-one, arith}
 use Rattle.std.specs.Prelude.{is_none, option_map}
 use Rattle.std.specs.Option.{option_or}
 use Rattle.std.proofs.lemmas.Slice.Eq.{bytes_eq-Decides}
+use Rattle.std.proofs.lemmas.List.{length-append, get_or_append_left}
+use Rattle.link_base.specs.Refusals.{first_refusal_below}
 use Rattle.link_base.specs.NameText.{same_name}
 use Rattle.lib_reader.specs.Listing.{Entry, first_of_name}
 use Rattle.lib_reader.specs.declared.error.LibError.{LibError}
 use Rattle.lib_reader.specs.ArchiveMember.{name_text, data_of}
-use Rattle.lib_reader.specs.LibraryWalk.{long_names_of}
+use Rattle.lib_reader.specs.LibraryWalk.{listing_of, long_names_of}
 use Rattle.lib_reader.specs.MemberFault.{member_fault}
 use Rattle.lib_reader.specs.MemberName.{member_name}
 use Rattle.module_view.specs.Module.{ModuleView}
-use Rattle.lib_search.specs.FoundFiles.{FoundFile}
+use Rattle.lib_search.specs.FoundFiles.{FoundFile, no_file}
 use Rattle.lib_search.specs.Joining.{bad_library, joining_fault}
-use Rattle.lib_search.specs.OpenLibraries.{ListsFirst, ListsSoFar}
-use Rattle.lib_search.specs.SearchSteps.{member_view, member_fault_in}
+use Rattle.lib_search.specs.OpenLibraries.{ListsBelow, ListsSoFar}
+use Rattle.lib_search.proofs.ListingLemmas.{same_item}
+use Rattle.lib_search.specs.SearchSteps.{MemberPlace, place_in, listing_at, member_view, member_fault_in}
 
 same_is : (a b : List ℕ) → same_name a b ≡ true → a ≡ b
 same_is a b e = (bytes_eq-Decides a b).0 e
 
-step_of : (name other : List ℕ) (at : ℕ) (left : List Entry) → first_of_name other ((name, at) ∷ left) ≡ cond (same_name name other) (Some at) (first_of_name other left)
+step_of : (name other : List ℕ) (k at : ℕ) (left : List Entry) → option_map (place_in k) (first_of_name other ((name, at) ∷ left)) ≡ cond (same_name name other) (Some (k, at)) (option_map (place_in k) (first_of_name other left))
 unfolding first_of_name
-step_of name other at left = refl
+step_of name other k at left = by_case (same_name name other) (first_of_name other left)
+  where
+    by_case : (b : Bool) (o : Option ℕ) → option_map (place_in k) (cond b (Some at) o) ≡ cond b (Some (k, at)) (option_map (place_in k) o)
+    by_case true o = refl
+    by_case false o = refl
 
 -- the first of its name
-pub lists_new : (name : List ℕ) (at : ℕ) (left entries : List Entry) (old new : List ℕ → Option ℕ) → old name ≡ None → ((other : List ℕ) → new other ≡ cond (same_name name other) (Some at) (old other)) → ListsSoFar old ((name, at) ∷ left) entries → ListsSoFar new left entries
-lists_new name at left entries old new none now was = record {
+pub lists_new : (name : List ℕ) (place : MemberPlace) (left : List Entry) (libraries : List FoundFile) (old new : List ℕ → Option MemberPlace) → old name ≡ None → ((other : List ℕ) → new other ≡ cond (same_name name other) (Some place) (old other)) → ListsSoFar old place.0 ((name, place.1) ∷ left) libraries → ListsSoFar new place.0 left libraries
+lists_new name place left libraries old new none now was = record {
   first = λ other. go other (same_name name other) refl;
 }
   where
-    before : (other : List ℕ) → option_or (old other) (cond (same_name name other) (Some at) (first_of_name other left)) ≡ first_of_name other entries
-    before other = ap (option_or (old other)) (sym (step_of name other at left)) ∙ was.first other
+    rest : List ℕ → Option MemberPlace
+    rest other = option_map (place_in place.0) (first_of_name other left)
 
-    go : (other : List ℕ) (b : Bool) → same_name name other ≡ b → option_or (new other) (first_of_name other left) ≡ first_of_name other entries
+    whole : List ℕ → Option MemberPlace
+    whole other = option_or (first_refusal_below place.0 (listing_at libraries other)) (listing_at libraries other place.0)
+
+    before : (other : List ℕ) → option_or (old other) (cond (same_name name other) (Some place) (rest other)) ≡ whole other
+    before other = ap (option_or (old other)) (sym (step_of name other place.0 place.1 left)) ∙ was.first other
+
+    go : (other : List ℕ) (b : Bool) → same_name name other ≡ b → option_or (new other) (rest other) ≡ whole other
     go other true same =
-        ap (λ (o : Option ℕ). option_or o (first_of_name other left)) (now other ∙ ap (λ (b : Bool). cond b (Some at) (old other)) same)
-        ∙ sym (ap (λ (o : Option ℕ). option_or o (Some at)) (ap old (sym (same_is name other same)) ∙ none))
-        ∙ ap (λ (b : Bool). option_or (old other) (cond b (Some at) (first_of_name other left))) (sym same)
+        ap (λ (o : Option MemberPlace). option_or o (rest other)) (now other ∙ ap (λ (b : Bool). cond b (Some place) (old other)) same)
+        ∙ sym (ap (λ (o : Option MemberPlace). option_or o (Some place)) (ap old (sym (same_is name other same)) ∙ none))
+        ∙ ap (λ (b : Bool). option_or (old other) (cond b (Some place) (rest other))) (sym same)
         ∙ before other
     go other false differs =
-        ap (λ (o : Option ℕ). option_or o (first_of_name other left)) (now other ∙ ap (λ (b : Bool). cond b (Some at) (old other)) differs)
-        ∙ ap (λ (b : Bool). option_or (old other) (cond b (Some at) (first_of_name other left))) (sym differs)
+        ap (λ (o : Option MemberPlace). option_or o (rest other)) (now other ∙ ap (λ (b : Bool). cond b (Some place) (old other)) differs)
+        ∙ ap (λ (b : Bool). option_or (old other) (cond b (Some place) (rest other))) (sym differs)
         ∙ before other
 
 -- another one
-pub lists_known : (name : List ℕ) (at first : ℕ) (left entries : List Entry) (old : List ℕ → Option ℕ) → old name ≡ Some first → ListsSoFar old ((name, at) ∷ left) entries → ListsSoFar old left entries
-lists_known name at first left entries old known was = record {
+pub lists_known : (name : List ℕ) (place first : MemberPlace) (left : List Entry) (libraries : List FoundFile) (old : List ℕ → Option MemberPlace) → old name ≡ Some first → ListsSoFar old place.0 ((name, place.1) ∷ left) libraries → ListsSoFar old place.0 left libraries
+lists_known name place first left libraries old known was = record {
   first = λ other. go other (same_name name other) refl;
 }
   where
-    before : (other : List ℕ) → option_or (old other) (cond (same_name name other) (Some at) (first_of_name other left)) ≡ first_of_name other entries
-    before other = ap (option_or (old other)) (sym (step_of name other at left)) ∙ was.first other
+    rest : List ℕ → Option MemberPlace
+    rest other = option_map (place_in place.0) (first_of_name other left)
 
-    go : (other : List ℕ) (b : Bool) → same_name name other ≡ b → option_or (old other) (first_of_name other left) ≡ first_of_name other entries
+    whole : List ℕ → Option MemberPlace
+    whole other = option_or (first_refusal_below place.0 (listing_at libraries other)) (listing_at libraries other place.0)
+
+    before : (other : List ℕ) → option_or (old other) (cond (same_name name other) (Some place) (rest other)) ≡ whole other
+    before other = ap (option_or (old other)) (sym (step_of name other place.0 place.1 left)) ∙ was.first other
+
+    go : (other : List ℕ) (b : Bool) → same_name name other ≡ b → option_or (old other) (rest other) ≡ whole other
     go other true same =
         let there : old other ≡ Some first = ap old (sym (same_is name other same)) ∙ known in
-        ap (λ (o : Option ℕ). option_or o (first_of_name other left)) there
-        ∙ sym (ap (λ (o : Option ℕ). option_or o (cond (same_name name other) (Some at) (first_of_name other left))) there)
+        ap (λ (o : Option MemberPlace). option_or o (rest other)) there
+        ∙ sym (ap (λ (o : Option MemberPlace). option_or o (cond (same_name name other) (Some place) (rest other))) there)
         ∙ before other
     go other false differs =
-        ap (λ (b : Bool). option_or (old other) (cond b (Some at) (first_of_name other left))) (sym differs)
+        ap (λ (b : Bool). option_or (old other) (cond b (Some place) (rest other))) (sym differs)
         ∙ before other
 
--- no listing was gone through
-pub lists_none : (entries : List Entry) (offset_of : List ℕ → Option ℕ) → ((name : List ℕ) → offset_of name ≡ None) → ListsSoFar offset_of entries entries
-lists_none entries offset_of none = record {
-  first = λ name. ap (λ (o : Option ℕ). option_or o (first_of_name name entries)) (none name);
+-- no listing of a library was gone through
+pub lists_begin : (libraries : List FoundFile) (k : ℕ) (library : FoundFile) (place_of : List ℕ → Option MemberPlace) → library ≡ get_or libraries k no_file → ListsBelow place_of k libraries → ListsSoFar place_of k (listing_of library.bytes) libraries
+lists_begin libraries k library place_of is below = record {
+  first = λ name.
+      ap (λ (o : Option MemberPlace). option_or o (option_map (place_in k) (first_of_name name (listing_of library.bytes)))) (below.first name)
+      ∙ ap (λ (l : FoundFile). option_or (first_refusal_below k (listing_at libraries name)) (option_map (place_in k) (first_of_name name (listing_of l.bytes)))) is;
 }
 
-none_left : (o : Option ℕ) → option_or o None ≡ o
+none_left : (o : Option MemberPlace) → option_or o None ≡ o
 none_left None = refl
-none_left (Some at) = refl
+none_left (Some place) = refl
 
 -- none is left
-pub lists_all : (entries : List Entry) (offset_of : List ℕ → Option ℕ) → ListsSoFar offset_of [] entries → ListsFirst offset_of entries
-unfolding first_of_name
-lists_all entries offset_of was = record {
-  first = λ name. sym (none_left (offset_of name)) ∙ was.first name;
+pub lists_end : (libraries : List FoundFile) (k : ℕ) (place_of : List ℕ → Option MemberPlace) → ListsSoFar place_of k [] libraries → ListsBelow place_of (k + 1) libraries
+unfolding first_of_name first_refusal_below
+lists_end libraries k place_of was = record {
+  first = λ name. sym (none_left (place_of name)) ∙ was.first name ∙ rw add-one refl;
 }
+
+-- of no library
+pub lists_none : (libraries : List FoundFile) (place_of : List ℕ → Option MemberPlace) → ((name : List ℕ) → place_of name ≡ None) → ListsBelow place_of 0 libraries
+unfolding first_refusal_below
+lists_none libraries place_of none = record { first = none }
+
+-- ---- one library more
+
+same_below : {A : Type 0} (n : ℕ) (f g : ℕ → Option A) → ((k : ℕ) → k < n → f k ≡ g k) → first_refusal_below n f ≡ first_refusal_below n g
+unfolding first_refusal_below
+same_below zero f g same = refl
+same_below {A} (suc n) f g same =
+    ap (λ (o : Option A). option_or o (f n)) (same_below n f g (λ k lt. same k (omega (arith, lt))))
+    ∙ ap (option_or (first_refusal_below n g)) (same n (omega arith))
+
+-- the libraries before it list what they listed
+pub lists_more : (libraries : List FoundFile) (library : FoundFile) (k : ℕ) (place_of : List ℕ → Option MemberPlace) → k ≡ length libraries → ListsBelow place_of (length libraries) libraries → ListsBelow place_of k (libraries ++ library ∷ [])
+lists_more libraries library k place_of is was = record {
+  first = λ name.
+      was.first name
+      ∙ same_below (length libraries) (listing_at libraries name) (listing_at (libraries ++ library ∷ []) name)
+      (λ j lt. ap (λ (l : FoundFile). option_map (place_in j) (first_of_name name (listing_of l.bytes))) (sym (get_or_append_left libraries (library ∷ []) no_file j lt)))
+      ∙ ap (λ (n : ℕ). first_refusal_below n (listing_at (libraries ++ library ∷ []) name)) (sym is);
+}
+
+-- and it lists its own names after them
+pub lists_now : (libraries now : List FoundFile) (library : FoundFile) (k : ℕ) (place_of : List ℕ → Option MemberPlace) → k ≡ length libraries → now ≡ libraries ++ library ∷ [] → ListsBelow place_of (k + 1) (libraries ++ library ∷ []) → ListsBelow place_of (length now) now
+lists_now libraries now library k place_of is same below =
+    let count = ap (λ (ls : List FoundFile). length ls) same ∙ length-append libraries (library ∷ []) in
+    let end : k + 1 ≡ length now = omega (arith, is, count) in
+    subst (λ (n : ℕ). ListsBelow place_of n now) end (subst (ListsBelow place_of (k + 1)) (sym same) below)
+
+pub library_here : (libraries : List FoundFile) (k : ℕ) (library : FoundFile) → k < length libraries → library ≡ get_or libraries k library → library ≡ get_or libraries k no_file
+library_here libraries k library lt is = is ∙ same_item libraries k library no_file lt
+
+last_item : (libraries : List FoundFile) (library : FoundFile) → library ≡ get_or (libraries ++ library ∷ []) (length libraries) no_file
+last_item [] library = refl
+last_item (x ∷ libraries) library = last_item libraries library
+
+pub last_library : (libraries : List FoundFile) (library : FoundFile) (k : ℕ) → k ≡ length libraries → library ≡ get_or (libraries ++ library ∷ []) k no_file
+last_library libraries library k is =
+    last_item libraries library ∙ ap (λ (n : ℕ). get_or (libraries ++ library ∷ []) n no_file) (sym is)
 
 -- ---- a member that is opened
 

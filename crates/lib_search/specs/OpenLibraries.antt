@@ -1,19 +1,15 @@
--- What is kept of a library that is searched. Own.
-use Rattle.std.specs.Prelude.{◌≡◌, ◌≤◌, ℕ, List, length, Option}
+-- What is kept of the libraries that are searched. Own.
+use Rattle.std.specs.Prelude.{◌≡◌, ℕ, List, Option, option_map}
 use Rattle.std.specs.Option.{option_or}
-use Rattle.link_base.specs.Limits.{FILE_LIMIT}
+use Rattle.link_base.specs.Refusals.{first_refusal_below}
 use Rattle.lib_reader.specs.Listing.{Entry, first_of_name}
-use Rattle.lib_reader.specs.LibraryWalk.{listing_of}
+use Rattle.lib_search.specs.FoundFiles.{FoundFile}
+use Rattle.lib_search.specs.SearchSteps.{MemberPlace, place_in, listing_at}
 
--- each name has the offset of its first listing
-pub record ListsFirst (offset_of : List ℕ → Option ℕ) (entries : List Entry) : Type 0 where
-  pub first : (name : List ℕ) → offset_of name ≡ first_of_name name entries
+-- each name has the place of its first listing in the libraries below a number
+pub record ListsBelow (place_of : List ℕ → Option MemberPlace) (count : ℕ) (libraries : List FoundFile) : Type 0 where
+  pub first : (name : List ℕ) → place_of name ≡ first_refusal_below count (listing_at libraries name)
 
--- a library is no longer than a file may be, and its names are known
-pub record KeepsLibrary (bytes : List ℕ) (offset_of : List ℕ → Option ℕ) : Type 0 where
-  pub short : length bytes ≤ FILE_LIMIT
-  pub lists : ListsFirst offset_of (listing_of bytes)
-
--- some listings were gone through, and these are left
-pub record ListsSoFar (offset_of : List ℕ → Option ℕ) (left entries : List Entry) : Type 0 where
-  pub first : (name : List ℕ) → option_or (offset_of name) (first_of_name name left) ≡ first_of_name name entries
+-- the libraries below a number were gone through, and of the next one these listings are left
+pub record ListsSoFar (place_of : List ℕ → Option MemberPlace) (count : ℕ) (left : List Entry) (libraries : List FoundFile) : Type 0 where
+  pub first : (name : List ℕ) → option_or (place_of name) (option_map (place_in count) (first_of_name name left)) ≡ option_or (first_refusal_below count (listing_at libraries name)) (listing_at libraries name count)

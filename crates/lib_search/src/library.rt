@@ -1,15 +1,15 @@
-//! A library that is searched.
+//! The libraries that are searched.
 
-ghost use Rattle.std.specs.Prelude.{◌≡◌, ◌≤◌, ◌<◌, ◌∷◌, None, List, length, IfOk, OnOk, IfErr};
+ghost use Rattle.std.specs.Prelude.{◌≡◌, ◌≤◌, ◌<◌, ◌+◌, ◌++◌, ◌∷◌, [], None, List, length, slice_index_or, IfOk, OnOk, IfErr};
 ghost use Rattle.indexmap.specs.IndexMap.{get};
 ghost use Rattle.link_base.specs.Limits.{FILE_LIMIT as most_bytes, MODULE_LIMIT as most_modules};
 ghost use Rattle.link_base.specs.NameText.{same_name};
 ghost use Rattle.link_base.specs.Refusals.{RefusesFor};
-ghost use Rattle.lib_reader.specs.Listing.{Entry, first_of_name};
-ghost use Rattle.lib_reader.specs.LibraryWalk.{listing_of};
+ghost use Rattle.lib_reader.specs.Listing.{Entry};
+ghost use Rattle.lib_search.specs.FoundFiles.{FoundFile, no_file};
 ghost use Rattle.lib_search.specs.Joining.{bad_library, no_library};
-ghost use Rattle.lib_search.specs.OpenLibraries.{ListsFirst, ListsSoFar};
-ghost use Rattle.lib_search.specs.SearchSteps.{member_view, member_fault_in};
+ghost use Rattle.lib_search.specs.OpenLibraries.{ListsBelow, ListsSoFar};
+ghost use Rattle.lib_search.specs.SearchSteps.{library_at, first_listing, member_view, member_fault_in};
 
 use crate::join::join;
 use indexmap::IndexMap;
@@ -19,59 +19,36 @@ use module_view::{Module, Origin};
 use std::alloc::Global;
 use std::marker::Model;
 
-/// A library that is searched: its file, and the offset of the member that it lists first for each name.
+/// A library that is searched, and its file.
 #[derive(Drop)]
 pub(crate) struct OpenLibrary<'a> {
     file: Name<'a>,
     library: Library<'a>,
-    offsets: IndexMap<Name<'a>, u32>,
 }
 
 impl<'a> Model for OpenLibrary<'a> {
-    ghost use Rattle.indexmap.specs.IndexMap.{get};
-    ghost use Rattle.link_base.specs.NameText.{same_name};
+    ghost use Rattle.std.specs.Prelude.{◌≤◌, length};
+    ghost use Rattle.link_base.specs.Limits.{FILE_LIMIT as most_bytes};
     ghost use Rattle.lib_search.specs.FoundFiles.{FoundFile};
-    ghost use Rattle.lib_search.specs.OpenLibraries.{KeepsLibrary};
 
     ghost Value = { FoundFile };
 
     ghost view = { λ l. record { file = l.file; bytes = l.library } };
 
-    ghost invariant = { λ l. KeepsLibrary l.library (get same_name l.offsets) };
+    ghost invariant = { λ l. length l.library ≤ most_bytes };
 }
 
 impl<'a> OpenLibrary<'a> {
     /// Opens the library in a file. One that is malformed is refused.
-    pub(crate) fn open(
-        alloc: Global,
-        file: Name<'a>,
-        bytes: &'a [u8],
-    ) -> Result<OpenLibrary<'a>, Refusal<'a>>
+    pub(crate) fn open(file: Name<'a>, bytes: &'a [u8]) -> Result<OpenLibrary<'a>, Refusal<'a>>
         requires { length bytes.now ≤ most_bytes }
         ensures opened { IfOk result (λ library. library ≡ record { file = file.entry; bytes = bytes.now }) }
         ensures accepted { OnOk result (no_library (record { file = file.entry; bytes = bytes.now }) ≡ None) }
         ensures refused { IfErr result (RefusesFor (no_library (record { file = file.entry; bytes = bytes.now }))) }
     {
         match Library::open(bytes) {
-            Ok(library) => {
-                let offsets = offsets_of(alloc, &library)?;
-                Ok(OpenLibrary {
-                    file,
-                    library,
-                    offsets,
-                })
-            }
+            Ok(library) => Ok(OpenLibrary { file, library }),
             Err(error) => Err(Refusal::Fault(bad_library(file, error))),
-        }
-    }
-
-    /// The offset of the header of the member that the library lists first for a name.
-    pub(crate) fn listed(&self, name: &Name<'a>) -> Option<u32>
-        ensures { result ≡ first_of_name name.now (listing_of self.now.bytes) }
-    {
-        match self.offsets.get(name) {
-            Some(at) => Some(*at),
-            None => None,
         }
     }
 
@@ -111,31 +88,122 @@ pub(crate) fn bad_library<'a>(file: Name<'a>, error: LibError) -> Fault<'a>
     }
 }
 
-/// The offset of the first listing of each name.
-fn offsets_of<'a>(alloc: Global, library: &Library<'a>) -> Result<IndexMap<Name<'a>, u32>, Memory>
-    ensures { IfOk result (λ offsets. ListsFirst (get same_name offsets) (listing_of library.now)) }
-{
-    let mut offsets = IndexMap::new(alloc);
-    for (name, at) in library.listings() {
-        note_listing(&mut offsets, name, at)?;
+/// The libraries that are searched, in their order. A member is known by the place of its library among them and by the offset
+/// of its header: for each name that of its first listing is kept.
+#[derive(Drop)]
+pub(crate) struct Libraries<'a> {
+    list: Vec<OpenLibrary<'a>>,
+    places: IndexMap<Name<'a>, (usize, u32)>,
+}
+
+impl<'a> Model for Libraries<'a> {
+    ghost use Rattle.std.specs.Prelude.{List, length};
+    ghost use Rattle.indexmap.specs.IndexMap.{get};
+    ghost use Rattle.link_base.specs.NameText.{same_name};
+    ghost use Rattle.lib_search.specs.FoundFiles.{FoundFile};
+    ghost use Rattle.lib_search.specs.OpenLibraries.{ListsBelow};
+
+    ghost Value = { List FoundFile };
+
+    ghost view = { λ l. l.list.items };
+
+    ghost invariant = { λ l. ListsBelow (get same_name l.places) (length l.list.items) l.list.items };
+}
+
+impl<'a> Libraries<'a> {
+    /// These libraries.
+    pub(crate) fn of(alloc: Global, list: Vec<OpenLibrary<'a>>) -> Result<Libraries<'a>, Memory>
+        ensures { IfOk result (λ libraries. libraries ≡ list.entry.items) }
+    {
+        let mut places = IndexMap::new(alloc);
+        for index in 0..list.len() {
+            note_listings(&mut places, index, &list[index])?;
+        }
+        Ok(Libraries { list, places })
     }
-    Ok(offsets)
+
+    /// A library after those before it.
+    pub(crate) fn with(self, library: OpenLibrary<'a>) -> Result<Libraries<'a>, Memory>
+        ensures { IfOk result (λ libraries. libraries ≡ self.entry ++ library.entry ∷ []) }
+    {
+        let Libraries {
+            mut list,
+            mut places,
+        } = self;
+        note_listings(&mut places, list.len(), &library)?;
+        push_library(&mut list, library)?;
+        Ok(Libraries { list, places })
+    }
+
+    /// The member that the first library that lists a name lists for it.
+    #[tactic(auto, unfolding(crate::specs::SearchSteps::first_listing))]
+    pub(crate) fn first_listing(&self, name: &Name<'a>) -> Option<(usize, u32)>
+        ensures { result ≡ first_listing self.now name.now }
+    {
+        match self.places.get(name) {
+            Some(place) => Some(*place),
+            None => None,
+        }
+    }
+
+    /// Opens the member at a place as the module at a position. One that does not open is refused.
+    pub(crate) fn open_member(
+        &self,
+        alloc: Global,
+        place: (usize, u32),
+        position: usize,
+    ) -> Result<Module<'a>, Refusal<'a>>
+        requires { place.0 < length self.now }
+        ensures opened { IfOk result (λ opened. opened ≡ member_view (library_at self.now place.0) place.1) }
+        ensures accepted { OnOk result (member_fault_in (library_at self.now place.0) place.1 position ≡ None) }
+        ensures few { OnOk result (position < most_modules) }
+        ensures refused { IfErr result (RefusesFor (member_fault_in (library_at self.now place.0) place.1 position)) }
+    {
+        self.list[place.0].open_member(alloc, place.1, position)
+    }
+}
+
+/// Notes the listings of the library at an index, after those of the libraries before it.
+fn note_listings<'a>(
+    places: &mut IndexMap<Name<'a>, (usize, u32)>,
+    index: usize,
+    library: &OpenLibrary<'a>,
+) -> Result<(), Memory>
+    ensures { OnOk result ((libraries : List FoundFile) → library.now ≡ slice_index_or libraries index no_file
+        → ListsBelow (get same_name places.old) index libraries → ListsBelow (get same_name places.new) (index + 1) libraries) }
+{
+    for (name, at) in library.library.listings() {
+        note_listing(places, name, (index, at))?;
+    }
+    Ok(())
 }
 
 /// Notes a listing, where it is the first of its name.
 fn note_listing<'a>(
-    offsets: &mut IndexMap<Name<'a>, u32>,
+    places: &mut IndexMap<Name<'a>, (usize, u32)>,
     name: Name<'a>,
-    at: u32,
+    place: (usize, u32),
 ) -> Result<(), Memory>
-    ensures { OnOk result ((left entries : List Entry) → ListsSoFar (get same_name offsets.old) ((name.entry, at) ∷ left) entries
-        → ListsSoFar (get same_name offsets.new) left entries) }
+    ensures { OnOk result ((left : List Entry) (libraries : List FoundFile)
+        → ListsSoFar (get same_name places.old) place.0 ((name.entry, place.1) ∷ left) libraries
+        → ListsSoFar (get same_name places.new) place.0 left libraries) }
 {
-    match offsets.get(&name) {
+    match places.get(&name) {
         None => {
-            offsets.insert(name, at)?;
+            places.insert(name, place)?;
             Ok(())
         }
         Some(_) => Ok(()),
     }
+}
+
+/// Appends a library.
+pub(crate) fn push_library<'a>(
+    libraries: &mut Vec<OpenLibrary<'a>>,
+    library: OpenLibrary<'a>,
+) -> Result<(), Memory>
+    ensures { OnOk result (libraries.new.items ≡ libraries.old.items ++ library.entry ∷ []) }
+{
+    libraries.push(library)?;
+    Ok(())
 }

@@ -120,7 +120,7 @@ fn read_default<'a, F: Files>(
 {
     let name = loading.defaults.name_at(loading.read);
     match find_file(alloc, files, inputs, &options.lib_paths, name) {
-        Ok(found) => match with_default(alloc, loading, found) {
+        Ok(found) => match with_default(loading, found) {
             Ok(later) => Ok(later),
             Err(refusal) => Err(Stop::from(refusal)),
         },
@@ -129,11 +129,7 @@ fn read_default<'a, F: Files>(
 }
 
 /// Searches a file as the next default library. One that is no library is refused.
-fn with_default<'a>(
-    alloc: Global,
-    loading: Loading<'a>,
-    found: FoundFile<'a>,
-) -> Result<Loading<'a>, Refusal<'a>>
+fn with_default<'a>(loading: Loading<'a>, found: FoundFile<'a>) -> Result<Loading<'a>, Refusal<'a>>
     requires few { loading.read < 2 ^ 64 - 1 }
     requires short { length found.bytes.now ≤ most_bytes }
     ensures search { IfOk result (λ later. later.search ≡ with_library loading.entry.search (file_found found.entry)) }
@@ -142,7 +138,7 @@ fn with_default<'a>(
     ensures accepted { OnOk result (no_library (file_found found.entry) ≡ None) }
     ensures refused { IfErr result (RefusesFor (no_library (file_found found.entry))) }
 {
-    let library = OpenLibrary::open(alloc, found.file, found.bytes)?;
+    let library = OpenLibrary::open(found.file, found.bytes)?;
     let Loading {
         search,
         defaults,

@@ -8,7 +8,7 @@ ghost use Rattle.lib_search.specs.Reading.{file_found, files_found};
 
 use crate::found::FoundFile;
 use crate::join::join;
-use crate::library::OpenLibrary;
+use crate::library::{OpenLibrary, push_library};
 use lib_reader::begins_library;
 use link_base::{Memory, Refusal};
 use module_view::{Module, Origin};
@@ -57,7 +57,7 @@ fn open_one<'a>(
     ensures refused { IfErr result (RefusesFor (file_fault (file_found file.now) (length opened.old.modules.items))) }
 {
     if begins_library(file.bytes) {
-        let library = OpenLibrary::open(alloc, file.file.again(), file.bytes)?;
+        let library = OpenLibrary::open(file.file.again(), file.bytes)?;
         push_library(&mut opened.libraries, library)?;
         return Ok(());
     }
@@ -78,16 +78,5 @@ pub(crate) fn push_module<'a>(
     ensures { OnOk result (modules.new.items ≡ modules.old.items ++ «module».entry ∷ []) }
 {
     modules.push(module)?;
-    Ok(())
-}
-
-/// Appends a library.
-pub(crate) fn push_library<'a>(
-    libraries: &mut Vec<OpenLibrary<'a>>,
-    library: OpenLibrary<'a>,
-) -> Result<(), Memory>
-    ensures { OnOk result (libraries.new.items ≡ libraries.old.items ++ library.entry ∷ []) }
-{
-    libraries.push(library)?;
     Ok(())
 }

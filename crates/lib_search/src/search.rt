@@ -8,12 +8,12 @@ ghost use Rattle.directives.specs.Said.{said};
 ghost use Rattle.symbol_table.specs.Alternates.{alternate_said};
 ghost use Rattle.link_words.specs.Outcome.{options_said};
 ghost use Rattle.lib_search.specs.LinkOf.{asked_words, link_of};
-ghost use Rattle.lib_search.specs.SearchSteps.{first_listing, listed_member, member_by_reference, alternate_member, member_by_alternate, next_member, join_fault, member_at, with_member, with_library};
+ghost use Rattle.lib_search.specs.SearchSteps.{listed_member, member_by_reference, alternate_member, member_by_alternate, next_member, join_fault, member_at, with_member, with_library};
 ghost use Rattle.lib_search.specs.SearchParts.{IsPassed, IsFresh};
 
 use crate::join::join;
-use crate::library::OpenLibrary;
-use crate::open::{OpenInputs, push_library, push_module};
+use crate::library::{Libraries, OpenLibrary};
+use crate::open::{OpenInputs, push_module};
 use directives::Directive;
 use indexmap::IndexSet;
 use link_base::{Memory, Name, Refusal};
@@ -29,7 +29,7 @@ use symbol_table::SymbolTable;
 pub(crate) struct Search<'a> {
     modules: Vec<Module<'a>>,
     table: SymbolTable<'a>,
-    libraries: Vec<OpenLibrary<'a>>,
+    libraries: Libraries<'a>,
     joined: IndexSet<(usize, u32)>,
     /// No member can join for the references below this number, until a library is added.
     passed: usize,
@@ -41,9 +41,9 @@ impl<'a> Model for Search<'a> {
 
     ghost Value = { Searched };
 
-    ghost view = { λ s. record { link = s.table; libraries = s.libraries.items; joined = s.joined.keys } };
+    ghost view = { λ s. record { link = s.table; libraries = s.libraries; joined = s.joined.keys } };
 
-    ghost invariant = { λ s. KeepsSearch (record { link = s.table; libraries = s.libraries.items; joined = s.joined.keys }) s.modules.items s.passed };
+    ghost invariant = { λ s. KeepsSearch (record { link = s.table; libraries = s.libraries; joined = s.joined.keys }) s.modules.items s.passed };
 }
 
 impl<'a> Search<'a> {
@@ -65,7 +65,7 @@ impl<'a> Search<'a> {
         Ok(Search {
             modules,
             table,
-            libraries,
+            libraries: Libraries::of(alloc, libraries)?,
             joined: IndexSet::new(alloc),
             passed: 0,
         })
@@ -184,7 +184,7 @@ impl<'a> Search<'a> {
     fn listed_member(&self, name: &Name<'a>) -> Option<(usize, u32)>
         ensures { result ≡ listed_member self.now name.now }
     {
-        let place = first_listing(&self.libraries, name)?;
+        let place = self.libraries.first_listing(name)?;
         if self.joined.contains(&place) {
             return None;
         }
@@ -203,7 +203,7 @@ impl<'a> Search<'a> {
         ensures few { OnOk result (length self.now.link.modules < most_modules) }
         ensures refused { IfErr result (RefusesFor (join_fault self.now place)) }
     {
-        self.libraries[place.0].open_member(alloc, place.1, self.modules.len())
+        self.libraries.open_member(alloc, place, self.modules.len())
     }
 
     /// The member at a place joins as this module.
@@ -243,16 +243,15 @@ impl<'a> Search<'a> {
         let Search {
             modules,
             table,
-            mut libraries,
+            libraries,
             joined,
             ..
         } = self;
-        push_library(&mut libraries, library)?;
         let passed = 0;
         Ok(Search {
             modules,
             table,
-            libraries,
+            libraries: libraries.with(library)?,
             joined,
             passed,
         })
@@ -308,16 +307,4 @@ fn entry_word<'a>(alloc: Global, entry: &Option<Name<'a>>) -> Result<Vec<Name<'a
         }
         None => Ok(words),
     }
-}
-
-/// The member that the first library that lists a name lists for it.
-fn first_listing<'a>(libraries: &[OpenLibrary<'a>], name: &Name<'a>) -> Option<(usize, u32)>
-    ensures { result ≡ first_listing libraries.now name.now }
-{
-    for index in 0..libraries.len() {
-        if let Some(at) = libraries[index].listed(name) {
-            return Some((index, at));
-        }
-    }
-    None
 }

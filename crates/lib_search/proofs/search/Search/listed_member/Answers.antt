@@ -10,7 +10,7 @@ returns-then-contains c =
     let s = c.args.self.now in
     let name = c.args.name.now in
     let place = c.in_ok-place.place in
-    let libraries = c.deref.ensures.value ∙ ap (λ (v : Searched). v.libraries) c.self.view_is in
+    let libraries = ap (λ (v : Searched). v.libraries) c.self.view_is in
     let listed = ap (λ (ls : List FoundFile). first_listing ls name) (sym libraries) ∙ sym c.first_listing.ensures ∙ c.in_ok-place.was in
     let has : list_any (is_place place) s.joined ≡ true =
     ap (λ (v : Searched). list_any (is_place place) v.joined) (sym c.self.view_is) ∙ sym c.contains.ensures ∙ c.if-contains.true in
@@ -21,7 +21,7 @@ returns c =
     let s = c.args.self.now in
     let name = c.args.name.now in
     let place = c.in_ok-place.place in
-    let libraries = c.deref.ensures.value ∙ ap (λ (v : Searched). v.libraries) c.self.view_is in
+    let libraries = ap (λ (v : Searched). v.libraries) c.self.view_is in
     let listed = ap (λ (ls : List FoundFile). first_listing ls name) (sym libraries) ∙ sym c.first_listing.ensures ∙ c.in_ok-place.was in
     let has : list_any (is_place place) s.joined ≡ false =
     ap (λ (v : Searched). list_any (is_place place) v.joined) (sym c.self.view_is) ∙ sym c.contains.ensures ∙ c.if-contains.false in

@@ -8,12 +8,12 @@ use Rattle.lib_search.proofs.search.Search.with_member.Goals as goal
 pub invariant_of-result : goal.invariant_of-result
 invariant_of-result c =
     let inside = c.self.inside in
-    let s = searched_of inside.table inside.libraries.items inside.joined.keys in
+    let s = searched_of inside.table inside.libraries inside.joined.keys in
     let place = c.args.place in
     let fresh : list_any (is_place place) s.joined ≡ false = ap (λ (v : Searched). list_any (is_place place) v.joined) c.self.view_is ∙ c.requires.fresh.fresh in
     let view : c.args.«module» ≡ member_at s place = c.requires.member ∙ ap (λ (v : Searched). member_at v place) (sym c.self.view_is) in
-    keeps_now s (searched_of c.add_module.new.self inside.libraries.items c.insert.new.self.keys) place inside.modules.items c.push_module.new.modules.items inside.passed
-    (joins_now s place c.args.«module» c.add_module.new.self inside.libraries.items c.insert.new.self.keys c.in_ok-add_module.ensures.added view refl
+    keeps_now s (searched_of c.add_module.new.self inside.libraries c.insert.new.self.keys) place inside.modules.items c.push_module.new.modules.items inside.passed
+    (joins_now s place c.args.«module» c.add_module.new.self inside.libraries c.insert.new.self.keys c.in_ok-add_module.ensures.added view refl
     (c.in_ok-insert.ensures.keys ∙ fresh_joined s.joined place fresh))
     (c.in_ok-push_module.ensures ∙ ap (λ (v : ModuleView). inside.modules.items ++ v ∷ []) view)
     c.self.invariant
@@ -21,10 +21,10 @@ invariant_of-result c =
 pub returns : goal.returns
 returns c =
     let inside = c.self.inside in
-    let s = searched_of inside.table inside.libraries.items inside.joined.keys in
+    let s = searched_of inside.table inside.libraries inside.joined.keys in
     let place = c.args.place in
     let fresh : list_any (is_place place) s.joined ≡ false = ap (λ (v : Searched). list_any (is_place place) v.joined) c.self.view_is ∙ c.requires.fresh.fresh in
     let view : c.args.«module» ≡ member_at s place = c.requires.member ∙ ap (λ (v : Searched). member_at v place) (sym c.self.view_is) in
-    joins_now s place c.args.«module» c.add_module.new.self inside.libraries.items c.insert.new.self.keys c.in_ok-add_module.ensures.added view refl
+    joins_now s place c.args.«module» c.add_module.new.self inside.libraries c.insert.new.self.keys c.in_ok-add_module.ensures.added view refl
     (c.in_ok-insert.ensures.keys ∙ fresh_joined s.joined place fresh)
     ∙ ap (λ (v : Searched). with_member v place) c.self.view_is
