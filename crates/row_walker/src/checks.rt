@@ -3,8 +3,8 @@
 ghost use Rattle.std.specs.Prelude.{◌≡◌, OnOk, IfOk, Some, None};
 ghost use Rattle.row_walker.specs.Met.{held_by, EndedWith, HasPrinted, HoldsAt, HasLength};
 
-use crate::error::RowError;
 use crate::stage::{Ended, Stage};
+use row_files::RowError;
 use std::alloc::Global;
 
 fn last_run(stage: &Stage) -> Result<&Ended, RowError>

@@ -1,14 +1,10 @@
 //! The lines of a row.
 
-use crate::bytes::bytes_of;
-use crate::error::RowError;
-use crate::library::Library;
-use crate::library_lines::add_library_line;
-use crate::numbers::number_at;
-use crate::object::{Form, Object};
-use crate::object_lines::{add_object_line, len_at};
 use crate::row::{Action, Contents, Row, RowFile, Step};
-use crate::words::{Word, copy_at, words_from, words_of};
+use row_files::{
+    Form, Library, Object, RowError, Word, add_library_line, add_object_line, bytes_of, copy_at,
+    len_at, number_at, words_from, words_of,
+};
 use std::alloc::Global;
 
 /// Adds what a line says to the row. Lines are counted from 1.

@@ -5,24 +5,13 @@
 //! `stdin` begins with the form of a row.
 #![tactic(auto)]
 
-mod bytes;
 mod checks;
 mod error;
-mod library;
-mod library_file;
-mod library_lines;
 mod line;
-mod numbered;
-mod numbers;
-mod object;
-mod object_file;
-mod object_lines;
 mod row;
 mod rows;
 mod run_row;
 mod stage;
-mod string_table;
-mod words;
 
 use row::Row;
 use std::alloc::AllocError;

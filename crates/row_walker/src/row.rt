@@ -1,8 +1,7 @@
 //! A row: files, and steps that are taken over them one after the other.
 
 use crate::error::FailedLine;
-use crate::library::Library;
-use crate::object::Object;
+use row_files::{Library, Object};
 use std::alloc::Global;
 
 /// A worked example of the whole linker.

@@ -1,8 +1,9 @@
 //! The rows of a text.
 
-use crate::error::{FailedLine, RowError};
+use crate::error::FailedLine;
 use crate::line::add_line;
 use crate::row::Row;
+use row_files::RowError;
 use std::alloc::{AllocError, Global};
 
 /// The rows of the text, in their order. A line `row TITLE` begins each; blank lines and those that begin with `#` say

@@ -7,11 +7,10 @@ use crate::checks::{
     check_at, check_gone, check_kept, check_printed, check_same, check_size, check_starts,
     check_status, held,
 };
-use crate::error::{FailedLine, RowError};
-use crate::library_file::library_file;
-use crate::object_file::object_file;
+use crate::error::FailedLine;
 use crate::row::{Action, Contents, Row, RowFile};
 use crate::stage::{NamedBytes, Stage};
+use row_files::{RowError, library_file, object_file};
 use std::alloc::Global;
 
 /// Takes the steps of the row up to the first that is not met.

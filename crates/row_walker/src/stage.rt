@@ -2,9 +2,9 @@
 
 ghost use Rattle.std.specs.Prelude.{◌≡◌, IfOk};
 
-use crate::error::RowError;
 use link_files::{MemFiles, MemSink, NeverFails};
 use linker_program::{Status, run};
+use row_files::RowError;
 use std::alloc::Global;
 use std::mem;
 

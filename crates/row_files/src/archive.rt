@@ -3,7 +3,7 @@
 
 use crate::error::RowError;
 use crate::library::{Library, Member};
-use crate::object_file::object_file;
+use crate::object_layout::object_file;
 use crate::string_table::len_u32;
 use std::alloc::Global;
 
