@@ -11,7 +11,7 @@ ghost use Rattle.comdat.specs.Chains.{chain_end};
 ghost use Rattle.comdat.specs.ChosenBy.{all_chosen_by, listed};
 ghost use Rattle.comdat.specs.Groups.{is_selected, first_conflict, RefusesChoice};
 ghost use Rattle.comdat.specs.Selection.{named_sections, sections_of, own_flag, all_entries, chosen_sections};
-ghost use Rattle.symbol_table.specs.Passes.{rows_of};
+ghost use Rattle.symbol_names.specs.Kept.{rows_of};
 
 use crate::chains::follow_chains;
 use crate::chosen_by::ChosenBy;
@@ -22,7 +22,7 @@ use crate::sections::read_sections;
 use link_base::Memory;
 use module_view::Module;
 use std::alloc::Global;
-use symbol_table::Chosen;
+use symbol_names::Chosen;
 
 /// Which sections of the modules are chosen. Each COMDAT section goes by the name of its leader, the second symbol of the
 /// section, where that is external, and of all that go by one name one is chosen, as `choose` says. An associative section

@@ -9,8 +9,8 @@ use Rattle.link_base.proofs.RefusalLemmas.{or_none}
 use Rattle.directives.specs.declared.item.Directive.{Directive}
 use Rattle.directives.specs.Said.{said}
 use Rattle.module_view.specs.Module.{ModuleView, no_module, module_at}
-use Rattle.symbol_table.specs.Alternates.{alternate_said, alternates_by}
-use Rattle.symbol_table.specs.Lists.{of_all}
+use Rattle.symbol_names.specs.Alternates.{alternate_said, alternates_by}
+use Rattle.symbol_names.specs.Lists.{of_all}
 use Rattle.lib_search.proofs.ListingLemmas.{same_item}
 use Rattle.lib_search.proofs.ModuleLemmas.{of_first, of_first_more, of_later, of_all_split}
 

@@ -11,7 +11,7 @@ use Rattle.directives.specs.Said.{Said, said}
 use Rattle.directives.specs.declared.item.Directive.{Directive}
 use Rattle.module_view.specs.Module.{ModuleView, no_module, module_at}
 use Rattle.module_view.specs.ModuleDirectives.{module_directives}
-use Rattle.symbol_table.specs.Lists.{of_all}
+use Rattle.symbol_names.specs.Lists.{of_all}
 use Rattle.link_words.specs.Outcome.{LinkOptions}
 use Rattle.lib_search.specs.FileNames.{completed}
 use Rattle.lib_search.specs.DefaultLibraries.{default_said, defaults_by, default_names, ruled_out, is_among_names, is_passed_over, wanted_after, wanted_at, wanted_names}

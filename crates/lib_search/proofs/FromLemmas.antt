@@ -5,8 +5,9 @@ use Rattle.std.specs.List.{find, range_with_len}
 use Rattle.std.proofs.lemmas.Bool.{cases_lt}
 use Rattle.link_base.specs.Refusals.{first_refusal_below}
 use Rattle.link_base.proofs.RefusalLemmas.{first_refusal_below-more, first_refusal_below-found}
-use Rattle.symbol_table.specs.LinkView.{LinkView}
-use Rattle.symbol_table.specs.References.{all_asked, asked_at, is_open_at, named_at, open_from}
+use Rattle.symbol_names.specs.LinkView.{LinkView}
+use Rattle.symbol_names.specs.References.{all_asked}
+use Rattle.symbol_table.specs.OpenNames.{asked_at, is_open_at, named_at, open_from}
 use Rattle.lib_search.specs.SearchSteps.{MemberPlace, Searched, listed_member, asked_member, member_by_reference}
 use Rattle.lib_search.specs.SearchParts.{IsPassed}
 

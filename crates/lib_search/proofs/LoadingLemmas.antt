@@ -15,7 +15,7 @@ use Rattle.link_files.specs.Store.{Store}
 use Rattle.link_files.specs.Outside.{FilesView, AreUntouched, ReadFailed}
 use Rattle.link_words.specs.Outcome.{LinkOptions}
 use Rattle.module_view.specs.Module.{ModuleView}
-use Rattle.symbol_table.specs.LinkView.{LinkView}
+use Rattle.symbol_names.specs.LinkView.{LinkView}
 use Rattle.lib_search.specs.declared.default_libraries.DefaultLibraries.{DefaultLibraries}
 use Rattle.lib_search.specs.declared.loading.Loading.{Loading}
 use Rattle.lib_search.specs.LinkOf.{link_of}

@@ -5,7 +5,7 @@ use Rattle.std.proofs.lemmas.List.{length-append, get_or_append_left, get_or_pus
 use Rattle.std.proofs.lemmas.List.Concat.{flat_map-append}
 use Rattle.link_base.proofs.RangeLemmas.{joined_more}
 use Rattle.module_view.specs.Module.{ModuleView, no_module, module_at}
-use Rattle.symbol_table.specs.Lists.{of_all}
+use Rattle.symbol_names.specs.Lists.{of_all}
 
 -- the lists of the first modules
 abbrev pub of_first : {A : Type 0} → (ℕ → List ℕ → List A) → List ModuleView → ℕ → List A

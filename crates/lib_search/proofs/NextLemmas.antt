@@ -6,8 +6,9 @@ use Rattle.std.specs.Option.{option_or}
 use Rattle.link_base.specs.Refusals.{first_standing, first_refusal_below}
 use Rattle.lib_reader.specs.Listing.{first_of_name}
 use Rattle.lib_reader.specs.LibraryWalk.{listing_of}
-use Rattle.symbol_table.specs.References.{all_asked, asked_at, is_open_at}
-use Rattle.symbol_table.specs.Alternates.{all_alternates}
+use Rattle.symbol_names.specs.References.{all_asked}
+use Rattle.symbol_table.specs.OpenNames.{asked_at, is_open_at}
+use Rattle.symbol_names.specs.Alternates.{all_alternates}
 use Rattle.lib_search.specs.FoundFiles.{FoundFile}
 use Rattle.lib_search.specs.SearchSteps.{MemberPlace, Searched, place_in, library_at, listing_at, first_listing, is_place, unless_joined, listed_member, asked_member, member_by_reference, stands_in, alternate_member, member_by_alternate, next_member}
 use Rattle.lib_search.specs.SearchParts.{IsFresh}

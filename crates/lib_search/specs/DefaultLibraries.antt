@@ -7,7 +7,7 @@ use Rattle.directives.specs.Said.{Said}
 use Rattle.directives.specs.Said as says
 use Rattle.module_view.specs.Module.{ModuleView}
 use Rattle.module_view.specs.ModuleDirectives.{module_directives}
-use Rattle.symbol_table.specs.Lists.{of_all}
+use Rattle.symbol_names.specs.Lists.{of_all}
 use Rattle.link_words.specs.Outcome.{LinkOptions}
 use Rattle.lib_search.specs.FileNames.{completed}
 

@@ -2,7 +2,7 @@
 use Rattle.std.specs.Prelude.{ℕ, List}
 use Rattle.std.specs.List.{cons_option}
 use Rattle.module_view.specs.Module.{ModuleView}
-use Rattle.symbol_table.specs.LinkView.{LinkView}
+use Rattle.symbol_names.specs.LinkView.{LinkView}
 use Rattle.link_words.specs.Outcome.{LinkOptions}
 
 -- the names that the command line asks for: the entry, where there is one, and those that it includes (MSVC linker reference,

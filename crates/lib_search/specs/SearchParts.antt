@@ -2,7 +2,7 @@
 use Rattle.std.specs.Prelude.{◌≡◌, ◌<◌, ◌≤◌, ℕ, false, List, length, None}
 use Rattle.std.specs.List.{list_any}
 use Rattle.module_view.specs.Module.{ModuleView}
-use Rattle.symbol_table.specs.References.{all_asked}
+use Rattle.symbol_names.specs.References.{all_asked}
 use Rattle.lib_search.specs.SearchSteps.{MemberPlace, Searched, is_place, asked_member}
 
 -- no member can join for the references below a number

@@ -12,9 +12,10 @@ use Rattle.lib_reader.specs.MemberFault.{member_fault}
 use Rattle.lib_reader.specs.Listing.{first_of_name}
 use Rattle.lib_reader.specs.LibraryWalk.{listing_of, long_names_of}
 use Rattle.module_view.specs.Module.{ModuleView}
-use Rattle.symbol_table.specs.LinkView.{LinkView}
-use Rattle.symbol_table.specs.Alternates.{all_alternates}
-use Rattle.symbol_table.specs.References.{all_asked, asked_at, is_open_at, is_open_name, is_provided}
+use Rattle.symbol_names.specs.LinkView.{LinkView}
+use Rattle.symbol_names.specs.Alternates.{all_alternates}
+use Rattle.symbol_names.specs.References.{all_asked}
+use Rattle.symbol_table.specs.OpenNames.{asked_at, is_open_at, is_open_name, is_provided}
 use Rattle.link_words.specs.Outcome.{LinkOptions}
 use Rattle.lib_search.specs.FoundFiles.{FoundFile, no_file, read_fault}
 use Rattle.lib_search.specs.InputFiles.{text_at, input_file}

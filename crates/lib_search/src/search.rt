@@ -5,7 +5,7 @@ ghost use Rattle.std.specs.List.{cons_option};
 ghost use Rattle.link_base.specs.Limits.{MODULE_LIMIT as most_modules};
 ghost use Rattle.link_base.specs.Refusals.{RefusesFor, first_standing};
 ghost use Rattle.directives.specs.Said.{said};
-ghost use Rattle.symbol_table.specs.Alternates.{alternate_said};
+ghost use Rattle.symbol_names.specs.Alternates.{alternate_said};
 ghost use Rattle.link_words.specs.Outcome.{options_said};
 ghost use Rattle.lib_search.specs.LinkOf.{asked_words, link_of};
 ghost use Rattle.lib_search.specs.SearchSteps.{listed_member, member_by_reference, alternate_member, member_by_alternate, next_member, join_fault, member_at, with_member, with_library};

@@ -9,7 +9,7 @@ use Rattle.relocate.specs.Judged.{AreTheFields}
 use Rattle.relocate.specs.PatchedBytes.{is_based}
 use Rattle.relocate.proofs.OrderLemmas.{IsAmong}
 use Rattle.relocate.proofs.CallerLemmas.{based_width, field_among, among_fields}
-use Rattle.symbol_table.specs.LinkView.{LinkView}
+use Rattle.symbol_names.specs.LinkView.{LinkView}
 use Rattle.link_pieces.specs.Pieces.{link_pieces}
 use Rattle.link_plan.specs.Fixes.{piece_fixes, HaveFields}
 use Rattle.link_image.specs.BaseFields.{piece_holds_address, holds_address}

@@ -16,7 +16,7 @@ use Rattle.relocate.specs.declared.fix.Fix.{Fix}
 use Rattle.relocate.specs.Field.{field_end, has_field, no_fix, fix_at}
 use Rattle.relocate.specs.PatchedBytes.{is_based}
 use Rattle.relocate.proofs.CallerLemmas.{ends_within, based_width, among_fields}
-use Rattle.symbol_table.specs.LinkView.{LinkView}
+use Rattle.symbol_names.specs.LinkView.{LinkView}
 use Rattle.link_pieces.specs.Pieces.{link_pieces}
 use Rattle.link_plan.specs.Fixes.{HaveFields, piece_fixes}
 use Rattle.link_image.specs.BaseFields.{base_field, IsBaseField, AreBaseFields}

@@ -26,7 +26,7 @@ use Rattle.relocate.specs.PatchedBytes.{patched_bytes, range_fault}
 use Rattle.relocate.specs.Value.{fits}
 use Rattle.relocate.proofs.PatchLemmas.{within_at}
 use Rattle.relocate.proofs.CallerLemmas.{bytes_in_any_order, range_in_any_order, no_range_in_any_order, nothing_patched}
-use Rattle.symbol_table.specs.LinkView.{LinkView}
+use Rattle.symbol_names.specs.LinkView.{LinkView}
 use Rattle.link_pieces.specs.Pieces.{link_pieces}
 use Rattle.link_plan.specs.Fixes.{piece_fixes}
 use Rattle.link_plan.specs.Fixes.{piece_at as link_piece_at, planned_piece}

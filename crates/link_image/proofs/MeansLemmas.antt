@@ -26,7 +26,7 @@ use Rattle.image_writer.proofs.PieceInFileLemmas.{pieces_link}
 use Rattle.image_writer.proofs.TableLemmas.{length-section_rows}
 use Rattle.image_writer.proofs.CallerLemmas.{stays_means, moves_means}
 use Rattle.relocate.specs.Field.{fix_at}
-use Rattle.symbol_table.specs.LinkView.{LinkView}
+use Rattle.symbol_names.specs.LinkView.{LinkView}
 use Rattle.link_pieces.specs.Pieces.{link_pieces}
 use Rattle.link_words.specs.Outcome.{LinkOptions}
 use Rattle.link_plan.specs.declared.entry.EntryPlace.{EntryPlace}

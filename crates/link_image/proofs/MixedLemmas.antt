@@ -13,7 +13,7 @@ use Rattle.address_layout.specs.Layout.{all_pieces}
 use Rattle.relocate.proofs.CallerLemmas.{length_patched}
 use Rattle.image_writer.specs.WrittenImage.{HaveRoom}
 use Rattle.image_writer.specs.PieceInFile.{DiffersAt}
-use Rattle.symbol_table.specs.LinkView.{LinkView}
+use Rattle.symbol_names.specs.LinkView.{LinkView}
 use Rattle.link_pieces.specs.Pieces.{link_pieces, link_contents}
 use Rattle.link_plan.specs.Fixes.{piece_fixes}
 use Rattle.link_image.specs.LinkedBytes.{owners_in, contents_at, linked_bytes, linked_contents}

@@ -30,7 +30,7 @@ use Rattle.image_writer.specs.WrittenImage.{HaveRoom, HasContents}
 use Rattle.image_writer.specs.MovedContents.{HaveOneLength, IsMoved, AreMoved}
 use Rattle.image_writer.specs.PieceInFile.{piece_at}
 use Rattle.image_writer.proofs.CallerLemmas.{have_room}
-use Rattle.symbol_table.specs.LinkView.{LinkView}
+use Rattle.symbol_names.specs.LinkView.{LinkView}
 use Rattle.link_pieces.specs.Pieces.{link_pieces, link_contents}
 use Rattle.link_plan.specs.Fixes.{piece_fixes, HaveFields}
 use Rattle.link_plan.proofs.CallerLemmas.{plan_count}

@@ -13,7 +13,7 @@ use Rattle.address_layout.specs.Places.{IsLeastMultiple, end_before, file_before
 use Rattle.address_layout.proofs.CallerLemmas.{layout_same_rows, one_layout}
 use Rattle.base_reloc.specs.declared.field.BaseField.{BaseField}
 use Rattle.base_reloc.specs.PageBlocks.{IsAscending, blocks_of}
-use Rattle.symbol_table.specs.LinkView.{LinkView}
+use Rattle.symbol_names.specs.LinkView.{LinkView}
 use Rattle.link_words.specs.Outcome.{LinkOptions}
 use Rattle.link_plan.specs.Fixes.{plan_pieces}
 use Rattle.link_image.specs.BaseFields.{is_relocated, IsBaseField, AreBaseFields}

@@ -17,7 +17,7 @@ use Rattle.relocate.specs.Value.{IsOutside as IsOutsideFix}
 use Rattle.relocate.specs.PatchedBytes.{is_based, HaveNoBased}
 use Rattle.relocate.proofs.OrderLemmas.{IsAmong}
 use Rattle.relocate.proofs.CallerLemmas.{length_patched, bytes_stay, fields_suited, field_moved, byte_stays, based_width, field_among, among_fields}
-use Rattle.symbol_table.specs.LinkView.{LinkView}
+use Rattle.symbol_names.specs.LinkView.{LinkView}
 use Rattle.link_pieces.specs.Pieces.{link_pieces}
 use Rattle.link_plan.specs.Fixes.{piece_fixes, HaveFields}
 use Rattle.link_image.specs.BaseFields.{piece_holds_address, holds_address}

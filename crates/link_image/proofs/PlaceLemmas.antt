@@ -9,7 +9,7 @@ use Rattle.address_layout.specs.declared.layout.Layout.{Layout}
 use Rattle.relocate.specs.PatchedBytes.{patched_bytes, range_fault}
 use Rattle.relocate.proofs.PlaceLemmas.{bytes_by_places}
 use Rattle.relocate.proofs.PlaceLemmas as places
-use Rattle.symbol_table.specs.LinkView.{LinkView}
+use Rattle.symbol_names.specs.LinkView.{LinkView}
 use Rattle.link_pieces.specs.Pieces.{link_pieces}
 use Rattle.link_plan.specs.Fixes.{piece_at, piece_fixes}
 use Rattle.link_image.specs.LinkedBytes.{owners, owners_in, contents_at, linked_bytes, linked_contents, out_of_range, piece_range_fault, fields_range_fault}

@@ -27,7 +27,7 @@ use Rattle.link_base.specs.declared.fault.Fault.{Fault}
 use Rattle.section_group.specs.PieceContents.{piece_contents}
 use Rattle.image_writer.specs.WrittenImage.{section_rows, written_plan, layout_plan, IsLaidOut}
 use Rattle.image_writer.proofs.CallerLemmas.{laid_out, appended_laid_out}
-use Rattle.symbol_table.specs.LinkView.{LinkView}
+use Rattle.symbol_names.specs.LinkView.{LinkView}
 use Rattle.link_plan.specs.Plan.{merges_of}
 use Rattle.link_plan.specs.Fixes.{plan_pieces}
 use Rattle.link_words.specs.Outcome.{LinkOptions}

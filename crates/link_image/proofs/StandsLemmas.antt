@@ -25,7 +25,7 @@ use Rattle.relocate.specs.declared.fix.Target.TheVariants as target
 use Rattle.relocate.specs.Field.{has_field}
 use Rattle.relocate.specs.Judged.{AreTheFields}
 use Rattle.relocate.specs.Value.{target_of, HasEntry, HaveEntries}
-use Rattle.symbol_table.specs.LinkView.{LinkView}
+use Rattle.symbol_names.specs.LinkView.{LinkView}
 use Rattle.link_pieces.specs.Pieces.{link_pieces}
 use Rattle.link_plan.specs.Fixes.{piece_fixes}
 use Rattle.link_plan.proofs.CallerLemmas.{Stands, fields_stand, planned_at, plan_count}

@@ -9,7 +9,7 @@ use Rattle.base_reloc.specs.Raising.{ShareNoByte}
 use Rattle.relocate.specs.declared.fix.Fix.{Fix}
 use Rattle.relocate.specs.Field.{fix_at}
 use Rattle.relocate.specs.PatchedBytes.{is_based}
-use Rattle.symbol_table.specs.LinkView.{LinkView}
+use Rattle.symbol_names.specs.LinkView.{LinkView}
 use Rattle.link_pieces.specs.Pieces.{link_pieces}
 use Rattle.link_words.specs.Outcome.{LinkOptions}
 use Rattle.link_plan.specs.Fixes.{piece_fixes}

@@ -14,7 +14,7 @@ use Rattle.address_layout.specs.Growth.{IsGrowRefusal}
 use Rattle.address_layout.specs.PermittedBase.{is_permitted}
 use Rattle.base_reloc.specs.declared.field.BaseField.{BaseField}
 use Rattle.base_reloc.specs.PageBlocks.{blocks_of}
-use Rattle.symbol_table.specs.LinkView.{LinkView}
+use Rattle.symbol_names.specs.LinkView.{LinkView}
 use Rattle.link_words.specs.Outcome.{LinkOptions}
 use Rattle.link_plan.specs.Plan.{merges_of}
 use Rattle.link_plan.specs.Fixes.{plan_pieces}

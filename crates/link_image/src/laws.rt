@@ -10,7 +10,7 @@ ghost use Rattle.relocate.specs.declared.fix.Fix.{Fix};
 ghost use Rattle.relocate.specs.Field.{field_width, fix_at};
 ghost use Rattle.relocate.specs.Value.{IsOutside};
 ghost use Rattle.relocate.specs.PatchedBytes.{is_based};
-ghost use Rattle.symbol_table.specs.LinkView.{LinkView};
+ghost use Rattle.symbol_names.specs.LinkView.{LinkView};
 ghost use Rattle.link_pieces.specs.Pieces.{link_pieces};
 ghost use Rattle.link_plan.specs.Fixes.{piece_fixes, HaveFields};
 ghost use Rattle.link_image.specs.BaseFields.{holds_address, AreBaseFields};

@@ -11,7 +11,7 @@ use Rattle.section_group.specs.declared.piece.Piece.{Piece}
 use Rattle.section_group.specs.BarePieces.{bare}
 use Rattle.section_group.specs.SectionOrder.{no_piece}
 use Rattle.module_view.specs.Module.{module_at}
-use Rattle.symbol_table.specs.LinkView.{LinkView}
+use Rattle.symbol_names.specs.LinkView.{LinkView}
 use Rattle.module_view.specs.SymbolLists.{commons_of}
 use Rattle.link_pieces.specs.Commons.{FIRST_COMMON, is_meant_common, meant_commons, common_piece}
 use Rattle.link_pieces.specs.Pieces.{is_linked, linked_sections, piece_of, pieces_in, link_pieces, IsPieceOf}

@@ -14,7 +14,7 @@ use Rattle.section_group.specs.BarePieces.{bare}
 use Rattle.section_group.specs.SectionOrder.{no_piece}
 use Rattle.coff_records.specs.ObjectFile.{section_total}
 use Rattle.module_view.specs.Module.{ModuleView, no_module, module_at}
-use Rattle.symbol_table.specs.LinkView.{LinkView}
+use Rattle.symbol_names.specs.LinkView.{LinkView}
 use Rattle.link_pieces.specs.Commons.{FIRST_COMMON, HasFewSections}
 use Rattle.link_pieces.specs.Pieces.{link_pieces, IsPieceOf}
 use Rattle.link_pieces.proofs.CallerLemmas.{pieces_are}

@@ -19,7 +19,7 @@ use Rattle.section_group.specs.BarePieces.{bare}
 use Rattle.address_layout.specs.Layout.{IsAlignment}
 use Rattle.section_group.specs.PieceContents.{piece_contents, HasItsBytes}
 use Rattle.module_view.specs.Module.{ModuleView, no_module, module_at}
-use Rattle.symbol_table.specs.LinkView.{LinkView}
+use Rattle.symbol_names.specs.LinkView.{LinkView}
 use Rattle.module_view.specs.Opening.{IsOpened}
 use Rattle.module_view.specs.declared.definition.Common.{Common}
 use Rattle.module_view.proofs.CallerLemmas.{opened_sound}

@@ -10,7 +10,7 @@ use Rattle.module_view.specs.declared.definition.Common.{Common}
 use Rattle.symbol_table.specs.declared.meaning.Meaning.{Meaning}
 use Rattle.symbol_table.specs.declared.meaning.Meaning.TheVariants as meaning
 use Rattle.symbol_table.specs.declared.meaning.NoMeaning.{NoMeaning}
-use Rattle.symbol_table.specs.LinkView.{LinkView}
+use Rattle.symbol_names.specs.LinkView.{LinkView}
 use Rattle.link_directives.specs.LinkDirectives.{raised_alignment}
 use Rattle.link_pieces.specs.NameMeaning.{name_meaning}
 

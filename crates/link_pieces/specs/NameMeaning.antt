@@ -1,9 +1,9 @@
 -- What a name means in a link, of each group of whose COMDAT sections one is chosen. Own.
 use Rattle.std.specs.Prelude.{ℕ, Bool, List, Result}
-use Rattle.symbol_table.specs.LinkView.{LinkView}
+use Rattle.symbol_names.specs.LinkView.{LinkView}
 use Rattle.symbol_table.specs.declared.meaning.Meaning.{Meaning}
 use Rattle.symbol_table.specs.declared.meaning.NoMeaning.{NoMeaning}
-use Rattle.symbol_table.specs.Lists.{is_chosen_in}
+use Rattle.symbol_names.specs.Lists.{is_chosen_in}
 use Rattle.symbol_table.specs.Resolution.{meaning_of}
 use Rattle.comdat.specs.Selection.{chosen_sections}
 

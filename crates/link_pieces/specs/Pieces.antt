@@ -11,7 +11,7 @@ use Rattle.module_view.specs.declared.definition.Common.{Common}
 use Rattle.module_view.specs.declared.definition.Definition.{Definition}
 use Rattle.module_view.specs.declared.definition.Place.{Place}
 use Rattle.module_view.specs.declared.definition.Place.TheVariants as place
-use Rattle.symbol_table.specs.LinkView.{LinkView}
+use Rattle.symbol_names.specs.LinkView.{LinkView}
 use Rattle.link_pieces.specs.NameMeaning.{takes_part}
 use Rattle.link_pieces.specs.Commons.{meant_commons, common_piece, IsCommonOf}
 

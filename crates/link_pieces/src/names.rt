@@ -5,7 +5,7 @@ ghost use Rattle.link_base.specs.Limits.{MODULE_LIMIT};
 ghost use Rattle.link_base.specs.Refusals.{RefusesFor};
 ghost use Rattle.coff_records.specs.ObjectFile.{symbol_at, name_in};
 ghost use Rattle.module_view.specs.Module.{module_at};
-ghost use Rattle.symbol_table.specs.Passes.{rows_of};
+ghost use Rattle.symbol_names.specs.Kept.{rows_of};
 ghost use Rattle.comdat.specs.Selection.{chosen_sections};
 ghost use Rattle.link_pieces.specs.NameMeaning.{name_meaning, takes_part};
 ghost use Rattle.link_pieces.specs.ChoiceFaults.{conflict_fault, clash_fault};
@@ -26,7 +26,7 @@ pub struct LinkNames<'a> {
 
 impl<'a> Model for LinkNames<'a> {
     ghost use Rattle.std.specs.Prelude.{◌≡◌};
-    ghost use Rattle.symbol_table.specs.LinkView.{LinkView};
+    ghost use Rattle.symbol_names.specs.LinkView.{LinkView};
     ghost use Rattle.comdat.specs.Selection.{chosen_sections};
 
     ghost Value = { LinkView };

@@ -5,7 +5,7 @@ ghost use Rattle.std.specs.Option.{option_or};
 ghost use Rattle.section_group.specs.BarePieces.{bare};
 ghost use Rattle.link_pieces.specs.Pieces.{link_pieces};
 ghost use Rattle.coff_records.specs.ObjectFile.{section_total};
-ghost use Rattle.symbol_table.specs.LinkView.{LinkView};
+ghost use Rattle.symbol_names.specs.LinkView.{LinkView};
 ghost use Rattle.link_pieces.specs.Commons.{FIRST_COMMON};
 ghost use Rattle.link_pieces.specs.PieceIndex.{indexed, IsPieceIndex};
 ghost use Rattle.link_pieces.specs.Rows.{items_of, section_places, common_places, HasRows, HasPlace};

@@ -18,7 +18,7 @@ use Rattle.relocate.specs.Field.{has_field, fix_at}
 use Rattle.relocate.specs.Value.{meant, target_of}
 use Rattle.relocate.specs.PatchedBytes.{AreNumbered}
 use Rattle.module_view.specs.Module.{module_at}
-use Rattle.symbol_table.specs.LinkView.{LinkView}
+use Rattle.symbol_names.specs.LinkView.{LinkView}
 use Rattle.module_view.specs.SymbolLists.{is_absolute}
 use Rattle.symbol_table.specs.declared.meaning.Meaning.{Meaning}
 use Rattle.symbol_table.specs.declared.meaning.Meaning.TheVariants as meaning

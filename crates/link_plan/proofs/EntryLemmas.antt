@@ -13,7 +13,7 @@ use Rattle.section_group.specs.declared.piece.Piece.{Piece}
 use Rattle.section_group.specs.BarePieces.{bare}
 use Rattle.section_group.specs.SectionOrder.{no_piece}
 use Rattle.module_view.specs.Module.{module_at}
-use Rattle.symbol_table.specs.LinkView.{LinkView}
+use Rattle.symbol_names.specs.LinkView.{LinkView}
 use Rattle.module_view.specs.Opening.{IsOpened}
 use Rattle.module_view.specs.SymbolLists.{definitions_of}
 use Rattle.module_view.specs.declared.definition.Definition.{Definition}

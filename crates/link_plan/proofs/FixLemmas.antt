@@ -9,7 +9,7 @@ use Rattle.coff_records.specs.ObjectFile.{relocation_total, relocations_of}
 use Rattle.coff_records.specs.Relocations.{relocations_from}
 use Rattle.relocate.specs.declared.fix.Fix.{Fix}
 use Rattle.relocate.specs.declared.fix.Target.{Target}
-use Rattle.symbol_table.specs.LinkView.{LinkView}
+use Rattle.symbol_names.specs.LinkView.{LinkView}
 use Rattle.link_plan.specs.Targets.{AreTargets}
 use Rattle.link_plan.specs.Fixes.{fix_of, fixes_from, section_fixes}
 

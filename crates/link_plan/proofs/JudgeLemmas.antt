@@ -17,7 +17,7 @@ use Rattle.section_group.specs.SectionOrder.{no_piece}
 use Rattle.section_group.specs.PieceContents.{piece_contents}
 use Rattle.relocate.specs.declared.fix.Fix.{Fix}
 use Rattle.relocate.specs.Judged.{AreTheFields, ArePatchable}
-use Rattle.symbol_table.specs.LinkView.{LinkView}
+use Rattle.symbol_names.specs.LinkView.{LinkView}
 use Rattle.link_pieces.specs.Pieces.{link_pieces, link_contents, IsPieceOf}
 use Rattle.link_pieces.proofs.CallerLemmas.{piece_is, bare_at}
 use Rattle.link_plan.specs.Fixes.{fixes_in, piece_at, piece_fixes, judged_fault, piece_fault, HaveFields, means_piece, mean_piece, is_meant_among}

@@ -10,8 +10,8 @@ use Rattle.link_base.specs.declared.fault.Fault.{Fault}
 use Rattle.directives.specs.Said.{said}
 use Rattle.directives.specs.declared.item.Directive.{Directive}
 use Rattle.module_view.specs.Module.{ModuleView, no_module, module_at}
-use Rattle.symbol_table.specs.LinkView.{LinkView}
-use Rattle.symbol_table.specs.References.{include_said}
+use Rattle.symbol_names.specs.LinkView.{LinkView}
+use Rattle.symbol_names.specs.References.{include_said}
 use Rattle.link_plan.specs.References.{included_fault, includes_fault, object_fault_among, references_fault_at}
 
 -- the references of a module are those of the one that was read

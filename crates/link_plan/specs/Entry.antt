@@ -5,7 +5,7 @@ use Rattle.link_base.specs.declared.fault.Fault.{Fault}
 use Rattle.link_base.specs.declared.fault.Fault.TheVariants as faults
 use Rattle.link_base.specs.declared.kinds.target.TargetFault.{TargetFault}
 use Rattle.link_base.specs.declared.kinds.target.TargetFault.TheVariants.{Unplaced, NoSection}
-use Rattle.symbol_table.specs.LinkView.{LinkView}
+use Rattle.symbol_names.specs.LinkView.{LinkView}
 use Rattle.symbol_table.specs.declared.meaning.Meaning.{Meaning}
 use Rattle.symbol_table.specs.declared.meaning.Meaning.TheVariants.{Section, Common, ImageBase}
 use Rattle.symbol_table.specs.declared.meaning.NoMeaning.{NoMeaning}

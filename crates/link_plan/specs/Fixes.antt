@@ -19,7 +19,7 @@ use Rattle.relocate.specs.FieldFaults.{field_fault}
 use Rattle.relocate.specs.Judged.{AreTheFields, ArePatchable}
 use Rattle.relocate.specs.Value.{target_of}
 use Rattle.module_view.specs.Module.{module_at}
-use Rattle.symbol_table.specs.LinkView.{LinkView}
+use Rattle.symbol_names.specs.LinkView.{LinkView}
 use Rattle.link_pieces.specs.Pieces.{link_pieces, link_contents}
 use Rattle.link_pieces.specs.PieceIndex.{is_section}
 use Rattle.link_words.specs.Outcome.{LinkOptions}

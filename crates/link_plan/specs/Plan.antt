@@ -7,7 +7,7 @@ use Rattle.section_group.specs.SectionOrder.{no_piece}
 use Rattle.section_group.specs.BarePieces.{bare}
 use Rattle.address_layout.specs.Layout.{IsAlignment}
 use Rattle.section_group.specs.PieceContents.{piece_contents, HasItsBytes}
-use Rattle.symbol_table.specs.LinkView.{LinkView}
+use Rattle.symbol_names.specs.LinkView.{LinkView}
 use Rattle.module_view.specs.Opening.{IsOpened}
 use Rattle.link_directives.specs.LinkDirectives.{link_merges}
 use Rattle.link_pieces.specs.Pieces.{link_contents}

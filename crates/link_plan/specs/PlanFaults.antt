@@ -3,7 +3,7 @@
 use Rattle.std.specs.Prelude.{List, Option, None, option_map}
 use Rattle.std.specs.Option.{option_or}
 use Rattle.link_base.specs.declared.fault.Fault.{Fault}
-use Rattle.symbol_table.specs.LinkView.{LinkView}
+use Rattle.symbol_names.specs.LinkView.{LinkView}
 use Rattle.link_base.specs.declared.fault.Fault.TheVariants as faults
 use Rattle.module_view.specs.Module.{ModuleView}
 use Rattle.link_directives.specs.LinkDirectives.{mismatch_of}

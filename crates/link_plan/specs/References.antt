@@ -5,11 +5,11 @@ use Rattle.link_base.specs.Refusals.{first_standing, first_refusal_below}
 use Rattle.link_base.specs.declared.fault.Fault.{Fault}
 use Rattle.link_base.specs.declared.fault.Fault.TheVariants as faults
 use Rattle.module_view.specs.Module.{module_at}
-use Rattle.symbol_table.specs.LinkView.{LinkView}
+use Rattle.symbol_names.specs.LinkView.{LinkView}
 use Rattle.coff_records.specs.ObjectFile.{SymbolView, SymbolEntry, name_in, symbol_entries}
 use Rattle.module_view.specs.SymbolLists.{is_definition, place_of, is_reference}
-use Rattle.symbol_table.specs.Lists.{is_live_at}
-use Rattle.symbol_table.specs.References.{includes_by}
+use Rattle.symbol_names.specs.Lists.{is_live_at}
+use Rattle.symbol_names.specs.References.{includes_by}
 use Rattle.comdat.specs.Selection.{chosen_sections}
 use Rattle.symbol_table.specs.declared.meaning.Meaning.{Meaning}
 use Rattle.symbol_table.specs.declared.meaning.NoMeaning.{NoMeaning}

@@ -3,7 +3,7 @@ use Rattle.std.specs.Prelude.{ℕ, List, Option, Some, None, Result}
 use Rattle.link_base.specs.declared.kinds.target.TargetFault.{TargetFault}
 use Rattle.relocate.specs.declared.fix.Target.{Target}
 use Rattle.module_view.specs.Module.{module_at}
-use Rattle.symbol_table.specs.LinkView.{LinkView}
+use Rattle.symbol_names.specs.LinkView.{LinkView}
 use Rattle.link_plan.specs.Targets.{AreTargets}
 
 -- where a module was read last, the list tells what its symbols mean

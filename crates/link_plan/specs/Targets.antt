@@ -10,7 +10,7 @@ use Rattle.link_base.specs.declared.kinds.target.TargetFault.TheVariants as faul
 use Rattle.coff_records.specs.ObjectFile.{SymbolView, SymbolEntry, name_in, value_in, section_number_in, section_of_number, class_in, symbol_entries}
 use Rattle.relocate.specs.declared.fix.Target.{Target}
 use Rattle.relocate.specs.declared.fix.Target.TheVariants as target
-use Rattle.symbol_table.specs.LinkView.{LinkView}
+use Rattle.symbol_names.specs.LinkView.{LinkView}
 use Rattle.module_view.specs.SymbolLists.{is_absolute}
 use Rattle.symbol_table.specs.declared.meaning.Meaning.{Meaning}
 use Rattle.symbol_table.specs.declared.meaning.Meaning.TheVariants as meaning

@@ -3,7 +3,7 @@
 ghost use Rattle.std.specs.Prelude.{◌≡◌, ◌≤◌, ℕ, List, Some, None, IfOk, OnOk, slice_index_or};
 ghost use Rattle.coff_records.specs.ObjectFile.{section_total};
 ghost use Rattle.module_view.specs.Module.{module_at};
-ghost use Rattle.symbol_table.specs.LinkView.{LinkView};
+ghost use Rattle.symbol_names.specs.LinkView.{LinkView};
 ghost use Rattle.link_pieces.specs.PieceIndex.{IsPieceIndex};
 ghost use Rattle.link_plan.specs.Targets.{AreTargets};
 ghost use Rattle.link_plan.specs.Fixes.{section_fixes};

@@ -5,7 +5,7 @@ ghost use Rattle.link_base.specs.Limits.{MODULE_LIMIT};
 ghost use Rattle.directives.specs.Said.{said};
 ghost use Rattle.coff_records.specs.ObjectFile.{symbol_at};
 ghost use Rattle.module_view.specs.Module.{module_at};
-ghost use Rattle.symbol_table.specs.References.{include_said};
+ghost use Rattle.symbol_names.specs.References.{include_said};
 ghost use Rattle.link_plan.specs.References.{no_meaning_fault, name_fault, asks, symbol_fault, symbols_fault, includes_fault, object_fault_among, references_fault};
 
 use coff_object::{Object, SymbolRecord};

@@ -4,7 +4,7 @@ ghost use Rattle.std.specs.Prelude.{◌≡◌, ◌==◌, ◌<◌, ℕ, List, Non
 ghost use Rattle.std.specs.Option.{option_or};
 ghost use Rattle.coff_records.specs.ObjectFile.{symbol_at};
 ghost use Rattle.module_view.specs.Module.{module_at};
-ghost use Rattle.symbol_table.specs.LinkView.{LinkView};
+ghost use Rattle.symbol_names.specs.LinkView.{LinkView};
 ghost use Rattle.link_pieces.specs.PieceIndex.{IsPieceIndex};
 ghost use Rattle.link_plan.specs.Targets.{section_target, common_target, own_target, meant_target, has_meaning, local_target, symbol_target, AreTargets};
 

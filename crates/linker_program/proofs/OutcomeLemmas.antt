@@ -23,7 +23,7 @@ use Rattle.base_reloc.specs.PageBlocks.{blocks_of}
 use Rattle.image_writer.specs.ExpectedImage.{ImagePlan}
 use Rattle.image_writer.specs.WrittenImage.{written_plan}
 use Rattle.module_view.specs.Module.{ModuleView}
-use Rattle.symbol_table.specs.LinkView.{LinkView}
+use Rattle.symbol_names.specs.LinkView.{LinkView}
 use Rattle.lib_search.specs.LinkOf.{link_of}
 use Rattle.lib_search.proofs.OneLoading.{one_fault, fault_or_loads, one_loading}
 use Rattle.link_plan.specs.Plan.{merges_of}

@@ -41,7 +41,7 @@ use Rattle.coff_aux.specs.AuxFaults.{is_bad_weak, aux_place, parent_place, aux_f
 use Rattle.module_view.specs.Unbuilt.{is_unbuilt_form, is_in_comdat, is_unbuilt_symbol}
 use Rattle.link_pieces.specs.Pieces.{is_named, link_pieces, link_contents}
 use Rattle.link_plan.specs.PlanFaults.{plan_fault}
-use Rattle.symbol_table.specs.References.{is_provided}
+use Rattle.symbol_table.specs.OpenNames.{is_provided}
 use Rattle.lib_search.specs.FoundFiles.{FoundFile}
 use Rattle.lib_search.specs.Inputs.{modules_among, opening_fault}
 use Rattle.lib_search.specs.SearchSteps.{wants_library, next_member, member_by_reference, member_by_alternate, first_listing}

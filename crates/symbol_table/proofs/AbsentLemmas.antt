@@ -20,16 +20,16 @@ use Rattle.module_view.specs.declared.definition.Common.{Common}
 use Rattle.module_view.specs.declared.reference.Weak.{Weak}
 use Rattle.symbol_table.specs.declared.meaning.Meaning.{Meaning}
 use Rattle.symbol_table.specs.declared.meaning.NoMeaning.TheVariants.{Undefined}
-use Rattle.symbol_table.specs.declared.noted.ModuleNames.{ModuleNames}
-use Rattle.symbol_table.specs.declared.noted.NotedAlternate.{NotedAlternate}
-use Rattle.symbol_table.specs.declared.given.GivenNames.{GivenNames}
-use Rattle.symbol_table.specs.Alternates.{alternates_by, all_alternates, is_left, alternate_named}
+use Rattle.symbol_names.specs.declared.noted.ModuleNames.{ModuleNames}
+use Rattle.symbol_names.specs.declared.noted.NotedAlternate.{NotedAlternate}
+use Rattle.symbol_names.specs.declared.given.GivenNames.{GivenNames}
+use Rattle.symbol_names.specs.Alternates.{alternates_by, all_alternates, is_left, alternate_named}
 use Rattle.symbol_table.specs.TableParts.{link_view}
 use Rattle.symbol_table.specs.LinkerNames.{linker_meaning}
-use Rattle.symbol_table.specs.Lists.{of_all, Provided, provided, provided_by, has_name, is_live, all_definitions, live_definitions, Offered, offered, offered_by, offers, all_commons, Said, said, said_by, says, all_weaks}
+use Rattle.symbol_names.specs.Lists.{of_all, Provided, provided, provided_by, has_name, is_live, all_definitions, live_definitions, Offered, offered, offered_by, offers, all_commons, Said, said, said_by, says, all_weaks}
 use Rattle.symbol_table.specs.Resolution.{defined_meaning, common_meaning, definition_named, common_named, weak_named, greatest_of, Ends, own_or, alternate_step, weak_step, at_end, step, meaning_if, meaning_within, most_steps, meaning_of}
-use Rattle.symbol_table.specs.Interning.{Numbers, NotesDefinition, NotesCommon, NotesAlternate, NotesWeak, NotesModule}
-use Rattle.symbol_table.specs.Passes.{noted_view}
+use Rattle.symbol_names.specs.Interning.{Numbers, NotesDefinition, NotesCommon, NotesAlternate, NotesWeak, NotesModule}
+use Rattle.symbol_names.specs.Kept.{noted_view}
 
 -- ---- where a test finds nothing
 

@@ -1,18 +1,18 @@
 -- One more alternate: the first of its name.
-use Rattle.std.proofs.Common.{◌≡◌, ℕ, ◌<◌, Bool, true, false, nat_eq, List, [], ◌∷◌, ◌++◌, length, map, get_or, replicate, Option, Some, None, refl, sym, ap, subst, ◌∙◌, eqb-true, arith}
+use Rattle.std.proofs.Common.{◌≡◌, ℕ, ◌<◌, Bool, true, false, nat_eq, List, [], ◌∷◌, ◌++◌, length, get_or, replicate, Option, Some, None, refl, sym, ap, subst, ◌∙◌, eqb-true, arith}
 use Rattle.std.proofs.Math.ListN.{set}
 use Rattle.std.specs.Prelude.{is_some}
 use Rattle.std.specs.Option.{option_or}
 use Rattle.std.proofs.lemmas.List.{length-replicate}
-use Rattle.std.specs.List.{find, filter_map, cons_option, All, AllZip, IsDistinct}
+use Rattle.std.specs.List.{find, All, AllZip, IsDistinct}
 use Rattle.link_base.specs.NameText.{same_name}
 use Rattle.link_base.proofs.RefusalLemmas.{or_none}
-use Rattle.symbol_table.specs.declared.noted.NotedAlternate.{NotedAlternate}
-use Rattle.symbol_table.specs.Alternates.{is_left}
-use Rattle.symbol_table.specs.declared.noted.ModuleNames.{ModuleNames}
-use Rattle.symbol_table.specs.Interning.{Numbers, NotesAlternate, NotesModule}
+use Rattle.symbol_names.specs.declared.noted.NotedAlternate.{NotedAlternate}
+use Rattle.symbol_names.specs.Alternates.{is_left}
+use Rattle.symbol_names.specs.declared.noted.ModuleNames.{ModuleNames}
+use Rattle.symbol_names.specs.Interning.{Numbers, NotesAlternate, NotesModule}
 use Rattle.symbol_table.specs.Passes.{KeepsAlternate, AreAlternates}
-use Rattle.symbol_table.proofs.NumberLemmas.{number_within, same_number, zip_at, zip_length}
+use Rattle.symbol_names.proofs.NumberLemmas.{number_within, same_number, zip_at, zip_length}
 use Rattle.symbol_table.proofs.PassLemmas.{none_at, find_last, Changed, changed_set, changed_not}
 
 alternates_more : (names : List (List ℕ)) (earlier : List (List ℕ × List ℕ)) (entry : List ℕ × List ℕ) (n : ℕ) (old new : List (Option ℕ)) (y : Option ℕ) → IsDistinct same_name names → Numbers names n entry.0 → AreAlternates names earlier old → Changed old new n y → ((found : Option (List ℕ × List ℕ)) → KeepsAlternate names found (get_or old n None) → KeepsAlternate names (option_or found (Some entry)) y) → AreAlternates names (earlier ++ entry ∷ []) new
@@ -83,7 +83,3 @@ no_alternates names n alternates is count = record {
 -- what is noted of the module at an index
 pub noted_at : (names : List (List ℕ)) (modules : List ModuleNames) (i : ℕ) (m : ModuleNames) → All (NotesModule names) modules → i < length modules → m ≡ get_or modules i m → NotesModule names m
 noted_at names modules i m all lt is = subst (NotesModule names) (sym is) (all i m lt)
-
-pub filter_map_mapped : {A B C : Type 0} (h : B → Option C) (f : A → B) (xs : List A) → filter_map (λ x. h (f x)) xs ≡ filter_map h (map f xs)
-filter_map_mapped h f [] = refl
-filter_map_mapped {A} {B} {C} h f (x ∷ xs) = ap (λ (ys : List C). cons_option (h (f x)) ys) (filter_map_mapped h f xs)

@@ -1,64 +1,30 @@
 -- What a link asks for, and what its modules provide, by the numbers of names.
-use Rattle.std.proofs.Common.{◌≡◌, ℕ, zero, suc, ◌+◌, ◌<◌, ◌≤◌, Bool, true, false, ◌&&◌, ◌||◌, not, cond, inl, inr, List, [], ◌∷◌, ◌++◌, length, map, take, get_or, Option, Some, None, refl, sym, ap, subst, ◌∙◌, add-one, append_assoc, arith}
-use Rattle.std.specs.Prelude.{filter_map, is_some}
-use Rattle.std.specs.List.{All, AllZip, IsDistinct, find, list_any, flat_map, cons_option, range_with_len}
+use Rattle.std.proofs.Common.{◌≡◌, ℕ, zero, suc, ◌+◌, ◌<◌, ◌≤◌, Bool, true, false, ◌&&◌, ◌||◌, not, cond, inl, inr, List, [], ◌∷◌, ◌++◌, length, map, take, get_or, Some, None, refl, sym, ap, subst, ◌∙◌, add-one, arith}
+use Rattle.std.specs.Prelude.{is_some}
+use Rattle.std.specs.List.{All, AllZip, IsDistinct, find, list_any, flat_map, range_with_len}
 use Rattle.std.proofs.Math.Bool.{or_assoc}
 use Rattle.std.proofs.lemmas.Bool.{cases_lt}
 use Rattle.std.proofs.lemmas.Grind.{flat_map-append}
-use Rattle.std.proofs.lemmas.List.{append-nil, map-append, take_more, take_all}
+use Rattle.std.proofs.lemmas.List.{append-nil, take_more, take_all}
 use Rattle.std.proofs.lemmas.List.Folds.{list_any-append, list_any_none}
 use Rattle.link_base.specs.NameText.{same_name}
-use Rattle.directives.specs.Said.{Said, said}
-use Rattle.directives.specs.declared.item.Directive.{Directive}
 use Rattle.module_view.specs.SymbolLists.{definitions_of, commons_of}
 use Rattle.symbol_table.specs.declared.asked.AskedNames.{AskedNames}
-use Rattle.symbol_table.specs.declared.given.GivenNames.{GivenNames}
-use Rattle.symbol_table.specs.declared.noted.ModuleNames.{ModuleNames}
-use Rattle.symbol_table.specs.declared.noted.NotedAsked.{NotedAsked}
+use Rattle.symbol_names.specs.declared.given.GivenNames.{GivenNames}
+use Rattle.symbol_names.specs.declared.noted.ModuleNames.{ModuleNames}
+use Rattle.symbol_names.specs.declared.noted.NotedAsked.{NotedAsked}
 use Rattle.symbol_table.specs.LinkerNames.{linker_meaning}
-use Rattle.symbol_table.specs.Lists.{of_all, provided, provided_by, has_name, all_definitions, offered, offered_by, offers, all_commons}
-use Rattle.symbol_table.specs.References.{Asked, asked_by_name, include_said, all_asked, asks_for, is_provided, is_open_name, nothing_asked, asked_at, is_open_at}
-use Rattle.symbol_table.specs.Interning.{Numbers, KeepsNumbers, NotesDefinition, NotesCommon, NotesAsked, NotesModule}
-use Rattle.symbol_table.specs.Passes.{noted_view}
+use Rattle.symbol_names.specs.Lists.{of_all, provided, provided_by, has_name, all_definitions, offered, offered_by, offers, all_commons}
+use Rattle.symbol_names.specs.References.{Asked, all_asked}
+use Rattle.symbol_table.specs.OpenNames.{asks_for, is_provided, is_open_name, nothing_asked, asked_at, is_open_at}
+use Rattle.symbol_names.specs.Interning.{Numbers, NotesDefinition, NotesCommon, NotesAsked, NotesModule}
+use Rattle.symbol_names.specs.Kept.{noted_view}
 use Rattle.symbol_table.specs.AskedParts.{names_definition, names_common, seeks, kept_definitions, kept_commons, flag_of}
 use Rattle.symbol_table.specs.TableParts.{link_view, KeepsTable}
-use Rattle.symbol_table.proofs.NumberLemmas.{same_number, zip_at, zip_length, zip_push, zip_map, asked_kept}
-use Rattle.symbol_table.proofs.PassLemmas.{mapped_more, of_first, of_first_more, of_first_all}
+use Rattle.symbol_names.proofs.NumberLemmas.{same_number, zip_at, zip_length}
+use Rattle.symbol_table.proofs.PassLemmas.{of_first, of_first_more, of_first_all}
 use Rattle.symbol_table.proofs.AlternateLemmas.{noted_at}
 use Rattle.symbol_table.proofs.AbsentLemmas.{Absent, differs, zip_left, no_definition, no_common}
-
--- ---- one more that asks
-
-pub asked_last : (before after : List (List ℕ)) → KeepsNumbers before after → (earlier : List Asked) (notes now : List NotedAsked) (asked : Asked) (noted : NotedAsked) → AllZip (NotesAsked before) earlier notes → NotesAsked after asked noted → now ≡ notes ++ noted ∷ [] → AllZip (NotesAsked after) (earlier ++ asked ∷ []) now
-asked_last before after kept earlier notes now asked noted was is pushed =
-    subst (AllZip (NotesAsked after) (earlier ++ asked ∷ [])) (sym pushed)
-    (zip_push (NotesAsked after) earlier notes asked noted (zip_map (NotesAsked before) (NotesAsked after) earlier notes (asked_kept before after kept) was) is)
-
-pub asked_more : {X : Type 0} (asks : X → Asked) (before after : List (List ℕ)) → KeepsNumbers before after → (earlier : List Asked) (xs : List X) (i : ℕ) (x : X) (notes now : List NotedAsked) (noted : NotedAsked) → i < length xs → x ≡ get_or xs i x → AllZip (NotesAsked before) (earlier ++ map asks (take i xs)) notes → NotesAsked after (asks x) noted → now ≡ notes ++ noted ∷ [] → AllZip (NotesAsked after) (earlier ++ map asks (take (i + 1) xs)) now
-asked_more {X} asks before after kept earlier xs i x notes now noted lt here was is pushed =
-    subst (λ (l : List Asked). AllZip (NotesAsked after) l now)
-    (ap (λ (y : X). (earlier ++ map asks (take i xs)) ++ asks y ∷ []) here ∙ sym (mapped_more asks earlier xs i x lt))
-    (asked_last before after kept (earlier ++ map asks (take i xs)) notes now (asks x) noted was is pushed)
-
--- the names that directives include
-abbrev pub included : List Directive → List Asked
-included directives = map asked_by_name (filter_map include_said (map said directives))
-
-filter_map-append : {A B : Type 0} (f : A → Option B) (xs ys : List A) → filter_map f (xs ++ ys) ≡ filter_map f xs ++ filter_map f ys
-filter_map-append f [] ys = refl
-filter_map-append {A} {B} f (x ∷ xs) ys = go (f x) (filter_map-append f xs ys)
-  where
-    go : (o : Option B) → filter_map f (xs ++ ys) ≡ filter_map f xs ++ filter_map f ys → cons_option o (filter_map f (xs ++ ys)) ≡ cons_option o (filter_map f xs) ++ filter_map f ys
-    go None rest = rest
-    go (Some y) rest = ap (λ (l : List B). y ∷ l) rest
-
-pub included_more : (earlier : List Asked) (directives : List Directive) (i : ℕ) (d : Directive) → i < length directives → d ≡ get_or directives i d → earlier ++ included (take (i + 1) directives) ≡ (earlier ++ included (take i directives)) ++ included (d ∷ [])
-included_more earlier directives i d lt is =
-    ap (λ (ds : List Directive). earlier ++ included ds) (take_more directives i d lt ∙ ap (λ (x : Directive). take i directives ++ x ∷ []) (sym is))
-    ∙ ap (λ (says : List Said). earlier ++ map asked_by_name (filter_map include_said says)) (map-append said (take i directives) (d ∷ []))
-    ∙ ap (λ (names : List (List ℕ)). earlier ++ map asked_by_name names) (filter_map-append include_said (map said (take i directives)) (said d ∷ []))
-    ∙ ap (λ (asked : List Asked). earlier ++ asked) (map-append asked_by_name (filter_map include_said (map said (take i directives))) (filter_map include_said (said d ∷ [])))
-    ∙ sym (append_assoc earlier (included (take i directives)) (included (d ∷ [])))
 
 -- ---- lists side by side
 

@@ -20,13 +20,13 @@ use Rattle.module_view.specs.declared.definition.Place.TheVariants as place
 use Rattle.symbol_table.specs.declared.meaning.Meaning.{Meaning}
 use Rattle.symbol_table.specs.declared.meaning.Meaning.TheVariants as meaning
 use Rattle.symbol_table.specs.declared.meaning.NoMeaning.{NoMeaning}
-use Rattle.symbol_table.specs.declared.weak_default.WeakDefault.{WeakDefault}
-use Rattle.symbol_table.specs.declared.weak_default.WeakDefault.TheVariants as default
+use Rattle.symbol_names.specs.declared.weak_default.WeakDefault.{WeakDefault}
+use Rattle.symbol_names.specs.declared.weak_default.WeakDefault.TheVariants as default
 use Rattle.symbol_table.specs.LinkerNames.{image_base_name, zero_names, linker_meaning}
-use Rattle.symbol_table.specs.Defaults.{is_inside, place_default, local_default, symbol_default, default_of, is_global}
-use Rattle.symbol_table.specs.LinkView.{LinkView}
-use Rattle.symbol_table.specs.Alternates.{alternate_named}
-use Rattle.symbol_table.specs.Lists.{Provided, provided, provided_by, has_name, is_chosen_in, is_live_at, is_live, all_definitions, live_definitions, Offered, Said, said, said_by, says, all_weaks}
+use Rattle.symbol_names.specs.Defaults.{is_inside, place_default, local_default, symbol_default, default_of, is_global}
+use Rattle.symbol_names.specs.LinkView.{LinkView}
+use Rattle.symbol_names.specs.Alternates.{alternate_named}
+use Rattle.symbol_names.specs.Lists.{Provided, provided, provided_by, has_name, is_chosen_in, is_live_at, is_live, all_definitions, live_definitions, Offered, Said, said, said_by, says, all_weaks}
 use Rattle.symbol_table.specs.Resolution.{definition_named, common_named, weak_named, meaning_at, defined_meaning, common_meaning, place_meaning, Step, Ends, Leads, default_step, alternate_step, weak_step, own_or, own_meaning, step, at_end, meaning_within, most_steps, meaning_of}
 
 -- ---- a place

@@ -8,13 +8,13 @@ use Rattle.std.proofs.lemmas.List.Elements.{All-append}
 use Rattle.std.proofs.lemmas.Option.{same_Some}
 use Rattle.std.proofs.lemmas.List.Folds.{list_any-append}
 use Rattle.std.proofs.lemmas.List.Sums.{sum_by-set}
-use Rattle.symbol_table.specs.LinkView.{LinkView}
+use Rattle.symbol_names.specs.LinkView.{LinkView}
 use Rattle.symbol_table.specs.declared.meaning.Meaning.{Meaning}
 use Rattle.symbol_table.specs.declared.meaning.NoMeaning.{NoMeaning}
 use Rattle.symbol_table.specs.declared.meaning.NoMeaning.TheVariants.{WeakCycle}
 use Rattle.symbol_table.specs.declared.link.Link.{Link}
 use Rattle.symbol_table.specs.declared.link.Link.TheVariants as link
-use Rattle.symbol_table.specs.Interning.{Numbers}
+use Rattle.symbol_names.specs.Interning.{Numbers}
 use Rattle.symbol_table.specs.Resolution.{Step, Ends, Leads, step, at_end, meaning_within}
 use Rattle.symbol_table.specs.Links.{no_link, link_at, next_of, end_of, LeadsBelow, IsStep, AreSteps, Settles, LeadsOn, IsKnown, AreKnown, AreEnded}
 

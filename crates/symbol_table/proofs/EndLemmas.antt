@@ -9,8 +9,8 @@ use Rattle.std.specs.Option.{option_or}
 use Rattle.std.proofs.lemmas.List.{length-append, length-map}
 use Rattle.std.proofs.lemmas.List.Folds.{find_at, find-append}
 use Rattle.link_base.specs.NameText.{same_name}
-use Rattle.symbol_table.specs.LinkView.{LinkView}
-use Rattle.symbol_table.specs.Alternates.{all_alternates, alternate_named}
+use Rattle.symbol_names.specs.LinkView.{LinkView}
+use Rattle.symbol_names.specs.Alternates.{all_alternates, alternate_named}
 use Rattle.std.proofs.lemmas.List.FromFn.{get_or-map-range_with_len, length-map-range_with_len}
 use Rattle.std.proofs.lemmas.Bool.{false≢true, eqb-true, cases_eq}
 use Rattle.std.proofs.lemmas.Option.{same_Some, slice_get_within}
@@ -20,9 +20,9 @@ use Rattle.link_base.proofs.CallerLemmas.{first_below-some, first_below-none}
 use Rattle.symbol_table.specs.declared.meaning.Meaning.{Meaning}
 use Rattle.symbol_table.specs.declared.meaning.NoMeaning.{NoMeaning}
 use Rattle.symbol_table.specs.declared.meaning.NoMeaning.TheVariants.{Undefined, WeakCycle}
-use Rattle.symbol_table.specs.declared.weak_default.WeakDefault.{WeakDefault}
-use Rattle.symbol_table.specs.declared.weak_default.WeakDefault.TheVariants as default
-use Rattle.symbol_table.specs.Lists.{Said, all_weaks}
+use Rattle.symbol_names.specs.declared.weak_default.WeakDefault.{WeakDefault}
+use Rattle.symbol_names.specs.declared.weak_default.WeakDefault.TheVariants as default
+use Rattle.symbol_names.specs.Lists.{Said, all_weaks}
 use Rattle.symbol_table.specs.Resolution.{Step, Ends, Leads, own_or, own_meaning, default_step, alternate_step, weak_step, weak_named, step, at_end, meaning_within, most_steps, meaning_of}
 use Rattle.symbol_table.specs.Links.{Settles}
 

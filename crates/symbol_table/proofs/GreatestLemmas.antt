@@ -10,13 +10,13 @@ use Rattle.std.proofs.lemmas.List.{length-replicate, append-nil}
 use Rattle.std.proofs.lemmas.List.Folds.{find-append, list_all-append}
 use Rattle.link_base.specs.NameText.{same_name}
 use Rattle.module_view.specs.declared.definition.Common.{Common}
-use Rattle.symbol_table.specs.declared.noted.NotedCommon.{NotedCommon}
+use Rattle.symbol_names.specs.declared.noted.NotedCommon.{NotedCommon}
 use Rattle.symbol_table.specs.declared.greatest.GreatestCommon.{GreatestCommon}
-use Rattle.symbol_table.specs.Lists.{Offered, offered, offers}
+use Rattle.symbol_names.specs.Lists.{Offered, offered, offers}
 use Rattle.symbol_table.specs.Resolution.{is_at_most, is_greatest, greatest_of}
-use Rattle.symbol_table.specs.Interning.{Numbers, NotesCommon}
+use Rattle.symbol_names.specs.Interning.{Numbers, NotesCommon}
 use Rattle.symbol_table.specs.Passes.{common_kept, is_greater, AreGreatest}
-use Rattle.symbol_table.proofs.NumberLemmas.{number_within, same_number, zip_at, zip_length}
+use Rattle.symbol_names.proofs.NumberLemmas.{number_within, same_number, zip_at, zip_length}
 use Rattle.symbol_table.proofs.PassLemmas.{none_at, filter_last, Changed, changed_set, changed_not}
 
 -- ---- what is found in a list

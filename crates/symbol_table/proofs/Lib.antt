@@ -7,9 +7,7 @@ pub mod EndLemmas
 pub mod GreatestLemmas
 pub mod LinkLemmas
 pub mod LiveLemmas
-pub mod NumberLemmas
 pub mod PassLemmas
-pub mod RecordLemmas
 pub mod WeakLemmas
 pub mod TableLemmas
 pub mod WorkedNames

@@ -9,11 +9,11 @@ use Rattle.symbol_table.specs.declared.lives.FirstLive.{FirstLive}
 use Rattle.symbol_table.specs.declared.greatest.GreatestCommon.{GreatestCommon}
 use Rattle.symbol_table.specs.declared.first_weak.FirstWeak.{FirstWeak}
 use Rattle.symbol_table.specs.LinkerNames.{linker_meaning}
-use Rattle.symbol_table.specs.LinkView.{LinkView}
-use Rattle.symbol_table.specs.Alternates.{all_alternates, alternate_named}
-use Rattle.symbol_table.specs.Lists.{Provided, Offered, Said, live_definitions, all_commons, all_weaks}
+use Rattle.symbol_names.specs.LinkView.{LinkView}
+use Rattle.symbol_names.specs.Alternates.{all_alternates, alternate_named}
+use Rattle.symbol_names.specs.Lists.{Provided, Offered, Said, live_definitions, all_commons, all_weaks}
 use Rattle.symbol_table.specs.Resolution.{defined_meaning, common_meaning, definition_named, common_named, weak_named, own_or, alternate_step, weak_step, own_meaning, step}
-use Rattle.symbol_table.specs.Interning.{Numbers}
+use Rattle.symbol_names.specs.Interning.{Numbers}
 use Rattle.symbol_table.specs.Passes.{live_of, common_kept, first_meaning, kept_meaning, AreFirst, AreGreatest, KeepsWeak, AreWeaks, KeepsAlternate, AreAlternates}
 use Rattle.symbol_table.specs.Links.{IsStep}
 

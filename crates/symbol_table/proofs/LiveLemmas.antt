@@ -11,13 +11,13 @@ use Rattle.link_base.proofs.RefusalLemmas.{or_none}
 use Rattle.module_view.specs.declared.definition.Definition.{Definition}
 use Rattle.module_view.specs.declared.definition.Place.{Place}
 use Rattle.symbol_table.specs.declared.meaning.Clash.{Clash}
-use Rattle.symbol_table.specs.declared.noted.NotedDefinition.{NotedDefinition}
+use Rattle.symbol_names.specs.declared.noted.NotedDefinition.{NotedDefinition}
 use Rattle.symbol_table.specs.declared.lives.FirstLive.{FirstLive}
-use Rattle.symbol_table.specs.Lists.{Provided, provided, has_name, is_live, is_live_at}
+use Rattle.symbol_names.specs.Lists.{Provided, provided, has_name, is_live, is_live_at}
 use Rattle.symbol_table.specs.Clash.{no_definition, entry_at, clash_with, clash_at, clash_in}
-use Rattle.symbol_table.specs.Interning.{Numbers, NotesDefinition}
+use Rattle.symbol_names.specs.Interning.{Numbers, NotesDefinition}
 use Rattle.symbol_table.specs.Passes.{live_of, AreFirst, AreLives, clash_with_first}
-use Rattle.symbol_table.proofs.NumberLemmas.{number_within, same_number, zip_at, zip_length}
+use Rattle.symbol_names.proofs.NumberLemmas.{number_within, same_number, zip_at, zip_length}
 use Rattle.symbol_table.proofs.PassLemmas.{none_at, map_or, find_last, filtered_more, Changed, changed_set, changed_not}
 
 -- ---- names

@@ -10,9 +10,9 @@ use Rattle.std.proofs.lemmas.List.Folds.{find-append}
 use Rattle.std.proofs.lemmas.List.Elements.{filter-append}
 use Rattle.link_base.proofs.RangeLemmas.{joined_more}
 use Rattle.module_view.specs.Module.{ModuleView, no_module, module_at}
-use Rattle.symbol_table.specs.declared.noted.ModuleNames.{ModuleNames}
-use Rattle.symbol_table.specs.Lists.{of_all}
-use Rattle.symbol_table.specs.Passes.{noted_view}
+use Rattle.symbol_names.specs.declared.noted.ModuleNames.{ModuleNames}
+use Rattle.symbol_names.specs.Lists.{of_all}
+use Rattle.symbol_names.specs.Kept.{noted_view}
 
 -- ---- the first of two
 
@@ -41,12 +41,6 @@ find_last {A} p xs x b e =
 pub filter_last : {A : Type 0} (p : A → Bool) (xs : List A) (x : A) (b : Bool) → p x ≡ b → filter p (xs ++ x ∷ []) ≡ filter p xs ++ cond b (x ∷ []) []
 filter_last {A} p xs x b e =
     filter-append p xs (x ∷ []) ∙ ap (λ (c : Bool). filter p xs ++ cond c (x ∷ []) []) e
-
-pub mapped_more : {A B : Type 0} (f : A → B) (earlier : List B) (xs : List A) (i : ℕ) (d : A) → i < length xs → earlier ++ map f (take (i + 1) xs) ≡ (earlier ++ map f (take i xs)) ++ f (get_or xs i d) ∷ []
-mapped_more {A} {B} f earlier xs i d lt =
-    ap (λ (ys : List A). earlier ++ map f ys) (take_more xs i d lt)
-    ∙ ap (λ (ys : List B). earlier ++ ys) (map-append f (take i xs) (get_or xs i d ∷ []))
-    ∙ sym (append_assoc earlier (map f (take i xs)) (f (get_or xs i d) ∷ []))
 
 pub filtered_more : {A B : Type 0} (p : B → Bool) (f : A → B) (earlier : List B) (xs : List A) (i : ℕ) (d : A) (b : Bool) → i < length xs → p (f (get_or xs i d)) ≡ b → earlier ++ filter p (map f (take (i + 1) xs)) ≡ (earlier ++ filter p (map f (take i xs))) ++ cond b (f (get_or xs i d) ∷ []) []
 filtered_more {A} {B} p f earlier xs i d b lt e =

@@ -12,10 +12,10 @@ use Rattle.module_view.specs.Opening.{IsOpened}
 use Rattle.module_view.specs.SymbolLists.{definitions_of, commons_of, weaks_of}
 use Rattle.symbol_table.specs.declared.link.Link.{Link}
 use Rattle.symbol_table.specs.declared.link.Link.TheVariants as link
-use Rattle.symbol_table.specs.declared.noted.ModuleNames.{ModuleNames}
+use Rattle.symbol_names.specs.declared.noted.ModuleNames.{ModuleNames}
 use Rattle.symbol_table.specs.Resolution.{Step, Ends, Leads, step}
-use Rattle.symbol_table.specs.Interning.{Numbers, KeepsNumbers, NotesDefinition, NotesCommon, NotesAlternate, NotesWeak, NotesAsked, NotesLists, NotesModule, AreRecords}
-use Rattle.symbol_table.specs.References.{Asked, asked_by_name, asked_by, all_asked}
+use Rattle.symbol_names.specs.Interning.{Numbers, KeepsNumbers, NotesDefinition, NotesCommon, NotesAlternate, NotesWeak, NotesAsked, NotesLists, NotesModule, AreRecords}
+use Rattle.symbol_names.specs.References.{Asked, asked_by_name, asked_by, all_asked}
 use Rattle.symbol_table.specs.AskedParts.{names_definition, names_common, seeks, kept_definitions, kept_commons, flag_of, KeepsParts, AddsLists, AreWithin}
 use Rattle.std.specs.declared.vec.Vec.{Vec}
 use Rattle.std.specs.declared.alloc.Global.{Global}
@@ -23,19 +23,20 @@ use Rattle.symbol_table.specs.declared.meaning.Clash.{Clash}
 use Rattle.symbol_table.specs.declared.lives.FirstLive.{FirstLive}
 use Rattle.symbol_table.specs.declared.greatest.GreatestCommon.{GreatestCommon}
 use Rattle.symbol_table.specs.declared.first_weak.FirstWeak.{FirstWeak}
-use Rattle.symbol_table.specs.declared.noted.NotedAlternate.{NotedAlternate}
-use Rattle.symbol_table.specs.declared.noted.NotedCommon.{NotedCommon}
-use Rattle.symbol_table.specs.declared.noted.NotedDefinition.{NotedDefinition}
-use Rattle.symbol_table.specs.declared.noted.NotedLists.{NotedLists}
+use Rattle.symbol_names.specs.declared.noted.NotedAlternate.{NotedAlternate}
+use Rattle.symbol_names.specs.declared.noted.NotedCommon.{NotedCommon}
+use Rattle.symbol_names.specs.declared.noted.NotedDefinition.{NotedDefinition}
+use Rattle.symbol_names.specs.declared.noted.NotedLists.{NotedLists}
 use Rattle.symbol_table.specs.declared.asked.AskedNames.{AskedNames}
-use Rattle.symbol_table.specs.declared.given.GivenNames.{GivenNames}
-use Rattle.symbol_table.specs.LinkView.{LinkView}
-use Rattle.symbol_table.specs.Alternates.{alternates_by, all_alternates}
-use Rattle.symbol_table.specs.Lists.{of_all, live_definitions, all_commons, all_weaks}
-use Rattle.symbol_table.specs.Passes.{rows_of, noted_view, AreFirst, AreLives, AreGreatest, AreWeaks, AreAlternates}
+use Rattle.symbol_names.specs.declared.given.GivenNames.{GivenNames}
+use Rattle.symbol_names.specs.LinkView.{LinkView}
+use Rattle.symbol_names.specs.Alternates.{alternates_by, all_alternates}
+use Rattle.symbol_names.specs.Lists.{of_all, live_definitions, all_commons, all_weaks}
+use Rattle.symbol_names.specs.Kept.{rows_of, noted_view}
+use Rattle.symbol_table.specs.Passes.{AreFirst, AreLives, AreGreatest, AreWeaks, AreAlternates}
 use Rattle.symbol_table.specs.Links.{IsStep, no_link, link_at, LeadsBelow, AreSteps}
 use Rattle.symbol_table.specs.TableParts.{link_view, KeepsLink, KeepsTable}
-use Rattle.symbol_table.proofs.NumberLemmas.{number_within, definition_kept, common_kept, weak_kept, alternate_kept, asked_kept, records_kept, asked_within, zip_map, zip_append, zip_right}
+use Rattle.symbol_names.proofs.NumberLemmas.{number_within, definition_kept, common_kept, weak_kept, alternate_kept, asked_kept, records_kept, asked_within, zip_map, zip_append, zip_right}
 use Rattle.symbol_table.proofs.PassLemmas.{of_all_push}
 
 -- ---- a table whose names grow
@@ -58,9 +59,6 @@ keeps_grow before after given kept grown is = record {
     few = is.modules.few;
   };
 }
-
-pub keeps_both : (a b c : List (List ℕ)) → KeepsNumbers a b → KeepsNumbers b c → KeepsNumbers a c
-keeps_both a b c first second = λ number name is. second number name (first number name is)
 
 pub keeps_push : (names : List (List ℕ)) (given : GivenNames) (kept now : List ModuleNames) (noted : ModuleNames) → KeepsLink names given kept → length kept < MODULE_LIMIT → NotesModule names noted → IsOpened (noted_view noted) → now ≡ kept ++ noted ∷ [] → KeepsLink names given now
 keeps_push names given kept now noted is room there opened same =

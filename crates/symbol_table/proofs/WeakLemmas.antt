@@ -8,12 +8,12 @@ use Rattle.std.specs.List.{find, AllZip, IsDistinct}
 use Rattle.link_base.specs.NameText.{same_name}
 use Rattle.link_base.proofs.RefusalLemmas.{or_none}
 use Rattle.module_view.specs.declared.reference.Weak.{Weak}
-use Rattle.symbol_table.specs.declared.noted.NotedWeak.{NotedWeak}
+use Rattle.symbol_names.specs.declared.noted.NotedWeak.{NotedWeak}
 use Rattle.symbol_table.specs.declared.first_weak.FirstWeak.{FirstWeak}
-use Rattle.symbol_table.specs.Lists.{Said, said, says}
-use Rattle.symbol_table.specs.Interning.{Numbers, NotesWeak}
+use Rattle.symbol_names.specs.Lists.{Said, said, says}
+use Rattle.symbol_names.specs.Interning.{Numbers, NotesWeak}
 use Rattle.symbol_table.specs.Passes.{KeepsSaid, KeepsWeak, AreWeaks}
-use Rattle.symbol_table.proofs.NumberLemmas.{number_within, same_number, zip_at, zip_length}
+use Rattle.symbol_names.proofs.NumberLemmas.{number_within, same_number, zip_at, zip_length}
 use Rattle.symbol_table.proofs.PassLemmas.{none_at, find_last, Changed, changed_set, changed_not}
 
 weaks_more : (names : List (List ℕ)) (earlier : List Said) (entry : Said) (n : ℕ) (old new : List (Option FirstWeak)) (y : Option FirstWeak) → IsDistinct same_name names → Numbers names n entry.name → AreWeaks names earlier old → Changed old new n y → ((found : Option Said) → KeepsWeak names found (get_or old n None) → KeepsWeak names (option_or found (Some entry)) y) → AreWeaks names (earlier ++ entry ∷ []) new

@@ -7,13 +7,13 @@ use Rattle.module_view.specs.declared.definition.Place.{Place}
 use Rattle.module_view.specs.declared.definition.Place.TheVariants as place
 use Rattle.symbol_table.specs.declared.meaning.Meaning.TheVariants as meaning
 use Rattle.symbol_table.specs.declared.meaning.NoMeaning.TheVariants.{Undefined, WeakCycle}
-use Rattle.symbol_table.specs.declared.weak_default.WeakDefault.{WeakDefault}
-use Rattle.symbol_table.specs.declared.weak_default.WeakDefault.TheVariants as default
+use Rattle.symbol_names.specs.declared.weak_default.WeakDefault.{WeakDefault}
+use Rattle.symbol_names.specs.declared.weak_default.WeakDefault.TheVariants as default
 use Rattle.symbol_table.specs.LinkerNames.{linker_meaning}
-use Rattle.symbol_table.specs.Lists.{Provided, provided, is_chosen_in, is_live, Offered, offered, offers, Said, says}
-use Rattle.symbol_table.specs.LinkView.{LinkView}
-use Rattle.symbol_table.specs.Alternates.{is_left}
-use Rattle.symbol_table.specs.References.{is_provided, is_open_name, open_from}
+use Rattle.symbol_names.specs.Lists.{Provided, provided, is_chosen_in, is_live, Offered, offered, offers, Said, says}
+use Rattle.symbol_names.specs.LinkView.{LinkView}
+use Rattle.symbol_names.specs.Alternates.{is_left}
+use Rattle.symbol_table.specs.OpenNames.{is_provided, is_open_name, open_from}
 use Rattle.symbol_table.specs.Clash.{clash_in}
 use Rattle.symbol_table.specs.Resolution.{Ends, Leads, greatest_of, own_or, default_step, alternate_step, weak_step, step, meaning_within, meaning_of}
 

@@ -2,14 +2,14 @@
 use Rattle.std.specs.Prelude.{◌≡◌, ◌<◌, ◌++◌, ◌||◌, ◌&&◌, ℕ, Bool, false, nat_eq, List, slice_index_or}
 use Rattle.std.specs.List.{All, AllZip, list_any, flat_map}
 use Rattle.symbol_table.specs.declared.asked.AskedNames.{AskedNames}
-use Rattle.symbol_table.specs.declared.noted.ModuleNames.{ModuleNames}
-use Rattle.symbol_table.specs.declared.noted.NotedAsked.{NotedAsked}
-use Rattle.symbol_table.specs.declared.noted.NotedCommon.{NotedCommon}
-use Rattle.symbol_table.specs.declared.noted.NotedDefinition.{NotedDefinition}
-use Rattle.symbol_table.specs.declared.noted.NotedLists.{NotedLists}
-use Rattle.symbol_table.specs.LinkView.{LinkView}
-use Rattle.symbol_table.specs.References.{all_asked}
-use Rattle.symbol_table.specs.Interning.{NotesAsked}
+use Rattle.symbol_names.specs.declared.noted.ModuleNames.{ModuleNames}
+use Rattle.symbol_names.specs.declared.noted.NotedAsked.{NotedAsked}
+use Rattle.symbol_names.specs.declared.noted.NotedCommon.{NotedCommon}
+use Rattle.symbol_names.specs.declared.noted.NotedDefinition.{NotedDefinition}
+use Rattle.symbol_names.specs.declared.noted.NotedLists.{NotedLists}
+use Rattle.symbol_names.specs.LinkView.{LinkView}
+use Rattle.symbol_names.specs.References.{all_asked}
+use Rattle.symbol_names.specs.Interning.{NotesAsked}
 
 -- ---- by number
 

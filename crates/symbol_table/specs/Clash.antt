@@ -6,7 +6,7 @@ use Rattle.module_view.specs.Module.{ModuleView}
 use Rattle.module_view.specs.declared.definition.Place.{Place}
 use Rattle.module_view.specs.declared.definition.Place.TheVariants as place
 use Rattle.symbol_table.specs.declared.meaning.Clash.{Clash}
-use Rattle.symbol_table.specs.Lists.{Provided, has_name, live_definitions}
+use Rattle.symbol_names.specs.Lists.{Provided, has_name, live_definitions}
 
 abbrev pub no_definition : Provided
 no_definition = record { «module» = 0; definition = record { name = []; symbol = 0; place = place.Slot } }

@@ -1,12 +1,7 @@
 pub mod LinkerNames
-pub mod Defaults
-pub mod LinkView
-pub mod Lists
-pub mod Alternates
-pub mod References
+pub mod OpenNames
 pub mod Resolution
 pub mod Clash
-pub mod Interning
 pub mod Passes
 pub mod Links
 pub mod AskedParts

@@ -1,32 +1,17 @@
 -- What the passes over a table say of each name, by its number. Own.
-use Rattle.std.specs.Prelude.{◌≡◌, ℕ, Bool, true, nat_lt, List, length, filter, map, slice_index_or, Option, Some, None, option_map}
+use Rattle.std.specs.Prelude.{◌≡◌, ℕ, Bool, true, nat_lt, List, length, filter, slice_index_or, Option, Some, None, option_map}
 use Rattle.std.specs.List.{find}
-use Rattle.std.specs.declared.vec.Vec.{Vec}
-use Rattle.std.specs.declared.alloc.Global.{Global}
-use Rattle.module_view.specs.Module.{ModuleView}
-use Rattle.module_view.specs.ModuleParts.{view_of}
-use Rattle.symbol_table.specs.declared.noted.ModuleNames.{ModuleNames}
 use Rattle.symbol_table.specs.declared.lives.FirstLive.{FirstLive}
 use Rattle.symbol_table.specs.declared.greatest.GreatestCommon.{GreatestCommon}
 use Rattle.symbol_table.specs.declared.first_weak.FirstWeak.{FirstWeak}
 use Rattle.symbol_table.specs.declared.meaning.Clash.{Clash}
 use Rattle.symbol_table.specs.declared.meaning.Meaning.{Meaning}
 use Rattle.symbol_table.specs.declared.meaning.Meaning.TheVariants as meaning
-use Rattle.symbol_table.specs.Alternates.{is_left}
-use Rattle.symbol_table.specs.Lists.{Provided, has_name, Offered, offers, Said, says}
+use Rattle.symbol_names.specs.Alternates.{is_left}
+use Rattle.symbol_names.specs.Lists.{Provided, has_name, Offered, offers, Said, says}
 use Rattle.symbol_table.specs.Clash.{clash_between, clash_in}
 use Rattle.symbol_table.specs.Resolution.{greatest_of, meaning_at}
-use Rattle.symbol_table.specs.Interning.{Numbers, NotesDefault}
-
-abbrev pub row_flags : Vec Bool Global → List Bool
-row_flags row = row.items
-
-abbrev pub rows_of : List (Vec Bool Global) → List (List Bool)
-rows_of rows = map row_flags rows
-
--- a module, by what is kept of it
-abbrev pub noted_view : ModuleNames → ModuleView
-noted_view noted = view_of noted.origin noted.bytes.now
+use Rattle.symbol_names.specs.Interning.{Numbers, NotesDefault}
 
 -- ---- definitions
 

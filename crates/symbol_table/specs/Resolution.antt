@@ -10,12 +10,12 @@ use Rattle.symbol_table.specs.declared.meaning.Meaning.{Meaning}
 use Rattle.symbol_table.specs.declared.meaning.Meaning.TheVariants as meaning
 use Rattle.symbol_table.specs.declared.meaning.NoMeaning.{NoMeaning}
 use Rattle.symbol_table.specs.declared.meaning.NoMeaning.TheVariants.{Undefined, WeakCycle}
-use Rattle.symbol_table.specs.declared.weak_default.WeakDefault.{WeakDefault}
-use Rattle.symbol_table.specs.declared.weak_default.WeakDefault.TheVariants as default
+use Rattle.symbol_names.specs.declared.weak_default.WeakDefault.{WeakDefault}
+use Rattle.symbol_names.specs.declared.weak_default.WeakDefault.TheVariants as default
 use Rattle.symbol_table.specs.LinkerNames.{linker_meaning}
-use Rattle.symbol_table.specs.LinkView.{LinkView}
-use Rattle.symbol_table.specs.Alternates.{all_alternates, alternate_named}
-use Rattle.symbol_table.specs.Lists.{Provided, has_name, is_chosen_in, live_definitions, Offered, offers, all_commons, Said, says, all_weaks}
+use Rattle.symbol_names.specs.LinkView.{LinkView}
+use Rattle.symbol_names.specs.Alternates.{all_alternates, alternate_named}
+use Rattle.symbol_names.specs.Lists.{Provided, has_name, is_chosen_in, live_definitions, Offered, offers, all_commons, Said, says, all_weaks}
 
 -- ---- what stands behind a name
 

@@ -8,12 +8,12 @@ use Rattle.symbol_table.specs.declared.meaning.Meaning.{Meaning}
 use Rattle.symbol_table.specs.declared.meaning.NoMeaning.{NoMeaning}
 use Rattle.symbol_table.specs.declared.meaning.Clash.{Clash}
 use Rattle.symbol_table.specs.declared.asked.AskedNames.{AskedNames}
-use Rattle.symbol_table.specs.declared.given.GivenNames.{GivenNames}
-use Rattle.symbol_table.specs.declared.noted.ModuleNames.{ModuleNames}
-use Rattle.symbol_table.specs.LinkView.{LinkView}
+use Rattle.symbol_names.specs.declared.given.GivenNames.{GivenNames}
+use Rattle.symbol_names.specs.declared.noted.ModuleNames.{ModuleNames}
+use Rattle.symbol_names.specs.LinkView.{LinkView}
 use Rattle.symbol_table.specs.Clash.{clash_of}
-use Rattle.symbol_table.specs.Interning.{NotesAlternate, NotesModule}
-use Rattle.symbol_table.specs.Passes.{noted_view}
+use Rattle.symbol_names.specs.Interning.{NotesAlternate, NotesModule}
+use Rattle.symbol_names.specs.Kept.{noted_view}
 use Rattle.symbol_table.specs.Links.{AreMeanings}
 use Rattle.symbol_table.specs.AskedParts.{KeepsAsked}
 

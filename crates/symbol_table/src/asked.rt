@@ -4,18 +4,16 @@ ghost use Rattle.std.specs.Prelude.{◌≡◌, ◌<◌, ◌&&◌, ◌||◌, not,
 ghost use Rattle.std.specs.List.{AllZip, IsDistinct, list_any};
 ghost use Rattle.link_base.specs.NameText.{same_name};
 ghost use Rattle.symbol_table.specs.LinkerNames.{linker_meaning};
-ghost use Rattle.symbol_table.specs.References.{asked_by_name};
-ghost use Rattle.symbol_table.specs.Interning.{Numbers, KeepsNumbers, NotesAsked};
+ghost use Rattle.symbol_names.specs.References.{asked_by_name};
+ghost use Rattle.symbol_names.specs.Interning.{Numbers, KeepsNumbers, NotesAsked};
 ghost use Rattle.symbol_table.specs.AskedParts.{seeks, flag_of, KeepsParts, AddsLists, AreWithin};
 
 use crate::flags::{flag_at, grow, mark_commons, mark_definitions, mark_sought};
-use crate::interning::name_at;
 use crate::linker_names::linker_meaning;
-use crate::noted::{NotedAsked, NotedLists};
-use crate::references::note_words;
 use indexmap::IndexSet;
 use link_base::{Memory, Name};
 use std::alloc::Global;
+use symbol_names::{NotedAsked, NotedLists, name_at, note_words};
 
 /// The names that a link asks for, in order, and flags by the numbers of all names.
 #[derive(Drop)]

@@ -2,8 +2,8 @@
 
 ghost use Rattle.std.specs.Prelude.{◌≡◌, ◌<◌, ℕ, Bool, List, length, IfOk, OnOk};
 ghost use Rattle.std.specs.List.{All};
-ghost use Rattle.symbol_table.specs.LinkView.{LinkView};
-ghost use Rattle.symbol_table.specs.Interning.{Numbers};
+ghost use Rattle.symbol_names.specs.LinkView.{LinkView};
+ghost use Rattle.symbol_names.specs.Interning.{Numbers};
 ghost use Rattle.symbol_table.specs.Links.{link_at, next_of, end_of, LeadsBelow, AreSteps, Settles, AreKnown, AreMeanings, AreEnded};
 
 use crate::link::Link;

@@ -3,15 +3,16 @@
 ghost use Rattle.std.specs.Prelude.{◌≡◌, ◌<◌, ◌++◌, ◌∷◌, [], ℕ, List, length, map, IfOk};
 ghost use Rattle.std.specs.List.{All, AllZip, IsDistinct};
 ghost use Rattle.link_base.specs.NameText.{same_name};
-ghost use Rattle.symbol_table.specs.Alternates.{alternates_by};
-ghost use Rattle.symbol_table.specs.Lists.{of_all};
-ghost use Rattle.symbol_table.specs.Interning.{NotesAlternate, NotesModule};
-ghost use Rattle.symbol_table.specs.Passes.{noted_view, AreAlternates};
+ghost use Rattle.symbol_names.specs.Alternates.{alternates_by};
+ghost use Rattle.symbol_names.specs.Lists.{of_all};
+ghost use Rattle.symbol_names.specs.Interning.{NotesAlternate, NotesModule};
+ghost use Rattle.symbol_names.specs.Kept.{noted_view};
+ghost use Rattle.symbol_table.specs.Passes.{AreAlternates};
 
-use crate::noted::{ModuleNames, NotedAlternate};
 use indexmap::IndexSet;
 use link_base::{Memory, Name};
 use std::alloc::Global;
+use symbol_names::{ModuleNames, NotedAlternate};
 
 /// The first alternate of each name, by its number: the number of the name that it stands for. Those that the command line
 /// gives come before those of the modules.

@@ -4,14 +4,15 @@ ghost use Rattle.std.specs.Prelude.{◌≡◌, ◌<◌, ◌++◌, ◌∷◌, [],
 ghost use Rattle.std.specs.List.{All, IsDistinct};
 ghost use Rattle.link_base.specs.NameText.{same_name};
 ghost use Rattle.module_view.specs.declared.reference.Weak.{Weak};
-ghost use Rattle.symbol_table.specs.Lists.{Said, said, said_by, all_weaks};
-ghost use Rattle.symbol_table.specs.Interning.{NotesWeak, NotesModule};
-ghost use Rattle.symbol_table.specs.Passes.{noted_view, AreWeaks};
+ghost use Rattle.symbol_names.specs.Lists.{Said, said, said_by, all_weaks};
+ghost use Rattle.symbol_names.specs.Interning.{NotesWeak, NotesModule};
+ghost use Rattle.symbol_names.specs.Kept.{noted_view};
+ghost use Rattle.symbol_table.specs.Passes.{AreWeaks};
 
-use crate::noted::{ModuleNames, NotedDefault, NotedWeak};
 use indexmap::IndexSet;
 use link_base::{Memory, Name};
 use std::alloc::Global;
+use symbol_names::{ModuleNames, NotedDefault, NotedWeak};
 
 /// The first weak external of a name: its module, and what it means by default.
 #[derive(Clone, Copy)]

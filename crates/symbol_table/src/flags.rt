@@ -4,8 +4,8 @@ ghost use Rattle.std.specs.Prelude.{◌≡◌, ◌≤◌, ◌<◌, ◌||◌, ℕ
 ghost use Rattle.std.specs.List.{All, list_any};
 ghost use Rattle.symbol_table.specs.AskedParts.{names_definition, names_common, seeks, SameFlags};
 
-use crate::noted::{NotedAsked, NotedCommon, NotedDefinition};
 use link_base::Memory;
+use symbol_names::{NotedAsked, NotedCommon, NotedDefinition};
 
 /// Room for the flags of so many names: those that come are not set.
 pub(crate) fn grow(flags: &mut Vec<bool>, count: usize) -> Result<(), Memory>

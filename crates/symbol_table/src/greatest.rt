@@ -4,14 +4,15 @@ ghost use Rattle.std.specs.Prelude.{◌≡◌, ◌<◌, ◌++◌, ◌∷◌, [],
 ghost use Rattle.std.specs.List.{All, IsDistinct};
 ghost use Rattle.link_base.specs.NameText.{same_name};
 ghost use Rattle.module_view.specs.declared.definition.Common.{Common};
-ghost use Rattle.symbol_table.specs.Lists.{Offered, offered, offered_by, all_commons};
-ghost use Rattle.symbol_table.specs.Interning.{NotesCommon, NotesModule};
-ghost use Rattle.symbol_table.specs.Passes.{noted_view, is_greater, AreGreatest};
+ghost use Rattle.symbol_names.specs.Lists.{Offered, offered, offered_by, all_commons};
+ghost use Rattle.symbol_names.specs.Interning.{NotesCommon, NotesModule};
+ghost use Rattle.symbol_names.specs.Kept.{noted_view};
+ghost use Rattle.symbol_table.specs.Passes.{is_greater, AreGreatest};
 
-use crate::noted::{ModuleNames, NotedCommon};
 use indexmap::IndexSet;
 use link_base::{Memory, Name};
 use std::alloc::Global;
+use symbol_names::{ModuleNames, NotedCommon};
 
 /// The greatest common of a name, the first of equals.
 #[derive(Clone, Copy)]

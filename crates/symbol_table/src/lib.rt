@@ -7,31 +7,22 @@
 //! Names are looked up by hash, of which nothing is claimed.
 #![tactic(auto)]
 
-mod alternates;
 mod asked;
 mod chains;
-mod chosen;
 mod first_alternate;
 mod first_weak;
 mod flags;
-mod given;
 mod greatest;
-mod interning;
 mod laws;
 mod link;
 mod linker_names;
-mod lists;
 mod lives;
 mod meaning;
-mod noted;
-mod records;
-mod references;
 mod resolved;
 mod table;
-mod weak_default;
 
-pub use chosen::{Chosen, is_chosen};
 pub use laws::tables_are_shared;
 pub use meaning::{Clash, Meaning, NoMeaning};
 pub use resolved::ResolvedNames;
+pub use symbol_names::{Chosen, is_chosen};
 pub use table::SymbolTable;

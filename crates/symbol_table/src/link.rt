@@ -2,26 +2,25 @@
 
 ghost use Rattle.std.specs.Prelude.{◌≡◌, ℕ, List, Option, length, option_map, IfOk};
 ghost use Rattle.std.specs.Option.{option_or};
-ghost use Rattle.symbol_table.specs.Alternates.{all_alternates};
-ghost use Rattle.symbol_table.specs.LinkView.{LinkView};
+ghost use Rattle.symbol_names.specs.Alternates.{all_alternates};
+ghost use Rattle.symbol_names.specs.LinkView.{LinkView};
 ghost use Rattle.symbol_table.specs.LinkerNames.{linker_meaning};
-ghost use Rattle.symbol_table.specs.Lists.{Said, live_definitions, all_commons, all_weaks};
+ghost use Rattle.symbol_names.specs.Lists.{Said, live_definitions, all_commons, all_weaks};
 ghost use Rattle.symbol_table.specs.Resolution.{meaning_at, place_meaning, default_step, alternate_step, own_or, weak_step};
-ghost use Rattle.symbol_table.specs.Passes.{rows_of, first_meaning, kept_meaning, AreFirst, AreGreatest, KeepsSaid, KeepsWeak, AreWeaks, KeepsAlternate, AreAlternates};
+ghost use Rattle.symbol_names.specs.Kept.{rows_of};
+ghost use Rattle.symbol_table.specs.Passes.{first_meaning, kept_meaning, AreFirst, AreGreatest, KeepsSaid, KeepsWeak, AreWeaks, KeepsAlternate, AreAlternates};
 ghost use Rattle.symbol_table.specs.Links.{IsStep, AreSteps};
 
-use crate::chosen::is_chosen;
 use crate::first_weak::FirstWeak;
 use crate::greatest::GreatestCommon;
-use crate::interning::name_at;
 use crate::linker_names::linker_meaning;
 use crate::lives::FirstLive;
 use crate::meaning::{Meaning, NoMeaning};
-use crate::noted::NotedDefault;
 use indexmap::IndexSet;
 use link_base::{Memory, Name};
 use module_view::Place;
 use std::alloc::Global;
+use symbol_names::{NotedDefault, is_chosen, name_at};
 
 /// Where a name leads.
 #[derive(Drop)]

@@ -4,19 +4,18 @@ ghost use Rattle.std.specs.Prelude.{◌≡◌, ◌<◌, ◌++◌, ◌∷◌, [],
 ghost use Rattle.std.specs.List.{All, IsDistinct};
 ghost use Rattle.link_base.specs.NameText.{same_name};
 ghost use Rattle.module_view.specs.declared.definition.Definition.{Definition};
-ghost use Rattle.symbol_table.specs.Lists.{Provided, provided, provided_by, is_live, live_definitions};
+ghost use Rattle.symbol_names.specs.Lists.{Provided, provided, provided_by, is_live, live_definitions};
 ghost use Rattle.symbol_table.specs.Clash.{is_number, agree};
-ghost use Rattle.symbol_table.specs.Interning.{Numbers, NotesDefinition, NotesModule};
-ghost use Rattle.symbol_table.specs.Passes.{rows_of, noted_view, AreLives, clash_with_first};
+ghost use Rattle.symbol_names.specs.Interning.{Numbers, NotesDefinition, NotesModule};
+ghost use Rattle.symbol_names.specs.Kept.{rows_of, noted_view};
+ghost use Rattle.symbol_table.specs.Passes.{AreLives, clash_with_first};
 
-use crate::chosen::is_live_at;
-use crate::interning::name_at;
 use crate::meaning::Clash;
-use crate::noted::{ModuleNames, NotedDefinition};
 use indexmap::IndexSet;
 use link_base::{Memory, Name};
 use module_view::Place;
 use std::alloc::Global;
+use symbol_names::{ModuleNames, NotedDefinition, is_live_at, name_at};
 
 /// The first live definition of a name.
 #[derive(Clone, Copy)]

@@ -5,21 +5,18 @@ ghost use Rattle.std.specs.List.{All};
 ghost use Rattle.coff_records.specs.ObjectFile.{symbol_at, name_in};
 ghost use Rattle.module_view.specs.Module.{module_at};
 ghost use Rattle.module_view.specs.Opening.{IsOpened};
-ghost use Rattle.symbol_table.specs.Lists.{is_chosen_in};
+ghost use Rattle.symbol_names.specs.Lists.{is_chosen_in};
 ghost use Rattle.symbol_table.specs.Clash.{clash_of};
 ghost use Rattle.symbol_table.specs.Resolution.{meaning_of};
 
 use crate::chains::again;
-use crate::chosen::{Chosen, is_chosen};
-use crate::given::GivenNames;
 use crate::linker_names::linker_meaning;
 use crate::meaning::{Clash, Meaning, NoMeaning};
-use crate::noted::ModuleNames;
-use crate::records::noted_number;
 use coff_object::SymbolRecord;
 use indexmap::IndexSet;
 use link_base::Name;
 use std::marker::Model;
+use symbol_names::{Chosen, GivenNames, ModuleNames, is_chosen, noted_number};
 
 /// What names mean by the alternates of the command line and by modules, some of whose sections are chosen.
 #[derive(Drop)]
@@ -34,7 +31,7 @@ pub struct ResolvedNames<'a> {
 }
 
 impl<'a> Model for ResolvedNames<'a> {
-    ghost use Rattle.symbol_table.specs.Passes.{rows_of};
+    ghost use Rattle.symbol_names.specs.Kept.{rows_of};
     ghost use Rattle.symbol_table.specs.TableParts.{link_view, ResolvedView, KeepsMeanings};
 
     ghost Value = { ResolvedView };

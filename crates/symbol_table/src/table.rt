@@ -2,29 +2,26 @@
 
 ghost use Rattle.std.specs.Prelude.{◌≡◌, ◌<◌, ◌++◌, ◌∷◌, [], length, IfOk, OnOk, OnErr};
 ghost use Rattle.link_base.specs.Limits as limit;
-ghost use Rattle.symbol_table.specs.Passes.{rows_of};
-ghost use Rattle.symbol_table.specs.References.{all_asked, is_provided, is_open_name, open_from};
+ghost use Rattle.symbol_names.specs.Kept.{rows_of};
+ghost use Rattle.symbol_names.specs.References.{all_asked};
+ghost use Rattle.symbol_table.specs.OpenNames.{is_provided, is_open_name, open_from};
 ghost use Rattle.symbol_table.specs.TableParts.{ResolvedView};
 
 use crate::asked::{AskedNames, add_lists, asked_by_words, is_open, is_sought, is_there};
 use crate::chains::meanings;
-use crate::chosen::Chosen;
 use crate::first_alternate::first_alternates;
 use crate::first_weak::first_weaks;
-use crate::given::{GivenNames, given_names};
 use crate::greatest::greatest_commons;
-use crate::interning::name_at;
 use crate::link::links;
 use crate::linker_names::linker_meaning;
-use crate::lists::note_lists;
 use crate::lives::{Lives, live_definitions};
-use crate::noted::{ModuleNames, NotedLists};
 use crate::resolved::ResolvedNames;
 use indexmap::IndexSet;
 use link_base::{Memory, Name};
 use module_view::Module;
 use std::alloc::Global;
 use std::marker::Model;
+use symbol_names::{Chosen, GivenNames, ModuleNames, NotedLists, given_names, name_at, note_lists};
 
 /// The names that the command line asks for, the alternates that it gives, and the names of the modules that were added, in
 /// order.
@@ -38,7 +35,7 @@ pub struct SymbolTable<'a> {
 }
 
 impl<'a> Model for SymbolTable<'a> {
-    ghost use Rattle.symbol_table.specs.LinkView.{LinkView};
+    ghost use Rattle.symbol_names.specs.LinkView.{LinkView};
     ghost use Rattle.symbol_table.specs.TableParts.{link_view, KeepsTable};
 
     ghost Value = { LinkView };

@@ -8,7 +8,7 @@ use Rattle.comdat.specs.declared.chosen_by.ChosenBy.{ChosenBy}
 use Rattle.comdat.specs.ChosenBy.{all_chosen_by, listed}
 use Rattle.comdat.specs.Chains.{chain_end}
 use Rattle.comdat.specs.Selection.{named_sections, sections_of, own_flag, is_chosen_of_group, chosen_row}
-use Rattle.symbol_table.specs.Passes.{row_flags}
+use Rattle.symbol_names.specs.Kept.{row_flags}
 use Rattle.comdat.proofs.OpenedLemmas.{told_from, told_first, told_next, told_room}
 use Rattle.comdat.proofs.selection.chosen_rows.Goals as goal
 

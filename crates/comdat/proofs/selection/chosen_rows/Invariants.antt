@@ -1,7 +1,7 @@
 use Rattle.std.proofs.Common.{◌≡◌, map}
 use Rattle.std.specs.List.{range_with_len}
 use Rattle.comdat.specs.Selection.{chosen_row}
-use Rattle.symbol_table.specs.Passes.{row_flags}
+use Rattle.symbol_names.specs.Kept.{row_flags}
 use Rattle.comdat.proofs.OpenedLemmas.{told_from}
 use Rattle.comdat.proofs.selection.chosen_rows.Given as goal
 

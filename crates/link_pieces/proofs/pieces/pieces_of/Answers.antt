@@ -6,7 +6,7 @@ use Rattle.section_group.specs.BarePieces.{bare}
 use Rattle.section_group.specs.PieceContents.{piece_contents}
 use Rattle.module_view.specs.Module.{ModuleView, no_module, module_at}
 use Rattle.module_view.specs.Opening.{IsOpened}
-use Rattle.symbol_table.specs.LinkView.{LinkView}
+use Rattle.symbol_names.specs.LinkView.{LinkView}
 use Rattle.link_directives.specs.Alignments.{AreAsked}
 use Rattle.link_pieces.specs.Commons.{HasFewSections}
 use Rattle.link_pieces.specs.Pieces.{pieces_in, contents_in}

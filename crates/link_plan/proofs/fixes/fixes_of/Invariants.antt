@@ -1,6 +1,6 @@
 use Rattle.std.proofs.Common.{◌≡◌, ℕ, ◌+◌, ◌++◌, length}
 use Rattle.coff_records.specs.ObjectFile.{relocation_total}
-use Rattle.symbol_table.specs.LinkView.{LinkView}
+use Rattle.symbol_names.specs.LinkView.{LinkView}
 use Rattle.link_plan.specs.Targets.{AreTargets}
 use Rattle.link_plan.specs.Fixes.{fixes_from, section_fixes}
 use Rattle.link_plan.proofs.fixes.fixes_of.Given as goal

@@ -5,7 +5,7 @@ use Rattle.link_base.specs.Refusals.{RefusesFor}
 use Rattle.section_group.specs.BarePieces.{bare}
 use Rattle.module_view.specs.Module.{ModuleView}
 use Rattle.module_view.specs.Opening.{IsOpened}
-use Rattle.symbol_table.specs.LinkView.{LinkView}
+use Rattle.symbol_names.specs.LinkView.{LinkView}
 use Rattle.link_directives.specs.LinkDirectives.{link_merges}
 use Rattle.link_pieces.specs.Pieces.{link_pieces, link_contents}
 use Rattle.link_words.specs.Outcome.{options_said}

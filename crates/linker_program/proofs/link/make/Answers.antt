@@ -1,6 +1,6 @@
 use Rattle.std.proofs.Common.{refl, sym, subst, ◌∙◌}
 use Rattle.std.proofs.lemmas.Result.{err_from_is_err_and}
-use Rattle.symbol_table.specs.LinkView.{LinkView}
+use Rattle.symbol_names.specs.LinkView.{LinkView}
 use Rattle.link_words.specs.Outcome.{options_said}
 use Rattle.link_plan.specs.Plan.{IsPlanOf}
 use Rattle.link_image.specs.BuildFaults.{RefusesBuild}

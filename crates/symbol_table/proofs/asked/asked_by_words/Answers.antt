@@ -1,9 +1,9 @@
 use Rattle.std.proofs.Common.{◌<◌, List, length, map, subst, sym, arith}
 use Rattle.std.specs.List.{All}
 use Rattle.std.proofs.lemmas.List.Elements.{All-weaker}
-use Rattle.symbol_table.specs.declared.noted.NotedAsked.{NotedAsked}
-use Rattle.symbol_table.specs.References.{asked_by_name}
-use Rattle.symbol_table.proofs.NumberLemmas.{asked_within}
+use Rattle.symbol_names.specs.declared.noted.NotedAsked.{NotedAsked}
+use Rattle.symbol_names.specs.References.{asked_by_name}
+use Rattle.symbol_names.proofs.NumberLemmas.{asked_within}
 use Rattle.symbol_table.proofs.asked.asked_by_words.Goals as goal
 
 pub mark_sought-requires : goal.mark_sought-requires

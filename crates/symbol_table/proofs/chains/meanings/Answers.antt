@@ -4,11 +4,11 @@ use Rattle.std.proofs.lemmas.Bool.{cases_eq}
 use Rattle.std.proofs.lemmas.List.{get_or_append_left, length_push}
 use Rattle.std.proofs.lemmas.Option.{slice_get_within}
 use Rattle.std.proofs.Math.Seq.{get_or-append_seam}
-use Rattle.symbol_table.specs.LinkView.{LinkView}
+use Rattle.symbol_names.specs.LinkView.{LinkView}
 use Rattle.symbol_table.specs.declared.meaning.Meaning.{Meaning}
 use Rattle.symbol_table.specs.declared.meaning.NoMeaning.{NoMeaning}
 use Rattle.symbol_table.specs.declared.meaning.NoMeaning.TheVariants.{Undefined}
-use Rattle.symbol_table.specs.Interning.{Numbers}
+use Rattle.symbol_names.specs.Interning.{Numbers}
 use Rattle.symbol_table.specs.Links.{LeadsBelow, Settles}
 use Rattle.symbol_table.proofs.ChainLemmas.{steps_known}
 use Rattle.symbol_table.proofs.chains.meanings.Goals as goal

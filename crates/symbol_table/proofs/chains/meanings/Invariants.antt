@@ -1,8 +1,8 @@
 use Rattle.std.proofs.Common.{◌≡◌, ◌<◌, ℕ, Bool, List, length, get_or, Err}
 use Rattle.std.specs.List.{All}
-use Rattle.symbol_table.specs.LinkView.{LinkView}
+use Rattle.symbol_names.specs.LinkView.{LinkView}
 use Rattle.symbol_table.specs.declared.meaning.NoMeaning.TheVariants.{Undefined}
-use Rattle.symbol_table.specs.Interning.{Numbers}
+use Rattle.symbol_names.specs.Interning.{Numbers}
 use Rattle.symbol_table.specs.Links.{LeadsBelow, Settles, AreKnown}
 use Rattle.symbol_table.proofs.chains.meanings.Given as goal
 

@@ -1,10 +1,11 @@
 use Rattle.std.proofs.Common.{◌<◌, ◌++◌, List, ℕ, length, map, rules, ap, sym, subst, ◌∙◌, append_assoc, arith}
 use Rattle.std.specs.List.{All, AllZip}
 use Rattle.std.proofs.lemmas.List.{append-nil}
-use Rattle.symbol_table.specs.declared.noted.NotedAlternate.{NotedAlternate}
-use Rattle.symbol_table.specs.Alternates.{alternates_by}
-use Rattle.symbol_table.specs.Interning.{NotesAlternate}
-use Rattle.symbol_table.specs.Passes.{noted_view, AreAlternates}
+use Rattle.symbol_names.specs.declared.noted.NotedAlternate.{NotedAlternate}
+use Rattle.symbol_names.specs.Alternates.{alternates_by}
+use Rattle.symbol_names.specs.Interning.{NotesAlternate}
+use Rattle.symbol_names.specs.Kept.{noted_view}
+use Rattle.symbol_table.specs.Passes.{AreAlternates}
 use Rattle.symbol_table.proofs.PassLemmas.{of_first, of_first_more, of_first_all}
 use Rattle.symbol_table.proofs.AlternateLemmas.{no_alternates, lefts_within, noted_at}
 use Rattle.symbol_table.proofs.first_alternate.first_alternates.Goals as goal

@@ -1,8 +1,9 @@
 use Rattle.std.proofs.Common.{◌≡◌, ℕ, ◌++◌, List, length, map}
 use Rattle.std.specs.List.{AllZip}
-use Rattle.symbol_table.specs.Alternates.{alternates_by}
-use Rattle.symbol_table.specs.Interning.{NotesAlternate}
-use Rattle.symbol_table.specs.Passes.{noted_view, AreAlternates}
+use Rattle.symbol_names.specs.Alternates.{alternates_by}
+use Rattle.symbol_names.specs.Interning.{NotesAlternate}
+use Rattle.symbol_names.specs.Kept.{noted_view}
+use Rattle.symbol_table.specs.Passes.{AreAlternates}
 use Rattle.symbol_table.proofs.PassLemmas.{of_first}
 use Rattle.symbol_table.proofs.first_alternate.first_alternates.Given as goal
 

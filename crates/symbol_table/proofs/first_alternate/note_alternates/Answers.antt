@@ -1,8 +1,8 @@
 use Rattle.std.proofs.Common.{◌<◌, ◌∷◌, [], ◌++◌, List, ℕ, length, get_or, take, sym, ap, subst, ◌∙◌, append_assoc, arith}
 use Rattle.std.proofs.lemmas.List.{append-nil, take_all, take_more}
-use Rattle.symbol_table.specs.Interning.{NotesAlternate}
+use Rattle.symbol_names.specs.Interning.{NotesAlternate}
 use Rattle.symbol_table.specs.Passes.{AreAlternates}
-use Rattle.symbol_table.proofs.NumberLemmas.{zip_length}
+use Rattle.symbol_names.proofs.NumberLemmas.{zip_length}
 use Rattle.symbol_table.proofs.AlternateLemmas.{no_pair, pair_at}
 use Rattle.symbol_table.proofs.first_alternate.note_alternates.Goals as goal
 

@@ -1,6 +1,6 @@
 use Rattle.std.proofs.Common.{◌≡◌, ℕ, ◌++◌, List, length, take}
 use Rattle.std.specs.List.{AllZip}
-use Rattle.symbol_table.specs.Interning.{NotesAlternate}
+use Rattle.symbol_names.specs.Interning.{NotesAlternate}
 use Rattle.symbol_table.specs.Passes.{AreAlternates}
 use Rattle.symbol_table.proofs.first_alternate.note_alternates.Given as goal
 

@@ -1,5 +1,5 @@
 use Rattle.std.proofs.Common.{rules, List, sym, subst, arith}
-use Rattle.symbol_table.specs.Lists.{Said, said_by}
+use Rattle.symbol_names.specs.Lists.{Said, said_by}
 use Rattle.symbol_table.specs.Passes.{AreWeaks}
 use Rattle.symbol_table.proofs.PassLemmas.{of_first_more, of_first_all}
 use Rattle.symbol_table.proofs.WeakLemmas.{no_weaks}

@@ -1,6 +1,7 @@
 use Rattle.std.proofs.Common.{map}
-use Rattle.symbol_table.specs.Lists.{said_by}
-use Rattle.symbol_table.specs.Passes.{noted_view, AreWeaks}
+use Rattle.symbol_names.specs.Lists.{said_by}
+use Rattle.symbol_names.specs.Kept.{noted_view}
+use Rattle.symbol_table.specs.Passes.{AreWeaks}
 use Rattle.symbol_table.proofs.PassLemmas.{of_first}
 use Rattle.symbol_table.proofs.first_weak.first_weaks.Given as goal
 

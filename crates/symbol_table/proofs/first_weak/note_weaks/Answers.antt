@@ -3,11 +3,10 @@ use Rattle.std.specs.List.{AllZip}
 use Rattle.std.proofs.lemmas.List.{append-nil, take_all}
 use Rattle.module_view.specs.SymbolLists.{weaks_of}
 use Rattle.module_view.specs.declared.reference.Weak.{Weak}
-use Rattle.symbol_table.specs.Interning.{NotesWeak}
-use Rattle.symbol_table.specs.Lists.{Said, said}
+use Rattle.symbol_names.specs.Interning.{NotesWeak}
+use Rattle.symbol_names.specs.Lists.{Said, said}
 use Rattle.symbol_table.specs.Passes.{AreWeaks}
-use Rattle.symbol_table.proofs.NumberLemmas.{number_within, zip_length}
-use Rattle.symbol_table.proofs.PassLemmas.{mapped_more}
+use Rattle.symbol_names.proofs.NumberLemmas.{number_within, zip_length, mapped_more}
 use Rattle.symbol_table.proofs.WeakLemmas.{no_weak, weak_at}
 use Rattle.symbol_table.proofs.first_weak.note_weaks.Goals as goal
 

@@ -1,6 +1,6 @@
 use Rattle.std.proofs.Common.{◌≡◌, ◌++◌, List, length, map, take}
 use Rattle.module_view.specs.SymbolLists.{weaks_of}
-use Rattle.symbol_table.specs.Lists.{Said, said}
+use Rattle.symbol_names.specs.Lists.{Said, said}
 use Rattle.symbol_table.specs.Passes.{AreWeaks}
 use Rattle.symbol_table.proofs.first_weak.note_weaks.Given as goal
 

@@ -1,5 +1,5 @@
 use Rattle.std.proofs.Common.{rules, List, sym, subst, arith}
-use Rattle.symbol_table.specs.Lists.{Offered, offered_by}
+use Rattle.symbol_names.specs.Lists.{Offered, offered_by}
 use Rattle.symbol_table.specs.Passes.{AreGreatest}
 use Rattle.symbol_table.proofs.PassLemmas.{of_first_more, of_first_all}
 use Rattle.symbol_table.proofs.GreatestLemmas.{no_commons}

@@ -1,6 +1,7 @@
 use Rattle.std.proofs.Common.{map}
-use Rattle.symbol_table.specs.Lists.{offered_by}
-use Rattle.symbol_table.specs.Passes.{noted_view, AreGreatest}
+use Rattle.symbol_names.specs.Lists.{offered_by}
+use Rattle.symbol_names.specs.Kept.{noted_view}
+use Rattle.symbol_table.specs.Passes.{AreGreatest}
 use Rattle.symbol_table.proofs.PassLemmas.{of_first}
 use Rattle.symbol_table.proofs.greatest.greatest_commons.Given as goal
 

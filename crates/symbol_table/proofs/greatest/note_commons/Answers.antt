@@ -3,11 +3,10 @@ use Rattle.std.specs.List.{AllZip}
 use Rattle.std.proofs.lemmas.List.{append-nil, take_all}
 use Rattle.module_view.specs.SymbolLists.{commons_of}
 use Rattle.module_view.specs.declared.definition.Common.{Common}
-use Rattle.symbol_table.specs.Interning.{NotesCommon}
-use Rattle.symbol_table.specs.Lists.{Offered, offered}
+use Rattle.symbol_names.specs.Interning.{NotesCommon}
+use Rattle.symbol_names.specs.Lists.{Offered, offered}
 use Rattle.symbol_table.specs.Passes.{AreGreatest}
-use Rattle.symbol_table.proofs.NumberLemmas.{number_within, zip_length}
-use Rattle.symbol_table.proofs.PassLemmas.{mapped_more}
+use Rattle.symbol_names.proofs.NumberLemmas.{number_within, zip_length, mapped_more}
 use Rattle.symbol_table.proofs.GreatestLemmas.{no_common, common_at}
 use Rattle.symbol_table.proofs.greatest.note_commons.Goals as goal
 

@@ -1,6 +1,6 @@
 use Rattle.std.proofs.Common.{◌≡◌, ◌++◌, List, length, map, take}
 use Rattle.module_view.specs.SymbolLists.{commons_of}
-use Rattle.symbol_table.specs.Lists.{Offered, offered}
+use Rattle.symbol_names.specs.Lists.{Offered, offered}
 use Rattle.symbol_table.specs.Passes.{AreGreatest}
 use Rattle.symbol_table.proofs.greatest.note_commons.Given as goal
 

@@ -4,11 +4,12 @@ use Rattle.std.proofs.lemmas.List.{get_or_append_left, get_or_push, length-appen
 use Rattle.std.proofs.lemmas.Option.{slice_get_within}
 use Rattle.symbol_table.specs.declared.link.Link.{Link}
 use Rattle.symbol_table.specs.Resolution.{step}
-use Rattle.symbol_table.specs.Interning.{Numbers}
+use Rattle.symbol_names.specs.Interning.{Numbers}
 use Rattle.std.specs.Prelude.{option_map}
 use Rattle.std.specs.Option.{option_or}
 use Rattle.symbol_table.specs.LinkerNames.{linker_meaning}
-use Rattle.symbol_table.specs.Passes.{rows_of, first_meaning, kept_meaning}
+use Rattle.symbol_names.specs.Kept.{rows_of}
+use Rattle.symbol_table.specs.Passes.{first_meaning, kept_meaning}
 use Rattle.symbol_table.specs.Links.{IsStep, link_at, no_link}
 use Rattle.symbol_table.proofs.LinkLemmas.{step_is, same_number}
 use Rattle.symbol_table.proofs.link.links.Goals as goal

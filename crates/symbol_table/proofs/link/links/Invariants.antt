@@ -1,10 +1,11 @@
 use Rattle.std.proofs.Common.{◌≡◌, ℕ, ◌<◌, List, length}
-use Rattle.symbol_table.specs.LinkView.{LinkView}
-use Rattle.symbol_table.specs.Alternates.{all_alternates}
-use Rattle.symbol_table.specs.Lists.{live_definitions, all_commons, all_weaks}
+use Rattle.symbol_names.specs.LinkView.{LinkView}
+use Rattle.symbol_names.specs.Alternates.{all_alternates}
+use Rattle.symbol_names.specs.Lists.{live_definitions, all_commons, all_weaks}
 use Rattle.symbol_table.specs.Resolution.{step}
-use Rattle.symbol_table.specs.Interning.{Numbers}
-use Rattle.symbol_table.specs.Passes.{rows_of, AreFirst, AreGreatest, AreWeaks, AreAlternates}
+use Rattle.symbol_names.specs.Interning.{Numbers}
+use Rattle.symbol_names.specs.Kept.{rows_of}
+use Rattle.symbol_table.specs.Passes.{AreFirst, AreGreatest, AreWeaks, AreAlternates}
 use Rattle.symbol_table.specs.Links.{IsStep, link_at}
 use Rattle.symbol_table.proofs.link.links.Given as goal
 

@@ -1,11 +1,11 @@
 use Rattle.std.proofs.Common.{List, inl, inr, map, sym, ap, subst, ◌∙◌, arith}
 use Rattle.std.specs.Prelude.{filter}
 use Rattle.std.proofs.lemmas.List.Elements.{filter-append}
-use Rattle.symbol_table.specs.Lists.{Provided, provided_by, is_live}
-use Rattle.symbol_table.specs.Passes.{rows_of, noted_view, AreLives}
-use Rattle.symbol_table.proofs.PassLemmas.{of_first, of_first_more, of_first_all}
+use Rattle.symbol_names.specs.Lists.{Provided, provided_by, is_live}
+use Rattle.symbol_names.specs.Kept.{rows_of, noted_view}
+use Rattle.symbol_table.specs.Passes.{AreLives}
+use Rattle.symbol_table.proofs.PassLemmas.{of_first, of_first_more, of_first_all, none_or_some}
 use Rattle.symbol_table.proofs.LiveLemmas.{no_lives}
-use Rattle.symbol_table.proofs.PassLemmas.{none_or_some}
 use Rattle.symbol_table.proofs.lives.live_definitions.Goals as goal
 
 pub loop-position-init : goal.loop-position-init

@@ -1,7 +1,8 @@
 use Rattle.std.proofs.Common.{map}
 use Rattle.std.specs.Prelude.{filter}
-use Rattle.symbol_table.specs.Lists.{provided_by, is_live}
-use Rattle.symbol_table.specs.Passes.{rows_of, noted_view, AreLives}
+use Rattle.symbol_names.specs.Lists.{provided_by, is_live}
+use Rattle.symbol_names.specs.Kept.{rows_of, noted_view}
+use Rattle.symbol_table.specs.Passes.{AreLives}
 use Rattle.symbol_table.proofs.PassLemmas.{of_first}
 use Rattle.symbol_table.proofs.lives.live_definitions.Given as goal
 

@@ -1,6 +1,6 @@
 use Rattle.std.proofs.Common.{◌≡◌, get_or, None, sym, ◌∙◌, ap, not, arith}
 use Rattle.std.proofs.lemmas.List.{get_or_read}
-use Rattle.symbol_table.specs.Lists.{provided}
+use Rattle.symbol_names.specs.Lists.{provided}
 use Rattle.symbol_table.specs.Passes.{clash_with_first}
 use Rattle.symbol_table.proofs.LiveLemmas.{none_or, some_or, live_first, live_again}
 use Rattle.symbol_table.proofs.lives.note_live.Goals as goal

@@ -5,10 +5,11 @@ use Rattle.std.proofs.lemmas.List.{append-nil, take_all}
 use Rattle.module_view.specs.SymbolLists.{definitions_of}
 use Rattle.module_view.specs.declared.definition.Definition.{Definition}
 use Rattle.symbol_table.specs.declared.lives.Lives.{Lives}
-use Rattle.symbol_table.specs.Interning.{NotesDefinition}
-use Rattle.symbol_table.specs.Lists.{Provided, provided, is_live}
-use Rattle.symbol_table.specs.Passes.{rows_of, AreLives}
-use Rattle.symbol_table.proofs.NumberLemmas.{number_within, zip_length}
+use Rattle.symbol_names.specs.Interning.{NotesDefinition}
+use Rattle.symbol_names.specs.Lists.{Provided, provided, is_live}
+use Rattle.symbol_names.specs.Kept.{rows_of}
+use Rattle.symbol_table.specs.Passes.{AreLives}
+use Rattle.symbol_names.proofs.NumberLemmas.{number_within, zip_length}
 use Rattle.symbol_table.proofs.LiveLemmas.{noted_at, live_more}
 use Rattle.symbol_table.proofs.lives.note_lives.Goals as goal
 use Rattle.symbol_table.proofs.lives.note_lives.Goals.{then-is_live_at, else-is_live_at}

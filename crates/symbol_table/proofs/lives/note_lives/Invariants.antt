@@ -1,8 +1,9 @@
 use Rattle.std.proofs.Common.{◌≡◌, ◌++◌, List, length, map, take}
 use Rattle.std.specs.Prelude.{filter}
 use Rattle.module_view.specs.SymbolLists.{definitions_of}
-use Rattle.symbol_table.specs.Lists.{Provided, provided, is_live}
-use Rattle.symbol_table.specs.Passes.{rows_of, AreLives}
+use Rattle.symbol_names.specs.Lists.{Provided, provided, is_live}
+use Rattle.symbol_names.specs.Kept.{rows_of}
+use Rattle.symbol_table.specs.Passes.{AreLives}
 use Rattle.symbol_table.proofs.lives.note_lives.Given as goal
 
 abbrev pub invariant-loop-definition : goal.invariant-loop-definition

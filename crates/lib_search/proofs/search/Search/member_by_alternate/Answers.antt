@@ -3,8 +3,8 @@ use Rattle.std.specs.Prelude.{filter_map}
 use Rattle.std.specs.Option.{option_or}
 use Rattle.directives.specs.Said.{Said}
 use Rattle.module_view.specs.Module.{ModuleView}
-use Rattle.symbol_table.specs.Alternates.{alternate_said, alternates_by}
-use Rattle.symbol_table.specs.Lists.{of_all}
+use Rattle.symbol_names.specs.Alternates.{alternate_said, alternates_by}
+use Rattle.symbol_names.specs.Lists.{of_all}
 use Rattle.lib_search.specs.SearchSteps.{MemberPlace, Searched, alternate_member, member_by_alternate}
 use Rattle.lib_search.proofs.AlternateLemmas.{first_of, first_of-append, some_in_modules, none_in_modules}
 use Rattle.lib_search.proofs.ModuleLemmas.{of_first}

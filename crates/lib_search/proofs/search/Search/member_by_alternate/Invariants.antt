@@ -1,5 +1,5 @@
 use Rattle.std.proofs.Common.{◌≡◌, None}
-use Rattle.symbol_table.specs.Alternates.{alternates_by}
+use Rattle.symbol_names.specs.Alternates.{alternates_by}
 use Rattle.lib_search.specs.SearchSteps.{alternate_member}
 use Rattle.lib_search.proofs.AlternateLemmas.{first_of}
 use Rattle.lib_search.proofs.ModuleLemmas.{of_first}

@@ -1,5 +1,6 @@
 use Rattle.std.proofs.Common.{◌≡◌, length, Some, None, sym, ap, ◌∙◌, arith}
-use Rattle.symbol_table.specs.References.{all_asked, open_from}
+use Rattle.symbol_names.specs.References.{all_asked}
+use Rattle.symbol_table.specs.OpenNames.{open_from}
 use Rattle.lib_search.specs.SearchSteps.{Searched}
 use Rattle.lib_search.proofs.FromLemmas.{first_open, passed_to, passed_behind, passed_all, member_found, member_none}
 use Rattle.lib_search.proofs.search.Search.search_from.Goals as goal

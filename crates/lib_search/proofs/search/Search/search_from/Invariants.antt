@@ -1,5 +1,5 @@
 use Rattle.std.proofs.Common.{length, ◌-◌}
-use Rattle.symbol_table.specs.References.{all_asked}
+use Rattle.symbol_names.specs.References.{all_asked}
 use Rattle.lib_search.specs.SearchParts.{IsPassed}
 use Rattle.lib_search.proofs.search.Search.search_from.Given as goal
 

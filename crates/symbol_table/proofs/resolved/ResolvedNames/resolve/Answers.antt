@@ -1,5 +1,5 @@
 use Rattle.std.proofs.Common.{sym, ap, ◌∙◌, arith}
-use Rattle.symbol_table.specs.Passes.{rows_of}
+use Rattle.symbol_names.specs.Kept.{rows_of}
 use Rattle.symbol_table.proofs.EndLemmas.{settles_means}
 use Rattle.symbol_table.proofs.AbsentLemmas.{absent_means, ok_or_is, position_numbers, position_absent}
 use Rattle.std.proofs.lemmas.List.{get_or_default}

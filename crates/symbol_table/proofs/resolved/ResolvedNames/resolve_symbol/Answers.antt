@@ -5,13 +5,13 @@ use Rattle.std.proofs.lemmas.List.{get_or_default}
 use Rattle.coff_records.specs.ObjectFile.{SymbolView, name_in, symbol_name_of}
 use Rattle.module_view.specs.Module.{module_at}
 use Rattle.symbol_table.specs.declared.meaning.NoMeaning.TheVariants.{Undefined}
-use Rattle.symbol_table.specs.declared.noted.ModuleNames.{ModuleNames}
-use Rattle.symbol_table.specs.Interning.{Numbers, NotesModule}
-use Rattle.symbol_table.specs.Passes.{rows_of, noted_view}
+use Rattle.symbol_names.specs.declared.noted.ModuleNames.{ModuleNames}
+use Rattle.symbol_names.specs.Interning.{Numbers, NotesModule}
+use Rattle.symbol_names.specs.Kept.{rows_of, noted_view}
 use Rattle.symbol_table.specs.TableParts.{link_view, ResolvedView}
 use Rattle.symbol_table.specs.Resolution.{meaning_of}
 use Rattle.symbol_table.proofs.EndLemmas.{settles_means}
-use Rattle.symbol_table.proofs.NumberLemmas.{number_within}
+use Rattle.symbol_names.proofs.NumberLemmas.{number_within}
 use Rattle.symbol_table.proofs.resolved.ResolvedNames.resolve_symbol.Goals as goal
 
 pub index-requires : goal.index-requires

@@ -2,13 +2,13 @@ use Rattle.std.proofs.Common.{ℕ, List, length, refl, sym, ap, ◌∙◌, subst
 use Rattle.std.specs.List.{AllZip}
 use Rattle.std.proofs.lemmas.List.{length-map}
 use Rattle.module_view.specs.Opening.{opening_error}
-use Rattle.symbol_table.specs.declared.noted.ModuleNames.{ModuleNames}
-use Rattle.symbol_table.specs.LinkView.{LinkView}
-use Rattle.symbol_table.specs.References.{asked_by}
-use Rattle.symbol_table.specs.Interning.{NotesAsked}
+use Rattle.symbol_names.specs.declared.noted.ModuleNames.{ModuleNames}
+use Rattle.symbol_names.specs.LinkView.{LinkView}
+use Rattle.symbol_names.specs.References.{asked_by}
+use Rattle.symbol_names.specs.Interning.{NotesAsked}
 use Rattle.symbol_table.specs.AskedParts.{AreWithin}
 use Rattle.symbol_table.specs.TableParts.{KeepsTable}
-use Rattle.symbol_table.specs.Passes.{noted_view}
+use Rattle.symbol_names.specs.Kept.{noted_view}
 use Rattle.symbol_table.proofs.TableLemmas.{table_grows, table_same, table_push, lists_within, notes_module}
 use Rattle.symbol_table.proofs.table.SymbolTable.add_module.Goals as goal
 

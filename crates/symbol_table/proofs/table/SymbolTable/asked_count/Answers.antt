@@ -1,9 +1,9 @@
 use Rattle.std.proofs.Common.{◌≡◌, length, ap, arith}
-use Rattle.symbol_table.specs.LinkView.{LinkView}
-use Rattle.symbol_table.specs.References.{all_asked}
-use Rattle.symbol_table.specs.Interning.{NotesAsked}
+use Rattle.symbol_names.specs.LinkView.{LinkView}
+use Rattle.symbol_names.specs.References.{all_asked}
+use Rattle.symbol_names.specs.Interning.{NotesAsked}
 use Rattle.symbol_table.specs.TableParts.{link_view}
-use Rattle.symbol_table.proofs.NumberLemmas.{zip_length}
+use Rattle.symbol_names.proofs.NumberLemmas.{zip_length}
 use Rattle.symbol_table.proofs.table.SymbolTable.asked_count.Goals as goal
 
 pub returns : goal.returns

@@ -1,6 +1,7 @@
 use Rattle.std.proofs.Common.{Bool, ◌&&◌, not, sym, ap, ◌∙◌}
-use Rattle.symbol_table.specs.LinkView.{LinkView}
-use Rattle.symbol_table.specs.References.{all_asked, is_provided, is_open_name}
+use Rattle.symbol_names.specs.LinkView.{LinkView}
+use Rattle.symbol_names.specs.References.{all_asked}
+use Rattle.symbol_table.specs.OpenNames.{is_provided, is_open_name}
 use Rattle.symbol_table.specs.TableParts.{link_view}
 use Rattle.symbol_table.proofs.AbsentLemmas.{position_numbers, position_absent}
 use Rattle.symbol_table.proofs.AskedLemmas.{open_by_number, absent_sought}

@@ -1,11 +1,12 @@
 use Rattle.std.proofs.Common.{◌≡◌, ◌<◌, ◌-◌, ℕ, List, false, true, length, Some, inl, inr, sym, ap, ◌∙◌, arith}
 use Rattle.std.specs.Prelude.{option_map}
 use Rattle.std.proofs.lemmas.Bool.{cases_lt}
-use Rattle.symbol_table.specs.LinkView.{LinkView}
-use Rattle.symbol_table.specs.References.{all_asked, asked_at, is_open_at, named_at, open_from}
-use Rattle.symbol_table.specs.Interning.{NotesAsked}
+use Rattle.symbol_names.specs.LinkView.{LinkView}
+use Rattle.symbol_names.specs.References.{all_asked}
+use Rattle.symbol_table.specs.OpenNames.{asked_at, is_open_at, named_at, open_from}
+use Rattle.symbol_names.specs.Interning.{NotesAsked}
 use Rattle.symbol_table.specs.TableParts.{link_view}
-use Rattle.symbol_table.proofs.NumberLemmas.{number_within, one_name, zip_length}
+use Rattle.symbol_names.proofs.NumberLemmas.{number_within, one_name, zip_length}
 use Rattle.symbol_table.proofs.AskedLemmas.{asked_number, open_here, first_found, none_found}
 use Rattle.symbol_table.proofs.table.SymbolTable.open_from.Goals as goal
 

@@ -1,5 +1,5 @@
 use Rattle.std.proofs.Common.{◌≡◌, ◌<◌, ◌≤◌, ℕ, false}
-use Rattle.symbol_table.specs.References.{is_open_at}
+use Rattle.symbol_table.specs.OpenNames.{is_open_at}
 use Rattle.symbol_table.proofs.table.SymbolTable.open_from.Given as goal
 
 abbrev pub invariant-loop-at : goal.invariant-loop-at

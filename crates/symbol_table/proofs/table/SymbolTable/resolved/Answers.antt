@@ -2,10 +2,10 @@ use Rattle.std.proofs.Common.{◌<◌, List, Bool, length, map, sym, ap, subst, 
 use Rattle.std.specs.List.{All}
 use Rattle.std.specs.declared.vec.Vec.{Vec}
 use Rattle.std.specs.declared.alloc.Global.{Global}
-use Rattle.symbol_table.specs.declared.noted.ModuleNames.{ModuleNames}
-use Rattle.symbol_table.specs.declared.noted.NotedAlternate.{NotedAlternate}
+use Rattle.symbol_names.specs.declared.noted.ModuleNames.{ModuleNames}
+use Rattle.symbol_names.specs.declared.noted.NotedAlternate.{NotedAlternate}
 use Rattle.symbol_table.specs.Clash.{clash_of}
-use Rattle.symbol_table.specs.Passes.{rows_of, noted_view}
+use Rattle.symbol_names.specs.Kept.{rows_of, noted_view}
 use Rattle.symbol_table.specs.TableParts.{link_view}
 use Rattle.symbol_table.proofs.AlternateLemmas.{lefts_within}
 use Rattle.symbol_table.proofs.TableLemmas.{steps_below, steps_hold}

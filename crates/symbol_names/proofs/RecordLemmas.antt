@@ -1,0 +1,33 @@
+-- The symbols of a list have the names that the list says.
+use Rattle.std.proofs.Common.{ℕ, List, map, filter, Bool, refl}
+use Rattle.std.specs.List.{All}
+use Rattle.std.proofs.lemmas.List.Elements.{All-filter, All-map}
+use Rattle.coff_records.specs.ObjectFile.{SymbolEntry, symbol_entry, symbols_of, symbol_entries}
+use Rattle.module_view.specs.SymbolLists.{definition_of, defines, definitions_of, common_of, is_common, commons_of, weak_of, is_weak, weaks_of, reference_of, refers, references_of}
+use Rattle.symbol_names.specs.Interning.{IsNamedSo}
+
+named_among : {X : Type 0} (bytes : List ℕ) (P : X → Type 0) (list : SymbolEntry → X) (test : SymbolEntry → Bool) → ((symbol : ℕ) → P (list (symbol_entry bytes symbol))) → All P (map list (filter test (symbol_entries bytes)))
+named_among bytes P list test each =
+    All-map P list (filter test (symbol_entries bytes))
+    (All-filter test (λ entry. P (list entry)) (symbol_entries bytes)
+    (All-map (λ entry. P (list entry)) (symbol_entry bytes) (symbols_of bytes) (λ k d lt. each _)))
+
+pub definitions_named : (bytes : List ℕ) → All (λ definition. IsNamedSo bytes definition.symbol definition.name) (definitions_of bytes)
+unfolding definitions_of
+definitions_named bytes =
+    named_among bytes (λ definition. IsNamedSo bytes definition.symbol definition.name) definition_of defines (λ symbol. refl)
+
+pub commons_named : (bytes : List ℕ) → All (λ common. IsNamedSo bytes common.symbol common.name) (commons_of bytes)
+unfolding commons_of
+commons_named bytes =
+    named_among bytes (λ common. IsNamedSo bytes common.symbol common.name) common_of (λ entry. is_common entry.1) (λ symbol. refl)
+
+pub weaks_named : (bytes : List ℕ) → All (λ weak. IsNamedSo bytes weak.symbol weak.name) (weaks_of bytes)
+unfolding weaks_of
+weaks_named bytes =
+    named_among bytes (λ weak. IsNamedSo bytes weak.symbol weak.name) (weak_of bytes) (λ entry. is_weak entry.1) (λ symbol. refl)
+
+pub references_named : (bytes : List ℕ) → All (λ reference. IsNamedSo bytes reference.symbol reference.name) (references_of bytes)
+unfolding references_of
+references_named bytes =
+    named_among bytes (λ reference. IsNamedSo bytes reference.symbol reference.name) (reference_of bytes) refers (λ symbol. refl)

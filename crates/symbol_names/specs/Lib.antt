@@ -1,0 +1,7 @@
+pub mod Defaults
+pub mod LinkView
+pub mod Lists
+pub mod Alternates
+pub mod References
+pub mod Interning
+pub mod Kept

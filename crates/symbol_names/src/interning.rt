@@ -1,0 +1,50 @@
+//! How names get numbers.
+
+ghost use Rattle.std.specs.Prelude.{◌≡◌, ◌<◌, ℕ, List, length, IfOk, OnOk};
+ghost use Rattle.coff_records.specs.ObjectFile.{symbol_name_of};
+ghost use Rattle.symbol_names.specs.Interning.{NO_NUMBER, Numbers, KeepsNumbers, AreRecords};
+
+use crate::records::{NO_NUMBER, note_record};
+use indexmap::IndexSet;
+use link_base::{Memory, Name};
+
+/// The number of a name: its own, or the next one.
+pub(crate) fn number_of<'a>(names: &mut IndexSet<Name<'a>>, name: &Name<'a>) -> Result<u32, Memory>
+    ensures kept { KeepsNumbers names.old.keys names.new.keys }
+    ensures numbered { IfOk result (λ number. Numbers names.new.keys number name.now) }
+    ensures below { IfOk result (λ number. number < NO_NUMBER) }
+{
+    let (number, _) = names.insert_full(name.again())?;
+    if number >= NO_NUMBER as usize {
+        return Err(Memory);
+    }
+    Ok(number as u32)
+}
+
+/// The number of the name of a symbol, which is noted at its record.
+pub(crate) fn number_symbol<'a>(
+    names: &mut IndexSet<Name<'a>>,
+    records: &mut Vec<u32>,
+    symbol: u32,
+    name: &Name<'a>,
+) -> Result<u32, Memory>
+    ensures kept { KeepsNumbers names.old.keys names.new.keys }
+    ensures numbered { IfOk result (λ number. Numbers names.new.keys number name.now) }
+    ensures records { OnOk result ((bytes : List ℕ) → name.now ≡ symbol_name_of bytes symbol
+        → AreRecords names.old.keys bytes records.old.items → AreRecords names.new.keys bytes records.new.items) }
+{
+    let number = number_of(names, name)?;
+    note_record(records, symbol, number);
+    Ok(number)
+}
+
+/// The name of a number.
+pub fn name_at<'a>(names: &IndexSet<Name<'a>>, number: usize) -> Name<'a>
+    requires { number < length names.now.keys }
+    ensures { Numbers names.now.keys number result }
+{
+    match names.get_index(number) {
+        Some(name) => name.again(),
+        None => unreachable!(),
+    }
+}
