@@ -25,6 +25,7 @@ pub fn note_lists<'a>(
     ensures kept { KeepsNumbers names.old.keys names.new.keys }
     ensures noted { IfOk result (NotesLists names.new.keys «module».now.bytes) }
 {
+    reserve_names(names, module)?;
     let alternates = note_directives(alloc, names, module.directives())?;
     let mut records = no_records(alloc, record_count(module))?;
     let definitions = note_definitions(alloc, names, &mut records, module.definitions())?;
@@ -39,6 +40,18 @@ pub fn note_lists<'a>(
         records,
         asked,
     })
+}
+
+/// Room for the names that a module defines and asks for.
+fn reserve_names<'a>(names: &mut IndexSet<Name<'a>>, module: &Module<'a>) -> Result<(), Memory>
+    ensures { names.new.keys ≡ names.old.keys }
+{
+    let most = module
+        .definitions()
+        .len()
+        .saturating_add(module.references().len());
+    names.reserve(most)?;
+    Ok(())
 }
 
 /// How many symbol records a module has.

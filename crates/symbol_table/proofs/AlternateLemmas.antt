@@ -1,19 +1,21 @@
 -- One more alternate: the first of its name.
-use Rattle.std.proofs.Common.{◌≡◌, ℕ, ◌<◌, Bool, true, false, nat_eq, List, [], ◌∷◌, ◌++◌, length, get_or, replicate, Option, Some, None, refl, sym, ap, subst, ◌∙◌, eqb-true, arith}
+use Rattle.std.proofs.Common.{◌≡◌, ℕ, ◌<◌, Bool, true, false, nat_eq, List, [], ◌∷◌, ◌++◌, length, map, get_or, replicate, Option, Some, None, refl, sym, ap, subst, ◌∙◌, eqb-true, arith}
 use Rattle.std.proofs.Math.ListN.{set}
 use Rattle.std.specs.Prelude.{is_some}
 use Rattle.std.specs.Option.{option_or}
 use Rattle.std.proofs.lemmas.List.{length-replicate}
-use Rattle.std.specs.List.{find, All, AllZip, IsDistinct}
+use Rattle.std.specs.List.{find, list_any, All, AllZip, IsDistinct}
 use Rattle.link_base.specs.NameText.{same_name}
 use Rattle.link_base.proofs.RefusalLemmas.{or_none}
 use Rattle.symbol_names.specs.declared.noted.NotedAlternate.{NotedAlternate}
-use Rattle.symbol_names.specs.Alternates.{is_left}
+use Rattle.symbol_names.specs.Alternates.{is_left, alternates_by}
+use Rattle.symbol_names.specs.Lists.{of_all}
+use Rattle.symbol_names.specs.Kept.{noted_view}
 use Rattle.symbol_names.specs.declared.noted.ModuleNames.{ModuleNames}
 use Rattle.symbol_names.specs.Interning.{Numbers, NotesAlternate, NotesModule}
-use Rattle.symbol_table.specs.Passes.{KeepsAlternate, AreAlternates}
+use Rattle.symbol_table.specs.Passes.{KeepsAlternate, has_alternates, TellsAlternates, AreAlternates}
 use Rattle.symbol_names.proofs.NumberLemmas.{number_within, same_number, zip_at, zip_length}
-use Rattle.symbol_table.proofs.PassLemmas.{none_at, find_last, Changed, changed_set, changed_not}
+use Rattle.symbol_table.proofs.PassLemmas.{none_at, find_last, Changed, changed_set, changed_not, none_of_all, zip_none, none_kept, any_false, noted_at}
 
 alternates_more : (names : List (List ℕ)) (earlier : List (List ℕ × List ℕ)) (entry : List ℕ × List ℕ) (n : ℕ) (old new : List (Option ℕ)) (y : Option ℕ) → IsDistinct same_name names → Numbers names n entry.0 → AreAlternates names earlier old → Changed old new n y → ((found : Option (List ℕ × List ℕ)) → KeepsAlternate names found (get_or old n None) → KeepsAlternate names (option_or found (Some entry)) y) → AreAlternates names (earlier ++ entry ∷ []) new
 alternates_more names earlier entry n old new y distinct named was changed more = record {
@@ -80,6 +82,12 @@ no_alternates names n alternates is count = record {
   first = λ m other named. ap (λ (l : List (Option ℕ)). get_or l m None) is ∙ none_at None n m refl;
 }
 
--- what is noted of the module at an index
-pub noted_at : (names : List (List ℕ)) (modules : List ModuleNames) (i : ℕ) (m : ModuleNames) → All (NotesModule names) modules → i < length modules → m ≡ get_or modules i m → NotesModule names m
-noted_at names modules i m all lt is = subst (NotesModule names) (sym is) (all i m lt)
+-- no one gives an alternate
+pub none_given : (names : List (List ℕ)) (kept : List ModuleNames) (given : List NotedAlternate) (alternates : List (Option ℕ)) → All (NotesModule names) kept → given ≡ [] → list_any has_alternates kept ≡ false → alternates ≡ [] → (pairs : List (List ℕ × List ℕ)) → AllZip (NotesAlternate names) pairs given → TellsAlternates names (pairs ++ of_all alternates_by (map noted_view kept)) alternates
+none_given names kept given alternates noted no_words none empty pairs zipped =
+    subst (TellsAlternates names (pairs ++ of_all alternates_by (map noted_view kept))) (sym empty)
+    (subst (λ (es : List (List ℕ × List ℕ)). TellsAlternates names (es ++ of_all alternates_by (map noted_view kept)) []) (sym (zip_none (NotesAlternate names) pairs given no_words zipped))
+    (subst (λ (es : List (List ℕ × List ℕ)). TellsAlternates names es []) (sym nothing) (λ number name numbered. refl)))
+  where
+    nothing : of_all alternates_by (map noted_view kept) ≡ []
+    nothing = none_of_all alternates_by kept (λ k m lt is. zip_none (NotesAlternate names) (alternates_by k m.bytes.now) m.alternates.items (none_kept m.alternates.items (any_false has_alternates kept k m none lt is)) (noted_at names kept k m noted lt is).alternates)

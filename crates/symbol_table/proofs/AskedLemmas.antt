@@ -22,8 +22,7 @@ use Rattle.symbol_names.specs.Kept.{noted_view}
 use Rattle.symbol_table.specs.AskedParts.{names_definition, names_common, seeks, kept_definitions, kept_commons, flag_of}
 use Rattle.symbol_table.specs.TableParts.{link_view, KeepsTable}
 use Rattle.symbol_names.proofs.NumberLemmas.{same_number, zip_at, zip_length}
-use Rattle.symbol_table.proofs.PassLemmas.{of_first, of_first_more, of_first_all}
-use Rattle.symbol_table.proofs.AlternateLemmas.{noted_at}
+use Rattle.symbol_table.proofs.PassLemmas.{item_at, noted_at, of_first, of_first_more, of_first_all}
 use Rattle.symbol_table.proofs.AbsentLemmas.{Absent, differs, zip_left, no_definition, no_common}
 
 -- ---- lists side by side
@@ -38,11 +37,6 @@ any_beside R p q (x ∷ xs) (y ∷ ys) same h =
 any_mapped : {A B : Type 0} (p : B → Bool) (f : A → B) (xs : List A) → list_any p (map f xs) ≡ list_any (λ x. p (f x)) xs
 any_mapped p f [] = refl
 any_mapped p f (x ∷ xs) = ap (λ (b : Bool). p (f x) || b) (any_mapped p f xs)
-
-item_at : {A : Type 0} (xs : List A) (i : ℕ) → i < length xs → (x : A) × (x ≡ get_or xs i x)
-item_at [] i lt = absurd (omega arith)
-item_at (x ∷ xs) zero lt = (x, refl)
-item_at (x ∷ xs) (suc i) lt = item_at xs i (omega arith)
 
 -- the lists of all modules beside what is kept of each
 module _ {A B : Type 0} (list : ℕ → List ℕ → List A) (pick : ModuleNames → List B) (p : A → Bool) (q : B → Bool) (kept : List ModuleNames) (each : (k : ℕ) (m : ModuleNames) → k < length kept → m ≡ get_or kept k m → list_any p (list k m.bytes.now) ≡ list_any q (pick m)) where

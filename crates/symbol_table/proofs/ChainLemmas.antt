@@ -1,5 +1,5 @@
 -- Chains of links: a part that was followed has one end, and a chain that comes back to itself has none.
-use Rattle.std.proofs.Common.{◌≡◌, ◌≢◌, ℕ, zero, suc, ◌<◌, Bool, true, false, cond, ◌||◌, ◌⊎◌, nat_eq, List, [], ◌∷◌, ◌++◌, length, set, Option, None, Some, is_some, Result, Err, refl, sym, ap, ◌∙◌, subst, inl, inr, arith}
+use Rattle.std.proofs.Common.{◌≡◌, ◌≢◌, ℕ, zero, suc, ◌+◌, ◌<◌, Bool, true, false, cond, ◌||◌, ◌⊎◌, nat_eq, List, [], ◌∷◌, ◌++◌, length, set, Option, None, Some, is_some, Result, Err, refl, sym, ap, ◌∙◌, subst, inl, inr, arith}
 use Rattle.std.specs.List.{All, list_any, count_by}
 use Rattle.std.proofs.Math.ListN.{length-set}
 use Rattle.std.proofs.lemmas.Bool.{false≢true, eqb-true, eq-eqb, cases_eq, or_cases, or_parts, or_left, or_right}
@@ -290,6 +290,61 @@ below_again start now after path number at end below is long noted = λ one d le
     go : (one : ℕ) → one < length start → (b : Bool) → list_any (nat_eq one) path ≡ b → LeadsBelow (length start) (link_at after one)
     go one less true on = subst (LeadsBelow (length start)) (sym (whole.on one on)) tt
     go one less false off = subst (LeadsBelow (length start)) (sym (whole.off one off)) (below one no_link less)
+
+-- what has an end keeps one, and so does the number that the path starts at
+pub still_ends : (start now after : List Link) (path : List ℕ) (number at : ℕ) (end : Result Meaning NoMeaning) → IsPath start now path number at → AreEnded path end now after → (one : ℕ) → next_of (link_at start one) ≡ None → next_of (link_at after one) ≡ None
+still_ends start now after path number at end is noted one none = go (list_any (nat_eq one) path) refl
+  where
+    whole : AreEnded path end start after
+    whole = ended_again path cycle end start now after is.ended noted
+
+    go : (b : Bool) → list_any (nat_eq one) path ≡ b → next_of (link_at after one) ≡ None
+    go true on = ap next_of (whole.on one on)
+    go false off = ap next_of (whole.off one off) ∙ none
+
+pub first_ends : (start now after : List Link) (path : List ℕ) (number at : ℕ) (end : Result Meaning NoMeaning) → IsPath start now path number at → next_of (link_at now at) ≡ None → AreEnded path end now after → next_of (link_at after number) ≡ None
+first_ends start now after path number at end is none noted = go path is.along noted
+  where
+    go : (path : List ℕ) → LeadAlong start number path at → AreEnded path end now after → next_of (link_at after number) ≡ None
+    go [] along ended = ap next_of (ended.off number refl ∙ ap (link_at now) along) ∙ none
+    go (first ∷ rest) along ended = ap next_of (ended.on number (or_left (nat_eq number first) _ (eq-eqb number first along.0)))
+
+-- where a link leads nowhere, its end is what the name means
+pub known_end : (view : LinkView) (chosen : List (List Bool)) (names : List (List ℕ)) (links : List Link) (number : ℕ) (name : List ℕ) → AreKnown view chosen names links → Numbers names number name → next_of (link_at links number) ≡ None → Settles view chosen name (end_of (link_at links number))
+known_end view chosen names links number name known numbered none =
+    ends_known view chosen names links number (end_of (link_at links number)) name known numbered (ends_with (link_at links number) none)
+
+-- ---- the chains of the names below a number are followed
+
+pub record AreSettled (start now : List Link) (count : ℕ) : Type 0 where
+  pub long : length now ≡ length start
+  pub below : All (LeadsBelow (length start)) now
+  pub known : (view : LinkView) (chosen : List (List Bool)) (names : List (List ℕ)) → AreKnown view chosen names start → AreKnown view chosen names now
+  pub done : (number : ℕ) → number < count → next_of (link_at now number) ≡ None
+
+-- one chain more
+pub settled_more : (start now after : List Link) (number : ℕ) → AreSettled start now number → length after ≡ length now → All (LeadsBelow (length now)) after → ((view : LinkView) (chosen : List (List Bool)) (names : List (List ℕ)) → AreKnown view chosen names now → AreKnown view chosen names after) → next_of (link_at after number) ≡ None → ((other : ℕ) → next_of (link_at now other) ≡ None → next_of (link_at after other) ≡ None) → AreSettled start after (number + 1)
+settled_more start now after number is long below known ended stay = record {
+  long = long ∙ is.long;
+  below = subst (λ (n : ℕ). All (LeadsBelow n) after) is.long below;
+  known = λ view chosen names begun. known view chosen names (is.known view chosen names begun);
+  done = λ other less. elim (cases_eq other number) [
+    | inl here ↦ subst (λ (k : ℕ). next_of (link_at after k) ≡ None) (sym here) ended
+    | inr apart ↦ stay other (is.done other (omega (arith, less, apart)))
+  ];
+}
+
+-- a name that leads to no other
+pub settled_same : (start now : List Link) (number : ℕ) → AreSettled start now number → next_of (link_at now number) ≡ None → AreSettled start now (number + 1)
+settled_same start now number is none = record {
+  long = is.long;
+  below = is.below;
+  known = is.known;
+  done = λ other less. elim (cases_eq other number) [
+    | inl here ↦ subst (λ (k : ℕ). next_of (link_at now k) ≡ None) (sym here) none
+    | inr apart ↦ is.done other (omega (arith, less, apart))
+  ];
+}
 
 -- ---- the steps of names are known
 

@@ -1,9 +1,9 @@
 -- One more common: the greatest of its name.
-use Rattle.std.proofs.Common.{◌≡◌, ℕ, ◌<◌, Bool, true, false, cond, nat_eq, nat_lt, List, [], ◌∷◌, ◌++◌, length, get_or, replicate, Option, Some, None, inl, inr, refl, sym, ap, subst, ◌∙◌, eqb-true, arith}
+use Rattle.std.proofs.Common.{◌≡◌, ℕ, ◌<◌, Bool, true, false, cond, nat_eq, nat_lt, List, [], ◌∷◌, ◌++◌, length, map, get_or, replicate, Option, Some, None, inl, inr, refl, sym, ap, subst, ◌∙◌, eqb-true, arith}
 use Rattle.std.proofs.Math.ListN.{set}
 use Rattle.std.specs.Prelude.{option_map, filter, nat_le, is_some, ◌&&◌}
 use Rattle.std.specs.Option.{option_or}
-use Rattle.std.specs.List.{find, list_all, AllZip, IsDistinct}
+use Rattle.std.specs.List.{find, list_all, list_any, All, AllZip, IsDistinct}
 use Rattle.std.proofs.lemmas.Bool.{true≢false, ltb-true, ltb-false, le-leb, leb-true, lt-leb, and_from, and_left, and_right, cases_lt}
 use Rattle.std.proofs.lemmas.Option.{same_Some}
 use Rattle.std.proofs.lemmas.List.{length-replicate, append-nil}
@@ -12,12 +12,15 @@ use Rattle.link_base.specs.NameText.{same_name}
 use Rattle.module_view.specs.declared.definition.Common.{Common}
 use Rattle.symbol_names.specs.declared.noted.NotedCommon.{NotedCommon}
 use Rattle.symbol_table.specs.declared.greatest.GreatestCommon.{GreatestCommon}
-use Rattle.symbol_names.specs.Lists.{Offered, offered, offers}
+use Rattle.symbol_names.specs.Lists.{Offered, offered, offered_by, all_commons, offers}
+use Rattle.symbol_names.specs.Kept.{noted_view}
+use Rattle.symbol_names.specs.declared.noted.ModuleNames.{ModuleNames}
+use Rattle.module_view.specs.SymbolLists.{commons_of}
 use Rattle.symbol_table.specs.Resolution.{is_at_most, is_greatest, greatest_of}
-use Rattle.symbol_names.specs.Interning.{Numbers, NotesCommon}
-use Rattle.symbol_table.specs.Passes.{common_kept, is_greater, AreGreatest}
+use Rattle.symbol_names.specs.Interning.{Numbers, NotesCommon, NotesModule}
+use Rattle.symbol_table.specs.Passes.{common_kept, is_greater, has_commons, TellsGreatest, AreGreatest}
 use Rattle.symbol_names.proofs.NumberLemmas.{number_within, same_number, zip_at, zip_length}
-use Rattle.symbol_table.proofs.PassLemmas.{none_at, filter_last, Changed, changed_set, changed_not}
+use Rattle.symbol_table.proofs.PassLemmas.{none_at, filter_last, Changed, changed_set, changed_not, none_of_all, zip_none, none_kept, any_false, noted_at}
 
 -- ---- what is found in a list
 
@@ -217,3 +220,12 @@ no_commons names n commons is count = record {
   long = ap length is ∙ length-replicate n None ∙ count;
   greatest = λ m other named. ap (λ (l : List (Option GreatestCommon)). get_or l m None) is ∙ none_at None n m refl;
 }
+
+-- no module shares a name
+pub none_shared : (names : List (List ℕ)) (kept : List ModuleNames) (commons : List (Option GreatestCommon)) → All (NotesModule names) kept → list_any has_commons kept ≡ false → commons ≡ [] → TellsGreatest names (all_commons (map noted_view kept)) commons
+none_shared names kept commons noted none empty =
+    subst (TellsGreatest names (all_commons (map noted_view kept))) (sym empty)
+    (subst (λ (es : List Offered). TellsGreatest names es []) (sym nothing) (λ number name numbered. refl))
+  where
+    nothing : all_commons (map noted_view kept) ≡ []
+    nothing = none_of_all offered_by kept (λ k m lt is. ap (map (offered k)) (zip_none (NotesCommon names) (commons_of m.bytes.now) m.commons.items (none_kept m.commons.items (any_false has_commons kept k m none lt is)) (noted_at names kept k m noted lt is).commons))

@@ -1,10 +1,10 @@
 -- One more of a list: what is found in it, what stands at its number, and one more module.
-use Rattle.std.proofs.Common.{◌⊎◌, inl, inr, ◌≡◌, ℕ, zero, suc, ◌+◌, ◌<◌, ◌≤◌, Bool, false, cond, nat_eq, List, [], ◌∷◌, ◌++◌, length, map, take, get_or, replicate, Option, Some, None, refl, sym, ap, ◌∙◌, append_assoc, arith}
+use Rattle.std.proofs.Common.{◌⊎◌, inl, inr, ◌≡◌, ℕ, zero, suc, ◌+◌, ◌<◌, ◌≤◌, Bool, false, cond, nat_eq, List, [], ◌∷◌, ◌++◌, length, map, take, get_or, replicate, Option, Some, None, refl, sym, ap, subst, ◌∙◌, add-one, append_assoc, arith}
 use Rattle.std.proofs.Math.ListN.{set}
-use Rattle.std.specs.Prelude.{option_map, filter, is_some}
+use Rattle.std.specs.Prelude.{option_map, filter, is_some, not, ◌==◌}
 use Rattle.std.specs.Option.{option_or}
-use Rattle.std.specs.List.{find, flat_map, range_with_len}
-use Rattle.std.proofs.lemmas.Bool.{eqb-false}
+use Rattle.std.specs.List.{find, list_any, flat_map, range_with_len, All, AllZip}
+use Rattle.std.proofs.lemmas.Bool.{true≢false, eqb-false, ne_eqb, or_parts}
 use Rattle.std.proofs.lemmas.List.{map-append, take_more, length-map, length-append, length-set, get_or-map, get_or-set_same, get_or-set_other, get_or_append_left, get_or_push}
 use Rattle.std.proofs.lemmas.List.Folds.{find-append}
 use Rattle.std.proofs.lemmas.List.Elements.{filter-append}
@@ -12,6 +12,7 @@ use Rattle.link_base.proofs.RangeLemmas.{joined_more}
 use Rattle.module_view.specs.Module.{ModuleView, no_module, module_at}
 use Rattle.symbol_names.specs.declared.noted.ModuleNames.{ModuleNames}
 use Rattle.symbol_names.specs.Lists.{of_all}
+use Rattle.symbol_names.specs.Interning.{NotesModule}
 use Rattle.symbol_names.specs.Kept.{noted_view}
 
 -- ---- the first of two
@@ -109,3 +110,43 @@ of_all_push {A} list modules m =
     (ap (λ (vs : List ModuleView). module_at vs k) (map-append noted_view modules (m ∷ []))
     ∙ get_or_append_left (map noted_view modules) (map noted_view (m ∷ [])) no_module k (omega (arith, high, length-map modules noted_view))))
     ∙ of_first_all list modules n refl)
+
+-- what is noted of the module at an index
+pub noted_at : (names : List (List ℕ)) (modules : List ModuleNames) (i : ℕ) (m : ModuleNames) → All (NotesModule names) modules → i < length modules → m ≡ get_or modules i m → NotesModule names m
+noted_at names modules i m all lt is = subst (NotesModule names) (sym is) (all i m lt)
+
+-- ---- no module has any
+
+pub item_at : {A : Type 0} (xs : List A) (i : ℕ) → i < length xs → (x : A) × (x ≡ get_or xs i x)
+item_at [] i lt = absurd (omega arith)
+item_at (x ∷ xs) zero lt = (x, refl)
+item_at (x ∷ xs) (suc i) lt = item_at xs i (omega arith)
+
+pub any_false : {A : Type 0} (p : A → Bool) (xs : List A) (i : ℕ) (x : A) → list_any p xs ≡ false → i < length xs → x ≡ get_or xs i x → p x ≡ false
+any_false p [] i x none lt is = absurd (omega arith)
+any_false p (y ∷ ys) zero x none lt is = ap p is ∙ (or_parts _ _ none).0
+any_false p (y ∷ ys) (suc i) x none lt is = any_false p ys i x (or_parts _ _ none).1 (omega arith) is
+
+pub none_kept : {A : Type 0} (xs : List A) → not (length xs == 0) ≡ false → xs ≡ []
+none_kept [] e = refl
+none_kept (x ∷ xs) e = absurd (true≢false (sym (ap not (ne_eqb (length (x ∷ xs)) 0 (λ e. omega (arith, e)))) ∙ e))
+
+pub zip_none : {A B : Type 0} (R : A → B → Type 0) (xs : List A) (ys : List B) → ys ≡ [] → AllZip R xs ys → xs ≡ []
+zip_none R [] ys empty h = refl
+zip_none R (x ∷ xs) ys empty h = absurd (subst (AllZip R (x ∷ xs)) empty h)
+
+-- lists of modules that are all empty, joined
+pub none_of_all : {A : Type 0} (list : ℕ → List ℕ → List A) (kept : List ModuleNames) → ((k : ℕ) (m : ModuleNames) → k < length kept → m ≡ get_or kept k m → list k m.bytes.now ≡ []) → of_all list (map noted_view kept) ≡ []
+none_of_all {A} list kept each = sym (of_first_all list kept (length kept) refl) ∙ none_first (length kept) (omega arith)
+  where
+    none_first : (n : ℕ) → n ≤ length kept → of_first list (map noted_view kept) n ≡ []
+    none_first zero le = refl
+    none_first (suc n) le =
+        let item = item_at kept n (omega arith) in
+        let m : ModuleNames = item.0 in
+        let is : m ≡ get_or kept n m = item.1 in
+        let lt : n < length kept = omega arith in
+        ap (λ (k : ℕ). of_first list (map noted_view kept) k) (sym (add-one n))
+        ∙ of_first_more list kept n m lt is
+        ∙ ap (λ (ys : List A). ys ++ list n m.bytes.now) (none_first n (omega arith))
+        ∙ each n m lt is

@@ -1,20 +1,23 @@
 -- One more weak external: the first of its name.
-use Rattle.std.proofs.Common.{◌≡◌, ℕ, ◌<◌, Bool, true, false, nat_eq, List, [], ◌∷◌, ◌++◌, length, get_or, replicate, Option, Some, None, refl, sym, ap, subst, ◌∙◌, eqb-true, arith}
+use Rattle.std.proofs.Common.{◌≡◌, ℕ, ◌<◌, Bool, true, false, nat_eq, List, [], ◌∷◌, ◌++◌, length, map, get_or, replicate, Option, Some, None, refl, sym, ap, subst, ◌∙◌, eqb-true, arith}
 use Rattle.std.proofs.Math.ListN.{set}
 use Rattle.std.specs.Prelude.{is_some}
 use Rattle.std.specs.Option.{option_or}
 use Rattle.std.proofs.lemmas.List.{length-replicate}
-use Rattle.std.specs.List.{find, AllZip, IsDistinct}
+use Rattle.std.specs.List.{find, list_any, All, AllZip, IsDistinct}
 use Rattle.link_base.specs.NameText.{same_name}
 use Rattle.link_base.proofs.RefusalLemmas.{or_none}
 use Rattle.module_view.specs.declared.reference.Weak.{Weak}
 use Rattle.symbol_names.specs.declared.noted.NotedWeak.{NotedWeak}
 use Rattle.symbol_table.specs.declared.first_weak.FirstWeak.{FirstWeak}
-use Rattle.symbol_names.specs.Lists.{Said, said, says}
-use Rattle.symbol_names.specs.Interning.{Numbers, NotesWeak}
-use Rattle.symbol_table.specs.Passes.{KeepsSaid, KeepsWeak, AreWeaks}
+use Rattle.symbol_names.specs.Lists.{Said, said, said_by, all_weaks, says}
+use Rattle.symbol_names.specs.Kept.{noted_view}
+use Rattle.symbol_names.specs.declared.noted.ModuleNames.{ModuleNames}
+use Rattle.module_view.specs.SymbolLists.{weaks_of}
+use Rattle.symbol_names.specs.Interning.{Numbers, NotesWeak, NotesModule}
+use Rattle.symbol_table.specs.Passes.{KeepsSaid, KeepsWeak, has_weaks, TellsWeaks, AreWeaks}
 use Rattle.symbol_names.proofs.NumberLemmas.{number_within, same_number, zip_at, zip_length}
-use Rattle.symbol_table.proofs.PassLemmas.{none_at, find_last, Changed, changed_set, changed_not}
+use Rattle.symbol_table.proofs.PassLemmas.{none_at, find_last, Changed, changed_set, changed_not, none_of_all, zip_none, none_kept, any_false, noted_at}
 
 weaks_more : (names : List (List ℕ)) (earlier : List Said) (entry : Said) (n : ℕ) (old new : List (Option FirstWeak)) (y : Option FirstWeak) → IsDistinct same_name names → Numbers names n entry.name → AreWeaks names earlier old → Changed old new n y → ((found : Option Said) → KeepsWeak names found (get_or old n None) → KeepsWeak names (option_or found (Some entry)) y) → AreWeaks names (earlier ++ entry ∷ []) new
 weaks_more names earlier entry n old new y distinct named was changed more = record {
@@ -86,3 +89,12 @@ no_weaks names n weaks is count = record {
   long = ap length is ∙ length-replicate n None ∙ count;
   first = λ m other named. ap (λ (l : List (Option FirstWeak)). get_or l m None) is ∙ none_at None n m refl;
 }
+
+-- no module has one
+pub none_said : (names : List (List ℕ)) (kept : List ModuleNames) (weaks : List (Option FirstWeak)) → All (NotesModule names) kept → list_any has_weaks kept ≡ false → weaks ≡ [] → TellsWeaks names (all_weaks (map noted_view kept)) weaks
+none_said names kept weaks noted none empty =
+    subst (TellsWeaks names (all_weaks (map noted_view kept))) (sym empty)
+    (subst (λ (es : List Said). TellsWeaks names es []) (sym nothing) (λ number name numbered. refl))
+  where
+    nothing : all_weaks (map noted_view kept) ≡ []
+    nothing = none_of_all said_by kept (λ k m lt is. ap (map (said k m.bytes.now)) (zip_none (NotesWeak names m.bytes.now) (weaks_of m.bytes.now) m.weaks.items (none_kept m.weaks.items (any_false has_weaks kept k m none lt is)) (noted_at names kept k m noted lt is).weaks))

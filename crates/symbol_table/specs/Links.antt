@@ -69,7 +69,7 @@ pub record AreEnded (path : List ℕ) (end : Result Meaning NoMeaning) (before a
   pub on : (number : ℕ) → list_any (nat_eq number) path ≡ true → link_at after number ≡ link.Ends end
   pub off : (number : ℕ) → list_any (nat_eq number) path ≡ false → link_at after number ≡ link_at before number
 
--- the ends of the chains of all names
-pub record AreMeanings (view : LinkView) (chosen : List (List Bool)) (names : List (List ℕ)) (meanings : List (Result Meaning NoMeaning)) : Type 0 where
-  pub long : length meanings ≡ length names
-  pub each : (number : ℕ) (name : List ℕ) → Numbers names number name → Settles view chosen name (slice_index_or meanings number (Err Undefined))
+-- the links say the ends of the chains of all names
+pub record AreMeanings (view : LinkView) (chosen : List (List Bool)) (names : List (List ℕ)) (links : List Link) : Type 0 where
+  pub long : length links ≡ length names
+  pub each : (number : ℕ) (name : List ℕ) → Numbers names number name → Settles view chosen name (end_of (link_at links number))

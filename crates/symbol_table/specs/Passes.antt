@@ -1,6 +1,7 @@
 -- What the passes over a table say of each name, by its number. Own.
-use Rattle.std.specs.Prelude.{◌≡◌, ℕ, Bool, true, nat_lt, List, length, filter, slice_index_or, Option, Some, None, option_map}
+use Rattle.std.specs.Prelude.{◌≡◌, ℕ, Bool, true, not, ◌==◌, nat_lt, List, length, filter, slice_index_or, Option, Some, None, option_map}
 use Rattle.std.specs.List.{find}
+use Rattle.symbol_names.specs.declared.noted.ModuleNames.{ModuleNames}
 use Rattle.symbol_table.specs.declared.lives.FirstLive.{FirstLive}
 use Rattle.symbol_table.specs.declared.greatest.GreatestCommon.{GreatestCommon}
 use Rattle.symbol_table.specs.declared.first_weak.FirstWeak.{FirstWeak}
@@ -49,11 +50,18 @@ abbrev pub is_greater : ℕ → Option GreatestCommon → Bool
 is_greater size None = true
 is_greater size (Some common) = nat_lt common.size size
 
--- the greatest of these commons that has a name
+-- the greatest of these commons that has a name; a number behind the end of the list has none
+abbrev pub TellsGreatest : List (List ℕ) → List Offered → List (Option GreatestCommon) → Type 0
+TellsGreatest names entries commons =
+    (number : ℕ) (name : List ℕ) → Numbers names number name → slice_index_or commons number None ≡ option_map common_kept (greatest_of (filter (offers name) entries))
+
 pub record AreGreatest (names : List (List ℕ)) (entries : List Offered) (commons : List (Option GreatestCommon)) : Type 0 where
   pub long : length commons ≡ length names
-  pub greatest :
-      (number : ℕ) (name : List ℕ) → Numbers names number name → slice_index_or commons number None ≡ option_map common_kept (greatest_of (filter (offers name) entries))
+  pub greatest : TellsGreatest names entries commons
+
+-- a module shares names
+abbrev pub has_commons : ModuleNames → Bool
+has_commons kept = not (length kept.commons.items == 0)
 
 -- ---- weak externals
 
@@ -66,11 +74,18 @@ KeepsWeak names None weak = weak ≡ None
 KeepsWeak names (Some entry) (Some weak) = KeepsSaid names entry weak
 KeepsWeak names (Some entry) None = ⊥
 
--- the first of these weak externals that has a name
+-- the first of these weak externals that has a name; a number behind the end of the list has none
+abbrev pub TellsWeaks : List (List ℕ) → List Said → List (Option FirstWeak) → Type 0
+TellsWeaks names entries weaks =
+    (number : ℕ) (name : List ℕ) → Numbers names number name → KeepsWeak names (find (says name) entries) (slice_index_or weaks number None)
+
 pub record AreWeaks (names : List (List ℕ)) (entries : List Said) (weaks : List (Option FirstWeak)) : Type 0 where
   pub long : length weaks ≡ length names
-  pub first :
-      (number : ℕ) (name : List ℕ) → Numbers names number name → KeepsWeak names (find (says name) entries) (slice_index_or weaks number None)
+  pub first : TellsWeaks names entries weaks
+
+-- a module says names weakly
+abbrev pub has_weaks : ModuleNames → Bool
+has_weaks kept = not (length kept.weaks.items == 0)
 
 -- ---- alternates
 
@@ -79,8 +94,15 @@ KeepsAlternate names None number = number ≡ None
 KeepsAlternate names (Some pair) (Some number) = Numbers names number pair.1
 KeepsAlternate names (Some pair) None = ⊥
 
--- the first of these alternates that has a name on its left
+-- the first of these alternates that has a name on its left; a number behind the end of the list has none
+abbrev pub TellsAlternates : List (List ℕ) → List (List ℕ × List ℕ) → List (Option ℕ) → Type 0
+TellsAlternates names entries alternates =
+    (number : ℕ) (name : List ℕ) → Numbers names number name → KeepsAlternate names (find (is_left name) entries) (slice_index_or alternates number None)
+
 pub record AreAlternates (names : List (List ℕ)) (entries : List (List ℕ × List ℕ)) (alternates : List (Option ℕ)) : Type 0 where
   pub long : length alternates ≡ length names
-  pub first :
-      (number : ℕ) (name : List ℕ) → Numbers names number name → KeepsAlternate names (find (is_left name) entries) (slice_index_or alternates number None)
+  pub first : TellsAlternates names entries alternates
+
+-- a module gives alternates
+abbrev pub has_alternates : ModuleNames → Bool
+has_alternates kept = not (length kept.alternates.items == 0)

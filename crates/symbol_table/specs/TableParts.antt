@@ -1,11 +1,10 @@
 -- What a table of names keeps of the modules that were added, and of what their names mean. Own.
-use Rattle.std.specs.Prelude.{◌≡◌, ◌≤◌, ℕ, Bool, List, length, map, Option, Result}
+use Rattle.std.specs.Prelude.{◌≡◌, ◌≤◌, ℕ, Bool, List, length, map, Option}
 use Rattle.std.specs.List.{All, AllZip, IsDistinct}
 use Rattle.link_base.specs.Limits.{MODULE_LIMIT}
 use Rattle.link_base.specs.NameText.{same_name}
 use Rattle.module_view.specs.Opening.{IsOpened}
-use Rattle.symbol_table.specs.declared.meaning.Meaning.{Meaning}
-use Rattle.symbol_table.specs.declared.meaning.NoMeaning.{NoMeaning}
+use Rattle.symbol_table.specs.declared.link.Link.{Link}
 use Rattle.symbol_table.specs.declared.meaning.Clash.{Clash}
 use Rattle.symbol_table.specs.declared.asked.AskedNames.{AskedNames}
 use Rattle.symbol_names.specs.declared.given.GivenNames.{GivenNames}
@@ -40,7 +39,7 @@ pub record ResolvedView : Type 0 where
   pub link : LinkView
   pub chosen : List (List Bool)
 
-pub record KeepsMeanings (names : List (List ℕ)) (given : GivenNames) (kept : List ModuleNames) (chosen : List (List Bool)) (meanings : List (Result Meaning NoMeaning)) (clash : Option Clash) : Type 0 where
+pub record KeepsMeanings (names : List (List ℕ)) (given : GivenNames) (kept : List ModuleNames) (chosen : List (List Bool)) (links : List Link) (clash : Option Clash) : Type 0 where
   pub whole : KeepsLink names given kept
-  pub meant : AreMeanings (link_view given kept) chosen names meanings
+  pub meant : AreMeanings (link_view given kept) chosen names links
   pub clash_is : clash ≡ clash_of (map noted_view kept) chosen

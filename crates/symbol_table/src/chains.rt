@@ -1,48 +1,41 @@
 //! How chains of names end, each part of a chain followed once.
 
-ghost use Rattle.std.specs.Prelude.{◌≡◌, ◌<◌, ℕ, Bool, List, length, IfOk, OnOk};
+ghost use Rattle.std.specs.Prelude.{◌≡◌, ◌<◌, ℕ, Bool, List, None, length, OnOk};
 ghost use Rattle.std.specs.List.{All};
 ghost use Rattle.symbol_names.specs.LinkView.{LinkView};
-ghost use Rattle.symbol_names.specs.Interning.{Numbers};
-ghost use Rattle.symbol_table.specs.Links.{link_at, next_of, end_of, LeadsBelow, AreSteps, Settles, AreKnown, AreMeanings, AreEnded};
+ghost use Rattle.symbol_table.specs.Links.{link_at, next_of, end_of, LeadsBelow, AreSteps, AreKnown, AreMeanings, AreEnded};
 
 use crate::link::Link;
 use crate::meaning::{Meaning, NoMeaning};
 use link_base::Memory;
 use std::alloc::Global;
 
-/// What each name means, by its number: the end of its chain. The links are used up.
-pub(crate) fn meanings<'a>(
-    alloc: Global,
-    links: &mut Vec<Link<'a>>,
-) -> Result<Vec<Result<Meaning<'a>, NoMeaning>>, Memory>
+/// Follows the chain of each name that leads to another. Then none does: each link says what its name means.
+pub(crate) fn settle<'a>(alloc: Global, links: &mut Vec<Link<'a>>) -> Result<(), Memory>
     requires { All (LeadsBelow (length links.old.items)) links.old.items }
-    ensures { IfOk result (λ meanings. (view : LinkView) (chosen : List (List Bool)) (names : List (List ℕ))
-        → AreSteps view chosen names links.old.items → AreMeanings view chosen names meanings.items) }
+    ensures { OnOk result ((view : LinkView) (chosen : List (List Bool)) (names : List (List ℕ))
+        → AreSteps view chosen names links.old.items → AreMeanings view chosen names links.new.items) }
 {
     let mut path = Vec::new(alloc);
-    let mut meanings = Vec::with_capacity(alloc, links.len())?;
     for number in 0..links.len() {
-        meanings.push(follow(links, &mut path, number)?)?;
+        if next_of(&links[number]).is_some() {
+            follow(links, &mut path, number)?;
+        }
     }
-    Ok(meanings)
+    Ok(())
 }
 
-/// The end of the chain of a name, which is noted for all names of the chain. A name that the chain has come to is taken
-/// for a cycle until the end is known, so that a chain that comes back to itself ends there as one.
-fn follow<'a>(
-    links: &mut Vec<Link<'a>>,
-    path: &mut Vec<usize>,
-    number: usize,
-) -> Result<Result<Meaning<'a>, NoMeaning>, Memory>
+/// Follows the chain of a name to its end, which is noted for all names of the chain. A name that the chain has come to
+/// is taken for a cycle until the end is known, so that a chain that comes back to itself ends there as one.
+fn follow<'a>(links: &mut Vec<Link<'a>>, path: &mut Vec<usize>, number: usize) -> Result<(), Memory>
     requires within { number < length links.old.items }
     requires below { All (LeadsBelow (length links.old.items)) links.old.items }
     ensures long { OnOk result (length links.new.items ≡ length links.old.items) }
     ensures below { OnOk result (All (LeadsBelow (length links.old.items)) links.new.items) }
     ensures known { OnOk result ((view : LinkView) (chosen : List (List Bool)) (names : List (List ℕ))
         → AreKnown view chosen names links.old.items → AreKnown view chosen names links.new.items) }
-    ensures end { IfOk result (λ end. (view : LinkView) (chosen : List (List Bool)) (names : List (List ℕ)) (name : List ℕ)
-        → AreKnown view chosen names links.old.items → Numbers names number name → Settles view chosen name end) }
+    ensures ended { OnOk result (next_of (link_at links.new.items number) ≡ None) }
+    ensures stay { OnOk result ((other : ℕ) → next_of (link_at links.old.items other) ≡ None → next_of (link_at links.new.items other) ≡ None) }
 {
     path.clear();
     let mut at = number;
@@ -53,7 +46,7 @@ fn follow<'a>(
     }
     let end = end_of(&links[at]);
     note_end(links, path, &end);
-    Ok(end)
+    Ok(())
 }
 
 /// The number of the name that a link leads to.
@@ -67,7 +60,7 @@ fn next_of(link: &Link<'_>) -> Option<usize>
 }
 
 /// The end that a link says. One that leads on has none.
-fn end_of<'a>(link: &Link<'a>) -> Result<Meaning<'a>, NoMeaning>
+pub(crate) fn end_of<'a>(link: &Link<'a>) -> Result<Meaning<'a>, NoMeaning>
     ensures { result ≡ end_of link.now }
 {
     match link {
@@ -77,7 +70,7 @@ fn end_of<'a>(link: &Link<'a>) -> Result<Meaning<'a>, NoMeaning>
 }
 
 /// The same end.
-pub(crate) fn again<'a>(end: &Result<Meaning<'a>, NoMeaning>) -> Result<Meaning<'a>, NoMeaning>
+fn again<'a>(end: &Result<Meaning<'a>, NoMeaning>) -> Result<Meaning<'a>, NoMeaning>
     ensures { result ≡ end.now }
 {
     match end {

@@ -1,21 +1,21 @@
 //! The first alternate of each name.
 
 ghost use Rattle.std.specs.Prelude.{◌≡◌, ◌<◌, ◌++◌, ◌∷◌, [], ℕ, List, length, map, IfOk};
-ghost use Rattle.std.specs.List.{All, AllZip, IsDistinct};
+ghost use Rattle.std.specs.List.{All, AllZip, IsDistinct, list_any};
 ghost use Rattle.link_base.specs.NameText.{same_name};
 ghost use Rattle.symbol_names.specs.Alternates.{alternates_by};
 ghost use Rattle.symbol_names.specs.Lists.{of_all};
 ghost use Rattle.symbol_names.specs.Interning.{NotesAlternate, NotesModule};
 ghost use Rattle.symbol_names.specs.Kept.{noted_view};
-ghost use Rattle.symbol_table.specs.Passes.{AreAlternates};
+ghost use Rattle.symbol_table.specs.Passes.{has_alternates, TellsAlternates, AreAlternates};
 
 use indexmap::IndexSet;
 use link_base::{Memory, Name};
 use std::alloc::Global;
 use symbol_names::{ModuleNames, NotedAlternate};
 
-/// The first alternate of each name, by its number: the number of the name that it stands for. Those that the command line
-/// gives come before those of the modules.
+/// The first alternate of each name, by its number: the number of the name that it stands for, and no list where there are
+/// none. Those that the command line gives come before those of the modules.
 pub(crate) fn first_alternates<'a>(
     alloc: Global,
     names: &IndexSet<Name<'a>>,
@@ -25,14 +25,24 @@ pub(crate) fn first_alternates<'a>(
     requires given { All (λ alternate. alternate.left < length names.now.keys) given.now }
     requires noted { All (NotesModule names.now.keys) modules.now }
     ensures { IfOk result (λ alternates. (pairs : List (List ℕ × List ℕ)) → AllZip (NotesAlternate names.now.keys) pairs given.now
-        → AreAlternates names.now.keys (pairs ++ of_all alternates_by (map noted_view modules.now)) alternates.items) }
+        → TellsAlternates names.now.keys (pairs ++ of_all alternates_by (map noted_view modules.now)) alternates.items) }
 {
+    if given.is_empty() && !give_alternates(modules) {
+        return Ok(Vec::new(alloc));
+    }
     let mut alternates = vec![in alloc; None; names.len()]?;
     note_alternates(&mut alternates, names, given);
     for module in modules {
         note_alternates(&mut alternates, names, &module.alternates);
     }
     Ok(alternates)
+}
+
+/// Whether a module gives an alternate.
+fn give_alternates(modules: &[ModuleNames<'_>]) -> bool
+    ensures { result ≡ list_any has_alternates modules.now }
+{
+    modules.iter().any(|module| !module.alternates.is_empty())
 }
 
 /// Notes alternates.

@@ -1,13 +1,13 @@
 //! The first weak external of each name.
 
 ghost use Rattle.std.specs.Prelude.{◌≡◌, ◌<◌, ◌++◌, ◌∷◌, [], ◌^◌, ℕ, List, length, map, IfOk};
-ghost use Rattle.std.specs.List.{All, IsDistinct};
+ghost use Rattle.std.specs.List.{All, IsDistinct, list_any};
 ghost use Rattle.link_base.specs.NameText.{same_name};
 ghost use Rattle.module_view.specs.declared.reference.Weak.{Weak};
 ghost use Rattle.symbol_names.specs.Lists.{Said, said, said_by, all_weaks};
 ghost use Rattle.symbol_names.specs.Interning.{NotesWeak, NotesModule};
 ghost use Rattle.symbol_names.specs.Kept.{noted_view};
-ghost use Rattle.symbol_table.specs.Passes.{AreWeaks};
+ghost use Rattle.symbol_table.specs.Passes.{has_weaks, TellsWeaks, AreWeaks};
 
 use indexmap::IndexSet;
 use link_base::{Memory, Name};
@@ -21,7 +21,7 @@ pub(crate) struct FirstWeak {
     pub(crate) default: NotedDefault,
 }
 
-/// The first weak external of each name, by its number.
+/// The first weak external of each name, by its number: no list where there are none.
 pub(crate) fn first_weaks<'a>(
     alloc: Global,
     names: &IndexSet<Name<'a>>,
@@ -29,13 +29,23 @@ pub(crate) fn first_weaks<'a>(
 ) -> Result<Vec<Option<FirstWeak>>, Memory>
     requires few { length modules.now < 2 ^ 32 }
     requires noted { All (NotesModule names.now.keys) modules.now }
-    ensures { IfOk result (λ weaks. AreWeaks names.now.keys (all_weaks (map noted_view modules.now)) weaks.items) }
+    ensures { IfOk result (λ weaks. TellsWeaks names.now.keys (all_weaks (map noted_view modules.now)) weaks.items) }
 {
+    if !say_weakly(modules) {
+        return Ok(Vec::new(alloc));
+    }
     let mut weaks = vec![in alloc; None; names.len()]?;
     for position in 0..modules.len() {
         note_weaks(&mut weaks, names, position as u32, &modules[position]);
     }
     Ok(weaks)
+}
+
+/// Whether a module has a weak external.
+fn say_weakly(modules: &[ModuleNames<'_>]) -> bool
+    ensures { result ≡ list_any has_weaks modules.now }
+{
+    modules.iter().any(|module| !module.weaks.is_empty())
 }
 
 /// Notes the weak externals of the module at a position.

@@ -1,13 +1,13 @@
 //! The greatest common of each name.
 
 ghost use Rattle.std.specs.Prelude.{◌≡◌, ◌<◌, ◌++◌, ◌∷◌, [], ◌^◌, List, length, map, IfOk};
-ghost use Rattle.std.specs.List.{All, IsDistinct};
+ghost use Rattle.std.specs.List.{All, IsDistinct, list_any};
 ghost use Rattle.link_base.specs.NameText.{same_name};
 ghost use Rattle.module_view.specs.declared.definition.Common.{Common};
 ghost use Rattle.symbol_names.specs.Lists.{Offered, offered, offered_by, all_commons};
 ghost use Rattle.symbol_names.specs.Interning.{NotesCommon, NotesModule};
 ghost use Rattle.symbol_names.specs.Kept.{noted_view};
-ghost use Rattle.symbol_table.specs.Passes.{is_greater, AreGreatest};
+ghost use Rattle.symbol_table.specs.Passes.{is_greater, has_commons, TellsGreatest, AreGreatest};
 
 use indexmap::IndexSet;
 use link_base::{Memory, Name};
@@ -22,7 +22,7 @@ pub(crate) struct GreatestCommon {
     pub(crate) size: u32,
 }
 
-/// The greatest common of each name, by its number.
+/// The greatest common of each name, by its number: no list where no module shares a name.
 pub(crate) fn greatest_commons<'a>(
     alloc: Global,
     names: &IndexSet<Name<'a>>,
@@ -30,13 +30,23 @@ pub(crate) fn greatest_commons<'a>(
 ) -> Result<Vec<Option<GreatestCommon>>, Memory>
     requires few { length modules.now < 2 ^ 32 }
     requires noted { All (NotesModule names.now.keys) modules.now }
-    ensures { IfOk result (λ commons. AreGreatest names.now.keys (all_commons (map noted_view modules.now)) commons.items) }
+    ensures { IfOk result (λ commons. TellsGreatest names.now.keys (all_commons (map noted_view modules.now)) commons.items) }
 {
+    if !share_names(modules) {
+        return Ok(Vec::new(alloc));
+    }
     let mut commons = vec![in alloc; None; names.len()]?;
     for position in 0..modules.len() {
         note_commons(&mut commons, names, position as u32, &modules[position]);
     }
     Ok(commons)
+}
+
+/// Whether a module shares a name.
+fn share_names(modules: &[ModuleNames<'_>]) -> bool
+    ensures { result ≡ list_any has_commons modules.now }
+{
+    modules.iter().any(|module| !module.commons.is_empty())
 }
 
 /// Notes the commons of the module at a position.

@@ -1,6 +1,6 @@
 //! Where names lead, by their numbers.
 
-ghost use Rattle.std.specs.Prelude.{◌≡◌, ℕ, List, Option, length, option_map, IfOk};
+ghost use Rattle.std.specs.Prelude.{◌≡◌, ◌<◌, ℕ, List, Option, None, length, slice_index_or, option_map, IfOk};
 ghost use Rattle.std.specs.Option.{option_or};
 ghost use Rattle.symbol_names.specs.Alternates.{all_alternates};
 ghost use Rattle.symbol_names.specs.LinkView.{LinkView};
@@ -8,7 +8,8 @@ ghost use Rattle.symbol_table.specs.LinkerNames.{linker_meaning};
 ghost use Rattle.symbol_names.specs.Lists.{Said, live_definitions, all_commons, all_weaks};
 ghost use Rattle.symbol_table.specs.Resolution.{meaning_at, place_meaning, default_step, alternate_step, own_or, weak_step};
 ghost use Rattle.symbol_names.specs.Kept.{rows_of};
-ghost use Rattle.symbol_table.specs.Passes.{first_meaning, kept_meaning, AreFirst, AreGreatest, KeepsSaid, KeepsWeak, AreWeaks, KeepsAlternate, AreAlternates};
+ghost use Rattle.symbol_table.specs.Passes.{first_meaning, kept_meaning, AreFirst, TellsGreatest, KeepsSaid, KeepsWeak, TellsWeaks, KeepsAlternate, TellsAlternates};
+ghost use Rattle.symbol_names.specs.Interning.{Numbers};
 ghost use Rattle.symbol_table.specs.Links.{IsStep, AreSteps};
 
 use crate::first_weak::FirstWeak;
@@ -31,7 +32,7 @@ pub(crate) enum Link<'a> {
     Leads(usize),
 }
 
-/// Where each name leads, by its number.
+/// Where each name leads, by its number. The lists of commons, weak externals and alternates may end before it.
 pub(crate) fn links<'a>(
     alloc: Global,
     names: &IndexSet<Name<'a>>,
@@ -41,24 +42,32 @@ pub(crate) fn links<'a>(
     alternates: &[Option<u32>],
     chosen: &[Vec<bool>],
 ) -> Result<Vec<Link<'a>>, Memory>
-    requires firsts { length firsts.now ≡ length names.now.keys }
-    requires commons { length commons.now ≡ length names.now.keys }
-    requires weaks { length weaks.now ≡ length names.now.keys }
-    requires alternates { length alternates.now ≡ length names.now.keys }
+    requires { length firsts.now ≡ length names.now.keys }
     ensures { IfOk result (λ links. (view : LinkView)
         → AreFirst names.now.keys (live_definitions view.modules (rows_of chosen.now)) firsts.now
-        → AreGreatest names.now.keys (all_commons view.modules) commons.now
-        → AreWeaks names.now.keys (all_weaks view.modules) weaks.now
-        → AreAlternates names.now.keys (all_alternates view) alternates.now
+        → TellsGreatest names.now.keys (all_commons view.modules) commons.now
+        → TellsWeaks names.now.keys (all_weaks view.modules) weaks.now
+        → TellsAlternates names.now.keys (all_alternates view) alternates.now
         → AreSteps view (rows_of chosen.now) names.now.keys links.items) }
 {
     let mut links = Vec::with_capacity(alloc, names.len())?;
     for number in 0..names.len() {
-        let name = name_at(names, number);
-        let own = own_meaning(&name, firsts[number], commons[number]);
-        links.push(link_of(own, weaks[number], alternates[number], chosen))?;
+        let own = own_meaning(names, number, firsts[number], entry_at(commons, number));
+        let weak = entry_at(weaks, number);
+        let alternate = entry_at(alternates, number);
+        links.push(link_of(own, weak, alternate, chosen))?;
     }
     Ok(links)
+}
+
+/// What stands at a number, where the list comes so far.
+fn entry_at<T: Copy>(list: &[Option<T>], number: usize) -> Option<T>
+    ensures { result ≡ slice_index_or list.now number None }
+{
+    match list.get(number) {
+        Some(entry) => *entry,
+        None => None,
+    }
 }
 
 /// Where a name leads, by what it means without its default and its alternate.
@@ -81,13 +90,16 @@ fn link_of<'a>(
     }
 }
 
-/// What a name means without its default and its alternate.
+/// What the name of a number means without its default and its alternate.
 fn own_meaning<'a>(
-    name: &Name<'_>,
+    names: &IndexSet<Name<'_>>,
+    number: usize,
     first: Option<FirstLive>,
     common: Option<GreatestCommon>,
 ) -> Option<Meaning<'a>>
-    ensures { result ≡ option_or (option_map first_meaning first) (option_or (option_map kept_meaning common) (linker_meaning name.now)) }
+    requires { number < length names.now.keys }
+    ensures { (name : List ℕ) → Numbers names.now.keys number name
+        → result ≡ option_or (option_map first_meaning first) (option_or (option_map kept_meaning common) (linker_meaning name)) }
 {
     if let Some(first) = first {
         return Some(meaning_at(first.module, first.place));
@@ -98,7 +110,7 @@ fn own_meaning<'a>(
             symbol: common.symbol,
         });
     }
-    linker_meaning(name)
+    linker_meaning(&name_at(names, number))
 }
 
 /// What a definition at a place of a module means.

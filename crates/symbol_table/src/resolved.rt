@@ -9,7 +9,8 @@ ghost use Rattle.symbol_names.specs.Lists.{is_chosen_in};
 ghost use Rattle.symbol_table.specs.Clash.{clash_of};
 ghost use Rattle.symbol_table.specs.Resolution.{meaning_of};
 
-use crate::chains::again;
+use crate::chains::end_of;
+use crate::link::Link;
 use crate::linker_names::linker_meaning;
 use crate::meaning::{Clash, Meaning, NoMeaning};
 use coff_object::SymbolRecord;
@@ -25,8 +26,8 @@ pub struct ResolvedNames<'a> {
     pub(crate) given: GivenNames<'a>,
     pub(crate) modules: Vec<ModuleNames<'a>>,
     pub(crate) chosen: Chosen,
-    /// What each name means, by its number.
-    pub(crate) meanings: Vec<Result<Meaning<'a>, NoMeaning>>,
+    /// What each name means, by its number: none leads to another.
+    pub(crate) links: Vec<Link<'a>>,
     pub(crate) clash: Option<Clash<'a>>,
 }
 
@@ -38,7 +39,7 @@ impl<'a> Model for ResolvedNames<'a> {
 
     ghost view = { λ t. record { link = link_view t.given t.modules.items; chosen = rows_of t.chosen.items } };
 
-    ghost invariant = { λ t. KeepsMeanings t.names.keys t.given t.modules.items (rows_of t.chosen.items) t.meanings.items t.clash };
+    ghost invariant = { λ t. KeepsMeanings t.names.keys t.given t.modules.items (rows_of t.chosen.items) t.links.items t.clash };
 }
 
 impl<'a> ResolvedNames<'a> {
@@ -71,7 +72,7 @@ impl<'a> ResolvedNames<'a> {
         ensures opened { All IsOpened self.now.link.modules }
     {
         match self.names.get_index_of(&name) {
-            Some(number) => again(&self.meanings[number]),
+            Some(number) => end_of(&self.links[number]),
             None => linker_meaning(&name).ok_or(NoMeaning::Undefined),
         }
     }
@@ -88,7 +89,7 @@ impl<'a> ResolvedNames<'a> {
         ensures opened { All IsOpened self.now.link.modules }
     {
         match noted_number(&self.modules, module, index) {
-            Some(number) => again(&self.meanings[number as usize]),
+            Some(number) => end_of(&self.links[number as usize]),
             None => self.resolve(symbol.name()),
         }
     }

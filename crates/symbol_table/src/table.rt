@@ -8,7 +8,7 @@ ghost use Rattle.symbol_table.specs.OpenNames.{is_provided, is_open_name, open_f
 ghost use Rattle.symbol_table.specs.TableParts.{ResolvedView};
 
 use crate::asked::{AskedNames, add_lists, asked_by_words, is_open, is_sought, is_there};
-use crate::chains::meanings;
+use crate::chains::settle;
 use crate::first_alternate::first_alternates;
 use crate::first_weak::first_weaks;
 use crate::greatest::greatest_commons;
@@ -165,13 +165,13 @@ impl<'a> SymbolTable<'a> {
             &alternates,
             &chosen,
         )?;
-        let meanings = meanings(alloc, &mut links)?;
+        settle(alloc, &mut links)?;
         Ok(ResolvedNames {
             names,
             given,
             modules,
             chosen,
-            meanings,
+            links,
             clash,
         })
     }

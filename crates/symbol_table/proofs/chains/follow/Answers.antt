@@ -3,7 +3,7 @@ use Rattle.std.specs.List.{All}
 use Rattle.std.proofs.lemmas.List.{get_or_read}
 use Rattle.symbol_table.specs.declared.link.Link.{Link}
 use Rattle.symbol_table.specs.Links.{no_link, link_at, next_of, end_of, AreEnded}
-use Rattle.symbol_table.proofs.ChainLemmas.{cycle, path_start, path_more, fewer_lead, path_settles, known_again, below_again}
+use Rattle.symbol_table.proofs.ChainLemmas.{cycle, path_start, path_more, fewer_lead, still_ends, first_ends, known_again, below_again}
 use Rattle.symbol_table.proofs.chains.follow.Goals as goal
 
 -- what is read at a number
@@ -67,12 +67,18 @@ returns-clause-known c = λ view chosen names known.
     let noted = subst (λ (path : List ℕ). AreEnded path c.end_of-end.result now c.note_end.new.links.items) c.deref.ensures.value c.note_end.ensures.noted in
     known_again view chosen names start now c.note_end.new.links.items c.loop-next.path.items c.args.number at c.end_of-end.result known before (none_after now at c.index.result.now c.next_of.result read c.next_of.ensures c.in_default.not-Some) (c.end_of-end.ensures ∙ ap end_of again) c.note_end.ensures.long noted
 
-pub returns-clause-end : goal.returns-clause-end
-returns-clause-end c = λ view chosen names name known numbered.
+pub returns-clause-ended : goal.returns-clause-ended
+returns-clause-ended c =
     let before = c.loop-next.invariant in
     let now = c.loop-next.links.items in
     let at = c.loop-next.at in
     let start = c.args.links.now.items in
     let read = same_there now at c.index.result.now start before.within before.long c.index.ensures in
-    let again = same_there now at c.index-2.result.now start before.within before.long c.index-2.ensures in
-    (path_settles view chosen names start now c.loop-next.path.items c.args.number at c.end_of-end.result known before (none_after now at c.index.result.now c.next_of.result read c.next_of.ensures c.in_default.not-Some) (c.end_of-end.ensures ∙ ap end_of again)).first name numbered
+    let noted = subst (λ (path : List ℕ). AreEnded path c.end_of-end.result now c.note_end.new.links.items) c.deref.ensures.value c.note_end.ensures.noted in
+    first_ends start now c.note_end.new.links.items c.loop-next.path.items c.args.number at c.end_of-end.result before (none_after now at c.index.result.now c.next_of.result read c.next_of.ensures c.in_default.not-Some) noted
+
+pub returns-clause-stay : goal.returns-clause-stay
+returns-clause-stay c =
+    let now = c.loop-next.links.items in
+    let noted = subst (λ (path : List ℕ). AreEnded path c.end_of-end.result now c.note_end.new.links.items) c.deref.ensures.value c.note_end.ensures.noted in
+    still_ends c.args.links.now.items now c.note_end.new.links.items c.loop-next.path.items c.args.number c.loop-next.at c.end_of-end.result c.loop-next.invariant noted

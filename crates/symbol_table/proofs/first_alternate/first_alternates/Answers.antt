@@ -1,13 +1,13 @@
-use Rattle.std.proofs.Common.{◌<◌, ◌++◌, List, ℕ, length, map, rules, ap, sym, subst, ◌∙◌, append_assoc, arith}
+use Rattle.std.proofs.Common.{◌<◌, ◌++◌, List, ℕ, length, map, not, rules, ap, sym, subst, ◌∙◌, append_assoc, arith}
 use Rattle.std.specs.List.{All, AllZip}
 use Rattle.std.proofs.lemmas.List.{append-nil}
 use Rattle.symbol_names.specs.declared.noted.NotedAlternate.{NotedAlternate}
 use Rattle.symbol_names.specs.Alternates.{alternates_by}
 use Rattle.symbol_names.specs.Interning.{NotesAlternate}
 use Rattle.symbol_names.specs.Kept.{noted_view}
-use Rattle.symbol_table.specs.Passes.{AreAlternates}
-use Rattle.symbol_table.proofs.PassLemmas.{of_first, of_first_more, of_first_all}
-use Rattle.symbol_table.proofs.AlternateLemmas.{no_alternates, lefts_within, noted_at}
+use Rattle.symbol_table.specs.Passes.{TellsAlternates, AreAlternates}
+use Rattle.symbol_table.proofs.PassLemmas.{none_kept, noted_at, of_first, of_first_more, of_first_all}
+use Rattle.symbol_table.proofs.AlternateLemmas.{no_alternates, lefts_within, none_given}
 use Rattle.symbol_table.proofs.first_alternate.first_alternates.Goals as goal
 
 pub loop-module-init : goal.loop-module-init
@@ -51,8 +51,12 @@ loop-module-preserved c =
           (c.loop-module.invariant.noted pairs zipped));
     }
 
+pub returns-then-not-give_alternates : goal.returns-then-not-give_alternates
+returns-then-not-give_alternates c =
+    none_given c.args.names.now.keys c.args.modules.now c.args.given.now c.new.result.items c.requires.noted (none_kept c.args.given.now (ap not (sym c.is_empty.ensures ∙ c.if-is_empty.true))) (sym c.give_alternates.ensures ∙ c.if-not-give_alternates.true) c.new.ensures.items
+
 pub returns : goal.returns
 returns c = λ pairs zipped.
-    subst (λ (es : List (List ℕ × List ℕ)). AreAlternates c.args.names.now.keys (pairs ++ es) c.loop-module.alternates.items)
+    subst (λ (es : List (List ℕ × List ℕ)). TellsAlternates c.args.names.now.keys (pairs ++ es) c.loop-module.alternates.items)
     (of_first_all alternates_by c.args.modules.now c.loop-module.module-index (omega arith))
-    (c.loop-module.invariant.noted pairs zipped)
+    (c.loop-module.invariant.noted pairs zipped).first

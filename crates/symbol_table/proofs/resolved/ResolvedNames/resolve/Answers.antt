@@ -2,11 +2,10 @@ use Rattle.std.proofs.Common.{sym, ap, ◌∙◌, arith}
 use Rattle.symbol_names.specs.Kept.{rows_of}
 use Rattle.symbol_table.proofs.EndLemmas.{settles_means}
 use Rattle.symbol_table.proofs.AbsentLemmas.{absent_means, ok_or_is, position_numbers, position_absent}
-use Rattle.std.proofs.lemmas.List.{get_or_default}
+use Rattle.std.proofs.lemmas.List.{get_or_read}
+use Rattle.symbol_table.specs.Links.{no_link, end_of}
 use Rattle.symbol_table.specs.TableParts.{link_view, ResolvedView}
 use Rattle.symbol_table.specs.Resolution.{meaning_if, meaning_of}
-use Rattle.symbol_table.specs.declared.meaning.NoMeaning.TheVariants.{Undefined}
-use Rattle.std.specs.Prelude.{Err}
 use Rattle.symbol_table.proofs.resolved.ResolvedNames.resolve.Goals as goal
 
 pub returns-in-Some-clause-meaning : goal.returns-in-Some-clause-meaning
@@ -17,8 +16,7 @@ returns-in-Some-clause-meaning c =
     let name = c.args.name in
     let number = c.in-Some.number in
     let numbered = position_numbers names name number (sym c.in-Some.ensures.index) in
-    c.again.ensures ∙ c.index.ensures
-    ∙ get_or_default c.self.inside.meanings.items number c.index.result.now (Err Undefined) (omega (arith, c.in-Some.ensures.within, c.self.invariant.meant.long))
+    c.end_of.ensures ∙ ap end_of (get_or_read c.self.inside.links.items number c.index.result.now (omega (arith, c.in-Some.ensures.within, c.self.invariant.meant.long)) c.index.ensures no_link)
     ∙ sym (settles_means (link_view c.self.inside.given kept) chosen name _ (c.self.invariant.meant.each number name numbered))
     ∙ ap (λ (v : ResolvedView). meaning_of v.link v.chosen name) c.self.view_is
 

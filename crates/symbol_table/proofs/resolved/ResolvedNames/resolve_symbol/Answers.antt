@@ -1,10 +1,9 @@
 use Rattle.std.proofs.Common.{List, map, sym, ap, subst, ◌∙◌, arith}
-use Rattle.std.specs.Prelude.{Err}
 use Rattle.std.specs.List.{All}
-use Rattle.std.proofs.lemmas.List.{get_or_default}
+use Rattle.std.proofs.lemmas.List.{get_or_read}
+use Rattle.symbol_table.specs.Links.{no_link, end_of}
 use Rattle.coff_records.specs.ObjectFile.{SymbolView, name_in, symbol_name_of}
 use Rattle.module_view.specs.Module.{module_at}
-use Rattle.symbol_table.specs.declared.meaning.NoMeaning.TheVariants.{Undefined}
 use Rattle.symbol_names.specs.declared.noted.ModuleNames.{ModuleNames}
 use Rattle.symbol_names.specs.Interning.{Numbers, NotesModule}
 use Rattle.symbol_names.specs.Kept.{rows_of, noted_view}
@@ -33,8 +32,7 @@ returns-in-Some-clause-meaning c =
     let numbered : Numbers names number name =
     subst (λ (ms : List ModuleNames). Numbers names number (symbol_name_of (module_at (map noted_view ms) position).bytes index)) c.deref.ensures.value
     (c.in-Some.ensures names (subst (All (NotesModule names)) (sym c.deref.ensures.value) c.self.invariant.whole.modules.noted)) in
-    c.again.ensures ∙ c.index.ensures
-    ∙ get_or_default c.self.inside.meanings.items number c.index.result.now (Err Undefined) (omega (arith, number_within names number name numbered, c.self.invariant.meant.long))
+    c.end_of.ensures ∙ ap end_of (get_or_read c.self.inside.links.items number c.index.result.now (omega (arith, number_within names number name numbered, c.self.invariant.meant.long)) c.index.ensures no_link)
     ∙ sym (settles_means (link_view c.self.inside.given kept) chosen name _ (c.self.invariant.meant.each number name numbered))
     ∙ ap (λ (v : ResolvedView). meaning_of v.link v.chosen (symbol_name_of (module_at v.link.modules position).bytes index)) c.self.view_is
     ∙ ap (λ (s : SymbolView). meaning_of c.args.self.now.link c.args.self.now.chosen (name_in s)) (sym c.requires)

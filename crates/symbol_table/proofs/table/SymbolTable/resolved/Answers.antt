@@ -17,8 +17,8 @@ first_alternates-requires-clause-given c =
     subst (λ (notes : List NotedAlternate). All (λ alternate. alternate.left < length names) notes) (sym c.deref-5.ensures.value)
     (lefts_within names _ _ c.self.invariant.whole.alternates)
 
-pub meanings-requires : goal.meanings-requires
-meanings-requires c =
+pub settle-requires : goal.settle-requires
+settle-requires c =
     let kept = c.self.inside.modules.items in
     let given = c.self.inside.given in
     let names = c.self.inside.names.keys in
@@ -33,6 +33,6 @@ invariant_of-result c =
     let steps = steps_hold names given c.deref-5.result.now kept c.deref.result.now c.deref-3.result.now c.deref-4.result.now c.deref-6.result.now c.args.chosen.items c.deref-2.result.now c.deref-11.result.now c.in_ok-firsts.field-0.firsts.items c.deref-7.result.now c.in_ok-firsts.field-0.clash c.in_ok-commons.commons.items c.deref-8.result.now c.in_ok-weaks.weaks.items c.deref-9.result.now c.in_ok-alternates.alternates.items c.deref-10.result.now c.in_ok-links.links.items c.self.invariant.whole c.deref-5.ensures.value c.deref.ensures.value c.deref-2.ensures.value c.deref-3.ensures.value c.deref-4.ensures.value c.deref-6.ensures.value c.deref-7.ensures.value c.deref-8.ensures.value c.deref-9.ensures.value c.deref-10.ensures.value c.deref-11.ensures.value c.in_ok-firsts.ensures c.in_ok-commons.ensures c.in_ok-weaks.ensures c.in_ok-alternates.ensures c.in_ok-links.ensures in
     record {
       whole = c.self.invariant.whole;
-      meant = c.in_ok-meanings.ensures (link_view given kept) (rows_of c.args.chosen.items) names steps;
+      meant = c.in_ok-settle.ensures (link_view given kept) (rows_of c.args.chosen.items) names steps;
       clash_is = c.in_ok-firsts.ensures.clash_is ∙ ap (λ (ms : List ModuleNames). clash_of (map noted_view ms) (rows_of c.deref-2.result.now)) c.deref.ensures.value ∙ ap (λ (rows : List (Vec Bool Global)). clash_of (map noted_view kept) (rows_of rows)) c.deref-2.ensures.value;
     }

@@ -1,0 +1,9 @@
+use Rattle.std.proofs.Common.{rules, tests}
+use Rattle.std.proofs.lemmas.Iterator.{YieldsList-from_slice}
+use Rattle.std.proofs.lemmas.Iterator.Search.{any_from_yields_List}
+use Rattle.symbol_table.specs.Passes.{has_alternates}
+use Rattle.symbol_table.proofs.first_alternate.give_alternates.Goals as goal
+
+pub returns : goal.returns
+returns c =
+    any_from_yields_List (λ kept. has_alternates kept) _ _ c.any.result c.any.ensures.ran (YieldsList-from_slice _ c.iter.ensures.rest) (λ x b q k. search (rules, tests))
