@@ -17,6 +17,7 @@ use Rattle.module_view.specs.Module.{ModuleView, module_at}
 use Rattle.coff_aux.specs.AuxFaults.{has_no_selection, has_no_parent, first_comdat, aux_place, parent_place, aux_fault}
 use Rattle.coff_aux.specs.Comdats.{comdat_record_of, parent_in, parents_of}
 use Rattle.module_view.specs.Opening.{unsupported, directive_error, has_linker_section, has_long_section_name, has_long_symbol_name, form_error, object_error, content_error, opening_error}
+use Rattle.module_view.proofs.CallerLemmas.{opened_contents}
 use Rattle.coff_aux.specs.Parents.{comes_back, AreParents}
 use Rattle.coff_aux.specs.Steps.{all_comdat_records, parents_in}
 use Rattle.coff_aux.proofs.CallerLemmas.{are_parents}
@@ -47,10 +48,6 @@ no_place (Some one) (Some other) none = go (nat_lt other one) none
     go true e = absurd cc
     go false e = absurd cc
 
-contents_stand : (bytes : List ℕ) → opening_error bytes ≡ None → content_error bytes ≡ None
-unfolding opening_error
-contents_stand bytes opened = third_none (form_error bytes) (object_error bytes) (content_error bytes) [] opened
-
 no_aux_fault : (bytes : List ℕ) → content_error bytes ≡ None → aux_fault bytes ≡ None
 unfolding content_error
 no_aux_fault bytes stand =
@@ -64,7 +61,7 @@ no_parent_place bytes stand =
 pub ends : (bytes : List ℕ) → opening_error bytes ≡ None → first_below (length (parents_of bytes)) (comes_back (parents_of bytes)) ≡ None
 unfolding parent_place
 ends bytes opened =
-    no_place (first_comdat bytes (has_no_parent (section_total bytes))) (first_below (length (parents_of bytes)) (comes_back (parents_of bytes))) (no_parent_place bytes (no_aux_fault bytes (contents_stand bytes opened)))
+    no_place (first_comdat bytes (has_no_parent (section_total bytes))) (first_below (length (parents_of bytes)) (comes_back (parents_of bytes))) (no_parent_place bytes (no_aux_fault bytes (opened_contents bytes opened)))
 
 -- ---- parents are sections
 

@@ -3,7 +3,7 @@ use Rattle.std.specs.Prelude.{ℕ, nat_le, if◌then◌else◌, List, Option, So
 use Rattle.std.specs.Option.{option_or}
 use Rattle.link_base.specs.Limits.{MODULE_LIMIT}
 use Rattle.link_base.specs.declared.fault.Fault.{Fault}
-use Rattle.link_base.specs.declared.fault.Fault.TheVariants.{InputLimit, BadObject, BadLibrary, BadDirective, Unsupported}
+use Rattle.link_base.specs.declared.fault.Fault.TheVariants.{InputLimit, BadObject, BadImport, BadLibrary, BadDirective, Unsupported}
 use Rattle.lib_reader.specs.declared.error.LibError.{LibError}
 use Rattle.lib_reader.specs.LibraryWalk.{library_fault}
 use Rattle.module_view.specs.declared.error.ModuleError.{ModuleError}
@@ -17,6 +17,7 @@ use Rattle.lib_search.specs.FoundFiles.{FoundFile}
 -- an error of opening, with the file and the member; of want of memory nothing is said
 abbrev pub module_fault : List ℕ → Option (List ℕ) → Option ModuleError → Option Fault
 module_fault file member (Some (bad.Object error)) = Some (BadObject file member error.kind error.index)
+module_fault file member (Some (bad.Import kind)) = Some (BadImport file member kind)
 module_fault file member (Some (bad.Directive at)) = Some (BadDirective file member at)
 module_fault file member (Some (bad.Unsupported kind)) = Some (Unsupported file member kind)
 module_fault file member (Some bad.Memory) = None

@@ -60,6 +60,7 @@ fn refusal_of<'a>(file: Name<'a>, member: Option<Name<'a>>, error: ModuleError) 
             kind: error.kind,
             index: error.index,
         }),
+        ModuleError::Import(kind) => Refusal::Fault(Fault::BadImport { file, member, kind }),
         ModuleError::Directive { at } => Refusal::Fault(Fault::BadDirective { file, member, at }),
         ModuleError::Unsupported(kind) => Refusal::Fault(Fault::Unsupported { file, member, kind }),
         ModuleError::Memory => Refusal::Memory,

@@ -48,6 +48,7 @@ bad_later before one after whole is was none =
 earlier_refuses : (earlier later : Option BadDirective) (e : ModuleError) → RefusesToOpen (option_map bad_directive_error earlier) e → RefusesToOpen (option_map bad_directive_error (option_or earlier later)) e
 earlier_refuses (Some bad) later e h = h
 earlier_refuses None later (error.Object fault) h = absurd cc
+earlier_refuses None later (error.Import fault) h = absurd cc
 earlier_refuses None later (error.Directive at) h = absurd cc
 earlier_refuses None later (error.Unsupported kind) h = absurd cc
 earlier_refuses None later error.Memory h = tt

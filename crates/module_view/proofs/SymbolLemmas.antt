@@ -1,9 +1,12 @@
--- One more symbol in a loop over the symbols of an object.
-use Rattle.std.proofs.Common.{◌≡◌, ℕ, ◌<◌, Bool, true, false, cond, ◌||◌, eqb, List, [], ◌∷◌, ◌++◌, length, map, filter, get_or, set, inl, inr, refl, sym, ap, ◌∙◌, append_assoc, arith}
+-- One more symbol in a loop over the symbols of an object, and what a symbol that is not external is not.
+use Rattle.std.proofs.Common.{◌≡◌, ℕ, ◌<◌, Bool, true, false, cond, ◌||◌, ◌&&◌, eqb, List, [], ◌∷◌, ◌++◌, length, map, filter, get_or, set, inl, inr, refl, sym, ap, ◌∙◌, append_assoc, append-nil, arith}
 use Rattle.std.specs.List.{list_any}
 use Rattle.std.proofs.lemmas.Bool.Decides.{eqb_tells}
 use Rattle.std.proofs.lemmas.List.{get_or-set_same, get_or-set_other}
-use Rattle.coff_records.specs.ObjectFile.{SymbolEntry}
+use Rattle.link_base.proofs.TestLemmas.{or_left, or_right}
+use Rattle.coff_records.specs.ObjectFile.{SymbolView, SymbolEntry, class_in, name_in}
+use Rattle.module_view.specs.SymbolLists.{is_definition, is_weak, is_undefined, is_reference, is_common}
+use Rattle.module_view.specs.Unbuilt.{is_external_name, is_import_reference, is_loader_name, is_unbuilt_symbol}
 
 -- ---- what is told of symbols, after one more
 
@@ -68,3 +71,41 @@ pub marks_more : (before after : List SymbolEntry) (entry : SymbolEntry) (marks 
 marks_more before after entry marks j whole is lt was =
     ap (λ (b : Bool). b || list_any (λ (e : SymbolEntry). eqb e.0 j) after) (mark marks entry.0 j lt)
     ∙ one_noted (λ (e : SymbolEntry). eqb e.0 j) before after entry (get_or marks j false) (eqb entry.0 j) whole is was refl
+
+-- ---- a symbol that is neither external nor weak
+
+no_class : (symbol : SymbolView) → is_external_name symbol ≡ false → eqb (class_in symbol) 2 ≡ false
+no_class symbol other = or_left (eqb (class_in symbol) 2) (eqb (class_in symbol) 105) other
+
+pub no_definition : (symbol : SymbolView) → is_external_name symbol ≡ false → is_definition symbol ≡ false
+unfolding is_definition
+no_definition symbol other = rw (no_class symbol other) refl
+
+pub no_weak : (symbol : SymbolView) → is_external_name symbol ≡ false → is_weak symbol ≡ false
+no_weak symbol other = or_right (eqb (class_in symbol) 2) (eqb (class_in symbol) 105) other
+
+no_undefined : (symbol : SymbolView) → is_external_name symbol ≡ false → is_undefined symbol ≡ false
+unfolding is_undefined
+no_undefined symbol other = rw (no_class symbol other) refl
+
+pub no_reference : (symbol : SymbolView) → is_external_name symbol ≡ false → is_reference symbol ≡ false
+unfolding is_reference
+no_reference symbol other = rw (no_undefined symbol other) (no_weak symbol other)
+
+pub no_common : (symbol : SymbolView) → is_external_name symbol ≡ false → is_common symbol ≡ false
+unfolding is_common
+no_common symbol other = rw (no_class symbol other) refl
+
+pub none_more : {X : Type 0} (xs more : List X) (b : Bool) → b ≡ false → xs ≡ xs ++ cond b more []
+none_more xs more b e = rw e (sym (append-nil xs))
+
+or_none : (b : Bool) → b ≡ (b || false)
+or_none true = refl
+or_none false = refl
+
+pub only_refers : (bytes : List ℕ) (symbol : SymbolView) (noted b : Bool) → is_external_name symbol ≡ false → b ≡ is_import_reference bytes symbol → (noted || b) ≡ (noted || is_unbuilt_symbol bytes symbol)
+unfolding is_unbuilt_symbol
+only_refers bytes symbol noted b other is =
+    ap (λ (c : Bool). noted || c)
+    (is ∙ or_none (is_import_reference bytes symbol)
+    ∙ sym (ap (λ (c : Bool). is_import_reference bytes symbol || (c && is_loader_name (name_in symbol))) other))

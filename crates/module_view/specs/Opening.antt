@@ -1,7 +1,7 @@
--- Which bytes do not open as a module, and why: the forms that the first bytes show, then the faults of the object, then
--- the forms that its names show, then the faults of auxiliary records, then malformed directives, then the forms that are not
--- linked yet. The order is own.
-use Rattle.std.specs.Prelude.{◌≡◌, ℕ, Bool, ◌||◌, ◌&&◌, not, ◌==◌, nat_lt, List, [], ◌∷◌, length, Option, Some, None, option_map, codes}
+-- Which bytes do not open as a module, and why. Of a short import: its faults, then a name that is too long, then that none is
+-- linked yet. Of other bytes: the forms that the first bytes show, then the faults of the object, then the forms that its names
+-- show, then the faults of auxiliary records, then malformed directives, then the forms that are not linked yet. The order is own.
+use Rattle.std.specs.Prelude.{◌≡◌, ℕ, Bool, true, ◌||◌, ◌&&◌, not, ◌==◌, nat_lt, if◌then◌else◌, List, [], ◌∷◌, length, Option, Some, None, option_map, codes}
 use Rattle.std.specs.List.{list_any}
 use Rattle.link_base.specs.Bytes.{u16_at, has_bytes}
 use Rattle.link_base.specs.Limits.{NAME_LIMIT}
@@ -18,6 +18,8 @@ use Rattle.module_view.specs.Module.{ModuleView}
 use Rattle.coff_aux.specs.AuxFaults.{aux_fault}
 use Rattle.directives.specs.declared.item.BadDirective.{BadDirective}
 use Rattle.module_view.specs.ModuleDirectives.{sections_in, bad_directive}
+use Rattle.short_import.specs.ShortImport.{symbol_of, dll_of}
+use Rattle.short_import.specs.ImportFaults.{import_fault}
 use Rattle.module_view.specs.Unbuilt.{is_short_import, has_unbuilt_section, has_unbuilt_symbol, has_unbuilt_directive}
 
 -- ---- the first bytes
@@ -52,12 +54,11 @@ is_anonymous bytes =
 abbrev pub unsupported : Bool → Kind → Option ModuleError
 unsupported stands kind = shown stands (error.Unsupported kind)
 
--- the first form that the first bytes show: one that has no reader yet, or is never read
+-- the first form that the first bytes show, of those that are never read
 unfoldable pub form_error : List ℕ → Option ModuleError
 form_error bytes =
     first_standing
-    (unsupported (is_short_import bytes) form.NotBuilt
-    ∷ unsupported (begins bytes thin_library_start) form.ThinLibrary
+    (unsupported (begins bytes thin_library_start) form.ThinLibrary
     ∷ unsupported (begins bytes bitcode_start) form.Bitcode
     ∷ unsupported (begins bytes image_start) form.Image
     ∷ unsupported (begins bytes resource_start) form.Resource
@@ -107,9 +108,25 @@ content_error bytes =
 
 -- ---- the error
 
+-- why these bytes do not open as an object
+unfoldable pub file_error : List ℕ → Option ModuleError
+file_error bytes = first_standing (form_error bytes ∷ object_error bytes ∷ content_error bytes ∷ [])
+
+abbrev pub has_long_text : List ℕ → Bool
+has_long_text bytes = is_long (symbol_of bytes) || is_long (dll_of bytes)
+
+-- why they do not open as a short import; a well formed one is not linked yet
+unfoldable pub import_error : List ℕ → Option ModuleError
+import_error bytes =
+    first_standing
+    (option_map error.Import (import_fault bytes)
+    ∷ unsupported (has_long_text bytes) form.LongName
+    ∷ unsupported true form.NotBuilt
+    ∷ [])
+
 -- why these bytes do not open as a module: none where they do
 unfoldable pub opening_error : List ℕ → Option ModuleError
-opening_error bytes = first_standing (form_error bytes ∷ object_error bytes ∷ content_error bytes ∷ [])
+opening_error bytes = if is_short_import bytes then import_error bytes else file_error bytes
 
 abbrev pub IsOpened : ModuleView → Type 0
 IsOpened view = opening_error view.bytes ≡ None
@@ -117,6 +134,7 @@ IsOpened view = opening_error view.bytes ≡ None
 -- of want of memory nothing is said; any other error is the one that stands
 abbrev pub RefusesToOpen : Option ModuleError → ModuleError → Type 0
 RefusesToOpen standing (error.Object fault) = standing ≡ Some (error.Object fault)
+RefusesToOpen standing (error.Import fault) = standing ≡ Some (error.Import fault)
 RefusesToOpen standing (error.Directive at) = standing ≡ Some (error.Directive at)
 RefusesToOpen standing (error.Unsupported kind) = standing ≡ Some (error.Unsupported kind)
 RefusesToOpen standing error.Memory = Unit {0}

@@ -1,7 +1,7 @@
 //! Why bytes do not open as a module.
 
 use coff_object::ObjError;
-use link_base::{Kind, Memory};
+use link_base::{ImpFault, Kind, Memory};
 use std::alloc::AllocError;
 
 /// Why bytes do not open as a module.
@@ -9,10 +9,12 @@ use std::alloc::AllocError;
 pub enum ModuleError {
     /// They are a malformed object.
     Object(ObjError),
+    /// They are a malformed short import.
+    Import(ImpFault),
     /// One of their directives is malformed, by an offset in the data of its section.
     Directive { at: usize },
     /// They have a form that is not linked: one that the first bytes show, or one that the names or the contents of a well
-    /// formed object show.
+    /// formed object or short import show.
     Unsupported(Kind),
     /// Want of memory.
     Memory,

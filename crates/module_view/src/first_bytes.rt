@@ -13,9 +13,6 @@ use link_base::{Kind, field_u16};
 pub(crate) fn form_shown(bytes: &[u8]) -> Option<Kind>
     ensures { option_map Unsupported result ≡ form_error bytes.now }
 {
-    if is_short_import(bytes) {
-        return Some(Kind::NotBuilt);
-    }
     if bytes.starts_with(b"!<thin>") {
         return Some(Kind::ThinLibrary);
     }
@@ -35,7 +32,7 @@ pub(crate) fn form_shown(bytes: &[u8]) -> Option<Kind>
 }
 
 /// Whether the first bytes are those of a short import.
-fn is_short_import(bytes: &[u8]) -> bool
+pub(crate) fn is_short_import(bytes: &[u8]) -> bool
     ensures { result ≡ is_short_import bytes.now }
 {
     bytes.starts_with(b"\x00\x00\xff\xff\x00\x00")

@@ -10,6 +10,7 @@ mod definition;
 mod directive_list;
 mod error;
 mod first_bytes;
+mod import;
 mod input_module;
 mod laws;
 mod opening;

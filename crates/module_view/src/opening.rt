@@ -1,13 +1,15 @@
 //! How a file is opened as a module.
 
-ghost use Rattle.std.specs.Prelude.{◌≡◌, ◌<◌, ◌^◌, ◌-◌, length, None, IfOk, OnOk, IfErr};
+ghost use Rattle.std.specs.Prelude.{◌≡◌, ◌<◌, ◌^◌, ◌-◌, false, length, None, IfOk, OnOk, IfErr};
 ghost use Rattle.module_view.specs.ModuleParts.{view_of};
-ghost use Rattle.module_view.specs.Opening.{opening_error, RefusesToOpen};
+ghost use Rattle.module_view.specs.Unbuilt.{is_short_import};
+ghost use Rattle.module_view.specs.Opening.{file_error, opening_error, RefusesToOpen};
 
 use crate::aux_faults::judge_aux;
 use crate::directive_list::read_directives;
 use crate::error::ModuleError;
-use crate::first_bytes::form_shown;
+use crate::first_bytes::{form_shown, is_short_import};
+use crate::import::import_error;
 use crate::input_module::{Module, Origin};
 use crate::sections::judge_sections;
 use crate::symbols::read_symbols;
@@ -15,9 +17,12 @@ use coff_object::{LongTexts, Object};
 use link_base::Kind;
 use std::alloc::Global;
 
-/// The module with these bytes. They are refused for the first of: a form that the first bytes show (`Unsupported`), a fault
-/// of the object (`Object`), a section that the linker makes itself, a name of more than 32,000 bytes (`Unsupported`), a fault
-/// of an auxiliary record (`Object`), a malformed directive (`Directive`), and a form that is not linked yet (`Unsupported`).
+/// The module with these bytes. A short import is refused: for its first fault (`Import`), and else for a name of more than
+/// 32,000 bytes or because none is linked yet (`Unsupported`). Other bytes are refused for the first of: a form that the first
+/// bytes show (`Unsupported`), a fault of the object (`Object`), a section that the linker makes itself, a name of more than
+/// 32,000 bytes (`Unsupported`), a fault of an auxiliary record (`Object`), a malformed directive (`Directive`), and a form that
+/// is not linked yet (`Unsupported`).
+#[tactic(auto, unfolding(crate::specs::Opening::opening_error))]
 pub fn open_module<'a>(
     alloc: Global,
     origin: Origin<'a>,
@@ -27,6 +32,24 @@ pub fn open_module<'a>(
     ensures opened { IfOk result (λ m. m ≡ view_of origin.entry bytes.now) }
     ensures accepted { OnOk result (opening_error bytes.now ≡ None) }
     ensures refused { IfErr result (RefusesToOpen (opening_error bytes.now)) }
+{
+    if is_short_import(bytes) {
+        return Err(import_error(bytes));
+    }
+    open_object(alloc, origin, bytes)
+}
+
+/// The module of an object.
+fn open_object<'a>(
+    alloc: Global,
+    origin: Origin<'a>,
+    bytes: &'a [u8],
+) -> Result<Module<'a>, ModuleError>
+    requires short { length bytes.now < 2 ^ 32 - 1 }
+    requires object { is_short_import bytes.now ≡ false }
+    ensures opened { IfOk result (λ m. m ≡ view_of origin.entry bytes.now) }
+    ensures accepted { OnOk result (file_error bytes.now ≡ None) }
+    ensures refused { IfErr result (RefusesToOpen (file_error bytes.now)) }
 {
     if let Some(kind) = form_shown(bytes) {
         return Err(ModuleError::Unsupported(kind));

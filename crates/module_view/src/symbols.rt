@@ -1,26 +1,26 @@
 //! The lists that one pass over the symbols of an object makes.
 
-ghost use Rattle.std.specs.Prelude.{◌≡◌, ◌<◌, ◌≤◌, ◌++◌, ◌∷◌, [], ℕ, true, false, not, None, Some, length, slice_index_or, IfSome, IfOk, OnOk, IfErr, if◌then◌else◌};
+ghost use Rattle.std.specs.Prelude.{◌≡◌, ◌<◌, ◌≤◌, ◌||◌, ◌++◌, ◌∷◌, [], ℕ, true, false, not, None, Some, length, slice_index_or, IfSome, IfOk, OnOk, IfErr, if◌then◌else◌};
 ghost use Rattle.std.specs.Option.{option_copied};
 ghost use Rattle.link_base.specs.PeFormat as pe;
 ghost use Rattle.link_base.specs.declared.kinds.form.Kind.TheVariants as form;
-ghost use Rattle.coff_records.specs.ObjectFile.{starts_symbol, string_table, symbol_at};
+ghost use Rattle.coff_records.specs.ObjectFile.{name_in, starts_symbol, string_table, symbol_at};
 ghost use Rattle.coff_aux.specs.AuxRecords.{said_by, tag_in, characteristics_in};
 ghost use Rattle.module_view.specs.SymbolLists.{is_definition, place_of, definition_of, definitions_of, is_weak, weak_of, weaks_of, is_common, common_of, commons_of, is_undefined, is_reference, asks_for_search, reference_of, references_of};
-ghost use Rattle.module_view.specs.Unbuilt.{has_unbuilt_symbol};
+ghost use Rattle.module_view.specs.Unbuilt.{is_unbuilt_symbol, has_unbuilt_symbol};
 ghost use Rattle.module_view.specs.Opening.{unsupported, has_long_symbol_name, RefusesToOpen};
 
 use crate::definition::{Common, Definition, Place};
 use crate::error::ModuleError;
 use crate::reference::{Reference, Weak};
-use crate::unbuilt::is_unbuilt_symbol;
+use crate::unbuilt::{is_external_name, is_import_reference, is_unbuilt_external};
 use coff_aux::aux_records::WEAK_EXTERN_SEARCH_LIBRARY;
 use coff_aux::{characteristics_in, first_aux, tag_in};
 use coff_object::{LongTexts, Object, SymbolRecord};
 use link_base::pe_format::{
     SYM_ABSOLUTE, SYM_CLASS_EXTERNAL, SYM_CLASS_WEAK_EXTERNAL, SYM_UNDEFINED,
 };
-use link_base::{Kind, Memory};
+use link_base::{Kind, Memory, Name};
 use std::alloc::Global;
 
 /// What the symbols of an object are.
@@ -52,31 +52,67 @@ pub(crate) fn read_symbols<'a>(
     ensures accepted { OnOk result (has_long_symbol_name object.now ≡ false) }
     ensures refused { IfErr result (RefusesToOpen (unsupported (has_long_symbol_name object.now) form.LongName)) }
 {
-    let mut definitions = Vec::new(alloc);
-    let mut references = Vec::new(alloc);
-    let mut weaks = Vec::new(alloc);
-    let mut commons = Vec::new(alloc);
-    let mut starts = vec![in alloc; false; object.record_count() as usize]?;
-    let mut is_unbuilt = false;
+    let mut lists = no_lists(alloc);
+    lists.starts = vec![in alloc; false; object.record_count() as usize]?;
     for (index, symbol) in object.symbols() {
         if texts.is_long_symbol(&symbol) {
             return Err(ModuleError::Unsupported(Kind::LongName));
         }
-        starts[index as usize] = true;
-        is_unbuilt |= is_unbuilt_symbol(object, &symbol);
-        push_definition(&mut definitions, index, &symbol)?;
-        push_reference(&mut references, object, index, &symbol)?;
-        push_weak(&mut weaks, object, index, &symbol)?;
-        push_common(&mut commons, index, &symbol)?;
+        lists.starts[index as usize] = true;
+        note_symbol(&mut lists, object, index, &symbol)?;
     }
-    Ok(SymbolLists {
-        definitions,
-        references,
-        weaks,
-        commons,
-        starts,
-        is_unbuilt,
-    })
+    Ok(lists)
+}
+
+/// The lists of no symbols.
+fn no_lists<'a>(alloc: Global) -> SymbolLists<'a>
+    ensures definitions { result.definitions.items ≡ [] }
+    ensures references { result.references.items ≡ [] }
+    ensures weaks { result.weaks.items ≡ [] }
+    ensures commons { result.commons.items ≡ [] }
+    ensures unbuilt { result.is_unbuilt ≡ false }
+{
+    SymbolLists {
+        definitions: Vec::new(alloc),
+        references: Vec::new(alloc),
+        weaks: Vec::new(alloc),
+        commons: Vec::new(alloc),
+        starts: Vec::new(alloc),
+        is_unbuilt: false,
+    }
+}
+
+/// Notes what a symbol is. Its name is read once, and only where its class or its section asks for it.
+fn note_symbol<'a>(
+    lists: &mut SymbolLists<'a>,
+    object: &Object<'a>,
+    index: u32,
+    symbol: &SymbolRecord<'a>,
+) -> Result<(), Memory>
+    requires start { starts_symbol object.now index ≡ true }
+    requires symbol { symbol.now ≡ symbol_at object.now index }
+    ensures definitions { OnOk result (lists.new.definitions.items ≡ lists.old.definitions.items
+        ++ (if is_definition symbol.now then definition_of (index, symbol.now) ∷ [] else [])) }
+    ensures references { OnOk result (lists.new.references.items ≡ lists.old.references.items
+        ++ (if is_reference symbol.now then reference_of object.now (index, symbol.now) ∷ [] else [])) }
+    ensures weaks { OnOk result (lists.new.weaks.items ≡ lists.old.weaks.items
+        ++ (if is_weak symbol.now then weak_of object.now (index, symbol.now) ∷ [] else [])) }
+    ensures commons { OnOk result (lists.new.commons.items ≡ lists.old.commons.items
+        ++ (if is_common symbol.now then common_of (index, symbol.now) ∷ [] else [])) }
+    ensures starts { lists.new.starts.items ≡ lists.old.starts.items }
+    ensures unbuilt { OnOk result (lists.new.is_unbuilt ≡ (lists.old.is_unbuilt || is_unbuilt_symbol object.now symbol.now)) }
+{
+    if !is_external_name(symbol) {
+        lists.is_unbuilt |= is_import_reference(object, symbol);
+        return Ok(());
+    }
+    let name = symbol.name();
+    lists.is_unbuilt |= is_unbuilt_external(object, symbol, &name);
+    push_definition(&mut lists.definitions, index, symbol, &name)?;
+    push_reference(&mut lists.references, object, index, symbol, &name)?;
+    push_weak(&mut lists.weaks, object, index, symbol, &name)?;
+    push_common(&mut lists.commons, index, symbol, &name)?;
+    Ok(())
 }
 
 // ---- definitions
@@ -86,13 +122,15 @@ fn push_definition<'a>(
     definitions: &mut Vec<Definition<'a>>,
     index: u32,
     symbol: &SymbolRecord<'a>,
+    name: &Name<'a>,
 ) -> Result<(), Memory>
+    requires { name.now ≡ name_in symbol.now }
     ensures { OnOk result (definitions.new.items ≡ definitions.old.items
         ++ (if is_definition symbol.now then definition_of (index, symbol.now) ∷ [] else [])) }
 {
     if let Some(place) = definition_place(symbol) {
         definitions.push(Definition {
-            name: symbol.name(),
+            name: name.again(),
             symbol: index,
             place,
         })?;
@@ -129,15 +167,17 @@ fn push_reference<'a>(
     object: &Object<'a>,
     index: u32,
     symbol: &SymbolRecord<'a>,
+    name: &Name<'a>,
 ) -> Result<(), Memory>
     requires start { starts_symbol object.now index ≡ true }
     requires symbol { symbol.now ≡ symbol_at object.now index }
+    requires name { name.now ≡ name_in symbol.now }
     ensures { OnOk result (references.new.items ≡ references.old.items
         ++ (if is_reference symbol.now then reference_of object.now (index, symbol.now) ∷ [] else [])) }
 {
     if is_reference(symbol) {
         references.push(Reference {
-            name: symbol.name(),
+            name: name.again(),
             symbol: index,
             search: asks_for_search(object, index, symbol),
         })?;
@@ -181,15 +221,17 @@ fn push_weak<'a>(
     object: &Object<'a>,
     index: u32,
     symbol: &SymbolRecord<'a>,
+    name: &Name<'a>,
 ) -> Result<(), Memory>
     requires start { starts_symbol object.now index ≡ true }
     requires symbol { symbol.now ≡ symbol_at object.now index }
+    requires name { name.now ≡ name_in symbol.now }
     ensures { OnOk result (weaks.new.items ≡ weaks.old.items
         ++ (if is_weak symbol.now then weak_of object.now (index, symbol.now) ∷ [] else [])) }
 {
     if is_weak(symbol) {
         weaks.push(Weak {
-            name: symbol.name(),
+            name: name.again(),
             symbol: index,
             tag: tag_said(first_aux(object, index, symbol.aux())),
         })?;
@@ -232,13 +274,15 @@ fn push_common<'a>(
     commons: &mut Vec<Common<'a>>,
     index: u32,
     symbol: &SymbolRecord<'a>,
+    name: &Name<'a>,
 ) -> Result<(), Memory>
+    requires { name.now ≡ name_in symbol.now }
     ensures { OnOk result (commons.new.items ≡ commons.old.items
         ++ (if is_common symbol.now then common_of (index, symbol.now) ∷ [] else [])) }
 {
     if is_common(symbol) {
         commons.push(Common {
-            name: symbol.name(),
+            name: name.again(),
             symbol: index,
             size: symbol.value(),
         })?;

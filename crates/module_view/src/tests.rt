@@ -10,10 +10,14 @@ use link_base::{Kind, Memory, Name};
 use std::alloc::Global;
 use std::test::Fail;
 
-/// The first bytes of a file, and the form that they show; with none they are a malformed object.
-const STARTS: [(&[u8], Option<Kind>); 11] = [
+/// The first bytes of a file, and the form that they show; with none they are a malformed object or short import.
+const STARTS: [(&[u8], Option<Kind>); 12] = [
     (b"!<arch>\n", None),
-    (b"\0\0\xff\xff\0\0", Some(Kind::NotBuilt)),
+    (b"\0\0\xff\xff\0\0", None),
+    (
+        b"\0\0\xff\xff\0\0\x64\x86\0\0\0\0\x08\0\0\0\x07\0\0\0f\0k.dll\0",
+        Some(Kind::NotBuilt),
+    ),
     (b"!<thin>\n", Some(Kind::ThinLibrary)),
     (b"BC\xc0\xde", Some(Kind::Bitcode)),
     (b"MZ", Some(Kind::Image)),
@@ -114,6 +118,7 @@ fn opening_of(alloc: Global, bytes: &[u8]) -> Result<Opened, Memory> {
         Ok(module) => Ok(Opened::Module(module.definitions().len())),
         Err(ModuleError::Unsupported(kind)) => Ok(Opened::Form(kind)),
         Err(ModuleError::Object(_)) => Ok(Opened::Malformed),
+        Err(ModuleError::Import(_)) => Ok(Opened::Malformed),
         Err(ModuleError::Directive { .. }) => Ok(Opened::Malformed),
         Err(ModuleError::Memory) => Err(Memory),
     }

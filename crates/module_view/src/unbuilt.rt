@@ -1,8 +1,9 @@
 //! Which sections, symbols and directives have a form that is not linked yet.
 
-ghost use Rattle.std.specs.Prelude.{◌≡◌, ◌||◌};
+ghost use Rattle.std.specs.Prelude.{◌≡◌, ◌||◌, true};
+ghost use Rattle.coff_records.specs.ObjectFile.{name_in};
 ghost use Rattle.directives.specs.Said.{said};
-ghost use Rattle.module_view.specs.Unbuilt.{is_unbuilt_form, is_unbuilt_directive, is_unbuilt_name, is_loader_name, is_in_no_section, is_in_comdat, is_external_name, is_unbuilt_symbol};
+ghost use Rattle.module_view.specs.Unbuilt.{is_unbuilt_form, is_unbuilt_directive, is_unbuilt_name, is_loader_name, is_in_no_section, is_in_comdat, is_external_name, is_import_reference, is_unbuilt_symbol};
 
 use crate::base_name::has_base_name;
 use crate::placed_section::comes_in;
@@ -44,20 +45,26 @@ pub fn is_unbuilt_name(name: &Name<'_>) -> bool
     name.is_import() || is_loader_name(name)
 }
 
-/// Whether a symbol has a form that is not linked yet: it names an entry of the import address table and may refer to that
-/// of another module, or it is external or weak and one that the loader of a program looks for. Its name is read once, and
-/// only where its class or its section asks for it.
+/// Whether a symbol that is external or weak, and has this name, has a form that is not linked yet: it may refer to an entry of
+/// the import address table of another module, or is one that the loader of a program looks for.
 #[tactic(auto, unfolding(crate::specs::Unbuilt::is_unbuilt_symbol))]
-pub(crate) fn is_unbuilt_symbol(object: &Object<'_>, symbol: &SymbolRecord<'_>) -> bool
+pub(crate) fn is_unbuilt_external(
+    object: &Object<'_>,
+    symbol: &SymbolRecord<'_>,
+    name: &Name<'_>,
+) -> bool
+    requires external { is_external_name symbol.now ≡ true }
+    requires name { name.now ≡ name_in symbol.now }
     ensures { result ≡ is_unbuilt_symbol object.now symbol.now }
 {
-    let may_refer = may_refer(object, symbol);
-    let is_external = is_external_name(symbol);
-    if !may_refer && !is_external {
-        return false;
-    }
-    let name = symbol.name();
-    (may_refer && name.is_import()) || (is_external && is_loader_name(&name))
+    (name.is_import() && may_refer(object, symbol)) || is_loader_name(name)
+}
+
+/// Whether a symbol names an entry of the import address table, and may refer to that of another module.
+pub(crate) fn is_import_reference(object: &Object<'_>, symbol: &SymbolRecord<'_>) -> bool
+    ensures { result ≡ is_import_reference object.now symbol.now }
+{
+    may_refer(object, symbol) && symbol.name().is_import()
 }
 
 /// Whether a symbol stands in no section, or in a COMDAT section.
@@ -81,7 +88,7 @@ fn is_in_comdat(object: &Object<'_>, symbol: &SymbolRecord<'_>) -> bool
 }
 
 /// Whether a symbol is external or weak.
-fn is_external_name(symbol: &SymbolRecord<'_>) -> bool
+pub(crate) fn is_external_name(symbol: &SymbolRecord<'_>) -> bool
     ensures { result ≡ is_external_name symbol.now }
 {
     let class = symbol.class();

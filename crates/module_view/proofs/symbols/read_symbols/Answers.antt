@@ -1,4 +1,4 @@
-use Rattle.std.proofs.Common.{◌<◌, List, Bool, eqb, ◌||◌, ◌++◌, length, map, filter, sym, ap, ◌∙◌, arith}
+use Rattle.std.proofs.Common.{◌<◌, List, Bool, false, eqb, ◌||◌, ◌++◌, length, map, filter, get_or, refl, sym, ap, ◌∙◌, arith}
 use Rattle.std.specs.List.{list_any}
 use Rattle.std.proofs.lemmas.List.{length-set}
 use Rattle.coff_records.specs.SymbolRecord.{name_in}
@@ -32,14 +32,14 @@ loop-index-init c =
       ends = tt;
       left = symbols_left-all bytes entries all;
       long = ap (list_any (λ (entry : SymbolEntry). is_long (name_in entry.1))) all;
-      unbuilt = ap (list_any (λ (entry : SymbolEntry). is_unbuilt_symbol bytes entry.1)) all;
-      definitions = ap (λ (ds : List Definition). ds ++ definitions_in entries) c.new-definitions.ensures.items ∙ ap definitions_in all;
-      references = ap (λ (rs : List Reference). rs ++ map (reference_of bytes) (filter refers entries)) c.new-references.ensures.items ∙ ap (λ (es : List SymbolEntry). map (reference_of bytes) (filter refers es)) all;
-      weaks = ap (λ (ws : List Weak). ws ++ map (weak_of bytes) (filter weak_entry entries)) c.new-weaks.ensures.items ∙ ap (λ (es : List SymbolEntry). map (weak_of bytes) (filter weak_entry es)) all;
-      commons = ap (λ (cs : List Common). cs ++ commons_in entries) c.new-commons.ensures.items ∙ ap commons_in all;
-      count = omega (arith, c.in_ok-starts.ensures.len, c.record_count.ensures);
+      unbuilt = ap (λ (b : Bool). b || list_any (λ (entry : SymbolEntry). is_unbuilt_symbol bytes entry.1) entries) c.no_lists-lists.ensures.unbuilt ∙ ap (list_any (λ (entry : SymbolEntry). is_unbuilt_symbol bytes entry.1)) all;
+      definitions = ap (λ (ds : List Definition). ds ++ definitions_in entries) c.no_lists-lists.ensures.definitions ∙ ap definitions_in all;
+      references = ap (λ (rs : List Reference). rs ++ map (reference_of bytes) (filter refers entries)) c.no_lists-lists.ensures.references ∙ ap (λ (es : List SymbolEntry). map (reference_of bytes) (filter refers es)) all;
+      weaks = ap (λ (ws : List Weak). ws ++ map (weak_of bytes) (filter weak_entry entries)) c.no_lists-lists.ensures.weaks ∙ ap (λ (es : List SymbolEntry). map (weak_of bytes) (filter weak_entry es)) all;
+      commons = ap (λ (cs : List Common). cs ++ commons_in entries) c.no_lists-lists.ensures.commons ∙ ap commons_in all;
+      count = omega (arith, c.in_ok-lists.ensures.len, c.record_count.ensures);
       starts = λ j.
-          ap (λ (b : Bool). b || list_any (λ (e : SymbolEntry). eqb e.0 j) entries) (unmarked c.in_ok-starts.starts.items _ j (c.in_ok-starts.ensures.items_if_clones_equal (λ y e. e)))
+          ap (λ (b : Bool). b || list_any (λ (e : SymbolEntry). eqb e.0 j) entries) (unmarked c.in_ok-lists.field-0.items _ j (c.in_ok-lists.ensures.items_if_clones_equal (λ y e. e)))
           ∙ ap (list_any (λ (e : SymbolEntry). eqb e.0 j)) all ∙ starts_among bytes j;
     }
 
@@ -54,20 +54,12 @@ index_mut-requires c =
     let step = symbols_left-step c.args.object.now c.loop-index.index-iterator c.next.new.self c.in-Some.index c.in-Some.symbol c.loop-index.invariant.left c.in-Some.ensures.steps in
     omega (arith, step.below, c.loop-index.invariant.count)
 
-pub push_reference-requires-clause-start : goal.push_reference-requires-clause-start
-push_reference-requires-clause-start c =
+pub note_symbol-requires-clause-start : goal.note_symbol-requires-clause-start
+note_symbol-requires-clause-start c =
     (symbols_left-step c.args.object.now c.loop-index.index-iterator c.next.new.self c.in-Some.index c.in-Some.symbol c.loop-index.invariant.left c.in-Some.ensures.steps).starts
 
-pub push_reference-requires-clause-symbol : goal.push_reference-requires-clause-symbol
-push_reference-requires-clause-symbol c =
-    (symbols_left-step c.args.object.now c.loop-index.index-iterator c.next.new.self c.in-Some.index c.in-Some.symbol c.loop-index.invariant.left c.in-Some.ensures.steps).is
-
-pub push_weak-requires-clause-start : goal.push_weak-requires-clause-start
-push_weak-requires-clause-start c =
-    (symbols_left-step c.args.object.now c.loop-index.index-iterator c.next.new.self c.in-Some.index c.in-Some.symbol c.loop-index.invariant.left c.in-Some.ensures.steps).starts
-
-pub push_weak-requires-clause-symbol : goal.push_weak-requires-clause-symbol
-push_weak-requires-clause-symbol c =
+pub note_symbol-requires-clause-symbol : goal.note_symbol-requires-clause-symbol
+note_symbol-requires-clause-symbol c =
     (symbols_left-step c.args.object.now c.loop-index.index-iterator c.next.new.self c.in-Some.index c.in-Some.symbol c.loop-index.invariant.left c.in-Some.ensures.steps).is
 
 pub loop-index-preserved : goal.loop-index-preserved
@@ -78,18 +70,23 @@ loop-index-preserved c =
     let entry : SymbolEntry = (c.in-Some.index, c.in-Some.symbol) in
     let steps = c.in-Some.ensures.steps in
     let step = symbols_left-step bytes before after c.in-Some.index c.in-Some.symbol c.loop-index.invariant.left steps in
-    let marks = c.loop-index.starts.items in
+    let marks = c.loop-index.lists.starts.items in
+    let told = c.in_ok-note_symbol.ensures in
     let within : c.in-Some.index < length marks = omega (arith, step.below, c.loop-index.invariant.count) in
     record {
       can = tt;
       ends = tt;
       left = step.left;
       long = still_none (λ (e : SymbolEntry). is_long (name_in e.1)) before after entry _ c.is_long_symbol.result steps c.loop-index.invariant.long c.is_long_symbol.ensures c.if-is_long_symbol.false;
-      unbuilt = one_noted (λ (e : SymbolEntry). is_unbuilt_symbol bytes e.1) before after entry c.loop-index.is_unbuilt c.is_unbuilt_symbol-is_unbuilt.result _ steps c.loop-index.invariant.unbuilt c.is_unbuilt_symbol-is_unbuilt.ensures;
-      definitions = listed_more defines definition_of before after entry c.loop-index.definitions.items c.push_definition.new.definitions.items (definitions_of bytes) steps c.loop-index.invariant.definitions c.in_ok-push_definition.ensures;
-      references = listed_more refers (reference_of bytes) before after entry c.loop-index.references.items c.push_reference.new.references.items (references_of bytes) steps c.loop-index.invariant.references c.in_ok-push_reference.ensures;
-      weaks = listed_more weak_entry (weak_of bytes) before after entry c.loop-index.weaks.items c.push_weak.new.weaks.items (weaks_of bytes) steps c.loop-index.invariant.weaks c.in_ok-push_weak.ensures;
-      commons = listed_more common_entry common_of before after entry c.loop-index.commons.items c.push_common.new.commons.items (commons_of bytes) steps c.loop-index.invariant.commons c.in_ok-push_common.ensures;
-      count = length-set marks c.in-Some.index _ ∙ c.loop-index.invariant.count;
-      starts = λ j. marks_more before after entry marks j _ steps within (c.loop-index.invariant.starts j);
+      unbuilt =
+          ap (λ (b : Bool). b || list_any (λ (e : SymbolEntry). is_unbuilt_symbol bytes e.1) after) told.unbuilt
+          ∙ one_noted (λ (e : SymbolEntry). is_unbuilt_symbol bytes e.1) before after entry c.loop-index.lists.is_unbuilt (is_unbuilt_symbol bytes c.in-Some.symbol) _ steps c.loop-index.invariant.unbuilt refl;
+      definitions = listed_more defines definition_of before after entry c.loop-index.lists.definitions.items c.note_symbol.new.lists.definitions.items (definitions_of bytes) steps c.loop-index.invariant.definitions told.definitions;
+      references = listed_more refers (reference_of bytes) before after entry c.loop-index.lists.references.items c.note_symbol.new.lists.references.items (references_of bytes) steps c.loop-index.invariant.references told.references;
+      weaks = listed_more weak_entry (weak_of bytes) before after entry c.loop-index.lists.weaks.items c.note_symbol.new.lists.weaks.items (weaks_of bytes) steps c.loop-index.invariant.weaks told.weaks;
+      commons = listed_more common_entry common_of before after entry c.loop-index.lists.commons.items c.note_symbol.new.lists.commons.items (commons_of bytes) steps c.loop-index.invariant.commons told.commons;
+      count = ap (λ (bs : List Bool). length bs) told.starts ∙ length-set marks c.in-Some.index _ ∙ c.loop-index.invariant.count;
+      starts = λ j.
+          ap (λ (bs : List Bool). get_or bs j false || list_any (λ (e : SymbolEntry). eqb e.0 j) after) told.starts
+          ∙ marks_more before after entry marks j _ steps within (c.loop-index.invariant.starts j);
     }

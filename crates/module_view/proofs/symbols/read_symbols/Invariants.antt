@@ -13,11 +13,11 @@ invariant-loop-index l = record {
   ends : (goal.iterator-loop-index).is_finite l.index-iterator;
   left : SymbolsLeft l.object l.index-iterator;
   long : list_any (λ entry. is_long (name_in entry.1)) l.index-iterator ≡ has_long_symbol_name l.object;
-  unbuilt : (l.is_unbuilt || list_any (λ entry. is_unbuilt_symbol l.object entry.1) l.index-iterator) ≡ has_unbuilt_symbol l.object;
-  definitions : l.definitions.items ++ definitions_in l.index-iterator ≡ definitions_of l.object;
-  references : l.references.items ++ map (reference_of l.object) (filter refers l.index-iterator) ≡ references_of l.object;
-  weaks : l.weaks.items ++ map (weak_of l.object) (filter (λ entry. is_weak entry.1) l.index-iterator) ≡ weaks_of l.object;
-  commons : l.commons.items ++ commons_in l.index-iterator ≡ commons_of l.object;
-  count : length l.starts.items ≡ record_total l.object;
-  starts : (j : ℕ) → (get_or l.starts.items j false || list_any (λ entry. eqb entry.0 j) l.index-iterator) ≡ starts_symbol l.object j;
+  unbuilt : (l.lists.is_unbuilt || list_any (λ entry. is_unbuilt_symbol l.object entry.1) l.index-iterator) ≡ has_unbuilt_symbol l.object;
+  definitions : l.lists.definitions.items ++ definitions_in l.index-iterator ≡ definitions_of l.object;
+  references : l.lists.references.items ++ map (reference_of l.object) (filter refers l.index-iterator) ≡ references_of l.object;
+  weaks : l.lists.weaks.items ++ map (weak_of l.object) (filter (λ entry. is_weak entry.1) l.index-iterator) ≡ weaks_of l.object;
+  commons : l.lists.commons.items ++ commons_in l.index-iterator ≡ commons_of l.object;
+  count : length l.lists.starts.items ≡ record_total l.object;
+  starts : (j : ℕ) → (get_or l.lists.starts.items j false || list_any (λ entry. eqb entry.0 j) l.index-iterator) ≡ starts_symbol l.object j;
 }
