@@ -1,12 +1,10 @@
 -- An index of pieces, one piece more at a time.
-use Rattle.std.proofs.Common.{◌≡◌, ℕ, ◌+◌, ◌-◌, ◌<◌, ◌≤◌, Bool, true, false, cond, ◌&&◌, eqb, List, [], length, map, get_or, set, Option, Some, None, inl, inr, refl, sym, ap, ◌∙◌, add-one, arith}
+use Rattle.std.proofs.Common.{◌≡◌, ℕ, zero, suc, ◌+◌, ◌-◌, ◌<◌, ◌≤◌, Bool, true, false, cond, ◌&&◌, eqb, ltb, List, [], ◌∷◌, ◌++◌, length, map, get_or, set, replicate, Option, Some, None, inl, inr, refl, sym, ap, subst, ◌∙◌, add-one, arith}
 use Rattle.std.specs.Option.{option_or}
-use Rattle.std.specs.Global.{Global}
-use Rattle.std.specs.Prelude.{Vec}
 use Rattle.std.specs.List.{All}
-use Rattle.std.proofs.lemmas.Bool.{eq-eqb, lt-ltb, le-ltb}
+use Rattle.std.proofs.lemmas.Bool.{cases_lt, eq-eqb, lt-ltb, le-ltb}
 use Rattle.std.proofs.lemmas.Bool.Decides.{eqb_tells}
-use Rattle.std.proofs.lemmas.List.{map-set, get_or-map, get_or-set_same, get_or-set_other, get_or_default, length-set}
+use Rattle.std.proofs.lemmas.List.{get_or-set_same, get_or-set_other, get_or_default, get_or_past, get_or_push, get_or_append_left, length-append, length-replicate}
 use Rattle.std.proofs.Math.ListN.{get_or-map as get_or-map_same}
 use Rattle.link_base.specs.Bytes.{first_below}
 use Rattle.section_group.specs.declared.piece.Piece.{Piece}
@@ -20,17 +18,13 @@ use Rattle.link_pieces.specs.Pieces.{link_pieces, IsPieceOf}
 use Rattle.link_pieces.proofs.CallerLemmas.{pieces_are}
 use Rattle.std.proofs.lemmas.List.Elements.{All-weaker}
 use Rattle.link_pieces.proofs.CommonLemmas.{common_place}
-use Rattle.link_pieces.specs.PieceIndex.{is_section_of, is_common_of, holds, indexed}
-use Rattle.link_pieces.specs.Rows.{items_of, section_places, common_places, HasRows, HasPlace}
+use Rattle.link_pieces.specs.PieceIndex.{RowsView, row_start, is_section_of, is_common_of, holds, indexed}
+use Rattle.link_pieces.specs.Rows.{rows_of, section_places, common_places, AreRows, HasStarts, HasRows, HasPlace}
 use Rattle.link_base.proofs.RefusalLemmas.{or_none}
 
--- a row that is replaced
-abbrev pub put_row : List (List (Option ℕ)) → ℕ → ℕ → ℕ → List (List (Option ℕ))
-put_row rows p at index =
-    set rows p (set (get_or rows p []) at (option_or (get_or (get_or rows p []) at None) (Some index)))
-
-cell : (row : List (Option ℕ)) (at index s : ℕ) → at < length row → get_or (set row at (option_or (get_or row at None) (Some index))) s None ≡ option_or (get_or row s None) (cond (eqb at s) (Some index) None)
-cell row at index s lt =
+-- what a place of a list holds, once a piece is noted where none was
+pub put_at : (row : List (Option ℕ)) (at index s : ℕ) → at < length row → get_or (set row at (option_or (get_or row at None) (Some index))) s None ≡ option_or (get_or row s None) (cond (eqb at s) (Some index) None)
+put_at row at index s lt =
     elim (eqb_tells at s) [
       | inl here ↦
           let same : s ≡ at = omega arith in
@@ -39,36 +33,161 @@ cell row at index s lt =
           rw other.0 (get_or-set_other row at s (option_or (get_or row at None) (Some index)) None (λ same. other.1 (sym same)) ∙ sym (or_none (get_or row s None)))
     ]
 
-pub noted_at : (rows : List (List (Option ℕ))) (p at index m s : ℕ) → p < length rows → at < length (get_or rows p []) → indexed (put_row rows p at index) m s ≡ option_or (indexed rows m s) (cond (eqb p m && eqb at s) (Some index) None)
-noted_at rows p at index m s lt within =
-    let row = get_or rows p [] in
-    let put = set row at (option_or (get_or row at None) (Some index)) in
-    elim (eqb_tells p m) [
-      | inl here ↦
-          let same : m ≡ p = omega arith in
-          rw (here.0, same) (ap (λ (r : List (Option ℕ)). get_or r s None) (get_or-set_same rows p put [] lt) ∙ cell row at index s within)
-      | inr other ↦
-          rw other.0 (ap (λ (r : List (Option ℕ)). get_or r s None) (get_or-set_other rows p m put [] (λ same. other.1 (sym same))) ∙ sym (or_none (indexed rows m s)))
+-- ---- places of rows
+
+-- a row that has a place starts and ends among the starts
+pub starts_inside : (starts : List ℕ) (i low : ℕ) → low < get_or starts i 0 → i < length starts
+starts_inside starts i low lt =
+    elim (cases_lt i (length starts)) [
+      | inl inside ↦ inside
+      | inr past ↦ let none = get_or_past starts i 0 past in absurd (omega (arith, lt, none))
     ]
 
-pub shape_at : (rows : List (List (Option ℕ))) (p at index m : ℕ) → p < length rows → length (get_or (put_row rows p at index) m []) ≡ length (get_or rows m [])
-shape_at rows p at index m lt =
-    let row = get_or rows p [] in
-    let put = set row at (option_or (get_or row at None) (Some index)) in
-    elim (eqb_tells p m) [
-      | inl here ↦
-          let same : m ≡ p = omega arith in
-          rw same (ap length (get_or-set_same rows p put [] lt) ∙ length-set row at (option_or (get_or row at None) (Some index)))
-      | inr other ↦ ap length (get_or-set_other rows p m put [] (λ same. other.1 (sym same)))
-    ]
+abbrev pub Ascends : List ℕ → Type 0
+Ascends starts = (i j : ℕ) → i ≤ j → j < length starts → get_or starts i 0 ≤ get_or starts j 0
 
--- the same of rows that are kept as vectors
-pub put_items : (rows : List (Vec (Option ℕ) Global)) (p at index : ℕ) (read row : Vec (Option ℕ) Global) → p < length rows → row.items ≡ set (get_or rows p read).items at (option_or (get_or (get_or rows p read).items at None) (Some index)) → items_of (set rows p row) ≡ put_row (items_of rows) p at index
-put_items rows p at index read row lt is =
-    let items = λ (v : Vec (Option ℕ) Global). v.items in
-    map-set items rows p row
-    ∙ ap (set (items_of rows) p) is
-    ∙ ap (λ (r : List (Option ℕ)). set (items_of rows) p (set r at (option_or (get_or r at None) (Some index)))) (sym (get_or-map items rows p read [] lt))
+-- places in different rows differ
+apart_below : (starts : List ℕ) (p n m s : ℕ) → Ascends starts → p < m → get_or starts p 0 + n < get_or starts (p + 1) 0 → get_or starts m 0 + s < get_or starts (m + 1) 0 → get_or starts p 0 + n < get_or starts m 0 + s
+apart_below starts p n m s ascends lt here there =
+    let inside : m + 1 < length starts = starts_inside starts (m + 1) (get_or starts m 0 + s) there in
+    let next = ascends (p + 1) m (omega arith) (omega arith) in
+    omega (arith, here, next)
+
+same_place : (starts : List ℕ) (p n m s : ℕ) → Ascends starts → get_or starts p 0 + n < get_or starts (p + 1) 0 → get_or starts m 0 + s < get_or starts (m + 1) 0 → eqb (get_or starts p 0 + n) (get_or starts m 0 + s) ≡ (eqb p m && eqb n s)
+same_place starts p n m s ascends here there =
+    elim (eqb_tells p m) [
+      | inl same ↦
+          let start : get_or starts p 0 ≡ get_or starts m 0 = ap (λ (k : ℕ). get_or starts k 0) same.1 in
+          elim (eqb_tells n s) [
+            | inl equal ↦ rw (same.0, equal.0) (eq-eqb (get_or starts p 0 + n) (get_or starts m 0 + s) (omega (arith, start, equal.1)))
+            | inr other ↦ rw (same.0, other.0) (ne-eqb (get_or starts p 0 + n) (get_or starts m 0 + s) (λ e. other.1 (omega (arith, start, e))))
+          ]
+      | inr other ↦ rw other.0 (ne-eqb (get_or starts p 0 + n) (get_or starts m 0 + s) (λ e. other.1 (row_of e)))
+    ]
+  where
+    ne-eqb : (a b : ℕ) → (a ≡ b → ⊥) → eqb a b ≡ false
+    ne-eqb a b apart =
+        elim (eqb_tells a b) [
+          | inl same ↦ absurd (apart same.1)
+          | inr other ↦ other.0
+        ]
+
+    row_of : get_or starts p 0 + n ≡ get_or starts m 0 + s → p ≡ m
+    row_of e =
+        elim (cases_lt p m) [
+          | inl below ↦ let lt = apart_below starts p n m s ascends below here there in absurd (omega (arith, lt, e))
+          | inr above ↦
+              elim (cases_lt m p) [
+                | inl below ↦ let lt = apart_below starts m s p n ascends below there here in absurd (omega (arith, lt, e))
+                | inr equal ↦ omega (arith, above, equal)
+              ]
+        ]
+
+-- what the rows say, once a piece is noted at a place
+pub noted_at : (starts : List ℕ) (before after : List (Option ℕ)) (p n index m s : ℕ) → Ascends starts → get_or starts p 0 + n < get_or starts (p + 1) 0 → ((k : ℕ) → get_or after k None ≡ option_or (get_or before k None) (cond (eqb (get_or starts p 0 + n) k) (Some index) None)) → indexed (rows_of starts after) m s ≡ option_or (indexed (rows_of starts before) m s) (cond (eqb p m && eqb n s) (Some index) None)
+noted_at starts before after p n index m s ascends here noted =
+    let place = get_or starts m 0 + s in
+    elim (cases_lt place (get_or starts (m + 1) 0)) [
+      | inl inside ↦
+          rw (lt-ltb place (get_or starts (m + 1) 0) inside)
+          (noted place ∙ ap (λ (b : Bool). option_or (get_or before place None) (cond b (Some index) None)) (same_place starts p n m s ascends here inside))
+      | inr outside ↦
+          rw (le-ltb place (get_or starts (m + 1) 0) outside)
+          (ap (λ (b : Bool). cond b (Some index) None) (sym (elsewhere outside)))
+    ]
+  where
+    elsewhere : get_or starts (m + 1) 0 ≤ get_or starts m 0 + s → (eqb p m && eqb n s) ≡ false
+    elsewhere outside =
+        elim (eqb_tells p m) [
+          | inl same ↦
+              elim (eqb_tells n s) [
+                | inl equal ↦
+                    let start = ap (λ (k : ℕ). get_or starts k 0) same.1 in
+                    let end = ap (λ (k : ℕ). get_or starts (k + 1) 0) same.1 in
+                    absurd (omega (arith, here, outside, start, end, equal.1))
+                | inr other ↦ rw (same.0, other.0) refl
+              ]
+          | inr other ↦ rw other.0 refl
+        ]
+
+-- rows without a piece say nothing
+abbrev nothing : Option ℕ
+nothing = None
+
+pub nothing_at : (starts : List ℕ) (n m s : ℕ) → indexed (rows_of starts (replicate n nothing)) m s ≡ None
+nothing_at starts n m s =
+    either (ltb (get_or starts m 0 + s) (get_or starts (m + 1) 0)) (get_or (replicate n nothing) (get_or starts m 0 + s) None) (each n (get_or starts m 0 + s))
+  where
+    each : (n k : ℕ) → get_or (replicate n nothing) k None ≡ None
+    each zero k = refl
+    each (suc n) zero = refl
+    each (suc n) (suc k) = each n k
+
+    either : (b : Bool) (o : Option ℕ) → o ≡ None → cond b o None ≡ None
+    either true o e = e
+    either false o e = refl
+
+-- ---- where rows start
+
+pub starts_none : (places : List ℕ → ℕ) (modules : List ModuleView) (starts : List ℕ) → starts ≡ 0 ∷ [] → HasStarts places modules 0 starts 0
+starts_none places modules starts is = record {
+  for_each = ap length is;
+  next = λ m lt. absurd (omega arith);
+  last = ap (λ (ns : List ℕ). get_or ns 0 0) is;
+}
+
+pub starts_more : (places : List ℕ → ℕ) (modules : List ModuleView) (k : ℕ) (here : ModuleView) (starts after : List ℕ) (start end count : ℕ) → k < length modules → here ≡ get_or modules k here → count ≡ places here.bytes → end ≡ start + count → after ≡ starts ++ end ∷ [] → HasStarts places modules k starts start → HasStarts places modules (k + 1) after end
+starts_more places modules k here starts after start end count lt read counted sum grown has =
+    let long = has.for_each in
+    let pushed : get_or (starts ++ end ∷ []) (k + 1) 0 ≡ end = get_or_push starts end 0 (k + 1) long in
+    let kept = λ (m : ℕ) (below : m < k + 1). ap (λ (ns : List ℕ). get_or ns m 0) grown ∙ get_or_append_left starts (end ∷ []) 0 m (omega (arith, long, below)) in
+    record {
+      for_each = let len = ap length grown in let whole = length-append starts (end ∷ []) in omega (arith, len, whole, long);
+      next = λ m below.
+          elim (cases_lt m k) [
+            | inl earlier ↦ kept (m + 1) (omega arith) ∙ has.next m earlier ∙ ap (λ (n : ℕ). n + places (module_at modules m).bytes) (sym (kept m below))
+            | inr later ↦
+                let same : m ≡ k = omega arith in
+                let size = ap (λ (view : ModuleView). places view.bytes) (read ∙ get_or_default modules k here no_module lt) in
+                let value = ap (λ (ns : List ℕ). get_or ns (k + 1) 0) grown ∙ pushed in
+                let before = kept k (omega arith) ∙ has.last in
+                subst (λ (j : ℕ). get_or after (j + 1) 0 ≡ get_or after j 0 + places (module_at modules j).bytes) (sym same) (omega (arith, value, before, sum, counted, size))
+          ];
+      last = ap (λ (ns : List ℕ). get_or ns (k + 1) 0) grown ∙ pushed;
+    }
+
+starts_ascend : (places : List ℕ → ℕ) (modules : List ModuleView) (count : ℕ) (starts : List ℕ) (end d i j : ℕ) → HasStarts places modules count starts end → j ≡ i + d → j ≤ count → get_or starts i 0 ≤ get_or starts j 0
+starts_ascend places modules count starts end zero i j has is within =
+    let same : j ≡ i = omega (arith, is) in
+    let equal = ap (λ (k : ℕ). get_or starts k 0) same in
+    omega (arith, equal)
+starts_ascend places modules count starts end (suc d) i j has is within =
+    let before = starts_ascend places modules count starts end d i (i + d) has refl (omega (arith, is, within)) in
+    let next = has.next (i + d) (omega (arith, is, within)) in
+    let same : j ≡ i + d + 1 = omega (arith, is) in
+    let at = ap (λ (k : ℕ). get_or starts k 0) same in
+    omega (arith, before, next, at)
+
+pub rows_are : (places : List ℕ → ℕ) (modules : List ModuleView) (rows : RowsView) → HasStarts places modules (length modules) rows.starts (length rows.pieces) → AreRows rows
+rows_are places modules rows has = record {
+  ascend = λ i j le lt. starts_ascend places modules (length modules) rows.starts (length rows.pieces) (j - i) i j has (omega arith) (omega (arith, lt, has.for_each));
+  within = λ i.
+      elim (cases_lt i (length rows.starts)) [
+        | inl inside ↦
+            let up = starts_ascend places modules (length modules) rows.starts (length rows.pieces) (length modules - i) i (length modules) has (omega (arith, inside, has.for_each)) (omega arith) in
+            omega (arith, up, has.last)
+        | inr past ↦ let none = get_or_past rows.starts i 0 past in omega (arith, none)
+      ];
+}
+
+-- rows that are empty, as they are made
+pub rows_made : (places : List ℕ → ℕ) (modules : List ModuleView) (k : ℕ) (starts : List ℕ) (end : ℕ) (rows : RowsView) → k ≡ length modules → HasStarts places modules k starts end → rows.starts ≡ starts → rows.pieces ≡ replicate end None → HasRows places modules rows
+rows_made places modules k starts end rows all has same empty =
+    let long : end ≡ length rows.pieces = sym (ap length empty ∙ length-replicate end None) in
+    record {
+      starts = subst (λ (ns : List ℕ). HasStarts places modules (length modules) ns (length rows.pieces)) (sym same) (subst (λ (e : ℕ). HasStarts places modules (length modules) starts e) long (subst (λ (n : ℕ). HasStarts places modules n starts end) all has));
+      empty = empty ∙ ap (λ (n : ℕ). replicate n None) long;
+    }
 
 -- ---- a loop over pieces
 
@@ -132,35 +251,30 @@ no_common position symbol piece small =
 
 -- ---- rows with what is noted of the first pieces
 
-pub record AreNoted (places : List ℕ → ℕ) (modules : List ModuleView) (test : ℕ → ℕ → Piece → Bool) (pieces : List Piece) (count : ℕ) (rows : List (List (Option ℕ))) : Type 0 where
-  pub for_each : length rows ≡ length modules
-  pub long : (m : ℕ) → m < length modules → length (get_or rows m []) ≡ places (module_at modules m).bytes
+pub record AreNoted (places : List ℕ → ℕ) (modules : List ModuleView) (test : ℕ → ℕ → Piece → Bool) (pieces : List Piece) (count : ℕ) (rows : RowsView) : Type 0 where
+  pub starts : HasStarts places modules (length modules) rows.starts (length rows.pieces)
   pub noted : (m n : ℕ) → indexed rows m n ≡ first_below count (holds (test m n) (map bare pieces))
 
-pub none_noted : (places : List ℕ → ℕ) (modules : List ModuleView) (test : ℕ → ℕ → Piece → Bool) (pieces : List Piece) (rows : List (List (Option ℕ))) → HasRows places modules rows → AreNoted places modules test pieces 0 rows
+pub none_noted : (places : List ℕ → ℕ) (modules : List ModuleView) (test : ℕ → ℕ → Piece → Bool) (pieces : List Piece) (rows : RowsView) → HasRows places modules rows → AreNoted places modules test pieces 0 rows
 unfolding first_below
-none_noted places modules test pieces rows has = record { for_each = has.for_each; long = has.long; noted = has.empty }
+none_noted places modules test pieces rows has = record {
+  starts = has.starts;
+  noted = λ m n. ap (λ (ps : List (Option ℕ)). indexed (rows_of rows.starts ps) m n) has.empty ∙ nothing_at rows.starts (length rows.pieces) m n;
+}
 
-pub noted_more : (places : List ℕ → ℕ) (modules : List ModuleView) (test : ℕ → ℕ → Piece → Bool) (pieces : List Piece) (k : ℕ) (piece : Piece) (number : ℕ) (rows after : List (List (Option ℕ))) → k < length pieces → piece ≡ get_or pieces k piece → ((m n : ℕ) → (eqb piece.«module» m && eqb number n) ≡ test m n (bare piece)) → length after ≡ length rows → ((m : ℕ) → length (get_or after m []) ≡ length (get_or rows m [])) → ((m n : ℕ) → indexed after m n ≡ option_or (indexed rows m n) (cond (eqb piece.«module» m && eqb number n) (Some k) None)) → AreNoted places modules test pieces k rows → AreNoted places modules test pieces (k + 1) after
-noted_more places modules test pieces k piece number rows after lt read passes same_length same_rows noted are = record {
-  for_each = same_length ∙ are.for_each;
-  long = λ m within. same_rows m ∙ are.long m within;
+pub noted_more : (places : List ℕ → ℕ) (modules : List ModuleView) (test : ℕ → ℕ → Piece → Bool) (pieces : List Piece) (k : ℕ) (piece : Piece) (number : ℕ) (rows after : RowsView) → k < length pieces → piece ≡ get_or pieces k piece → ((m n : ℕ) → (eqb piece.«module» m && eqb number n) ≡ test m n (bare piece)) → after.starts ≡ rows.starts → length after.pieces ≡ length rows.pieces → ((m n : ℕ) → indexed after m n ≡ option_or (indexed rows m n) (cond (eqb piece.«module» m && eqb number n) (Some k) None)) → AreNoted places modules test pieces k rows → AreNoted places modules test pieces (k + 1) after
+noted_more places modules test pieces k piece number rows after lt read passes same long noted are = record {
+  starts = subst (λ (ns : List ℕ). HasStarts places modules (length modules) ns (length after.pieces)) (sym same) (subst (HasStarts places modules (length modules) rows.starts) (sym long) are.starts);
   noted = λ m n. index_more (test m n) pieces k piece _ (indexed rows m n) (indexed after m n) lt read (passes m n) (are.noted m n) (noted m n);
 }
 
-pub noted_same : (places : List ℕ → ℕ) (modules : List ModuleView) (test : ℕ → ℕ → Piece → Bool) (pieces : List Piece) (k : ℕ) (piece : Piece) (rows : List (List (Option ℕ))) → k < length pieces → piece ≡ get_or pieces k piece → ((m n : ℕ) → test m n (bare piece) ≡ false) → AreNoted places modules test pieces k rows → AreNoted places modules test pieces (k + 1) rows
+pub noted_same : (places : List ℕ → ℕ) (modules : List ModuleView) (test : ℕ → ℕ → Piece → Bool) (pieces : List Piece) (k : ℕ) (piece : Piece) (rows : RowsView) → k < length pieces → piece ≡ get_or pieces k piece → ((m n : ℕ) → test m n (bare piece) ≡ false) → AreNoted places modules test pieces k rows → AreNoted places modules test pieces (k + 1) rows
 noted_same places modules test pieces k piece rows lt read fails are = record {
-  for_each = are.for_each;
-  long = are.long;
+  starts = are.starts;
   noted = λ m n. index_same (test m n) pieces k piece (indexed rows m n) lt read (fails m n) (are.noted m n);
 }
 
 -- ---- places in rows
-
--- there is a place for a number of a module
-pub record IsInRows (rows : List (List (Option ℕ))) (position number : ℕ) : Type 0 where
-  pub row : position < length rows
-  pub cell : number < length (get_or rows position [])
 
 place_of : (link : LinkView) (piece : Piece) → All HasFewSections link.modules → IsPieceOf link piece → HasPlace link.modules piece.«module» piece.number
 place_of link piece few whole = record {
@@ -187,10 +301,14 @@ all_placed link few =
     All-weaker (IsPieceOf link) (λ (piece : Piece). HasPlace link.modules piece.«module» piece.number) (λ piece whole. place_of link piece few whole) (link_pieces link) (pieces_are link)
 
 -- rows of so many places have it
-pub in_section_rows : (modules : List ModuleView) (rows : List (List (Option ℕ))) (position number : ℕ) → length rows ≡ length modules → ((m : ℕ) → m < length modules → length (get_or rows m []) ≡ section_places (module_at modules m).bytes) → HasPlace modules position number → number < FIRST_COMMON → IsInRows rows position number
-in_section_rows modules rows position number for_each long has small =
-    record { row = omega (arith, has.within, for_each); cell = omega (arith, long position has.within, has.section small) }
+pub in_section_rows : (modules : List ModuleView) (rows : RowsView) (position number : ℕ) → HasStarts section_places modules (length modules) rows.starts (length rows.pieces) → HasPlace modules position number → number < FIRST_COMMON → row_start rows position + number < row_start rows (position + 1)
+in_section_rows modules rows position number starts has small =
+    let next = starts.next position has.within in
+    let room = has.section small in
+    omega (arith, next, room)
 
-pub in_common_rows : (modules : List ModuleView) (rows : List (List (Option ℕ))) (position number : ℕ) → length rows ≡ length modules → ((m : ℕ) → m < length modules → length (get_or rows m []) ≡ common_places (module_at modules m).bytes) → HasPlace modules position number → FIRST_COMMON ≤ number → IsInRows rows position (number - FIRST_COMMON)
-in_common_rows modules rows position number for_each long has large =
-    record { row = omega (arith, has.within, for_each); cell = omega (arith, long position has.within, has.common large) }
+pub in_common_rows : (modules : List ModuleView) (rows : RowsView) (position number : ℕ) → HasStarts common_places modules (length modules) rows.starts (length rows.pieces) → HasPlace modules position number → FIRST_COMMON ≤ number → row_start rows position + (number - FIRST_COMMON) < row_start rows (position + 1)
+in_common_rows modules rows position number starts has large =
+    let next = starts.next position has.within in
+    let room = has.common large in
+    omega (arith, next, room)

@@ -1,5 +1,5 @@
 -- Which piece a section or a common of a module is. Own.
-use Rattle.std.specs.Prelude.{◌≡◌, ℕ, ◌+◌, Bool, ◌&&◌, ◌==◌, nat_lt, List, [], length, slice_index_or, Option, None}
+use Rattle.std.specs.Prelude.{◌≡◌, ℕ, ◌+◌, Bool, ◌&&◌, ◌==◌, nat_lt, if◌then◌else◌, List, length, slice_index_or, Option, None}
 use Rattle.link_base.specs.Bytes.{first_below}
 use Rattle.section_group.specs.declared.piece.Piece.{Piece}
 use Rattle.section_group.specs.SectionOrder.{no_piece}
@@ -39,14 +39,25 @@ common_index link position symbol =
 
 -- ---- an index
 
--- what rows by modules and by numbers say: nothing beyond them
-abbrev pub indexed : List (List (Option ℕ)) → ℕ → ℕ → Option ℕ
-indexed rows position number = slice_index_or (slice_index_or rows position []) number None
+-- rows by modules and by numbers, one after the other: where each starts, and where the last one ends
+pub record RowsView : Type 0 where
+  pub starts : List ℕ
+  pub pieces : List (Option ℕ)
+
+abbrev pub row_start : RowsView → ℕ → ℕ
+row_start rows position = slice_index_or rows.starts position 0
+
+-- what they say: nothing beyond a row
+abbrev pub indexed : RowsView → ℕ → ℕ → Option ℕ
+indexed rows position number =
+    if nat_lt (row_start rows position + number) (row_start rows (position + 1))
+    then slice_index_or rows.pieces (row_start rows position + number) None
+    else None
 
 -- rows for sections and rows for commons
 pub record IndexView : Type 0 where
-  pub sections : List (List (Option ℕ))
-  pub commons : List (List (Option ℕ))
+  pub sections : RowsView
+  pub commons : RowsView
 
 -- they tell the piece of each
 pub record IsPieceIndex (link : LinkView) (index : IndexView) : Type 0 where

@@ -1,18 +1,17 @@
 -- The rows of an index of pieces, one for each module: for its sections with a place for the number 0, and for its symbol
 -- records, where it has commons. They decide nothing.
-use Rattle.std.specs.Prelude.{◌≡◌, ℕ, ◌+◌, ◌-◌, ◌<◌, ◌≤◌, ◌==◌, if◌then◌else◌, List, [], length, map, slice_index_or, Option, None, Vec}
-use Rattle.std.specs.Global.{Global}
+use Rattle.std.specs.Prelude.{◌≡◌, ℕ, ◌+◌, ◌-◌, ◌<◌, ◌≤◌, ◌==◌, if◌then◌else◌, List, length, slice_index_or, replicate, Option, None}
 use Rattle.coff_records.specs.ObjectFile.{section_total, record_total}
 use Rattle.module_view.specs.Module.{ModuleView, module_at}
 use Rattle.module_view.specs.SymbolLists.{commons_of}
 use Rattle.link_pieces.specs.Commons.{FIRST_COMMON}
-use Rattle.link_pieces.specs.PieceIndex.{IndexView}
+use Rattle.link_pieces.specs.PieceIndex.{RowsView, IndexView, row_start}
 
-abbrev pub items_of : List (Vec (Option ℕ) Global) → List (List (Option ℕ))
-items_of rows = map (λ row. row.items) rows
+abbrev pub rows_of : List ℕ → List (Option ℕ) → RowsView
+rows_of starts pieces = record { starts = starts; pieces = pieces }
 
-abbrev pub index_of : List (Vec (Option ℕ) Global) → List (Vec (Option ℕ) Global) → IndexView
-index_of sections commons = record { sections = items_of sections; commons = items_of commons }
+abbrev pub index_of : RowsView → RowsView → IndexView
+index_of sections commons = record { sections = sections; commons = commons }
 
 abbrev pub section_places : List ℕ → ℕ
 section_places bytes = section_total bytes + 1
@@ -20,11 +19,21 @@ section_places bytes = section_total bytes + 1
 abbrev pub common_places : List ℕ → ℕ
 common_places bytes = if length (commons_of bytes) == 0 then 0 else record_total bytes
 
+-- a row does not start before an earlier one, and none leaves the list of pieces
+pub record AreRows (rows : RowsView) : Type 0 where
+  pub ascend : (i j : ℕ) → i ≤ j → j < length rows.starts → row_start rows i ≤ row_start rows j
+  pub within : (i : ℕ) → row_start rows i ≤ length rows.pieces
+
+-- starts of rows with so many places for each of the first modules
+pub record HasStarts (places : List ℕ → ℕ) (modules : List ModuleView) (count : ℕ) (starts : List ℕ) (end : ℕ) : Type 0 where
+  pub for_each : length starts ≡ count + 1
+  pub next : (m : ℕ) → m < count → slice_index_or starts (m + 1) 0 ≡ slice_index_or starts m 0 + places (module_at modules m).bytes
+  pub last : slice_index_or starts count 0 ≡ end
+
 -- rows with so many places for each module, and nothing in them
-pub record HasRows (places : List ℕ → ℕ) (modules : List ModuleView) (rows : List (List (Option ℕ))) : Type 0 where
-  pub for_each : length rows ≡ length modules
-  pub long : (m : ℕ) → m < length modules → length (slice_index_or rows m []) ≡ places (module_at modules m).bytes
-  pub empty : (m s : ℕ) → slice_index_or (slice_index_or rows m []) s None ≡ None
+pub record HasRows (places : List ℕ → ℕ) (modules : List ModuleView) (rows : RowsView) : Type 0 where
+  pub starts : HasStarts places modules (length modules) rows.starts (length rows.pieces)
+  pub empty : rows.pieces ≡ replicate (length rows.pieces) None
 
 -- a piece of a module, by its number, has a place in the rows: a section or a common
 pub record HasPlace (modules : List ModuleView) (position number : ℕ) : Type 0 where

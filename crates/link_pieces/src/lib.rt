@@ -9,6 +9,7 @@ mod commons;
 mod named;
 mod names;
 mod piece_index;
+mod piece_rows;
 mod pieces;
 
 pub use commons::FIRST_COMMON;

@@ -15,7 +15,7 @@ ghost use Rattle.link_pieces.specs.Rows.{HasPlace};
 ghost use Rattle.link_pieces.specs.Pieces.{is_named, is_linked, piece_of, section_contents, no_contents, linked_sections, pieces_in, contents_in, link_pieces, link_contents};
 
 use crate::commons::{FIRST_COMMON, common_piece, is_meant};
-use crate::named::named_sections;
+use crate::named::name_sections;
 use crate::names::LinkNames;
 use coff_object::{Object, Section};
 use link_base::Memory;
@@ -50,10 +50,11 @@ pub fn pieces_of<'a>(
 {
     let alignments = CommonAlignments::of(alloc, modules)?;
     let mut pieces = Vec::new(alloc);
+    let mut named = Vec::new(alloc);
     for position in 0..modules.len() {
         push_module(
-            alloc,
             &mut pieces,
+            &mut named,
             names,
             &alignments,
             position as u32,
@@ -66,10 +67,10 @@ pub fn pieces_of<'a>(
     Ok(pieces)
 }
 
-/// Appends the pieces of the module at a position.
+/// Appends the pieces of the module at a position. Of `named` the memory is used, and no more.
 fn push_module<'a>(
-    alloc: Global,
     pieces: &mut Vec<Piece<'a>>,
+    named: &mut Vec<bool>,
     names: &LinkNames<'a>,
     alignments: &CommonAlignments<'a>,
     position: u32,
@@ -91,8 +92,8 @@ fn push_module<'a>(
         return Err(Memory);
     }
     pieces.reserve(count as usize)?;
-    let named = named_sections(alloc, module, count)?;
-    push_sections(pieces, names, position, object, &named)?;
+    name_sections(named, module, count)?;
+    push_sections(pieces, names, position, object, named)?;
     push_commons(pieces, names, alignments, position, module)
 }
 

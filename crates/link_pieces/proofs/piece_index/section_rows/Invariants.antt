@@ -1,12 +1,5 @@
-use Rattle.std.proofs.Common.{◌≡◌, ◌<◌, ℕ, [], None, length, get_or}
-use Rattle.module_view.specs.Module.{module_at}
-use Rattle.link_pieces.specs.PieceIndex.{indexed}
-use Rattle.link_pieces.specs.Rows.{items_of, section_places}
+use Rattle.link_pieces.specs.Rows.{section_places, HasStarts}
 use Rattle.link_pieces.proofs.piece_index.section_rows.Given as goal
 
 abbrev pub invariant-loop-module : goal.invariant-loop-module
-invariant-loop-module l = record {
-  for_each : length (items_of l.rows.items) ≡ l.module-index;
-  long : (m : ℕ) → m < l.module-index → length (get_or (items_of l.rows.items) m []) ≡ section_places (module_at l.modules m).bytes;
-  empty : (m s : ℕ) → indexed (items_of l.rows.items) m s ≡ None;
-}
+invariant-loop-module l = HasStarts section_places l.modules l.module-index l.starts.items l.end

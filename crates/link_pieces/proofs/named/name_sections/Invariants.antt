@@ -1,7 +1,7 @@
 use Rattle.std.proofs.Common.{◌≡◌, ℕ, ◌+◌, false, length, take, get_or}
 use Rattle.std.specs.List.{list_any}
 use Rattle.link_pieces.specs.Pieces.{stands_in}
-use Rattle.link_pieces.proofs.named.named_sections.Given as goal
+use Rattle.link_pieces.proofs.named.name_sections.Given as goal
 
 abbrev pub invariant-loop-definition : goal.invariant-loop-definition
 invariant-loop-definition l = record {
