@@ -2,7 +2,7 @@ use Rattle.std.proofs.Common.{◌≡◌, length, Some, None, sym, ap, ◌∙◌,
 use Rattle.symbol_table.specs.References.{all_asked, open_from}
 use Rattle.lib_search.specs.SearchSteps.{Searched}
 use Rattle.lib_search.proofs.FromLemmas.{first_open, passed_to, passed_behind, passed_all, member_found, member_none}
-use Rattle.lib_search.proofs.search.Search.search_from.Goals as goal
+use Rattle.lib_search.proofs.searched.Searched.member_from.Goals as goal
 
 pub returns-in-Some-listed_member-clause-place : goal.returns-in-Some-listed_member-clause-place
 returns-in-Some-listed_member-clause-place c =
