@@ -10,6 +10,8 @@ pub mod AlternateLemmas
 pub mod FromLemmas
 pub mod NextLemmas
 pub mod PassedLemmas
+pub mod WaitLemmas
+pub mod JoinedLemmas
 pub mod LoadingLemmas
 pub mod GoneLemmas
 pub mod EndLemmas

@@ -19,7 +19,7 @@ use Rattle.lib_search.specs.OpenLibraries.{ListsBelow, ListsSoFar}
 use Rattle.lib_search.proofs.ListingLemmas.{same_item}
 use Rattle.lib_search.specs.SearchSteps.{MemberPlace, place_in, listing_at, member_view, member_fault_in}
 
-same_is : (a b : List ℕ) → same_name a b ≡ true → a ≡ b
+pub same_is : (a b : List ℕ) → same_name a b ≡ true → a ≡ b
 same_is a b e = (bytes_eq-Decides a b).0 e
 
 step_of : (name other : List ℕ) (k at : ℕ) (left : List Entry) → option_map (place_in k) (first_of_name other ((name, at) ∷ left)) ≡ cond (same_name name other) (Some (k, at)) (option_map (place_in k) (first_of_name other left))

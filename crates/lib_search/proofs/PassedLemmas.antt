@@ -12,7 +12,7 @@ use Rattle.symbol_names.specs.References.{Asked, asked_by_name, asked_by, all_as
 use Rattle.symbol_table.specs.OpenNames.{nothing_asked, asked_at, is_open, is_open_at, is_provided}
 use Rattle.lib_search.specs.FoundFiles.{FoundFile}
 use Rattle.lib_search.specs.SearchSteps.{MemberPlace, Searched, is_place, unless_joined, listed_member, first_listing, asked_member, member_at, with_module, with_member}
-use Rattle.lib_search.specs.SearchParts.{IsPassed, KeepsSearch}
+use Rattle.lib_search.specs.SearchParts.{IsPassed}
 use Rattle.lib_search.proofs.ModuleLemmas.{of_all_push}
 
 abbrev pub searched_of : LinkView → List FoundFile → List MemberPlace → Searched
@@ -20,18 +20,18 @@ searched_of link libraries joined = record { link = link; libraries = libraries;
 
 -- ---- what is asked for
 
-asked_push : (link : LinkView) (m : ModuleView) → all_asked (with_module link m) ≡ all_asked link ++ asked_by (length link.modules) m.bytes
+pub asked_push : (link : LinkView) (m : ModuleView) → all_asked (with_module link m) ≡ all_asked link ++ asked_by (length link.modules) m.bytes
 asked_push link m =
     let words = map asked_by_name link.words in
     ap (λ (later : List Asked). words ++ later) (of_all_push asked_by link.modules m)
     ∙ sym (append_assoc words (of_all asked_by link.modules) (asked_by (length link.modules) m.bytes))
 
-asked_same : (link : LinkView) (m : ModuleView) (k : ℕ) → k < length (all_asked link) → asked_at (with_module link m) k ≡ asked_at link k
+pub asked_same : (link : LinkView) (m : ModuleView) (k : ℕ) → k < length (all_asked link) → asked_at (with_module link m) k ≡ asked_at link k
 asked_same link m k lt =
     ap (λ (asked : List Asked). get_or asked k nothing_asked) (asked_push link m)
     ∙ get_or_append_left (all_asked link) (asked_by (length link.modules) m.bytes) nothing_asked k lt
 
-asked_longer : (link : LinkView) (m : ModuleView) → length (all_asked link) ≤ length (all_asked (with_module link m))
+pub asked_longer : (link : LinkView) (m : ModuleView) → length (all_asked link) ≤ length (all_asked (with_module link m))
 asked_longer link m =
     let longer = ap (λ (asked : List Asked). length asked) (asked_push link m) ∙ length-append (all_asked link) (asked_by (length link.modules) m.bytes) in
     omega (arith, longer)
@@ -47,7 +47,7 @@ or_more false false true false true h = refl
 or_more false false true false false h = refl
 or_more false false false d e h = absurd cc
 
-provided_more : (modules : List ModuleView) (m : ModuleView) (name : List ℕ) → is_provided modules name ≡ true → is_provided (modules ++ m ∷ []) name ≡ true
+pub provided_more : (modules : List ModuleView) (m : ModuleView) (name : List ℕ) → is_provided modules name ≡ true → is_provided (modules ++ m ∷ []) name ≡ true
 unfolding is_provided
 provided_more modules m name h =
     let n = length modules in
@@ -65,7 +65,7 @@ closed_more false before after more h = refl
 closed_more true true after more h = ap not (more refl)
 closed_more true false after more h = absurd cc
 
-closed_stays : (link : LinkView) (m : ModuleView) (k : ℕ) → k < length (all_asked link) → is_open_at link k ≡ false → is_open_at (with_module link m) k ≡ false
+pub closed_stays : (link : LinkView) (m : ModuleView) (k : ℕ) → k < length (all_asked link) → is_open_at link k ≡ false → is_open_at (with_module link m) k ≡ false
 closed_stays link m k lt h =
     let asked = asked_at link k in
     ap (is_open (link.modules ++ m ∷ [])) (asked_same link m k lt)
@@ -73,7 +73,7 @@ closed_stays link m k lt h =
 
 -- ---- what has joined stays so
 
-unlisted_more : (joined more : List MemberPlace) (place : Option MemberPlace) → option_and_then (unless_joined joined) place ≡ None → option_and_then (unless_joined (joined ++ more)) place ≡ None
+pub unlisted_more : (joined more : List MemberPlace) (place : Option MemberPlace) → option_and_then (unless_joined joined) place ≡ None → option_and_then (unless_joined (joined ++ more)) place ≡ None
 unlisted_more joined more None h = refl
 unlisted_more joined more (Some place) h =
     ap (λ (b : Bool). cond b None (Some place)) (list_any-append (is_place place) joined more)
@@ -112,24 +112,12 @@ passed_joined s place passed over = record {
   none = λ k lt. passed_more s place k (omega (arith, lt, over.within)) (over.none k lt);
 }
 
--- a member joined
-pub keeps_joined : (s : Searched) (place : MemberPlace) (modules : List ModuleView) (passed : ℕ) → KeepsSearch s modules passed → KeepsSearch (with_member s place) (modules ++ member_at s place ∷ []) passed
-keeps_joined s place modules passed keeps = record {
-  modules_are = ap (λ (ms : List ModuleView). ms ++ member_at s place ∷ []) keeps.modules_are;
-  over = passed_joined s place passed keeps.over;
-}
-
 -- the parts after a member joined
 pub joins_now : (s : Searched) (place : MemberPlace) (view : ModuleView) (link : LinkView) (libraries : List FoundFile) (joined : List MemberPlace) → link ≡ with_module s.link view → view ≡ member_at s place → libraries ≡ s.libraries → joined ≡ s.joined ++ place ∷ [] → searched_of link libraries joined ≡ with_member s place
 joins_now s place view link libraries joined link_is view_is libraries_are joined_is =
     ap (λ (l : LinkView). searched_of l libraries joined) (link_is ∙ ap (with_module s.link) view_is)
     ∙ ap (λ (ls : List FoundFile). searched_of (with_module s.link (member_at s place)) ls joined) libraries_are
     ∙ ap (searched_of (with_module s.link (member_at s place)) s.libraries) joined_is
-
-pub keeps_now : (s now : Searched) (place : MemberPlace) (modules later : List ModuleView) (passed : ℕ) → now ≡ with_member s place → later ≡ modules ++ member_at s place ∷ [] → KeepsSearch s modules passed → KeepsSearch now later passed
-keeps_now s now place modules later passed now_is later_is keeps =
-    subst (λ (v : Searched). KeepsSearch v later passed) (sym now_is)
-    (subst (λ (ms : List ModuleView). KeepsSearch (with_member s place) ms passed) (sym later_is) (keeps_joined s place modules passed keeps))
 
 pub fresh_joined : (joined : List MemberPlace) (place : MemberPlace) → list_any (is_place place) joined ≡ false → cond (list_any (is_place place) joined) joined (joined ++ place ∷ []) ≡ joined ++ place ∷ []
 fresh_joined joined place fresh = ap (λ (b : Bool). cond b joined (joined ++ place ∷ [])) fresh

@@ -11,5 +11,6 @@ pub mod Reading
 pub mod Loading
 pub mod OpenLibraries
 pub mod SearchParts
+pub mod AlternateParts
 pub mod LoadingSteps
 pub mod Completion

@@ -1,7 +1,6 @@
 -- What the search keeps beside its parts. Own.
 use Rattle.std.specs.Prelude.{◌≡◌, ◌<◌, ◌≤◌, ℕ, false, List, length, None}
 use Rattle.std.specs.List.{list_any}
-use Rattle.module_view.specs.Module.{ModuleView}
 use Rattle.symbol_names.specs.References.{all_asked}
 use Rattle.lib_search.specs.SearchSteps.{MemberPlace, Searched, is_place, asked_member}
 
@@ -14,8 +13,3 @@ pub record IsPassed (searched : Searched) (passed : ℕ) : Type 0 where
 pub record IsFresh (searched : Searched) (place : MemberPlace) : Type 0 where
   pub within : place.0 < length searched.libraries
   pub fresh : list_any (is_place place) searched.joined ≡ false
-
--- the names are those of the modules
-pub record KeepsSearch (searched : Searched) (modules : List ModuleView) (passed : ℕ) : Type 0 where
-  pub modules_are : searched.link.modules ≡ modules
-  pub over : IsPassed searched passed

@@ -4,6 +4,7 @@
 //! in its order, or that its first fault is told. What names mean is left to `symbol_table`.
 #![tactic(auto)]
 
+mod alternates;
 mod default_libraries;
 mod find;
 mod found;
@@ -15,6 +16,7 @@ mod loading;
 mod open;
 mod read;
 mod search;
+mod searched;
 
 pub use link_list::{LinkList, complete};
 

@@ -70,7 +70,7 @@ fn search<'a, F: Files>(
             Ok(later) => later,
             Err(stop) => return Err(stop),
         };
-        let Some(place) = loading.search.next_member(&options.alternates) else {
+        let Some(place) = loading.search.next_member() else {
             let (modules, table) = loading.search.finish();
             return Ok(LinkList { modules, table });
         };

@@ -1,21 +1,21 @@
 //! The search of libraries: which member joins next, and how it joins.
 
-ghost use Rattle.std.specs.Prelude.{◌≡◌, ◌≤◌, ◌<◌, ◌∷◌, [], None, length, map, filter_map, IfOk, OnOk, IfErr, IfSome};
+ghost use Rattle.std.specs.Prelude.{◌≡◌, ◌≤◌, ◌<◌, ◌∷◌, [], None, length, IfOk, OnOk, IfErr, IfSome};
 ghost use Rattle.std.specs.List.{cons_option};
 ghost use Rattle.link_base.specs.Limits.{MODULE_LIMIT as most_modules};
-ghost use Rattle.link_base.specs.Refusals.{RefusesFor, first_standing};
-ghost use Rattle.directives.specs.Said.{said};
-ghost use Rattle.symbol_names.specs.Alternates.{alternate_said};
+ghost use Rattle.link_base.specs.Refusals.{RefusesFor};
 ghost use Rattle.link_words.specs.Outcome.{options_said};
+ghost use Rattle.symbol_names.specs.Alternates.{all_alternates};
+ghost use Rattle.symbol_names.specs.References.{all_asked};
+ghost use Rattle.lib_search.specs.AlternateParts.{KeepsAlternates};
 ghost use Rattle.lib_search.specs.LinkOf.{asked_words, link_of};
-ghost use Rattle.lib_search.specs.SearchSteps.{listed_member, member_by_reference, alternate_member, member_by_alternate, next_member, join_fault, member_at, with_member, with_library};
-ghost use Rattle.lib_search.specs.SearchParts.{IsPassed, IsFresh};
+ghost use Rattle.lib_search.specs.SearchSteps.{member_by_reference, member_by_alternate, next_member, join_fault, member_at, with_member, with_library};
+ghost use Rattle.lib_search.specs.SearchParts.{IsFresh};
 
-use crate::join::join;
-use crate::library::{Libraries, OpenLibrary};
+use crate::alternates::Alternates;
+use crate::library::OpenLibrary;
 use crate::open::{OpenInputs, push_module};
-use directives::Directive;
-use indexmap::IndexSet;
+use crate::searched::Searched;
 use link_base::{Memory, Name, Refusal};
 use link_words::Options;
 use module_view::Module;
@@ -23,27 +23,25 @@ use std::alloc::Global;
 use std::marker::Model;
 use symbol_table::SymbolTable;
 
-/// What has joined so far, and the libraries that are searched. A member is known by the place of its library among these and
-/// by the offset of its header.
+/// What has joined, where is searched, and what is known of who may join next.
 #[derive(Drop)]
 pub(crate) struct Search<'a> {
     modules: Vec<Module<'a>>,
-    table: SymbolTable<'a>,
-    libraries: Libraries<'a>,
-    joined: IndexSet<(usize, u32)>,
+    searched: Searched<'a>,
+    alternates: Alternates<'a>,
     /// No member can join for the references below this number, until a library is added.
     passed: usize,
 }
 
 impl<'a> Model for Search<'a> {
     ghost use Rattle.lib_search.specs.SearchSteps.{Searched};
-    ghost use Rattle.lib_search.specs.SearchParts.{KeepsSearch};
+    ghost use Rattle.lib_search.specs.AlternateParts.{KeepsSearch};
 
     ghost Value = { Searched };
 
-    ghost view = { λ s. record { link = s.table; libraries = s.libraries; joined = s.joined.keys } };
+    ghost view = { λ s. s.searched };
 
-    ghost invariant = { λ s. KeepsSearch (record { link = s.table; libraries = s.libraries; joined = s.joined.keys }) s.modules.items s.passed };
+    ghost invariant = { λ s. KeepsSearch s.searched s.modules.items s.alternates s.passed };
 }
 
 impl<'a> Search<'a> {
@@ -62,26 +60,26 @@ impl<'a> Search<'a> {
     {
         let OpenInputs { modules, libraries } = inputs;
         let table = table_of(alloc, options, &modules)?;
+        let searched = Searched::new(alloc, table, libraries)?;
+        let alternates = alternates_of(alloc, &searched, options, &modules)?;
         Ok(Search {
             modules,
-            table,
-            libraries: Libraries::of(alloc, libraries)?,
-            joined: IndexSet::new(alloc),
+            searched,
+            alternates,
             passed: 0,
         })
     }
 
     /// The member that joins next: that of the first name that is asked for, is open, and is listed, or else that of the first
-    /// alternate that stands for an open name. `given` are the alternates of the command line.
-    pub(crate) fn next_member(&mut self, given: &[(Name<'a>, Name<'a>)]) -> Option<(usize, u32)>
-        requires { given.now ≡ self.old.link.alternates }
+    /// alternate that stands for an open name.
+    pub(crate) fn next_member(&mut self) -> Option<(usize, u32)>
         ensures place { result ≡ next_member self.old }
         ensures fresh { IfSome result (IsFresh self.old) }
         ensures kept { self.new ≡ self.old }
     {
         match self.member_by_reference() {
             Some(place) => Some(place),
-            None => self.member_by_alternate(given),
+            None => self.member_by_alternate(),
         }
     }
 
@@ -91,104 +89,18 @@ impl<'a> Search<'a> {
         ensures place { result ≡ member_by_reference self.old }
         ensures kept { self.new ≡ self.old }
     {
-        let (place, passed) = self.search_from(self.passed);
+        let (place, passed) = self.searched.member_from(self.passed);
         self.passed = passed;
         place
     }
 
-    /// The same from a number on, with the number that is passed over then.
-    fn search_from(&self, from: usize) -> (Option<(usize, u32)>, usize)
-        requires { IsPassed self.now from }
-        ensures place { result.0 ≡ member_by_reference self.now }
-        ensures passed { IsPassed self.now result.1 }
-    {
-        let count = self.table.asked_count();
-        let mut passed = from;
-        while let Some((number, name)) = self.table.open_from(passed) {
-            if let Some(place) = self.listed_member(&name) {
-                return (Some(place), number);
-            }
-            passed = number + 1;
-        }
-        (None, count)
-    }
-
     /// That of the first alternate that stands for an open name, and whose other name is listed: those of the command line come
     /// before those of the modules.
-    fn member_by_alternate(&self, given: &[(Name<'a>, Name<'a>)]) -> Option<(usize, u32)>
-        requires { given.now ≡ self.now.link.alternates }
-        ensures { result ≡ member_by_alternate self.now }
+    fn member_by_alternate(&mut self) -> Option<(usize, u32)>
+        ensures place { result ≡ member_by_alternate self.old }
+        ensures kept { self.new ≡ self.old }
     {
-        if let Some(place) = self.member_by_pairs(given) {
-            return Some(place);
-        }
-        for module in &self.modules {
-            if let Some(place) = self.member_by_directives(module.directives()) {
-                return Some(place);
-            }
-        }
-        None
-    }
-
-    /// That of the first of some alternates.
-    fn member_by_pairs(&self, pairs: &[(Name<'a>, Name<'a>)]) -> Option<(usize, u32)>
-        ensures { result ≡ first_standing (map (alternate_member self.now) pairs.now) }
-    {
-        for pair in pairs {
-            if let Some(place) = self.alternate_member(&pair.0, &pair.1) {
-                return Some(place);
-            }
-        }
-        None
-    }
-
-    /// That of the first alternate among directives.
-    fn member_by_directives(&self, directives: &[Directive<'a>]) -> Option<(usize, u32)>
-        ensures { result ≡ first_standing (map (alternate_member self.now) (filter_map alternate_said (map said directives.now))) }
-    {
-        for directive in directives {
-            if let Some(place) = self.member_by_directive(directive) {
-                return Some(place);
-            }
-        }
-        None
-    }
-
-    /// That of a directive, where it is an alternate.
-    fn member_by_directive(&self, directive: &Directive<'a>) -> Option<(usize, u32)>
-        ensures { result ≡ first_standing (map (alternate_member self.now) (filter_map alternate_said (said directive.now ∷ []))) }
-    {
-        match directive {
-            Directive::AlternateName { left, right } => self.alternate_member(left, right),
-            Directive::AlignComm { .. }
-            | Directive::DefaultLib(_)
-            | Directive::Export(_)
-            | Directive::FailIfMismatch { .. }
-            | Directive::Include(_)
-            | Directive::Merge { .. } => None,
-        }
-    }
-
-    /// The member that is listed for the right name of an alternate, where it stands for an open name and nothing provides the
-    /// right one.
-    fn alternate_member(&self, left: &Name<'a>, right: &Name<'a>) -> Option<(usize, u32)>
-        ensures { result ≡ alternate_member self.now (left.now, right.now) }
-    {
-        if !self.table.is_open(left.again()) || self.table.provided(right.again()) {
-            return None;
-        }
-        self.listed_member(right)
-    }
-
-    /// The member that the first library that lists a name lists for it, where it has not joined.
-    fn listed_member(&self, name: &Name<'a>) -> Option<(usize, u32)>
-        ensures { result ≡ listed_member self.now name.now }
-    {
-        let place = self.libraries.first_listing(name)?;
-        if self.joined.contains(&place) {
-            return None;
-        }
-        Some(place)
+        self.alternates.first_member(&self.searched)
     }
 
     /// Opens the member at a place as the next module. One that does not open is refused.
@@ -203,10 +115,10 @@ impl<'a> Search<'a> {
         ensures few { OnOk result (length self.now.link.modules < most_modules) }
         ensures refused { IfErr result (RefusesFor (join_fault self.now place)) }
     {
-        self.libraries.open_member(alloc, place, self.modules.len())
+        self.searched.open_member(alloc, place, self.modules.len())
     }
 
-    /// The member at a place joins as this module.
+    /// The member at a place joins as this module. It may ask for the left names of alternates, and say some.
     pub(crate) fn with_member(
         self,
         place: (usize, u32),
@@ -219,40 +131,40 @@ impl<'a> Search<'a> {
     {
         let Search {
             mut modules,
-            mut table,
-            libraries,
-            mut joined,
+            searched,
+            mut alternates,
             passed,
         } = self;
-        joined.insert(place)?;
-        table.add_module(&module)?;
+        let asked = searched.asked_count();
+        let searched = searched.with_member(place, &module)?;
+        alternates.wake_from(&searched, asked)?;
+        alternates.add_module(&searched, &module)?;
         push_module(&mut modules, module)?;
         Ok(Search {
             modules,
-            table,
-            libraries,
-            joined,
+            searched,
+            alternates,
             passed,
         })
     }
 
-    /// A library is searched after those before it. No name is passed over any more.
+    /// A library is searched after those before it. No name is passed over any more, and each alternate may lead to a member.
     pub(crate) fn with_library(self, library: OpenLibrary<'a>) -> Result<Search<'a>, Memory>
         ensures { IfOk result (λ search. search ≡ with_library self.entry library.entry) }
     {
         let Search {
             modules,
-            table,
-            libraries,
-            joined,
+            searched,
+            alternates,
             ..
         } = self;
+        let searched = searched.with_library(library)?;
+        let alternates = alternates.begun_again(&searched)?;
         let passed = 0;
         Ok(Search {
             modules,
-            table,
-            libraries: libraries.with(library)?,
-            joined,
+            searched,
+            alternates,
             passed,
         })
     }
@@ -262,8 +174,25 @@ impl<'a> Search<'a> {
         ensures modules { result.0.items ≡ self.entry.link.modules }
         ensures names { result.1 ≡ self.entry.link }
     {
-        (self.modules, self.table)
+        (self.modules, self.searched.into_table())
     }
+}
+
+/// The alternates of the options and of the modules.
+fn alternates_of<'a>(
+    alloc: Global,
+    searched: &Searched<'a>,
+    options: &Options<'a>,
+    modules: &[Module<'a>],
+) -> Result<Alternates<'a>, Memory>
+    ensures kept { IfOk result (KeepsAlternates searched.now (length (all_asked searched.now.link))) }
+    ensures pairs { IfOk result (λ alternates. alternates.pairs.items ≡ all_alternates (link_of (options_said options.now) modules.now)) }
+{
+    let mut alternates = Alternates::new(alloc, searched, &options.alternates)?;
+    for module in modules {
+        alternates.add_module(searched, module)?;
+    }
+    Ok(alternates)
 }
 
 /// The table of what the options ask for and the modules.

@@ -12,11 +12,17 @@ use std::alloc::Global;
 use std::str;
 use std::test::Fail;
 
-/// An object without sections, of one symbol or two with names of one byte, each a number or undefined.
-fn object(alloc: Global, symbols: &[(&[u8], bool)]) -> Result<Vec<u8>, Fail> {
-    let mut bytes = Vec::from_slice(alloc, b"\x64\x86\0\0\0\0\0\0\x14\0\0\0")?;
+/// An object of a head and a section or none, and of one symbol or two with names of one byte, each a number or undefined.
+fn object_of(
+    alloc: Global,
+    head: &[u8],
+    section: &[u8],
+    symbols: &[(&[u8], bool)],
+) -> Result<Vec<u8>, Fail> {
+    let mut bytes = Vec::from_slice(alloc, head)?;
     bytes.push(if symbols.len() == 1 { 1 } else { 2 })?;
     bytes.extend_from_slice(b"\0\0\0\0\0\0\0")?;
+    bytes.extend_from_slice(section)?;
     for (name, is_defined) in symbols {
         bytes.extend_from_slice(name)?;
         if *is_defined {
@@ -27,6 +33,24 @@ fn object(alloc: Global, symbols: &[(&[u8], bool)]) -> Result<Vec<u8>, Fail> {
     }
     bytes.extend_from_slice(b"\x04\0\0\0")?;
     Ok(bytes)
+}
+
+/// One without sections.
+fn object(alloc: Global, symbols: &[(&[u8], bool)]) -> Result<Vec<u8>, Fail> {
+    object_of(alloc, b"\x64\x86\0\0\0\0\0\0\x14\0\0\0", b"", symbols)
+}
+
+/// One that names the default library `p`.
+fn object_naming_p(alloc: Global, symbols: &[(&[u8], bool)]) -> Result<Vec<u8>, Fail> {
+    let mut section = Vec::from_slice(alloc, b".drectve\0\0\0\0\0\0\0\0")?;
+    section.extend_from_slice(b"\x0e\0\0\0\x3c\0\0\0\0\0\0\0\0\0\0\0\0\0\0\0\0\x0a\x10\0")?;
+    section.extend_from_slice(b"/DEFAULTLIB:p ")?;
+    object_of(
+        alloc,
+        b"\x64\x86\x01\0\0\0\0\0\x4a\0\0\0",
+        &section,
+        symbols,
+    )
 }
 
 /// A library of one member, which it lists for a name of one byte. The member has fewer than 100 bytes.
@@ -43,7 +67,8 @@ fn library(alloc: Global, name: &[u8], member: &[u8]) -> Result<Vec<u8>, Fail> {
     Ok(bytes)
 }
 
-/// An object that asks for `x`, a library whose member has it and asks for `y`, and one whose member has that.
+/// An object that asks for `x`, a library whose member has it and asks for `y`, and one whose member has that; one that has
+/// `p` and asks for `y`, one that has `q` and asks for `z`, one that has `r`, and one that has `v` and names the first of these.
 fn some_files(alloc: Global) -> Result<MemFiles, Fail>
     ensures { IfOk result (λ files. (files.read_faults ≡ 0) × (files.write_faults ≡ 0)) }
 {
@@ -54,6 +79,14 @@ fn some_files(alloc: Global) -> Result<MemFiles, Fail>
     files.add("a.obj", &asks)?;
     files.add("x.lib", library(alloc, b"x", &has_x)?.as_slice())?;
     files.add("y.lib", library(alloc, b"y", &has_y)?.as_slice())?;
+    let has_p = object(alloc, &[(b"p", true), (b"y", false)])?;
+    let has_q = object(alloc, &[(b"q", true), (b"z", false)])?;
+    let has_r = object(alloc, &[(b"r", true)])?;
+    let has_v = object_naming_p(alloc, &[(b"v", true)])?;
+    files.add("p.lib", library(alloc, b"p", &has_p)?.as_slice())?;
+    files.add("q.lib", library(alloc, b"q", &has_q)?.as_slice())?;
+    files.add("r.lib", library(alloc, b"r", &has_r)?.as_slice())?;
+    files.add("v.lib", library(alloc, b"v", &has_v)?.as_slice())?;
     Ok(files)
 }
 
@@ -107,6 +140,58 @@ fn members_join_for_what_is_open(rt: HostRuntime) -> Result<(), Fail> {
             "a.obj y.lib ",
         ),
         (&["link", "a.obj", "/entry:e", "/defaultlib:z"], "no z.lib"),
+    ];
+    for (words, want) in rows {
+        let words = owned(rt.alloc(), words)?;
+        let arena = Bump::new(rt.alloc());
+        let line = joins(rt.alloc(), &arena, &words)?;
+        assert_eq!(rt; line.as_str(), want);
+    }
+    Ok(())
+}
+
+#[test]
+fn alternates_wait_until_their_names_are_asked_for(rt: HostRuntime) -> Result<(), Fail> {
+    let rows: [(&[&str], &str); 3] = [
+        (
+            &[
+                "link",
+                "a.obj",
+                "p.lib",
+                "q.lib",
+                "r.lib",
+                "/entry:e",
+                "/alternatename:z=r",
+                "/alternatename:y=q",
+                "/alternatename:x=p",
+            ],
+            "a.obj p.lib q.lib r.lib ",
+        ),
+        (
+            &[
+                "link",
+                "a.obj",
+                "q.lib",
+                "r.lib",
+                "/entry:e",
+                "/include:w",
+                "/alternatename:x=q",
+                "/alternatename:w=r",
+            ],
+            "a.obj q.lib r.lib ",
+        ),
+        (
+            &[
+                "link",
+                "a.obj",
+                "v.lib",
+                "/entry:e",
+                "/include:u",
+                "/alternatename:x=p",
+                "/alternatename:u=v",
+            ],
+            "a.obj v.lib p.lib ",
+        ),
     ];
     for (words, want) in rows {
         let words = owned(rt.alloc(), words)?;

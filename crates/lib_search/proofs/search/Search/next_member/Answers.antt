@@ -14,5 +14,5 @@ pub returns-in-None-clause-fresh : goal.returns-in-None-clause-fresh
 returns-in-None-clause-fresh c =
     let s = c.args.self.now in
     next_fresh s c.member_by_alternate.result
-    (c.member_by_alternate.ensures ∙ ap member_by_alternate c.member_by_reference.ensures.kept
+    (c.member_by_alternate.ensures.place ∙ ap member_by_alternate c.member_by_reference.ensures.kept
     ∙ sym (ap (λ (o : Option MemberPlace). option_or o (member_by_alternate s)) (sym c.member_by_reference.ensures.place ∙ c.in-None.is)))

@@ -1,30 +1,22 @@
-use Rattle.std.proofs.Common.{◌≡◌, false, [], ◌∷◌, ◌++◌, refl, sym, ap, ◌∙◌}
-use Rattle.std.specs.List.{list_any}
-use Rattle.module_view.specs.Module.{ModuleView}
-use Rattle.lib_search.specs.SearchSteps.{Searched, is_place, member_at, with_member}
-use Rattle.lib_search.proofs.PassedLemmas.{searched_of, joins_now, keeps_now, fresh_joined}
+use Rattle.std.proofs.Common.{◌≡◌, sym, ap, ◌∙◌}
+use Rattle.lib_search.specs.SearchSteps.{Searched, member_at}
+use Rattle.lib_search.proofs.JoinedLemmas.{asked_before, looked_before, keeps_now}
 use Rattle.lib_search.proofs.search.Search.with_member.Goals as goal
+
+pub wake_from-requires-clause-within : goal.wake_from-requires-clause-within
+wake_from-requires-clause-within c =
+    asked_before c.self.inside.searched c.in_ok-searched.searched c.args.place c.asked_count-asked.result c.in_ok-searched.ensures c.asked_count-asked.ensures
+
+pub wake_from-requires-clause-kept : goal.wake_from-requires-clause-kept
+wake_from-requires-clause-kept c =
+    looked_before c.self.inside.searched c.in_ok-searched.searched c.args.place c.asked_count-asked.result c.in_ok-searched.ensures c.asked_count-asked.ensures
+    c.self.inside.alternates c.self.invariant.kept
 
 pub invariant_of-result : goal.invariant_of-result
 invariant_of-result c =
     let inside = c.self.inside in
-    let s = searched_of inside.table inside.libraries inside.joined.keys in
+    let s = inside.searched in
     let place = c.args.place in
-    let fresh : list_any (is_place place) s.joined ≡ false = ap (λ (v : Searched). list_any (is_place place) v.joined) c.self.view_is ∙ c.requires.fresh.fresh in
     let view : c.args.«module» ≡ member_at s place = c.requires.member ∙ ap (λ (v : Searched). member_at v place) (sym c.self.view_is) in
-    keeps_now s (searched_of c.add_module.new.self inside.libraries c.insert.new.self.keys) place inside.modules.items c.push_module.new.modules.items inside.passed
-    (joins_now s place c.args.«module» c.add_module.new.self inside.libraries c.insert.new.self.keys c.in_ok-add_module.ensures.added view refl
-    (c.in_ok-insert.ensures.keys ∙ fresh_joined s.joined place fresh))
-    (c.in_ok-push_module.ensures ∙ ap (λ (v : ModuleView). inside.modules.items ++ v ∷ []) view)
-    c.self.invariant
-
-pub returns : goal.returns
-returns c =
-    let inside = c.self.inside in
-    let s = searched_of inside.table inside.libraries inside.joined.keys in
-    let place = c.args.place in
-    let fresh : list_any (is_place place) s.joined ≡ false = ap (λ (v : Searched). list_any (is_place place) v.joined) c.self.view_is ∙ c.requires.fresh.fresh in
-    let view : c.args.«module» ≡ member_at s place = c.requires.member ∙ ap (λ (v : Searched). member_at v place) (sym c.self.view_is) in
-    joins_now s place c.args.«module» c.add_module.new.self inside.libraries c.insert.new.self.keys c.in_ok-add_module.ensures.added view refl
-    (c.in_ok-insert.ensures.keys ∙ fresh_joined s.joined place fresh)
-    ∙ ap (λ (v : Searched). with_member v place) c.self.view_is
+    keeps_now s c.in_ok-searched.searched place c.args.«module» inside.modules.items c.push_module.new.modules.items inside.alternates c.wake_from.new.self c.add_module.new.self inside.passed
+    c.in_ok-searched.ensures view c.in_ok-push_module.ensures c.in_ok-wake_from.ensures.pairs c.in_ok-add_module.ensures.pairs c.in_ok-add_module.ensures.kept c.self.invariant

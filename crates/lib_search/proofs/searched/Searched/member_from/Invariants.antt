@@ -1,7 +1,7 @@
 use Rattle.std.proofs.Common.{length, ◌-◌}
 use Rattle.symbol_names.specs.References.{all_asked}
 use Rattle.lib_search.specs.SearchParts.{IsPassed}
-use Rattle.lib_search.proofs.search.Search.search_from.Given as goal
+use Rattle.lib_search.proofs.searched.Searched.member_from.Given as goal
 
 abbrev pub invariant-loop-number : goal.invariant-loop-number
 invariant-loop-number l = IsPassed l.self l.passed

@@ -3,7 +3,7 @@ use Rattle.symbol_names.specs.References.{all_asked}
 use Rattle.symbol_table.specs.OpenNames.{open_from}
 use Rattle.lib_search.specs.SearchSteps.{Searched}
 use Rattle.lib_search.proofs.FromLemmas.{first_open, passed_to, passed_behind, passed_all, member_found, member_none}
-use Rattle.lib_search.proofs.search.Search.search_from.Goals as goal
+use Rattle.lib_search.proofs.searched.Searched.member_from.Goals as goal
 
 pub returns-in-Some-listed_member-clause-place : goal.returns-in-Some-listed_member-clause-place
 returns-in-Some-listed_member-clause-place c =

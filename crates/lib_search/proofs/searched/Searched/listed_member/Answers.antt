@@ -3,7 +3,7 @@ use Rattle.std.specs.Prelude.{option_and_then}
 use Rattle.std.specs.List.{list_any}
 use Rattle.lib_search.specs.FoundFiles.{FoundFile}
 use Rattle.lib_search.specs.SearchSteps.{Searched, is_place, unless_joined, first_listing}
-use Rattle.lib_search.proofs.search.Search.listed_member.Goals as goal
+use Rattle.lib_search.proofs.searched.Searched.listed_member.Goals as goal
 
 pub returns-then-contains : goal.returns-then-contains
 returns-then-contains c =
