@@ -1,6 +1,6 @@
 //! The relocations of pieces, each with what its symbol means.
 
-ghost use Rattle.std.specs.Prelude.{◌≡◌, ◌≤◌, ℕ, List, Some, None, IfOk, OnOk, slice_index_or};
+ghost use Rattle.std.specs.Prelude.{◌≡◌, ◌≤◌, ℕ, [], List, Some, None, OnOk, slice_index_or};
 ghost use Rattle.coff_records.specs.ObjectFile.{section_total};
 ghost use Rattle.module_view.specs.Module.{module_at};
 ghost use Rattle.symbol_names.specs.LinkView.{LinkView};
@@ -9,12 +9,11 @@ ghost use Rattle.link_plan.specs.Targets.{AreTargets};
 ghost use Rattle.link_plan.specs.Fixes.{section_fixes};
 ghost use Rattle.link_plan.specs.Steps.{HoldsTargets};
 
-use crate::targets::{RecordTarget, targets_of};
+use crate::targets::{RecordTarget, read_targets};
 use coff_object::Object;
 use link_base::Memory;
 use link_pieces::{LinkNames, PieceIndex};
 use relocate::Fix;
-use std::alloc::Global;
 
 /// What the symbols of one module mean, by its position: the module whose relocations were read last.
 #[derive(Drop)]
@@ -23,34 +22,34 @@ pub(crate) struct LastTargets {
     pub(crate) targets: Vec<RecordTarget>,
 }
 
-/// The relocations of a section of the module at a position.
+/// Puts the relocations of a section of the module at a position into an empty list.
 pub(crate) fn section_fixes<'a>(
-    alloc: Global,
+    fixes: &mut Vec<Fix>,
     last: &mut LastTargets,
     names: &LinkNames<'a>,
     index: &PieceIndex,
     object: &Object<'a>,
     position: u32,
     section: u32,
-) -> Result<Vec<Fix>, Memory>
+) -> Result<(), Memory>
+    requires empty { fixes.old.items ≡ [] }
     requires indexed { IsPieceIndex names.now index.now }
     requires held { HoldsTargets names.now last.old.position last.old.targets.items }
     requires here { object.now ≡ (module_at names.now.modules position).bytes }
     requires first { 1 ≤ section }
     requires last { section ≤ section_total object.now }
-    ensures fixes { IfOk result (λ fixes. fixes.items ≡ section_fixes names.now position object.now section) }
+    ensures fixes { OnOk result (fixes.new.items ≡ section_fixes names.now position object.now section) }
     ensures held { OnOk result (HoldsTargets names.now last.new.position last.new.targets.items) }
 {
     if object.relocation_count(section) == 0 {
-        return Ok(Vec::new(alloc));
+        return Ok(());
     }
-    read_targets(alloc, last, names, index, object, position)?;
-    fixes_of(alloc, object, section, &last.targets)
+    read_last(last, names, index, object, position)?;
+    put_fixes(fixes, object, section, &last.targets)
 }
 
 /// Reads what the symbols of the module at a position mean, where that was not read last.
-fn read_targets<'a>(
-    alloc: Global,
+fn read_last<'a>(
     last: &mut LastTargets,
     names: &LinkNames<'a>,
     index: &PieceIndex,
@@ -64,25 +63,26 @@ fn read_targets<'a>(
     ensures targets { OnOk result (AreTargets names.now position object.now last.new.targets.items) }
 {
     if last.position != Some(position) {
-        last.targets = targets_of(alloc, names, index, object, position)?;
+        read_targets(&mut last.targets, names, index, object, position)?;
         last.position = Some(position);
     }
     Ok(())
 }
 
-/// The relocations of a section, by what the symbols of its module mean.
-fn fixes_of(
-    alloc: Global,
+/// Puts the relocations of a section into an empty list, by what the symbols of its module mean.
+fn put_fixes(
+    fixes: &mut Vec<Fix>,
     object: &Object<'_>,
     section: u32,
     targets: &[RecordTarget],
-) -> Result<Vec<Fix>, Memory>
+) -> Result<(), Memory>
+    requires empty { fixes.old.items ≡ [] }
     requires first { 1 ≤ section }
     requires last { section ≤ section_total object.now }
-    ensures { IfOk result (λ fixes. (link : LinkView) (position : ℕ) → AreTargets link position object.now targets.now
-        → fixes.items ≡ section_fixes link position object.now section) }
+    ensures { OnOk result ((link : LinkView) (position : ℕ) → AreTargets link position object.now targets.now
+        → fixes.new.items ≡ section_fixes link position object.now section) }
 {
-    let mut fixes = Vec::with_capacity(alloc, object.relocation_count(section) as usize)?;
+    fixes.reserve(object.relocation_count(section) as usize)?;
     let mut index = 0;
     for relocation in object.relocations(section) {
         fixes.push(Fix {
@@ -93,7 +93,7 @@ fn fixes_of(
         })?;
         index += 1;
     }
-    Ok(fixes)
+    Ok(())
 }
 
 /// What a record means.

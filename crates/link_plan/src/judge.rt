@@ -1,13 +1,15 @@
 //! The relocations of all pieces, judged before anything is laid out.
 
-ghost use Rattle.std.specs.Prelude.{◌≡◌, ◌≤◌, ◌<◌, ℕ, None, Some, false, ◌++◌, ◌∷◌, [], length, map, slice_index_or, IfOk, OnOk, IfErr};
+ghost use Rattle.std.specs.Prelude.{◌≡◌, ◌≤◌, ◌<◌, ℕ, None, Some, false, ◌++◌, ◌∷◌, [], length, map, slice_index_or, Option, option_and_then, IfOk, OnOk, IfErr};
 ghost use Rattle.link_base.specs.Refusals.{RefusesFor};
 ghost use Rattle.section_group.specs.BarePieces.{bare};
 ghost use Rattle.section_group.specs.PieceContents.{piece_contents};
+ghost use Rattle.relocate.specs.declared.error.FieldError.{FieldError};
+ghost use Rattle.relocate.specs.FieldFaults.{field_fault, RefusesFor as RefusesField};
 ghost use Rattle.relocate.specs.Judged.{AreTheFields, ArePatchable, len_of};
 ghost use Rattle.link_pieces.specs.Pieces.{link_pieces, link_contents, IsPieceOf};
 ghost use Rattle.link_pieces.specs.PieceIndex.{IsPieceIndex};
-ghost use Rattle.link_plan.specs.Fixes.{judged_fault, fixes_in, fixes_fault, is_meant, len_if, HaveFields};
+ghost use Rattle.link_plan.specs.Fixes.{judged_fault, refused_at, fixes_in, fixes_fault, is_meant, len_if, HaveFields};
 ghost use Rattle.link_plan.specs.Steps.{HoldsTargets};
 
 use crate::fixes::{LastTargets, section_fixes};
@@ -51,12 +53,15 @@ pub(crate) fn judge_pieces<'a>(
         position: None,
         targets: Vec::new(alloc),
     };
+    let mut fixes = Vec::new(alloc);
     for k in 0..pieces.len() {
         let piece = &pieces[k];
-        let fixes = piece_fixes(alloc, &mut last, names, index, modules, piece)?;
+        read_fixes(&mut fixes, &mut last, names, index, modules, piece)?;
         mark_meant(&mut meant, &fixes);
-        let fields = judge(alloc, piece, &fixes, large)?;
-        keep(&mut fixups, fields)?;
+        match judge(alloc, piece, &fixes, large) {
+            Ok(fields) => keep(&mut fixups, fields)?,
+            Err(error) => return Err(refusal(piece, error)),
+        }
     }
     Ok(JudgedFixes { fixups, meant })
 }
@@ -69,30 +74,31 @@ fn keep(fixups: &mut Vec<Fixups>, fields: Fixups) -> Result<(), Memory>
     Ok(())
 }
 
-/// The relocations of a piece. A common has none.
-fn piece_fixes<'a>(
-    alloc: Global,
+/// Replaces a list by the relocations of a piece. A common has none.
+fn read_fixes<'a>(
+    fixes: &mut Vec<Fix>,
     last: &mut LastTargets,
     names: &LinkNames<'a>,
     index: &PieceIndex,
     modules: &[Module<'a>],
     piece: &Piece<'a>,
-) -> Result<Vec<Fix>, Memory>
+) -> Result<(), Memory>
     requires same { names.now.modules ≡ modules.now }
     requires indexed { IsPieceIndex names.now index.now }
     requires held { HoldsTargets names.now last.old.position last.old.targets.items }
     requires whole { IsPieceOf names.now (bare piece.now) }
-    ensures fixes { IfOk result (λ fixes. fixes.items ≡ fixes_in names.now piece.now) }
+    ensures fixes { OnOk result (fixes.new.items ≡ fixes_in names.now piece.now) }
     ensures held { OnOk result (HoldsTargets names.now last.new.position last.new.targets.items) }
 {
+    fixes.clear();
     if piece.number >= FIRST_COMMON {
-        return Ok(Vec::new(alloc));
+        return Ok(());
     }
     let Some(object) = modules[piece.module as usize].object() else {
-        return Ok(Vec::new(alloc));
+        return Ok(());
     };
     section_fixes(
-        alloc,
+        fixes,
         last,
         names,
         index,
@@ -103,35 +109,41 @@ fn piece_fixes<'a>(
 }
 
 /// Judges the relocations of a piece.
-fn judge<'a>(
+fn judge(
     alloc: Global,
-    piece: &Piece<'a>,
+    piece: &Piece<'_>,
     fixes: &[Fix],
     large: bool,
-) -> Result<Fixups, Refusal<'a>>
+) -> Result<Fixups, FieldError>
     ensures fields { IfOk result (λ fixups. AreTheFields fixes.now fixups) }
     ensures patchable { IfOk result (ArePatchable (length (piece_contents piece.now))) }
     ensures accepted { OnOk result (judged_fault piece.now (piece_contents piece.now) large fixes.now ≡ None) }
-    ensures refused { IfErr result (RefusesFor (judged_fault piece.now (piece_contents piece.now) large fixes.now)) }
+    ensures refused { IfErr result (RefusesField (field_fault (len_if piece.now.init (piece_contents piece.now)) large false fixes.now)) }
 {
     if fixes.is_empty() {
         return Ok(Fixups::none(alloc));
     }
-    match check(alloc, initialised_bytes(piece), fixes, large, false) {
-        Ok(fixups) => Ok(fixups),
-        Err(FieldError::Reloc { index, kind }) => Err(Refusal::Fault(Fault::BadReloc {
+    check(alloc, initialised_bytes(piece), fixes, large, false)
+}
+
+/// The refusal for a relocation of a piece.
+fn refusal<'a>(piece: &Piece<'a>, error: FieldError) -> Refusal<'a>
+    ensures { (told : Option FieldError) → RefusesField told error → RefusesFor (option_and_then (refused_at piece.now) told) result }
+{
+    match error {
+        FieldError::Reloc { index, kind } => Refusal::Fault(Fault::BadReloc {
             kind,
             module: Some(piece.module),
             section: piece.number,
             relocation: index,
-        })),
-        Err(FieldError::Target { index, kind }) => Err(Refusal::Fault(Fault::BadTarget {
+        }),
+        FieldError::Target { index, kind } => Refusal::Fault(Fault::BadTarget {
             kind,
             module: Some(piece.module),
             section: piece.number,
             relocation: index,
-        })),
-        Err(FieldError::Memory) => Err(Refusal::Memory),
+        }),
+        FieldError::Memory => Refusal::Memory,
     }
 }
 

@@ -1,6 +1,6 @@
 //! What the symbols of an object mean to its relocations.
 
-ghost use Rattle.std.specs.Prelude.{◌≡◌, ◌==◌, ◌<◌, ℕ, List, None, Some, Err, length, slice_index_or, replicate, IfOk, if◌then◌else◌};
+ghost use Rattle.std.specs.Prelude.{◌≡◌, ◌==◌, ◌<◌, ℕ, List, None, Some, Err, length, slice_index_or, replicate, OnOk, if◌then◌else◌};
 ghost use Rattle.std.specs.Option.{option_or};
 ghost use Rattle.coff_records.specs.ObjectFile.{symbol_at};
 ghost use Rattle.module_view.specs.Module.{module_at};
@@ -15,38 +15,38 @@ use link_base::pe_format::{
 use link_base::{Memory, TargetFault};
 use link_pieces::{LinkNames, PieceIndex};
 use relocate::Target;
-use std::alloc::Global;
 use symbol_table::{Meaning, NoMeaning};
 
 /// What a symbol means to a relocation: a target, or why it has none; nothing where a record is no symbol.
 pub(crate) type RecordTarget = Option<Result<Target, TargetFault>>;
 
-/// What each symbol record of the object at a position means, by the record's index.
-pub(crate) fn targets_of<'a>(
-    alloc: Global,
+/// Replaces a list by what each symbol record of the object at a position means, by the record's index.
+pub(crate) fn read_targets<'a>(
+    targets: &mut Vec<RecordTarget>,
     names: &LinkNames<'a>,
     index: &PieceIndex,
     object: &Object<'a>,
     position: u32,
-) -> Result<Vec<RecordTarget>, Memory>
+) -> Result<(), Memory>
     requires indexed { IsPieceIndex names.now index.now }
     requires here { object.now ≡ (module_at names.now.modules position).bytes }
-    ensures { IfOk result (λ targets. AreTargets names.now position object.now targets.items) }
+    ensures { OnOk result (AreTargets names.now position object.now targets.new.items) }
 {
-    let mut targets = nothing_yet(alloc, object.record_count())?;
+    put_nothing(targets, object.record_count())?;
     for (at, symbol) in object.symbols() {
         let target = symbol_target(names, index, at, &symbol, position);
-        note(&mut targets, at as usize, target);
+        note(targets, at as usize, target);
     }
-    Ok(targets)
+    Ok(())
 }
 
-/// Nothing for each of `count` records.
-fn nothing_yet(alloc: Global, count: u32) -> Result<Vec<RecordTarget>, Memory>
-    ensures { IfOk result (λ targets. targets.items ≡ replicate count None) }
+/// Replaces a list by nothing for each of `count` records.
+fn put_nothing(targets: &mut Vec<RecordTarget>, count: u32) -> Result<(), Memory>
+    ensures { OnOk result (targets.new.items ≡ replicate count None) }
 {
-    let targets = vec![in alloc; None; count as usize]?;
-    Ok(targets)
+    targets.clear();
+    targets.resize(count as usize, None)?;
+    Ok(())
 }
 
 /// Notes what a record means, where nothing is noted there.

@@ -6,7 +6,7 @@ use Rattle.coff_records.specs.ObjectFile.{SymbolEntry, symbol_at}
 use Rattle.coff_object.proofs.CallerLemmas.{symbols_left-all, symbols_left-step}
 use Rattle.link_plan.specs.Targets.{symbol_target, is_record}
 use Rattle.link_plan.proofs.TargetLemmas.{nothing_noted, noted_more}
-use Rattle.link_plan.proofs.targets.targets_of.Goals as goal
+use Rattle.link_plan.proofs.targets.read_targets.Goals as goal
 
 pub loop-at-init : goal.loop-at-init
 loop-at-init c =
@@ -16,9 +16,9 @@ loop-at-init c =
       can = tt;
       ends = tt;
       left = symbols_left-all bytes c.into_iter-at-iterator.result all;
-      count = ap length c.in_ok-targets.ensures ∙ length-replicate c.record_count.result _ ∙ c.record_count.ensures;
+      count = ap length c.in_ok-put_nothing.ensures ∙ length-replicate c.record_count.result _ ∙ c.record_count.ensures;
       noted = λ other.
-          ap (λ o. option_or o (option_map (λ (e : SymbolEntry). symbol_target c.args.names.now c.args.position e.1) (find (is_record other) c.into_iter-at-iterator.result))) (nothing_noted c.in_ok-targets.targets.items c.record_count.result other c.in_ok-targets.ensures)
+          ap (λ o. option_or o (option_map (λ (e : SymbolEntry). symbol_target c.args.names.now c.args.position e.1) (find (is_record other) c.into_iter-at-iterator.result))) (nothing_noted c.put_nothing.new.targets.items c.record_count.result other c.in_ok-put_nothing.ensures)
           ∙ ap (λ (es : List SymbolEntry). option_map (λ (e : SymbolEntry). symbol_target c.args.names.now c.args.position e.1) (find (is_record other) es)) all;
     }
 

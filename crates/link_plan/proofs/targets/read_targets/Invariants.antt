@@ -4,7 +4,7 @@ use Rattle.std.specs.Option.{option_or}
 use Rattle.coff_records.specs.ObjectFile.{record_total}
 use Rattle.coff_object.proofs.CallerLemmas.{SymbolsLeft}
 use Rattle.link_plan.specs.Targets.{symbol_target, is_record, record_target}
-use Rattle.link_plan.proofs.targets.targets_of.Given as goal
+use Rattle.link_plan.proofs.targets.read_targets.Given as goal
 
 abbrev pub invariant-loop-at : goal.invariant-loop-at
 invariant-loop-at l = record {

@@ -3,7 +3,7 @@ use Rattle.coff_records.specs.ObjectFile.{relocation_total}
 use Rattle.symbol_names.specs.LinkView.{LinkView}
 use Rattle.link_plan.specs.Targets.{AreTargets}
 use Rattle.link_plan.specs.Fixes.{fixes_from, section_fixes}
-use Rattle.link_plan.proofs.fixes.fixes_of.Given as goal
+use Rattle.link_plan.proofs.fixes.put_fixes.Given as goal
 
 abbrev pub invariant-loop-relocation : goal.invariant-loop-relocation
 invariant-loop-relocation l = record {
