@@ -12,7 +12,6 @@ use Rattle.directives.specs.declared.item.Directive.{Directive}
 use Rattle.std.proofs.lemmas.List.{map-append, length-append, get_or_append_left, get_or_push, take_more, take_all}
 use Rattle.std.proofs.lemmas.List.Folds.{list_any-append, list_any_at, list_any_none, list_any_more}
 use Rattle.link_base.specs.NameText.{same_name}
-use Rattle.link_base.specs.Refusals.{first_standing}
 use Rattle.module_view.specs.Module.{ModuleView}
 use Rattle.symbol_names.specs.LinkView.{LinkView}
 use Rattle.symbol_names.specs.Alternates.{alternate_said, alternates_by, all_alternates}
@@ -23,7 +22,7 @@ use Rattle.lib_search.specs.SearchSteps.{MemberPlace, Searched, first_listing, l
 use Rattle.lib_search.specs.AlternateParts.{is_waiting, IsLeast, is_among, noted_under, pair_at, is_asked_name, IsQuiet, KeepsAlternates, KeepsSearch, Wakes}
 use Rattle.lib_search.specs.declared.alternates.Alternates.{Alternates}
 use Rattle.lib_search.proofs.AlternateLemmas.{first_of, none_more, some_found}
-use Rattle.lib_search.proofs.FromLemmas.{IsFirstOpen, first_open, none_open}
+use Rattle.lib_search.proofs.FromLemmas.{IsFirstOpen, none_open}
 use Rattle.lib_search.proofs.LibraryLemmas.{same_is}
 use Rattle.lib_search.proofs.ListingLemmas.{same_item}
 use Rattle.lib_search.proofs.PassedLemmas.{asked_push, asked_same, provided_more, closed_stays, unlisted_more, passed_joined}
