@@ -1,5 +1,5 @@
 -- What the search keeps beside its parts. Own.
-use Rattle.std.specs.Prelude.{◌≡◌, ◌<◌, ◌≤◌, ℕ, false, List, length, None}
+use Rattle.std.specs.Prelude.{◌≡◌, ◌<◌, ◌≤◌, ℕ, false, length, None}
 use Rattle.std.specs.List.{list_any}
 use Rattle.symbol_table.specs.References.{all_asked}
 use Rattle.lib_search.specs.SearchSteps.{MemberPlace, Searched, is_place, asked_member}
