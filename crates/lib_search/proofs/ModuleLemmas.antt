@@ -1,8 +1,7 @@
 -- The lists of all modules, with one module more.
-use Rattle.std.proofs.Common.{◌≡◌, ℕ, zero, suc, ◌+◌, ◌-◌, ◌<◌, ◌≤◌, List, [], ◌∷◌, ◌++◌, length, refl, sym, ap, ◌∙◌, arith}
+use Rattle.std.proofs.Common.{◌≡◌, ℕ, zero, suc, ◌+◌, ◌<◌, ◌≤◌, List, [], ◌∷◌, ◌++◌, length, refl, sym, ap, ◌∙◌, arith}
 use Rattle.std.specs.List.{flat_map, range_with_len}
 use Rattle.std.proofs.lemmas.List.{length-append, get_or_append_left, get_or_push}
-use Rattle.std.proofs.lemmas.List.Concat.{flat_map-append}
 use Rattle.link_base.proofs.RangeLemmas.{joined_more}
 use Rattle.module_view.specs.Module.{ModuleView, no_module, module_at}
 use Rattle.symbol_names.specs.Lists.{of_all}
@@ -33,29 +32,3 @@ of_all_push {A} list modules m =
     ∙ ap (λ (xs : List A). xs ++ list n m.bytes)
     (same_joined (λ k. list k (module_at more k).bytes) (λ k. list k (module_at modules k).bytes) 0 n (λ k low high.
     ap (λ (v : ModuleView). list k v.bytes) (get_or_append_left modules (m ∷ []) no_module k (omega (arith, high)))))
-
--- the lists of the later modules
-abbrev pub of_later : {A : Type 0} → (ℕ → List ℕ → List A) → List ModuleView → ℕ → List A
-of_later list modules n = flat_map (λ k. list k (module_at modules k).bytes) (range_with_len n (length modules - n))
-
-range_split : (a n m : ℕ) → range_with_len a (n + m) ≡ range_with_len a n ++ range_with_len (a + n) m
-range_split a zero m =
-    let none : 0 + m ≡ m = omega arith in
-    let start : a ≡ a + 0 = omega arith in
-    ap (range_with_len a) none ∙ ap (λ (b : ℕ). range_with_len b m) start
-range_split a (suc n) m =
-    let longer : suc n + m ≡ suc (n + m) = omega arith in
-    let start : a + 1 + n ≡ a + suc n = omega arith in
-    ap (range_with_len a) longer
-    ∙ ap (λ (rest : List ℕ). a ∷ rest)
-    (range_split (a + 1) n m ∙ ap (λ (b : ℕ). range_with_len (a + 1) n ++ range_with_len b m) start)
-
-pub of_all_split : {A : Type 0} (list : ℕ → List ℕ → List A) (modules : List ModuleView) (n : ℕ) → n ≤ length modules → of_all list modules ≡ of_first list modules n ++ of_later list modules n
-of_all_split {A} list modules n le =
-    let each = λ (k : ℕ). list k (module_at modules k).bytes in
-    let whole : length modules ≡ n + (length modules - n) = omega (arith, le) in
-    let same : 0 + n ≡ n = omega arith in
-    ap (λ (len : ℕ). flat_map each (range_with_len 0 len)) whole
-    ∙ ap (flat_map each) (range_split 0 n (length modules - n))
-    ∙ flat_map-append each (range_with_len 0 n) (range_with_len (0 + n) (length modules - n))
-    ∙ ap (λ (start : ℕ). of_first list modules n ++ flat_map each (range_with_len start (length modules - n))) same

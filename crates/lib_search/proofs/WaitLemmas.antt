@@ -207,8 +207,8 @@ module _ (s : Searched) (seen number : ℕ) (name : List ℕ) (before after : Al
     | inr above ↦ elim (cases_lt k number) [
       | inl between ↦ absurd (clash (sym opens ∙ first.before k (omega (arith, above)) between))
       | inr level ↦
-        let same : k ≡ number = omega (arith, level, lt) in
-        ap (λ (n : ℕ). same_name (asked_at s.link n).name other) same ∙ ap (λ (n : List ℕ). same_name n other) (sym first.named) ∙ differs
+          let same : k ≡ number = omega (arith, level, lt) in
+          ap (λ (n : ℕ). same_name (asked_at s.link n).name other) same ∙ ap (λ (n : List ℕ). same_name n other) (sym first.named) ∙ differs
     ]
   ]
 
@@ -239,9 +239,9 @@ module _ (s : Searched) (seen number : ℕ) (name : List ℕ) (before after : Al
     waits = λ k here.
         either (is_waiting before.waiting k) (is_among (noted_under before.asleep name) k) (sym (wakes.waiting_is k) ∙ here)
         (λ waited. let was = keeps.waits k waited in
-          (omega (arith, was.0, same_count), ap (λ (pair : List ℕ × List ℕ). is_asked_name s.link pair.0) (same_pair k) ∙ was.1))
+        (omega (arith, was.0, same_count), ap (λ (pair : List ℕ × List ℕ). is_asked_name s.link pair.0) (same_pair k) ∙ was.1))
         (λ slept_here. let was = keeps.sleeps name k slept_here in
-          (omega (arith, was.0, same_count), ap (λ (pair : List ℕ × List ℕ). is_asked_name s.link pair.0) (same_pair k) ∙ ap (is_asked_name s.link) was.1 ∙ name_asked));
+        (omega (arith, was.0, same_count), ap (λ (pair : List ℕ × List ℕ). is_asked_name s.link pair.0) (same_pair k) ∙ ap (is_asked_name s.link) was.1 ∙ name_asked));
     sleeps = λ other k here.
         let earlier = slept other k here in
         let was = keeps.sleeps other k earlier.1 in
@@ -256,11 +256,14 @@ pub all_woken : (s : Searched) (seen : ℕ) (a : Alternates) → seen ≤ length
 all_woken s seen a within none keeps = record {
   waits = keeps.waits;
   sleeps = λ name k here.
-      let was = keeps.sleeps name k here in
-      (was.0, was.1, λ j lt opens. elim (cases_lt j seen) [
-        | inl below ↦ was.2 j below opens
-        | inr above ↦ absurd (clash (sym opens ∙ none_open s.link seen within none j (omega (arith, above)) lt))
-      ]);
+      let was = keeps.sleeps name k here in (
+        was.0,
+        was.1,
+        λ j lt opens. elim (cases_lt j seen) [
+          | inl below ↦ was.2 j below opens
+          | inr above ↦ absurd (clash (sym opens ∙ none_open s.link seen within none j (omega (arith, above)) lt))
+        ],
+      );
   gone = keeps.gone;
 }
 
@@ -339,24 +342,26 @@ module _ (s : Searched) (pair : List ℕ × List ℕ) (before after : Alternates
     sleeps = λ name k here.
         either (is_among (noted_under before.asleep name) k) (same_name pair.0 name && is_eq (nat_cmp (length before.pairs.items) k)) (sym (noted_now noted name k) ∙ here)
         (λ slept. let was = keeps.sleeps name k slept in
-          (omega (arith, was.0, count), ap (λ (p : List ℕ × List ℕ). p.0) (earlier_pair k was.0) ∙ was.1, was.2))
+        (omega (arith, was.0, count), ap (λ (p : List ℕ × List ℕ). p.0) (earlier_pair k was.0) ∙ was.1, was.2))
         (λ now. let parts = both (same_name pair.0 name) (is_eq (nat_cmp (length before.pairs.items) k)) now in
-          let is : k ≡ length before.pairs.items = same_number (length before.pairs.items) k parts.1 in
-          let named : pair.0 ≡ name = same_is pair.0 name parts.0 in
-          (omega (arith, is, count), ap (λ (p : List ℕ × List ℕ). p.0) (last_pair k is) ∙ named,
-          subst (IsQuiet s.link (length (all_asked s.link))) named (closed_quiet s.link pair.0 closed)));
+        let is : k ≡ length before.pairs.items = same_number (length before.pairs.items) k parts.1 in
+        let named : pair.0 ≡ name = same_is pair.0 name parts.0 in (
+          omega (arith, is, count),
+          ap (λ (p : List ℕ × List ℕ). p.0) (last_pair k is) ∙ named,
+          subst (IsQuiet s.link (length (all_asked s.link))) named (closed_quiet s.link pair.0 closed),
+        ));
     gone = λ k lt awake up. elim (cases_lt k (length before.pairs.items)) [
       | inl low ↦
-        let same = earlier_pair k low in
-        let was = keeps.gone k low (ap (λ (w : BTreeSet ℕ). is_waiting w k) (sym waiting) ∙ awake)
-        (neither (is_among (noted_under before.asleep (pair_at before.pairs.items k).0) k) (same_name pair.0 (pair_at before.pairs.items k).0 && is_eq (nat_cmp (length before.pairs.items) k))
-        (sym (noted_now noted (pair_at before.pairs.items k).0 k) ∙ ap (λ (p : List ℕ × List ℕ). is_among (noted_under after.asleep p.0) k) (sym same) ∙ up)).0 in
-        (ap (λ (p : List ℕ × List ℕ). is_asked_name s.link p.0) same ∙ was.0, ap (alternate_member s) same ∙ was.1)
+          let same = earlier_pair k low in
+          let was = keeps.gone k low (ap (λ (w : BTreeSet ℕ). is_waiting w k) (sym waiting) ∙ awake)
+          (neither (is_among (noted_under before.asleep (pair_at before.pairs.items k).0) k) (same_name pair.0 (pair_at before.pairs.items k).0 && is_eq (nat_cmp (length before.pairs.items) k))
+          (sym (noted_now noted (pair_at before.pairs.items k).0 k) ∙ ap (λ (p : List ℕ × List ℕ). is_among (noted_under after.asleep p.0) k) (sym same) ∙ up)).0 in
+          (ap (λ (p : List ℕ × List ℕ). is_asked_name s.link p.0) same ∙ was.0, ap (alternate_member s) same ∙ was.1)
       | inr high ↦
-        let is : k ≡ length before.pairs.items = omega (arith, high, lt, count) in
-        let out = (neither (is_among (noted_under before.asleep pair.0) k) (same_name pair.0 pair.0 && is_eq (nat_cmp (length before.pairs.items) k))
-        (sym (noted_now noted pair.0 k) ∙ ap (λ (p : List ℕ × List ℕ). is_among (noted_under after.asleep p.0) k) (sym (last_pair k is)) ∙ up)).1 in
-        absurd (clash (sym (ap (λ (b : Bool). b && is_eq (nat_cmp (length before.pairs.items) k)) (same_self pair.0) ∙ ap (λ (n : ℕ). is_eq (nat_cmp (length before.pairs.items) n)) is ∙ number_self (length before.pairs.items)) ∙ out))
+          let is : k ≡ length before.pairs.items = omega (arith, high, lt, count) in
+          let out = (neither (is_among (noted_under before.asleep pair.0) k) (same_name pair.0 pair.0 && is_eq (nat_cmp (length before.pairs.items) k))
+          (sym (noted_now noted pair.0 k) ∙ ap (λ (p : List ℕ × List ℕ). is_among (noted_under after.asleep p.0) k) (sym (last_pair k is)) ∙ up)).1 in
+          absurd (clash (sym (ap (λ (b : Bool). b && is_eq (nat_cmp (length before.pairs.items) k)) (same_self pair.0) ∙ ap (λ (n : ℕ). is_eq (nat_cmp (length before.pairs.items) n)) is ∙ number_self (length before.pairs.items)) ∙ out))
     ];
   }
 

@@ -90,11 +90,7 @@ impl<'a> Searched<'a> {
 
     /// The member that is listed for the right name of an alternate, where it stands for an open name and nothing provides the
     /// right one.
-    pub(crate) fn alternate_member(
-        &self,
-        left: &Name<'a>,
-        right: &Name<'a>,
-    ) -> Option<(usize, u32)>
+    pub(crate) fn alternate_member(&self, left: &Name<'a>, right: &Name<'a>) -> Option<(usize, u32)>
         ensures { result ≡ alternate_member self.now (left.now, right.now) }
     {
         if !self.table.is_open(left.again()) || self.table.provided(right.again()) {

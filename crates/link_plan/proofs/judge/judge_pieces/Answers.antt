@@ -1,5 +1,4 @@
 use Rattle.std.proofs.Common.{length, refl, sym, ◌∙◌, arith}
-use Rattle.std.proofs.lemmas.Result.{err_from_is_err_and}
 use Rattle.link_base.specs.Refusals.{first_refusal_below}
 use Rattle.link_base.proofs.RefusalLemmas.{first_refusal_below-more}
 use Rattle.link_pieces.specs.Pieces.{link_pieces}
@@ -22,18 +21,16 @@ pub read_fixes-requires-clause-whole : goal.read_fixes-requires-clause-whole
 read_fixes-requires-clause-whole c =
     (read_piece c.args.names.now c.args.pieces.now c.loop-k.k c.index-pieces-k.result c.requires.pieces c.requires.contents (omega arith) c.index-pieces-k.is).whole
 
-pub returns-in_err-fields-clause-refused : goal.returns-in_err-fields-clause-refused
-returns-in_err-fields-clause-refused c =
+pub returns-in-Err-clause-refused : goal.returns-in-Err-clause-refused
+returns-in-Err-clause-refused c =
     let link = c.args.names.now in
     let k = c.loop-k.k in
     let piece = c.index-pieces-k.result in
     let read = read_piece link c.args.pieces.now k piece c.requires.pieces c.requires.contents (omega arith) c.index-pieces-k.is in
     let fixes = c.deref-in-loop-k.ensures.value ∙ c.in_ok-read_fixes.ensures.fixes in
-    let given = err_from_is_err_and c.from_residual-in_err-fields.result c.from_residual-in_err-fields.ensures.1 in
-    rw (given.1, given.2)
-    (refuses_found (length (link_pieces link)) k (piece_fault link c.args.large) _ c.in_err-fields.field-0.0 read.within c.loop-k.invariant.none
+    refuses_found (length (link_pieces link)) k (piece_fault link c.args.large) _ c.refusal.result read.within c.loop-k.invariant.none
     (fault_read link k piece c.args.large c.deref-in-loop-k.result.now read fixes)
-    c.in_err-fields.ensures.refused)
+    (c.refusal.ensures _ c.in-Err.ensures.refused)
 
 pub loop-k-preserved : goal.loop-k-preserved
 loop-k-preserved c =
@@ -45,8 +42,8 @@ loop-k-preserved c =
     let marked = c.deref.ensures.value ∙ c.in_ok-read_fixes.ensures.fixes in
     record {
       held = c.in_ok-read_fixes.ensures.held;
-      fields = fields_more link k piece c.deref-in-loop-k.result.now c.in_ok-fields.fields c.loop-k.fixups.items c.keep.new.fixups.items read c.loop-k.invariant.fields c.in_ok-keep.ensures judged c.in_ok-fields.ensures.fields c.in_ok-fields.ensures.patchable;
+      fields = fields_more link k piece c.deref-in-loop-k.result.now c.in-Ok.fields c.loop-k.fixups.items c.keep.new.fixups.items read c.loop-k.invariant.fields c.in_ok-keep-in-Ok.ensures judged c.in-Ok.ensures.fields c.in-Ok.ensures.patchable;
       same_length = c.mark_meant.ensures.len ∙ c.loop-k.invariant.same_length;
       marked = λ j lt. meant_more link k j piece c.deref.result.now _ _ read marked (c.loop-k.invariant.marked j lt) (c.mark_meant.ensures.marked j (omega (arith, lt, c.loop-k.invariant.same_length)));
-      none = first_refusal_below-more k (piece_fault link c.args.large) c.loop-k.invariant.none (sym (fault_read link k piece c.args.large c.deref-in-loop-k.result.now read judged) ∙ c.in_ok-fields.ensures.accepted);
+      none = first_refusal_below-more k (piece_fault link c.args.large) c.loop-k.invariant.none (sym (fault_read link k piece c.args.large c.deref-in-loop-k.result.now read judged) ∙ c.in-Ok.ensures.accepted);
     }
