@@ -109,12 +109,7 @@ fn read_fixes<'a>(
 }
 
 /// Judges the relocations of a piece.
-fn judge(
-    alloc: Global,
-    piece: &Piece<'_>,
-    fixes: &[Fix],
-    large: bool,
-) -> Result<Fixups, FieldError>
+fn judge(alloc: Global, piece: &Piece<'_>, fixes: &[Fix], large: bool) -> Result<Fixups, FieldError>
     ensures fields { IfOk result (λ fixups. AreTheFields fixes.now fixups) }
     ensures patchable { IfOk result (ArePatchable (length (piece_contents piece.now))) }
     ensures accepted { OnOk result (judged_fault piece.now (piece_contents piece.now) large fixes.now ≡ None) }
