@@ -18,13 +18,9 @@ use Rattle.module_view.specs.declared.definition.Place.{Place}
 use Rattle.module_view.specs.declared.definition.Place.TheVariants as place
 use Rattle.module_view.specs.declared.error.ModuleError.TheVariants as error
 use Rattle.module_view.specs.SymbolLists.{is_absolute, is_definition, place_in_section, place_of, defines, definition_of, definitions_of}
-use Rattle.link_base.specs.declared.kinds.form.Kind.TheVariants as form
-use Rattle.link_base.specs.declared.kinds.import.ImpFault.{ImpFault}
 use Rattle.link_base.proofs.RefusalLemmas.{or_none}
-use Rattle.short_import.specs.ImportFaults.{import_fault}
 use Rattle.module_view.specs.declared.error.ModuleError.{ModuleError}
-use Rattle.module_view.specs.Unbuilt.{is_short_import}
-use Rattle.module_view.specs.Opening.{unsupported, has_long_text, file_error, import_error, opening_error, form_error, object_error, content_error}
+use Rattle.module_view.specs.Opening.{opening_error, form_error, object_error, content_error}
 pub use Rattle.coff_aux.proofs.CallerLemmas.{unmarked}
 
 -- ---- what does not stand
@@ -43,37 +39,21 @@ no_fault (Some fault) none = absurd cc
 
 -- ---- a module that opens
 
--- no short import opens
-opens_as : (imports : Bool) (imported other : Option ModuleError) → (imported ≡ None → ⊥) → cond imports imported other ≡ None → other ≡ None
-opens_as true imported other never opened = absurd (never opened)
-opens_as false imported other never opened = opened
-
-import_refused : (fault : Option ImpFault) (long : Bool) → option_or (option_map error.Import fault) (option_or (unsupported long form.LongName) (option_or (unsupported true form.NotBuilt) None)) ≡ None → ⊥
-import_refused None true e = cc
-import_refused None false e = cc
-import_refused (Some fault) long e = cc
-
--- what opens is an object
-pub opened_object : (bytes : List ℕ) → opening_error bytes ≡ None → file_error bytes ≡ None
-unfolding opening_error import_error
-opened_object bytes opened =
-    opens_as (is_short_import bytes) (import_error bytes) (file_error bytes) (import_refused (import_fault bytes) (has_long_text bytes)) opened
-
--- which shows nothing that is refused
+-- it shows nothing that is refused
 pub opened_contents : (bytes : List ℕ) → opening_error bytes ≡ None → content_error bytes ≡ None
-unfolding file_error
+unfolding opening_error
 opened_contents bytes opened =
     sym (or_none (content_error bytes))
     ∙ no_later (object_error bytes) (first_standing (content_error bytes ∷ []))
-    (no_later (form_error bytes) (first_standing (object_error bytes ∷ content_error bytes ∷ [])) (opened_object bytes opened))
+    (no_later (form_error bytes) (first_standing (object_error bytes ∷ content_error bytes ∷ [])) opened)
 
 -- and is well formed
 pub opened_sound : (bytes : List ℕ) → opening_error bytes ≡ None → object_fault bytes ≡ None
-unfolding file_error
+unfolding opening_error
 opened_sound bytes opened =
     no_fault (object_fault bytes)
     (no_first (object_error bytes) (first_standing (content_error bytes ∷ []))
-    (no_later (form_error bytes) (first_standing (object_error bytes ∷ content_error bytes ∷ [])) (opened_object bytes opened)))
+    (no_later (form_error bytes) (first_standing (object_error bytes ∷ content_error bytes ∷ [])) opened))
 
 -- ---- where its definitions stand
 

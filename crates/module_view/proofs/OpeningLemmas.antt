@@ -12,8 +12,7 @@ use Rattle.module_view.specs.declared.error.ModuleError.TheVariants as error
 use Rattle.directives.specs.declared.item.BadDirective.{BadDirective}
 use Rattle.module_view.specs.ModuleDirectives.{bad_directive}
 use Rattle.module_view.specs.Unbuilt.{has_unbuilt_section, has_unbuilt_symbol, has_unbuilt_directive}
-use Rattle.module_view.specs.Unbuilt.{is_short_import}
-use Rattle.module_view.specs.Opening.{file_error, opening_error, form_error, content_error, unsupported, has_linker_section, has_long_section_name, has_long_symbol_name, bad_directive_error, directive_error, RefusesToOpen}
+use Rattle.module_view.specs.Opening.{opening_error, form_error, content_error, unsupported, has_linker_section, has_long_section_name, has_long_symbol_name, bad_directive_error, directive_error, RefusesToOpen}
 use Rattle.coff_aux.specs.AuxFaults.{aux_fault}
 use Rattle.module_view.specs.Steps.{section_form}
 use Rattle.link_base.proofs.RefusalLemmas.{or_none}
@@ -44,26 +43,26 @@ content_by bytes =
 
 -- ---- the stages
 
-pub refused_form : (bytes : List ℕ) (kind : Kind) → option_map error.Unsupported (Some kind) ≡ form_error bytes → file_error bytes ≡ Some (error.Unsupported kind)
-unfolding file_error
+pub refused_form : (bytes : List ℕ) (kind : Kind) → option_map error.Unsupported (Some kind) ≡ form_error bytes → opening_error bytes ≡ Some (error.Unsupported kind)
+unfolding opening_error
 refused_form bytes kind is = rw (sym is) refl
 
-pub refused_object : (bytes : List ℕ) (fault : ObjError) → None ≡ form_error bytes → object_fault bytes ≡ Some fault → file_error bytes ≡ Some (error.Object fault)
-unfolding file_error
+pub refused_object : (bytes : List ℕ) (fault : ObjError) → None ≡ form_error bytes → object_fault bytes ≡ Some fault → opening_error bytes ≡ Some (error.Object fault)
+unfolding opening_error
 refused_object bytes fault form is = rw (sym form, is) refl
 
 -- the object is well formed: what its contents show stands
-pub by_contents : (bytes : List ℕ) → None ≡ form_error bytes → object_fault bytes ≡ None → file_error bytes ≡ content_error bytes
-unfolding file_error
+pub by_contents : (bytes : List ℕ) → None ≡ form_error bytes → object_fault bytes ≡ None → opening_error bytes ≡ content_error bytes
+unfolding opening_error
 by_contents bytes form sound = rw (sym form, sound) (or_none (content_error bytes))
 
-pub refused_sections : (bytes : List ℕ) (kind : Kind) → None ≡ form_error bytes → object_fault bytes ≡ None → section_form bytes ≡ Some kind → file_error bytes ≡ Some (error.Unsupported kind)
+pub refused_sections : (bytes : List ℕ) (kind : Kind) → None ≡ form_error bytes → object_fault bytes ≡ None → section_form bytes ≡ Some kind → opening_error bytes ≡ Some (error.Unsupported kind)
 refused_sections bytes kind form sound is =
     by_contents bytes form sound ∙ content_by bytes
     ∙ ap (λ (o : Option Kind). option_or (option_map error.Unsupported o) (later_error bytes)) is
 
 -- the sections show nothing: what is shown after them stands
-by_later : (bytes : List ℕ) → None ≡ form_error bytes → object_fault bytes ≡ None → section_form bytes ≡ None → file_error bytes ≡ later_error bytes
+by_later : (bytes : List ℕ) → None ≡ form_error bytes → object_fault bytes ≡ None → section_form bytes ≡ None → opening_error bytes ≡ later_error bytes
 by_later bytes form sound sections =
     by_contents bytes form sound ∙ content_by bytes
     ∙ ap (λ (o : Option Kind). option_or (option_map error.Unsupported o) (later_error bytes)) sections
@@ -75,30 +74,30 @@ refuses_earlier earlier later (error.Directive at) h = rw h refl
 refuses_earlier earlier later (error.Unsupported kind) h = rw h refl
 refuses_earlier earlier later error.Memory h = tt
 
-pub refused_symbols : (bytes : List ℕ) (e : ModuleError) → None ≡ form_error bytes → object_fault bytes ≡ None → section_form bytes ≡ None → RefusesToOpen (unsupported (has_long_symbol_name bytes) form.LongName) e → RefusesToOpen (file_error bytes) e
+pub refused_symbols : (bytes : List ℕ) (e : ModuleError) → None ≡ form_error bytes → object_fault bytes ≡ None → section_form bytes ≡ None → RefusesToOpen (unsupported (has_long_symbol_name bytes) form.LongName) e → RefusesToOpen (opening_error bytes) e
 refused_symbols bytes e read sound sections h =
     subst (λ (o : Option ModuleError). RefusesToOpen o e) (sym (by_later bytes read sound sections))
     (refuses_earlier (unsupported (has_long_symbol_name bytes) form.LongName) (first_standing (last_errors bytes)) e h)
 
 -- no name is too long: a fault of auxiliary records stands, or what is shown after them
-by_aux : (bytes : List ℕ) → None ≡ form_error bytes → object_fault bytes ≡ None → section_form bytes ≡ None → has_long_symbol_name bytes ≡ false → file_error bytes ≡ first_standing (last_errors bytes)
+by_aux : (bytes : List ℕ) → None ≡ form_error bytes → object_fault bytes ≡ None → section_form bytes ≡ None → has_long_symbol_name bytes ≡ false → opening_error bytes ≡ first_standing (last_errors bytes)
 by_aux bytes read sound sections short =
     by_later bytes read sound sections
     ∙ ap (λ (b : Bool). option_or (unsupported b form.LongName) (first_standing (last_errors bytes))) short
 
-pub refused_aux : (bytes : List ℕ) (e : ModuleError) → None ≡ form_error bytes → object_fault bytes ≡ None → section_form bytes ≡ None → has_long_symbol_name bytes ≡ false → RefusesToOpen (option_map error.Object (aux_fault bytes)) e → RefusesToOpen (file_error bytes) e
+pub refused_aux : (bytes : List ℕ) (e : ModuleError) → None ≡ form_error bytes → object_fault bytes ≡ None → section_form bytes ≡ None → has_long_symbol_name bytes ≡ false → RefusesToOpen (option_map error.Object (aux_fault bytes)) e → RefusesToOpen (opening_error bytes) e
 refused_aux bytes e read sound sections short h =
     subst (λ (o : Option ModuleError). RefusesToOpen o e) (sym (by_aux bytes read sound sections short))
     (refuses_earlier (option_map error.Object (aux_fault bytes)) (first_standing (directive_error bytes ∷ unbuilt_error bytes ∷ [])) e h)
 
 -- the auxiliary records are well formed: a malformed directive stands, or what is not linked yet
-by_directives : (bytes : List ℕ) → None ≡ form_error bytes → object_fault bytes ≡ None → section_form bytes ≡ None → has_long_symbol_name bytes ≡ false → aux_fault bytes ≡ None → file_error bytes ≡ option_or (directive_error bytes) (unbuilt_error bytes)
+by_directives : (bytes : List ℕ) → None ≡ form_error bytes → object_fault bytes ≡ None → section_form bytes ≡ None → has_long_symbol_name bytes ≡ false → aux_fault bytes ≡ None → opening_error bytes ≡ option_or (directive_error bytes) (unbuilt_error bytes)
 by_directives bytes read sound sections short aux =
     by_aux bytes read sound sections short
     ∙ ap (λ (o : Option ObjError). option_or (option_map error.Object o) (first_standing (directive_error bytes ∷ unbuilt_error bytes ∷ []))) aux
     ∙ ap (option_or (directive_error bytes)) (or_none (unbuilt_error bytes))
 
-pub refused_directive : (bytes : List ℕ) (e : ModuleError) → None ≡ form_error bytes → object_fault bytes ≡ None → section_form bytes ≡ None → has_long_symbol_name bytes ≡ false → aux_fault bytes ≡ None → RefusesToOpen (directive_error bytes) e → RefusesToOpen (file_error bytes) e
+pub refused_directive : (bytes : List ℕ) (e : ModuleError) → None ≡ form_error bytes → object_fault bytes ≡ None → section_form bytes ≡ None → has_long_symbol_name bytes ≡ false → aux_fault bytes ≡ None → RefusesToOpen (directive_error bytes) e → RefusesToOpen (opening_error bytes) e
 refused_directive bytes e read sound sections short aux h =
     subst (λ (o : Option ModuleError). RefusesToOpen o e) (sym (by_directives bytes read sound sections short aux))
     (refuses_earlier (directive_error bytes) (unbuilt_error bytes) e h)
@@ -108,7 +107,7 @@ or_or true b c = refl
 or_or false b c = refl
 
 -- the directives are well formed: only what is not linked yet is refused
-pub by_unbuilt : (bytes : List ℕ) (sections symbols directives unbuilt : Bool) → None ≡ form_error bytes → object_fault bytes ≡ None → section_form bytes ≡ None → has_long_symbol_name bytes ≡ false → aux_fault bytes ≡ None → bad_directive bytes ≡ None → sections ≡ has_unbuilt_section bytes → symbols ≡ has_unbuilt_symbol bytes → directives ≡ has_unbuilt_directive bytes → ((sections || symbols) || directives) ≡ unbuilt → file_error bytes ≡ unsupported unbuilt form.NotBuilt
+pub by_unbuilt : (bytes : List ℕ) (sections symbols directives unbuilt : Bool) → None ≡ form_error bytes → object_fault bytes ≡ None → section_form bytes ≡ None → has_long_symbol_name bytes ≡ false → aux_fault bytes ≡ None → bad_directive bytes ≡ None → sections ≡ has_unbuilt_section bytes → symbols ≡ has_unbuilt_symbol bytes → directives ≡ has_unbuilt_directive bytes → ((sections || symbols) || directives) ≡ unbuilt → opening_error bytes ≡ unsupported unbuilt form.NotBuilt
 by_unbuilt bytes sections symbols directives unbuilt read sound shown_none short aux well first second third is =
     by_directives bytes read sound shown_none short aux
     ∙ ap (λ (o : Option BadDirective). option_or (option_map bad_directive_error o) (unbuilt_error bytes)) well
@@ -118,8 +117,3 @@ by_unbuilt bytes sections symbols directives unbuilt read sound shown_none short
     ∙ ap (λ (b : Bool). sections || (symbols || b)) (sym third)
     ∙ or_or sections symbols directives
     ∙ is)
-
--- bytes that are no short import open as an object does
-pub object_opens : (bytes : List ℕ) → is_short_import bytes ≡ false → file_error bytes ≡ None → opening_error bytes ≡ None
-unfolding opening_error
-object_opens bytes other opens = rw other opens

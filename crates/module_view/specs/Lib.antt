@@ -2,6 +2,7 @@ pub mod Module
 pub mod Opening
 pub mod PlacedSection
 pub mod SymbolLists
+pub mod ImportModule
 pub mod ModuleDirectives
 pub mod Unbuilt
 pub mod Steps

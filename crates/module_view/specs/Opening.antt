@@ -1,5 +1,4 @@
--- Which bytes do not open as a module, and why. Of a short import: its faults, then a name that is too long, then that none is
--- linked yet. Of other bytes: the forms that the first bytes show, then the faults of the object, then the forms that its names
+-- Which bytes do not open as a module, and why. Of a short import: its faults, then a name that is too long. Of other bytes: the forms that the first bytes show, then the faults of the object, then the forms that its names
 -- show, then the faults of auxiliary records, then malformed directives, then the forms that are not linked yet. The order is own.
 use Rattle.std.specs.Prelude.{◌≡◌, ℕ, Bool, true, ◌||◌, ◌&&◌, not, ◌==◌, nat_lt, if◌then◌else◌, List, [], ◌∷◌, length, Option, Some, None, option_map, codes}
 use Rattle.std.specs.List.{list_any}
@@ -20,7 +19,8 @@ use Rattle.directives.specs.declared.item.BadDirective.{BadDirective}
 use Rattle.module_view.specs.ModuleDirectives.{sections_in, bad_directive}
 use Rattle.short_import.specs.ShortImport.{symbol_of, dll_of}
 use Rattle.short_import.specs.ImportFaults.{import_fault}
-use Rattle.module_view.specs.Unbuilt.{is_short_import, has_unbuilt_section, has_unbuilt_symbol, has_unbuilt_directive}
+use Rattle.module_view.specs.ImportModule.{is_short_import}
+use Rattle.module_view.specs.Unbuilt.{has_unbuilt_section, has_unbuilt_symbol, has_unbuilt_directive}
 
 -- ---- the first bytes
 
@@ -109,25 +109,25 @@ content_error bytes =
 -- ---- the error
 
 -- why these bytes do not open as an object
-unfoldable pub file_error : List ℕ → Option ModuleError
-file_error bytes = first_standing (form_error bytes ∷ object_error bytes ∷ content_error bytes ∷ [])
+unfoldable pub opening_error : List ℕ → Option ModuleError
+opening_error bytes = first_standing (form_error bytes ∷ object_error bytes ∷ content_error bytes ∷ [])
 
 abbrev pub has_long_text : List ℕ → Bool
 has_long_text bytes = is_long (symbol_of bytes) || is_long (dll_of bytes)
 
--- why they do not open as a short import; a well formed one is not linked yet
+-- why they do not open as a short import
 unfoldable pub import_error : List ℕ → Option ModuleError
 import_error bytes =
     first_standing
     (option_map error.Import (import_fault bytes)
     ∷ unsupported (has_long_text bytes) form.LongName
-    ∷ unsupported true form.NotBuilt
     ∷ [])
 
 -- why these bytes do not open as a module: none where they do
-unfoldable pub opening_error : List ℕ → Option ModuleError
-opening_error bytes = if is_short_import bytes then import_error bytes else file_error bytes
+unfoldable pub file_error : List ℕ → Option ModuleError
+file_error bytes = if is_short_import bytes then import_error bytes else opening_error bytes
 
+-- the object of a module opens
 abbrev pub IsOpened : ModuleView → Type 0
 IsOpened view = opening_error view.bytes ≡ None
 

@@ -13,15 +13,6 @@ use Rattle.module_view.specs.ModuleDirectives.{sections_in, module_directives}
 use Rattle.directives.specs.Said.{Said}
 use Rattle.directives.specs.Said as says
 
--- ---- files that have no reader yet
-
--- a short import: no machine, 0xFFFF, and version 0 (PE Format, "Import Header")
-abbrev pub short_import_start : List ℕ
-short_import_start = 0 ∷ 0 ∷ 0xFF ∷ 0xFF ∷ 0 ∷ 0 ∷ []
-
-abbrev pub is_short_import : List ℕ → Bool
-is_short_import bytes = begins bytes short_import_start
-
 -- ---- sections
 
 -- the exception table, or resources

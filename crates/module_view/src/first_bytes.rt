@@ -3,7 +3,7 @@
 ghost use Rattle.std.specs.Prelude.{◌≡◌, option_map, Some, None};
 ghost use Rattle.module_view.specs.declared.error.ModuleError.TheVariants.{Unsupported};
 ghost use Rattle.module_view.specs.Opening.{form_error, resource_start, is_anonymous};
-ghost use Rattle.module_view.specs.Unbuilt.{is_short_import};
+ghost use Rattle.module_view.specs.ImportModule.{is_short_import};
 
 use coff_object::is_big_object;
 use link_base::{Kind, field_u16};

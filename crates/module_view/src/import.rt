@@ -1,25 +1,91 @@
-//! Why a short import does not open as a module.
+//! Short imports, each of which goes as an object of nothing.
 
-ghost use Rattle.std.specs.Prelude.{◌≡◌, Some};
+ghost use Rattle.std.specs.Prelude.{◌≡◌, ◌++◌, length, None, IfOk, OnOk, IfErr};
+ghost use Rattle.link_base.specs.NameText.{import_prefix};
+ghost use Rattle.short_import.specs.ShortImport.{symbol_of};
+ghost use Rattle.short_import.specs.ImportFaults.{import_fault};
+ghost use Rattle.module_view.specs.ImportModule.{import_in, import_definitions, no_object};
 ghost use Rattle.module_view.specs.Opening.{import_error, is_long, RefusesToOpen};
 
+use crate::definition::{Definition, Place};
 use crate::error::ModuleError;
-use link_base::{Kind, NAME_LIMIT, Name};
-use short_import::Import;
+use link_base::{Kind, Memory, NAME_LIMIT, Name, slice_in};
+use short_import::{Import, ImportKind};
+use std::alloc::Global;
 
-/// Why a short import does not open: its fault, or a symbol or a DLL's name of more than 32,000 bytes, or that none is linked yet.
+/// Where the symbol stands: behind the header.
+const SYMBOL_OFFSET: usize = 20;
+
+/// The short import in these bytes. It is refused for its fault, or where the symbol or the name of the DLL has more than 32,000
+/// bytes.
 #[tactic(auto, unfolding(crate::specs::Opening::import_error))]
-pub(crate) fn import_error(bytes: &[u8]) -> ModuleError
-    ensures { RefusesToOpen (import_error bytes.now) result }
+pub(crate) fn read_import(bytes: &[u8]) -> Result<Import<'_>, ModuleError>
+    ensures read { IfOk result (λ import. import ≡ import_in bytes.now) }
+    ensures well_formed { OnOk result (import_fault bytes.now ≡ None) }
+    ensures accepted { OnOk result (import_error bytes.now ≡ None) }
+    ensures refused { IfErr result (RefusesToOpen (import_error bytes.now)) }
 {
     let import = match Import::read(bytes) {
         Ok(import) => import,
-        Err(fault) => return ModuleError::Import(fault),
+        Err(fault) => return Err(ModuleError::Import(fault)),
     };
     if is_long(&import.symbol) || is_long(&import.dll) {
-        return ModuleError::Unsupported(Kind::LongName);
+        return Err(ModuleError::Unsupported(Kind::LongName));
     }
-    ModuleError::Unsupported(Kind::NotBuilt)
+    Ok(import)
+}
+
+/// What the short import in these bytes defines.
+#[tactic(auto, unfolding(crate::specs::ImportModule::import_definitions))]
+pub(crate) fn definitions_by<'a>(
+    alloc: Global,
+    bytes: &'a [u8],
+    import: &Import<'a>,
+) -> Result<Vec<Definition<'a>>, Memory>
+    requires well_formed { import_fault bytes.now ≡ None }
+    requires read { import.now ≡ import_in bytes.now }
+    ensures { IfOk result (λ definitions. definitions.items ≡ import_definitions import.now) }
+{
+    let mut definitions = Vec::with_capacity(alloc, 2)?;
+    definitions.push(Definition {
+        name: entry_name(bytes, import.symbol.len()),
+        symbol: 0,
+        place: Place::Slot,
+    })?;
+    match import.kind {
+        ImportKind::Code => definitions.push(named(import, Place::Thunk))?,
+        ImportKind::Data => {}
+        ImportKind::Const => definitions.push(named(import, Place::Slot))?,
+    }
+    Ok(definitions)
+}
+
+/// The definition of the symbol itself.
+fn named<'a>(import: &Import<'a>, place: Place) -> Definition<'a>
+    ensures { result ≡ record { name = import.now.symbol; symbol = 1; place = place } }
+{
+    Definition {
+        name: import.symbol.again(),
+        symbol: 1,
+        place,
+    }
+}
+
+/// The name of the entry of the import address table, for a symbol of this length.
+fn entry_name(bytes: &[u8], len: usize) -> Name<'_>
+    requires well_formed { import_fault bytes.now ≡ None }
+    requires len { len ≡ length (symbol_of bytes.now) }
+    ensures { result ≡ import_prefix ++ symbol_of bytes.now }
+{
+    Name::import(slice_in(bytes, SYMBOL_OFFSET, len))
+}
+
+/// The bytes of an object of nothing: the machine, and a header that counts no sections and no symbols.
+#[tactic(auto, unfolding(crate::specs::ImportModule::no_object))]
+pub(crate) fn no_object() -> &'static [u8]
+    ensures { result.now ≡ no_object }
+{
+    b"\x64\x86\x00\x00\x00\x00\x00\x00\x00\x00\x00\x00\x00\x00\x00\x00\x00\x00\x00\x00"
 }
 
 /// Whether a name is too long.

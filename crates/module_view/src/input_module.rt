@@ -3,7 +3,8 @@
 ghost use Rattle.std.specs.Prelude.{◌≡◌, Some, map};
 ghost use Rattle.std.specs.Option.{option_copied};
 ghost use Rattle.coff_records.specs.ObjectFile.{starts_symbol};
-ghost use Rattle.module_view.specs.SymbolLists.{definitions_of, references_of, weaks_of, commons_of};
+ghost use Rattle.module_view.specs.ImportModule.{module_definitions};
+ghost use Rattle.module_view.specs.SymbolLists.{references_of, weaks_of, commons_of};
 ghost use Rattle.coff_aux.specs.Comdats.{comdat_of};
 ghost use Rattle.directives.specs.Said.{said};
 ghost use Rattle.module_view.specs.ModuleDirectives.{module_directives};
@@ -16,6 +17,7 @@ use coff_aux::{Comdat, SectionSymbols, comdat_in, is_section_number};
 use coff_object::Object;
 use directives::Directive;
 use link_base::Name;
+use short_import::Import;
 use std::marker::Model;
 
 /// Where a module comes from: a file, or a member of one.
@@ -25,10 +27,11 @@ pub struct Origin<'a> {
     pub member: Option<Name<'a>>,
 }
 
-/// An object that takes part in a link.
+/// What takes part in a link: an object, or a short import, which goes as an object of nothing.
 #[derive(Drop)]
 pub struct Module<'a> {
     pub(crate) origin: Origin<'a>,
+    pub(crate) import: Option<Import<'a>>,
     pub(crate) bytes: &'a [u8],
     pub(crate) object: Object<'a>,
     pub(crate) lists: SymbolLists<'a>,
@@ -42,11 +45,11 @@ impl<'a> Model for Module<'a> {
 
     ghost Value = { ModuleView };
 
-    ghost use Rattle.module_view.specs.ModuleParts.{view_of, KeepsLists};
+    ghost use Rattle.module_view.specs.ModuleParts.{view_with, KeepsLists};
 
-    ghost view = { λ m. view_of m.origin m.bytes.now };
+    ghost view = { λ m. view_with m.origin m.bytes.now m.import };
 
-    ghost invariant = { λ m. KeepsLists m.bytes.now m.object m.lists m.comdats.items m.directives.items };
+    ghost invariant = { λ m. KeepsLists m.bytes.now m.object m.import m.lists m.comdats.items m.directives.items };
 }
 
 impl<'a> Module<'a> {
@@ -64,7 +67,7 @@ impl<'a> Module<'a> {
         }
     }
 
-    /// The bytes of the file or of the member.
+    /// The bytes of the object.
     pub fn bytes(&self) -> &'a [u8]
         ensures bytes { result.now ≡ self.now.bytes }
         ensures opened { IsOpened self.now }
@@ -72,7 +75,7 @@ impl<'a> Module<'a> {
         self.bytes
     }
 
-    /// The object, which each module has.
+    /// The object, which each module has: that of a short import is one of nothing.
     pub fn object(&self) -> Option<&Object<'a>>
         ensures object { option_copied result ≡ Some self.now.bytes }
         ensures opened { IsOpened self.now }
@@ -80,9 +83,17 @@ impl<'a> Module<'a> {
         Some(&self.object)
     }
 
-    /// What it defines, in the order of its symbols.
+    /// The short import, where it is one.
+    pub fn import(&self) -> Option<&Import<'a>>
+        ensures { option_copied result ≡ self.now.imported }
+    {
+        self.import.as_ref()
+    }
+
+    /// What it defines, in the order of its symbols. A short import defines its entry of the import address table, and by its
+    /// kind the symbol.
     pub fn definitions(&self) -> &[Definition<'a>]
-        ensures definitions { result.now ≡ definitions_of self.now.bytes }
+        ensures definitions { result.now ≡ module_definitions self.now }
         ensures opened { IsOpened self.now }
     {
         &self.lists.definitions

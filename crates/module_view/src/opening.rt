@@ -1,28 +1,30 @@
 //! How a file is opened as a module.
 
-ghost use Rattle.std.specs.Prelude.{◌≡◌, ◌<◌, ◌^◌, ◌-◌, false, length, None, IfOk, OnOk, IfErr};
-ghost use Rattle.module_view.specs.ModuleParts.{view_of};
-ghost use Rattle.module_view.specs.Unbuilt.{is_short_import};
-ghost use Rattle.module_view.specs.Opening.{file_error, opening_error, RefusesToOpen};
+ghost use Rattle.std.specs.Prelude.{◌≡◌, ◌<◌, ◌^◌, ◌-◌, length, Some, None, IfOk, OnOk, IfErr};
+ghost use Rattle.module_view.specs.ImportModule.{no_object, import_in, import_definitions};
+ghost use Rattle.module_view.specs.ModuleParts.{view_of, view_with};
+ghost use Rattle.module_view.specs.Opening.{file_error, import_error, opening_error, RefusesToOpen};
 
 use crate::aux_faults::judge_aux;
+use crate::definition::Definition;
 use crate::directive_list::read_directives;
 use crate::error::ModuleError;
 use crate::first_bytes::{form_shown, is_short_import};
-use crate::import::import_error;
+use crate::import::{definitions_by, no_object, read_import};
 use crate::input_module::{Module, Origin};
 use crate::sections::judge_sections;
-use crate::symbols::read_symbols;
+use crate::symbols::{SymbolLists, read_symbols};
 use coff_object::{LongTexts, Object};
 use link_base::Kind;
+use short_import::Import;
 use std::alloc::Global;
 
-/// The module with these bytes. A short import is refused: for its first fault (`Import`), and else for a name of more than
-/// 32,000 bytes or because none is linked yet (`Unsupported`). Other bytes are refused for the first of: a form that the first
-/// bytes show (`Unsupported`), a fault of the object (`Object`), a section that the linker makes itself, a name of more than
-/// 32,000 bytes (`Unsupported`), a fault of an auxiliary record (`Object`), a malformed directive (`Directive`), and a form that
-/// is not linked yet (`Unsupported`).
-#[tactic(auto, unfolding(crate::specs::Opening::opening_error))]
+/// The module with these bytes. A short import is refused for its first fault (`Import`), and then for a name of more than
+/// 32,000 bytes (`Unsupported`). Other bytes are refused for the first of: a form that the first bytes show (`Unsupported`), a
+/// fault of the object (`Object`), a section that the linker makes itself, a name of more than 32,000 bytes (`Unsupported`), a
+/// fault of an auxiliary record (`Object`), a malformed directive (`Directive`), and a form that is not linked yet
+/// (`Unsupported`).
+#[tactic(auto, unfolding(crate::specs::Opening::file_error))]
 pub fn open_module<'a>(
     alloc: Global,
     origin: Origin<'a>,
@@ -30,13 +32,89 @@ pub fn open_module<'a>(
 ) -> Result<Module<'a>, ModuleError>
     requires { length bytes.now < 2 ^ 32 - 1 }
     ensures opened { IfOk result (λ m. m ≡ view_of origin.entry bytes.now) }
-    ensures accepted { OnOk result (opening_error bytes.now ≡ None) }
-    ensures refused { IfErr result (RefusesToOpen (opening_error bytes.now)) }
+    ensures accepted { OnOk result (file_error bytes.now ≡ None) }
+    ensures refused { IfErr result (RefusesToOpen (file_error bytes.now)) }
 {
     if is_short_import(bytes) {
-        return Err(import_error(bytes));
+        open_import(alloc, origin, bytes)
+    } else {
+        open_object(alloc, origin, bytes)
     }
-    open_object(alloc, origin, bytes)
+}
+
+/// The module of a short import: an object of nothing, with what the import defines.
+fn open_import<'a>(
+    alloc: Global,
+    origin: Origin<'a>,
+    bytes: &'a [u8],
+) -> Result<Module<'a>, ModuleError>
+    ensures opened { IfOk result (λ m. m ≡ view_with origin.entry no_object (Some (import_in bytes.now))) }
+    ensures accepted { OnOk result (import_error bytes.now ≡ None) }
+    ensures refused { IfErr result (RefusesToOpen (import_error bytes.now)) }
+{
+    let import = match read_import(bytes) {
+        Ok(import) => import,
+        Err(error) => return Err(error),
+    };
+    let definitions = definitions_by(alloc, bytes, &import)?;
+    match open_object(alloc, origin, no_object()) {
+        Ok(nothing) => Ok(with_import(nothing, import, definitions)),
+        Err(error) => Err(error),
+    }
+}
+
+/// A module as this short import, which defines these.
+fn with_import<'a>(
+    nothing: Module<'a>,
+    import: Import<'a>,
+    definitions: Vec<Definition<'a>>,
+) -> Module<'a>
+    requires { definitions.items ≡ import_definitions import }
+    ensures { result ≡ record nothing.entry { imported = Some import.entry } }
+{
+    let Module {
+        origin,
+        bytes,
+        object,
+        lists,
+        comdats,
+        directives,
+        ..
+    } = nothing;
+    Module {
+        origin,
+        import: Some(import),
+        bytes,
+        object,
+        lists: with_definitions(lists, definitions),
+        comdats,
+        directives,
+    }
+}
+
+/// These lists, with other definitions.
+fn with_definitions<'a>(
+    lists: SymbolLists<'a>,
+    definitions: Vec<Definition<'a>>,
+) -> SymbolLists<'a>
+    ensures { result ≡ record lists.entry { definitions = definitions.entry } }
+{
+    let SymbolLists {
+        references,
+        weaks,
+        commons,
+        starts,
+        is_unbuilt,
+        ..
+    } = lists;
+    SymbolLists {
+        definitions,
+        references,
+        weaks,
+        commons,
+        starts,
+        is_unbuilt,
+    }
 }
 
 /// The module of an object.
@@ -45,11 +123,10 @@ fn open_object<'a>(
     origin: Origin<'a>,
     bytes: &'a [u8],
 ) -> Result<Module<'a>, ModuleError>
-    requires short { length bytes.now < 2 ^ 32 - 1 }
-    requires object { is_short_import bytes.now ≡ false }
-    ensures opened { IfOk result (λ m. m ≡ view_of origin.entry bytes.now) }
-    ensures accepted { OnOk result (file_error bytes.now ≡ None) }
-    ensures refused { IfErr result (RefusesToOpen (file_error bytes.now)) }
+    requires { length bytes.now < 2 ^ 32 - 1 }
+    ensures opened { IfOk result (λ m. m ≡ view_with origin.entry bytes.now None) }
+    ensures accepted { OnOk result (opening_error bytes.now ≡ None) }
+    ensures refused { IfErr result (RefusesToOpen (opening_error bytes.now)) }
 {
     if let Some(kind) = form_shown(bytes) {
         return Err(ModuleError::Unsupported(kind));
@@ -81,6 +158,7 @@ fn open_object<'a>(
     }
     Ok(Module {
         origin,
+        import: None,
         bytes,
         object,
         lists,

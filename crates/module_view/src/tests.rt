@@ -2,6 +2,7 @@
 
 mod aux_records;
 mod directive_sections;
+mod short_imports;
 
 use crate::error::ModuleError;
 use crate::input_module::Origin;
@@ -11,13 +12,9 @@ use std::alloc::Global;
 use std::test::Fail;
 
 /// The first bytes of a file, and the form that they show; with none they are a malformed object or short import.
-const STARTS: [(&[u8], Option<Kind>); 12] = [
+const STARTS: [(&[u8], Option<Kind>); 11] = [
     (b"!<arch>\n", None),
     (b"\0\0\xff\xff\0\0", None),
-    (
-        b"\0\0\xff\xff\0\0\x64\x86\0\0\0\0\x08\0\0\0\x07\0\0\0f\0k.dll\0",
-        Some(Kind::NotBuilt),
-    ),
     (b"!<thin>\n", Some(Kind::ThinLibrary)),
     (b"BC\xc0\xde", Some(Kind::Bitcode)),
     (b"MZ", Some(Kind::Image)),

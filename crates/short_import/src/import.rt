@@ -64,6 +64,33 @@ impl<'a> Import<'a> {
             by: by_of_type(name_type(bytes), ordinal_or_hint(bytes), texts.symbol),
         })
     }
+
+    /// An equal import, which borrows from the same bytes.
+    pub fn again(&self) -> Import<'a>
+        ensures { result ≡ self.now }
+    {
+        Import {
+            symbol: self.symbol.again(),
+            dll: self.dll.again(),
+            kind: self.kind,
+            by: self.by.again(),
+        }
+    }
+}
+
+impl<'a> ImportBy<'a> {
+    /// The same, which borrows from the same bytes.
+    fn again(&self) -> ImportBy<'a>
+        ensures { result ≡ self.now }
+    {
+        match self {
+            ImportBy::Ordinal(ordinal) => ImportBy::Ordinal(*ordinal),
+            ImportBy::Named { hint, name } => ImportBy::Named {
+                hint: *hint,
+                name: name.again(),
+            },
+        }
+    }
 }
 
 fn kind_of_type(number: u16) -> ImportKind

@@ -2,7 +2,9 @@
 use Rattle.std.specs.Prelude.{◌≡◌, ◌<◌, ℕ, nat_lt, if◌then◌else◌, List, slice_get, slice_index_or, Option, Some, None}
 use Rattle.std.specs.List.{AllZip}
 use Rattle.coff_records.specs.ObjectFile.{symbol_name_of}
-use Rattle.module_view.specs.SymbolLists.{definitions_of, commons_of, weaks_of}
+use Rattle.module_view.specs.Module.{ModuleView}
+use Rattle.module_view.specs.ImportModule.{definitions_with, module_definitions}
+use Rattle.module_view.specs.SymbolLists.{commons_of, weaks_of}
 use Rattle.module_view.specs.declared.definition.Definition.{Definition}
 use Rattle.module_view.specs.declared.definition.Common.{Common}
 use Rattle.module_view.specs.declared.reference.Weak.{Weak}
@@ -83,17 +85,17 @@ AreRecords names bytes records =
 -- ---- a module
 
 -- the lists of a module
-pub record NotesLists (names : List (List ℕ)) (bytes : List ℕ) (noted : NotedLists) : Type 0 where
-  pub definitions : AllZip (NotesDefinition names) (definitions_of bytes) noted.definitions.items
-  pub commons : AllZip (NotesCommon names) (commons_of bytes) noted.commons.items
-  pub weaks : AllZip (NotesWeak names bytes) (weaks_of bytes) noted.weaks.items
-  pub alternates : AllZip (NotesAlternate names) (alternates_by 0 bytes) noted.alternates.items
-  pub records : AreRecords names bytes noted.records.items
-  pub asked : AllZip (NotesAsked names) (asked_by 0 bytes) noted.asked.items
+pub record NotesLists (names : List (List ℕ)) (view : ModuleView) (noted : NotedLists) : Type 0 where
+  pub definitions : AllZip (NotesDefinition names) (module_definitions view) noted.definitions.items
+  pub commons : AllZip (NotesCommon names) (commons_of view.bytes) noted.commons.items
+  pub weaks : AllZip (NotesWeak names view.bytes) (weaks_of view.bytes) noted.weaks.items
+  pub alternates : AllZip (NotesAlternate names) (alternates_by 0 view.bytes) noted.alternates.items
+  pub records : AreRecords names view.bytes noted.records.items
+  pub asked : AllZip (NotesAsked names) (asked_by 0 view.bytes) noted.asked.items
 
 -- what is kept of a module is its lists, with names by their numbers
 pub record NotesModule (names : List (List ℕ)) (noted : ModuleNames) : Type 0 where
-  pub definitions : AllZip (NotesDefinition names) (definitions_of noted.bytes.now) noted.definitions.items
+  pub definitions : AllZip (NotesDefinition names) (definitions_with noted.bytes.now noted.imported) noted.definitions.items
   pub commons : AllZip (NotesCommon names) (commons_of noted.bytes.now) noted.commons.items
   pub weaks : AllZip (NotesWeak names noted.bytes.now) (weaks_of noted.bytes.now) noted.weaks.items
   pub alternates : AllZip (NotesAlternate names) (alternates_by 0 noted.bytes.now) noted.alternates.items

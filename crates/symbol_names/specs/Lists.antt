@@ -3,7 +3,8 @@ use Rattle.std.specs.Prelude.{ℕ, Bool, true, false, ◌-◌, List, [], length,
 use Rattle.std.specs.List.{range_with_len, flat_map}
 use Rattle.link_base.specs.NameText.{same_name}
 use Rattle.module_view.specs.Module.{ModuleView, module_at}
-use Rattle.module_view.specs.SymbolLists.{definitions_of, commons_of, weaks_of}
+use Rattle.module_view.specs.ImportModule.{module_definitions}
+use Rattle.module_view.specs.SymbolLists.{commons_of, weaks_of}
 use Rattle.module_view.specs.declared.definition.Definition.{Definition}
 use Rattle.module_view.specs.declared.definition.Common.{Common}
 use Rattle.module_view.specs.declared.reference.Weak.{Weak}
@@ -13,8 +14,12 @@ use Rattle.symbol_names.specs.declared.weak_default.WeakDefault.{WeakDefault}
 use Rattle.symbol_names.specs.Defaults.{default_of}
 
 -- the lists of all modules, joined in their order
+abbrev pub of_each : {A : Type 0} → (ℕ → ModuleView → List A) → List ModuleView → List A
+of_each list modules = flat_map (λ k. list k (module_at modules k)) (range_with_len 0 (length modules))
+
+-- those that go by the bytes of their objects
 abbrev pub of_all : {A : Type 0} → (ℕ → List ℕ → List A) → List ModuleView → List A
-of_all list modules = flat_map (λ k. list k (module_at modules k).bytes) (range_with_len 0 (length modules))
+of_all list modules = of_each (λ k view. list k view.bytes) modules
 
 -- ---- definitions
 
@@ -26,11 +31,11 @@ pub record Provided : Type 0 where
 abbrev pub provided : ℕ → Definition → Provided
 provided position definition = record { «module» = position; definition = definition }
 
-abbrev pub provided_by : ℕ → List ℕ → List Provided
-provided_by position bytes = map (provided position) (definitions_of bytes)
+abbrev pub provided_by : ℕ → ModuleView → List Provided
+provided_by position view = map (provided position) (module_definitions view)
 
 abbrev pub all_definitions : List ModuleView → List Provided
-all_definitions modules = of_all provided_by modules
+all_definitions modules = of_each provided_by modules
 
 abbrev pub has_name : List ℕ → Provided → Bool
 has_name name entry = same_name entry.definition.name name

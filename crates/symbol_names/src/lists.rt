@@ -3,6 +3,7 @@
 ghost use Rattle.std.specs.Prelude.{◌≡◌, ℕ, List, IfOk, OnOk};
 ghost use Rattle.std.specs.List.{All, AllZip};
 ghost use Rattle.symbol_names.specs.Interning.{KeepsNumbers, AreRecords, IsNamedSo, NotesDefinition, NotesCommon, NotesDefault, NotesWeak, NotesLists};
+ghost use Rattle.module_view.specs.ImportModule.{module_definitions};
 ghost use Rattle.module_view.specs.SymbolLists.{weaks_of};
 
 use crate::alternates::note_directives;
@@ -23,12 +24,12 @@ pub fn note_lists<'a>(
     module: &Module<'a>,
 ) -> Result<NotedLists, Memory>
     ensures kept { KeepsNumbers names.old.keys names.new.keys }
-    ensures noted { IfOk result (NotesLists names.new.keys «module».now.bytes) }
+    ensures noted { IfOk result (NotesLists names.new.keys «module».now) }
 {
     reserve_names(names, module)?;
     let alternates = note_directives(alloc, names, module.directives())?;
     let mut records = no_records(alloc, record_count(module))?;
-    let definitions = note_definitions(alloc, names, &mut records, module.definitions())?;
+    let definitions = note_provided(alloc, names, &mut records, module)?;
     let commons = note_commons(alloc, names, &mut records, module.commons())?;
     let weaks = note_weaks(alloc, names, &mut records, module)?;
     let asked = note_asked(alloc, names, &mut records, module)?;
@@ -60,6 +61,25 @@ fn record_count(module: &Module<'_>) -> u32 {
         Some(object) => object.record_count(),
         None => 0,
     }
+}
+
+/// What a module defines, by the numbers of its names. A short import has no records.
+fn note_provided<'a>(
+    alloc: Global,
+    names: &mut IndexSet<Name<'a>>,
+    records: &mut Vec<u32>,
+    module: &Module<'a>,
+) -> Result<Vec<NotedDefinition>, Memory>
+    ensures kept { KeepsNumbers names.old.keys names.new.keys }
+    ensures noted { IfOk result (λ noted. AllZip (NotesDefinition names.new.keys) (module_definitions «module».now) noted.items) }
+    ensures records { OnOk result (AreRecords names.old.keys «module».now.bytes records.old.items
+        → AreRecords names.new.keys «module».now.bytes records.new.items) }
+{
+    let definitions = note_definitions(alloc, names, records, module.definitions())?;
+    if module.import().is_some() {
+        records.clear();
+    }
+    Ok(definitions)
 }
 
 /// Definitions, by the numbers of their names.

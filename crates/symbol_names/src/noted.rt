@@ -1,11 +1,13 @@
 //! What a table keeps of modules: their lists, with names by numbers.
 
 use module_view::{Origin, Place};
+use short_import::Import;
 
 /// What a table keeps of a module.
 #[derive(Drop)]
 pub struct ModuleNames<'a> {
     pub origin: Origin<'a>,
+    pub imported: Option<Import<'a>>,
     pub bytes: &'a [u8],
     pub definitions: Vec<NotedDefinition>,
     pub commons: Vec<NotedCommon>,

@@ -14,7 +14,8 @@ use Rattle.link_base.specs.NameText.{same_name}
 use Rattle.link_base.proofs.RangeLemmas.{all_joined}
 use Rattle.std.proofs.lemmas.Slice.Eq.{bytes_eq-Decides}
 use Rattle.module_view.specs.Module.{ModuleView, module_at}
-use Rattle.module_view.specs.SymbolLists.{definitions_of, commons_of, weaks_of}
+use Rattle.module_view.specs.ImportModule.{module_definitions}
+use Rattle.module_view.specs.SymbolLists.{commons_of, weaks_of}
 use Rattle.module_view.specs.declared.definition.Definition.{Definition}
 use Rattle.module_view.specs.declared.definition.Common.{Common}
 use Rattle.module_view.specs.declared.reference.Weak.{Weak}
@@ -73,11 +74,11 @@ module_noted names (m ∷ kept) (suc k) all lt = module_noted names kept k (λ j
 module _ (names : List (List ℕ)) (kept : List ModuleNames) (noted : All (NotesModule names) kept) (name : List ℕ) (absent : Absent names name) where
   pub no_definition : All (λ entry. has_name name entry ≡ false) (all_definitions (map noted_view kept))
   no_definition =
-      all_joined (λ entry. has_name name entry ≡ false) (λ k. provided_by k (module_at (map noted_view kept) k).bytes) 0 (length (map noted_view kept)) (λ k low high.
+      all_joined (λ entry. has_name name entry ≡ false) (λ k. provided_by k (module_at (map noted_view kept) k)) 0 (length (map noted_view kept)) (λ k low high.
       let found = module_noted names kept k noted (omega (arith, length-map kept noted_view)) in
-      let own = definitions_of found.0.bytes.now in
+      let own = module_definitions (noted_view found.0) in
       let each = zip_left (NotesDefinition names) (λ (d : Definition). same_name d.name name ≡ false) own found.0.definitions.items found.1.0.definitions (λ d m is. differs names name d.name m.name absent is.named) in
-      subst (λ (v : ModuleView). All (λ entry. has_name name entry ≡ false) (provided_by k v.bytes)) (sym found.1.1)
+      subst (λ (v : ModuleView). All (λ entry. has_name name entry ≡ false) (provided_by k v)) (sym found.1.1)
       (All-map (λ entry. has_name name entry ≡ false) (provided k) own each))
 
   pub no_common : All (λ entry. offers name entry ≡ false) (all_commons (map noted_view kept))

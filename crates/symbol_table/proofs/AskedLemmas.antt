@@ -8,13 +8,15 @@ use Rattle.std.proofs.lemmas.Grind.{flat_map-append}
 use Rattle.std.proofs.lemmas.List.{append-nil, take_more, take_all}
 use Rattle.std.proofs.lemmas.List.Folds.{list_any-append, list_any_none}
 use Rattle.link_base.specs.NameText.{same_name}
-use Rattle.module_view.specs.SymbolLists.{definitions_of, commons_of}
+use Rattle.module_view.specs.Module.{ModuleView}
+use Rattle.module_view.specs.ImportModule.{module_definitions}
+use Rattle.module_view.specs.SymbolLists.{commons_of}
 use Rattle.symbol_table.specs.declared.asked.AskedNames.{AskedNames}
 use Rattle.symbol_names.specs.declared.given.GivenNames.{GivenNames}
 use Rattle.symbol_names.specs.declared.noted.ModuleNames.{ModuleNames}
 use Rattle.symbol_names.specs.declared.noted.NotedAsked.{NotedAsked}
 use Rattle.symbol_table.specs.LinkerNames.{linker_meaning}
-use Rattle.symbol_names.specs.Lists.{of_all, provided, provided_by, has_name, all_definitions, offered, offered_by, offers, all_commons}
+use Rattle.symbol_names.specs.Lists.{of_each, provided, provided_by, has_name, all_definitions, offered, offered_by, offers, all_commons}
 use Rattle.symbol_names.specs.References.{Asked, all_asked}
 use Rattle.symbol_table.specs.OpenNames.{asks_for, is_provided, is_open_name, nothing_asked, asked_at, is_open_at}
 use Rattle.symbol_names.specs.Interning.{Numbers, NotesDefinition, NotesCommon, NotesAsked, NotesModule}
@@ -22,7 +24,7 @@ use Rattle.symbol_names.specs.Kept.{noted_view}
 use Rattle.symbol_table.specs.AskedParts.{names_definition, names_common, seeks, kept_definitions, kept_commons, flag_of}
 use Rattle.symbol_table.specs.TableParts.{link_view, KeepsTable}
 use Rattle.symbol_names.proofs.NumberLemmas.{same_number, zip_at, zip_length}
-use Rattle.symbol_table.proofs.PassLemmas.{item_at, noted_at, of_first, of_first_more, of_first_all}
+use Rattle.symbol_table.proofs.PassLemmas.{item_at, noted_at, each_first, each_first_more, each_first_all}
 use Rattle.symbol_table.proofs.AbsentLemmas.{Absent, differs, zip_left, no_definition, no_common}
 
 -- ---- lists side by side
@@ -39,14 +41,14 @@ any_mapped p f [] = refl
 any_mapped p f (x ∷ xs) = ap (λ (b : Bool). p (f x) || b) (any_mapped p f xs)
 
 -- the lists of all modules beside what is kept of each
-module _ {A B : Type 0} (list : ℕ → List ℕ → List A) (pick : ModuleNames → List B) (p : A → Bool) (q : B → Bool) (kept : List ModuleNames) (each : (k : ℕ) (m : ModuleNames) → k < length kept → m ≡ get_or kept k m → list_any p (list k m.bytes.now) ≡ list_any q (pick m)) where
+module _ {A B : Type 0} (list : ℕ → ModuleView → List A) (pick : ModuleNames → List B) (p : A → Bool) (q : B → Bool) (kept : List ModuleNames) (each : (k : ℕ) (m : ModuleNames) → k < length kept → m ≡ get_or kept k m → list_any p (list k (noted_view m)) ≡ list_any q (pick m)) where
   picked_more : (n : ℕ) (m : ModuleNames) → n < length kept → m ≡ get_or kept n m → flat_map pick (take (n + 1) kept) ≡ flat_map pick (take n kept) ++ pick m
   picked_more n m lt is =
       ap (flat_map pick) (take_more kept n m lt ∙ ap (λ (x : ModuleNames). take n kept ++ x ∷ []) (sym is))
       ∙ flat_map-append pick (take n kept) (m ∷ [])
       ∙ ap (λ (ys : List B). flat_map pick (take n kept) ++ ys) (append-nil (pick m))
 
-  any_first : (n : ℕ) → n ≤ length kept → list_any p (of_first list (map noted_view kept) n) ≡ list_any q (flat_map pick (take n kept))
+  any_first : (n : ℕ) → n ≤ length kept → list_any p (each_first list (map noted_view kept) n) ≡ list_any q (flat_map pick (take n kept))
   any_first zero le = refl
   any_first (suc n) le =
       let item = item_at kept n (omega arith) in
@@ -54,18 +56,18 @@ module _ {A B : Type 0} (list : ℕ → List ℕ → List A) (pick : ModuleNames
       let is : m ≡ get_or kept n m = item.1 in
       let views = map noted_view kept in
       let lt : n < length kept = omega arith in
-      ap (λ (k : ℕ). list_any p (of_first list views k)) (sym (add-one n))
-      ∙ ap (list_any p) (of_first_more list kept n m lt is)
-      ∙ list_any-append p (of_first list views n) (list n m.bytes.now)
-      ∙ ap (λ (b : Bool). b || list_any p (list n m.bytes.now)) (any_first n (omega arith))
+      ap (λ (k : ℕ). list_any p (each_first list views k)) (sym (add-one n))
+      ∙ ap (list_any p) (each_first_more list kept n m lt is)
+      ∙ list_any-append p (each_first list views n) (list n (noted_view m))
+      ∙ ap (λ (b : Bool). b || list_any p (list n (noted_view m))) (any_first n (omega arith))
       ∙ ap (λ (b : Bool). list_any q (flat_map pick (take n kept)) || b) (each n m lt is)
       ∙ sym (list_any-append q (flat_map pick (take n kept)) (pick m))
       ∙ ap (list_any q) (sym (picked_more n m lt is))
       ∙ ap (λ (k : ℕ). list_any q (flat_map pick (take k kept))) (add-one n)
 
-  any_all : list_any p (of_all list (map noted_view kept)) ≡ list_any q (flat_map pick kept)
+  any_all : list_any p (of_each list (map noted_view kept)) ≡ list_any q (flat_map pick kept)
   any_all =
-      ap (list_any p) (sym (of_first_all list kept (length kept) refl))
+      ap (list_any p) (sym (each_first_all list kept (length kept) refl))
       ∙ any_first (length kept) (omega arith)
       ∙ ap (λ (ms : List ModuleNames). list_any q (flat_map pick ms)) (take_all (length kept) kept (omega arith))
 
@@ -75,13 +77,13 @@ module _ (names : List (List ℕ)) (number : ℕ) (name : List ℕ) (distinct : 
   defined_is : (kept : List ModuleNames) → All (NotesModule names) kept → list_any (has_name name) (all_definitions (map noted_view kept)) ≡ list_any (names_definition number) (flat_map kept_definitions kept)
   defined_is kept noted =
       any_all provided_by kept_definitions (has_name name) (names_definition number) kept (λ k m lt is.
-      any_mapped (has_name name) (provided k) (definitions_of m.bytes.now)
-      ∙ any_beside (NotesDefinition names) (λ d. same_name d.name name) (names_definition number) (definitions_of m.bytes.now) m.definitions.items
+      any_mapped (has_name name) (provided k) (module_definitions (noted_view m))
+      ∙ any_beside (NotesDefinition names) (λ d. same_name d.name name) (names_definition number) (module_definitions (noted_view m)) m.definitions.items
       (λ d n notes. same_number names number n.name name d.name distinct numbered notes.named) (noted_at names kept k m noted lt is).definitions)
 
   shared_is : (kept : List ModuleNames) → All (NotesModule names) kept → list_any (offers name) (all_commons (map noted_view kept)) ≡ list_any (names_common number) (flat_map kept_commons kept)
   shared_is kept noted =
-      any_all offered_by kept_commons (offers name) (names_common number) kept (λ k m lt is.
+      any_all (λ k (view : ModuleView). offered_by k view.bytes) kept_commons (offers name) (names_common number) kept (λ k m lt is.
       any_mapped (offers name) (offered k) (commons_of m.bytes.now)
       ∙ any_beside (NotesCommon names) (λ d. same_name d.name name) (names_common number) (commons_of m.bytes.now) m.commons.items
       (λ d n notes. same_number names number n.name name d.name distinct numbered notes.named) (noted_at names kept k m noted lt is).commons)

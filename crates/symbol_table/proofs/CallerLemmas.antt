@@ -12,7 +12,8 @@ use Rattle.link_base.specs.PeFormat.{SYM_UNDEFINED}
 use Rattle.symbol_table.specs.declared.meaning.NoMeaning.TheVariants.{Undefined}
 use Rattle.module_view.specs.Module.{ModuleView, module_at, no_module}
 use Rattle.module_view.specs.Opening.{opening_error, IsOpened}
-use Rattle.module_view.specs.SymbolLists.{definitions_of, weaks_of, is_absolute}
+use Rattle.module_view.specs.ImportModule.{module_definitions}
+use Rattle.module_view.specs.SymbolLists.{weaks_of, is_absolute}
 use Rattle.module_view.specs.declared.definition.Definition.{Definition}
 use Rattle.module_view.specs.declared.reference.Weak.{Weak}
 use Rattle.module_view.specs.declared.definition.Place.{Place}
@@ -34,7 +35,7 @@ use Rattle.symbol_table.specs.Resolution.{definition_named, common_named, weak_n
 -- the definition of a module stands at a place
 pub record DefinesPlace (modules : List ModuleView) (position section value : ℕ) : Type 0 where
   pub definition : Definition
-  pub own : Contains (definitions_of (module_at modules position).bytes) definition
+  pub own : Contains (module_definitions (module_at modules position)) definition
   pub stands : definition.place ≡ place.Section section value
 
 -- a weak external of the module means a place inside the section
@@ -54,12 +55,12 @@ pub record MeansPlace (modules : List ModuleView) (chosen : List (List Bool)) (p
 -- it is one of its module's
 record IsProvided (modules : List ModuleView) (entry : Provided) : Type 0 where
   within : entry.«module» < length modules
-  own : Contains (definitions_of (module_at modules entry.«module»).bytes) entry.definition
+  own : Contains (module_definitions (module_at modules entry.«module»)) entry.definition
 
 definitions_are : (modules : List ModuleView) → All (IsProvided modules) (all_definitions modules)
 definitions_are modules =
-    all_joined (IsProvided modules) (λ k. provided_by k (module_at modules k).bytes) 0 (length modules) (λ k low high.
-    let own = definitions_of (module_at modules k).bytes in
+    all_joined (IsProvided modules) (λ k. provided_by k (module_at modules k)) 0 (length modules) (λ k low high.
+    let own = module_definitions (module_at modules k) in
     let within : k < length modules = omega arith in
     All-map (IsProvided modules) (provided k) own
     (All-weaker (Contains own) (λ d. IsProvided modules (provided k d)) (λ d there. record { within = within; own = there }) own (All-contains_itself own)))
@@ -83,7 +84,7 @@ found_is {X} P test (first ∷ rest) x all e =
     go true is later = let same : first ≡ x = cc in subst P same (all 0 first (omega arith))
     go false is later = later is
 
-defined_place : (modules : List ModuleView) (chosen : List (List Bool)) (at : ℕ) (definition : Definition) (p : Place) (position section value : ℕ) → definition.place ≡ p → at < length modules → Contains (definitions_of (module_at modules at).bytes) definition → is_live_at chosen at definition.place ≡ true → meaning_at at p ≡ meaning.Section position section value → MeansPlace modules chosen position section value
+defined_place : (modules : List ModuleView) (chosen : List (List Bool)) (at : ℕ) (definition : Definition) (p : Place) (position section value : ℕ) → definition.place ≡ p → at < length modules → Contains (module_definitions (module_at modules at)) definition → is_live_at chosen at definition.place ≡ true → meaning_at at p ≡ meaning.Section position section value → MeansPlace modules chosen position section value
 defined_place modules chosen at definition (place.Section s v) position section value is within own live e =
     let same : at ≡ position = cc in
     let same_section : s ≡ section = cc in

@@ -11,7 +11,7 @@ use Rattle.std.proofs.lemmas.List.Elements.{filter-append}
 use Rattle.link_base.proofs.RangeLemmas.{joined_more}
 use Rattle.module_view.specs.Module.{ModuleView, no_module, module_at}
 use Rattle.symbol_names.specs.declared.noted.ModuleNames.{ModuleNames}
-use Rattle.symbol_names.specs.Lists.{of_all}
+use Rattle.symbol_names.specs.Lists.{of_each, of_all}
 use Rattle.symbol_names.specs.Interning.{NotesModule}
 use Rattle.symbol_names.specs.Kept.{noted_view}
 
@@ -77,18 +77,28 @@ none_at nothing (suc n) (suc m) e = none_at nothing n m e
 -- ---- one more module
 
 -- the lists of the first modules, joined
+abbrev pub each_first : {A : Type 0} → (ℕ → ModuleView → List A) → List ModuleView → ℕ → List A
+each_first list modules n = flat_map (λ k. list k (module_at modules k)) (range_with_len 0 n)
+
+pub each_first_more : {A : Type 0} (list : ℕ → ModuleView → List A) (modules : List ModuleNames) (n : ℕ) (m : ModuleNames) → n < length modules → m ≡ get_or modules n m → each_first list (map noted_view modules) (n + 1) ≡ each_first list (map noted_view modules) n ++ list n (noted_view m)
+each_first_more {A} list modules n m lt is =
+    let views = map noted_view modules in
+    joined_more (λ k. list k (module_at views k)) 0 n n (omega arith)
+    ∙ ap (λ (v : ModuleView). each_first list views n ++ list n v) (get_or-map noted_view modules n m no_module lt ∙ ap noted_view (sym is))
+
+pub each_first_all : {A : Type 0} (list : ℕ → ModuleView → List A) (modules : List ModuleNames) (n : ℕ) → n ≡ length modules → each_first list (map noted_view modules) n ≡ of_each list (map noted_view modules)
+each_first_all list modules n is =
+    ap (each_first list (map noted_view modules)) (is ∙ sym (length-map modules noted_view))
+
+-- those that go by the bytes of their objects
 abbrev pub of_first : {A : Type 0} → (ℕ → List ℕ → List A) → List ModuleView → ℕ → List A
-of_first list modules n = flat_map (λ k. list k (module_at modules k).bytes) (range_with_len 0 n)
+of_first list modules n = each_first (λ k view. list k view.bytes) modules n
 
 pub of_first_more : {A : Type 0} (list : ℕ → List ℕ → List A) (modules : List ModuleNames) (n : ℕ) (m : ModuleNames) → n < length modules → m ≡ get_or modules n m → of_first list (map noted_view modules) (n + 1) ≡ of_first list (map noted_view modules) n ++ list n m.bytes.now
-of_first_more {A} list modules n m lt is =
-    let views = map noted_view modules in
-    joined_more (λ k. list k (module_at views k).bytes) 0 n n (omega arith)
-    ∙ ap (λ (v : ModuleView). of_first list views n ++ list n v.bytes) (get_or-map noted_view modules n m no_module lt ∙ ap noted_view (sym is))
+of_first_more list modules n m lt is = each_first_more (λ k (view : ModuleView). list k view.bytes) modules n m lt is
 
 pub of_first_all : {A : Type 0} (list : ℕ → List ℕ → List A) (modules : List ModuleNames) (n : ℕ) → n ≡ length modules → of_first list (map noted_view modules) n ≡ of_all list (map noted_view modules)
-of_first_all list modules n is =
-    ap (of_first list (map noted_view modules)) (is ∙ sym (length-map modules noted_view))
+of_first_all list modules n is = each_first_all (λ k (view : ModuleView). list k view.bytes) modules n is
 
 -- behind those of the modules before come those of one more
 same_joined : {A : Type 0} (f g : ℕ → List A) (a n : ℕ) → ((k : ℕ) → a ≤ k → k < a + n → f k ≡ g k) → flat_map f (range_with_len a n) ≡ flat_map g (range_with_len a n)

@@ -9,7 +9,10 @@ use Rattle.std.proofs.lemmas.Option.{slice_get-get_or}
 use Rattle.link_base.specs.Limits.{MODULE_LIMIT}
 use Rattle.link_base.specs.NameText.{same_name}
 use Rattle.module_view.specs.Opening.{IsOpened}
-use Rattle.module_view.specs.SymbolLists.{definitions_of, commons_of, weaks_of}
+use Rattle.short_import.specs.declared.import.Import.{Import}
+use Rattle.module_view.specs.Module.{ModuleView}
+use Rattle.module_view.specs.ImportModule.{definitions_with, module_definitions}
+use Rattle.module_view.specs.SymbolLists.{commons_of, weaks_of}
 use Rattle.symbol_table.specs.declared.link.Link.{Link}
 use Rattle.symbol_table.specs.declared.link.Link.TheVariants as link
 use Rattle.symbol_names.specs.declared.noted.ModuleNames.{ModuleNames}
@@ -43,7 +46,7 @@ use Rattle.symbol_table.proofs.PassLemmas.{of_all_push}
 
 noted_grows : (before after : List (List ℕ)) (noted : ModuleNames) → KeepsNumbers before after → NotesModule before noted → NotesModule after noted
 noted_grows before after noted kept is = record {
-  definitions = zip_map (NotesDefinition before) (NotesDefinition after) (definitions_of noted.bytes.now) noted.definitions.items (definition_kept before after kept) is.definitions;
+  definitions = zip_map (NotesDefinition before) (NotesDefinition after) (module_definitions (noted_view noted)) noted.definitions.items (definition_kept before after kept) is.definitions;
   commons = zip_map (NotesCommon before) (NotesCommon after) (commons_of noted.bytes.now) noted.commons.items (common_kept before after kept) is.commons;
   weaks = zip_map (NotesWeak before noted.bytes.now) (NotesWeak after noted.bytes.now) (weaks_of noted.bytes.now) noted.weaks.items (weak_kept before after kept noted.bytes.now) is.weaks;
   alternates = zip_map (NotesAlternate before) (NotesAlternate after) (alternates_by 0 noted.bytes.now) noted.alternates.items (alternate_kept before after kept) is.alternates;
@@ -160,17 +163,18 @@ table_push names given kept now noted lists asked after is room notes opened ask
 -- ---- the lists of a module
 
 -- its numbers are those of names
-pub lists_within : (names : List (List ℕ)) (bytes : List ℕ) (lists : NotedLists) → NotesLists names bytes lists → AreWithin (length names) lists
-lists_within names bytes lists is = record {
-  definitions = zip_right (NotesDefinition names) (λ noted. noted.name < length names) (definitions_of bytes) lists.definitions.items (λ d n notes. number_within names n.name d.name notes.named) is.definitions;
-  commons = zip_right (NotesCommon names) (λ noted. noted.name < length names) (commons_of bytes) lists.commons.items (λ d n notes. number_within names n.name d.name notes.named) is.commons;
-  asked = asked_within names (asked_by 0 bytes) lists.asked.items is.asked;
+pub lists_within : (names : List (List ℕ)) (view : ModuleView) (lists : NotedLists) → NotesLists names view lists → AreWithin (length names) lists
+lists_within names view lists is = record {
+  definitions = zip_right (NotesDefinition names) (λ noted. noted.name < length names) (module_definitions view) lists.definitions.items (λ d n notes. number_within names n.name d.name notes.named) is.definitions;
+  commons = zip_right (NotesCommon names) (λ noted. noted.name < length names) (commons_of view.bytes) lists.commons.items (λ d n notes. number_within names n.name d.name notes.named) is.commons;
+  asked = asked_within names (asked_by 0 view.bytes) lists.asked.items is.asked;
 }
 
 -- what is kept of it
-pub notes_module : (names : List (List ℕ)) (noted : ModuleNames) (bytes : List ℕ) → noted.bytes.now ≡ bytes → AllZip (NotesDefinition names) (definitions_of bytes) noted.definitions.items → AllZip (NotesCommon names) (commons_of bytes) noted.commons.items → AllZip (NotesWeak names bytes) (weaks_of bytes) noted.weaks.items → AllZip (NotesAlternate names) (alternates_by 0 bytes) noted.alternates.items → AreRecords names bytes noted.records.items → NotesModule names noted
-notes_module names noted bytes same definitions commons weaks alternates records = record {
-  definitions = subst (λ (b : List ℕ). AllZip (NotesDefinition names) (definitions_of b) noted.definitions.items) (sym same) definitions;
+pub notes_module : (names : List (List ℕ)) (noted : ModuleNames) (view : ModuleView) → noted.bytes.now ≡ view.bytes → noted.imported ≡ view.imported → AllZip (NotesDefinition names) (module_definitions view) noted.definitions.items → AllZip (NotesCommon names) (commons_of view.bytes) noted.commons.items → AllZip (NotesWeak names view.bytes) (weaks_of view.bytes) noted.weaks.items → AllZip (NotesAlternate names) (alternates_by 0 view.bytes) noted.alternates.items → AreRecords names view.bytes noted.records.items → NotesModule names noted
+notes_module names noted view same imported definitions commons weaks alternates records = record {
+  definitions = subst (λ (b : List ℕ). AllZip (NotesDefinition names) (definitions_with b noted.imported) noted.definitions.items) (sym same)
+      (subst (λ (i : Option Import). AllZip (NotesDefinition names) (definitions_with view.bytes i) noted.definitions.items) (sym imported) definitions);
   commons = subst (λ (b : List ℕ). AllZip (NotesCommon names) (commons_of b) noted.commons.items) (sym same) commons;
   weaks = subst (λ (b : List ℕ). AllZip (NotesWeak names b) (weaks_of b) noted.weaks.items) (sym same) weaks;
   alternates = subst (λ (b : List ℕ). AllZip (NotesAlternate names) (alternates_by 0 b) noted.alternates.items) (sym same) alternates;

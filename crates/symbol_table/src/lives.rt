@@ -72,7 +72,7 @@ fn note_lives<'a>(
     requires noted { NotesModule names.now.keys «module».now }
     ensures long { length lives.new.firsts.items ≡ length names.now.keys }
     ensures noted { (earlier : List Provided) → AreLives names.now.keys earlier lives.old.firsts.items lives.old.clash
-        → AreLives names.now.keys (earlier ++ filter (is_live (rows_of chosen.now)) (provided_by position «module».now.bytes.now))
+        → AreLives names.now.keys (earlier ++ filter (is_live (rows_of chosen.now)) (provided_by position (noted_view «module».now)))
         lives.new.firsts.items lives.new.clash }
 {
     for definition in &module.definitions {

@@ -1,6 +1,7 @@
 //! The table of names.
 
 ghost use Rattle.std.specs.Prelude.{◌≡◌, ◌<◌, ◌++◌, ◌∷◌, [], length, IfOk, OnOk, OnErr};
+ghost use Rattle.std.specs.Option.{option_copied};
 ghost use Rattle.link_base.specs.Limits as limit;
 ghost use Rattle.symbol_names.specs.Kept.{rows_of};
 ghost use Rattle.symbol_names.specs.References.{all_asked};
@@ -19,6 +20,7 @@ use crate::resolved::ResolvedNames;
 use indexmap::IndexSet;
 use link_base::{Memory, Name};
 use module_view::Module;
+use short_import::Import;
 use std::alloc::Global;
 use std::marker::Model;
 use symbol_names::{Chosen, GivenNames, ModuleNames, NotedLists, given_names, name_at, note_lists};
@@ -91,6 +93,7 @@ impl<'a> SymbolTable<'a> {
         let position = self.modules.len() as u32;
         self.modules.push(ModuleNames {
             origin: module.origin(),
+            imported: again(module.import()),
             bytes: module.bytes(),
             definitions,
             commons,
@@ -174,5 +177,15 @@ impl<'a> SymbolTable<'a> {
             links,
             clash,
         })
+    }
+}
+
+/// An equal short import, where there is one.
+fn again<'a>(import: Option<&Import<'a>>) -> Option<Import<'a>>
+    ensures { result ≡ option_copied import.entry }
+{
+    match import {
+        Some(import) => Some(import.again()),
+        None => None,
     }
 }

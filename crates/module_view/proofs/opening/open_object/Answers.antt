@@ -11,7 +11,7 @@ use Rattle.module_view.specs.Unbuilt.{has_unbuilt_section, has_unbuilt_symbol, i
 use Rattle.coff_aux.specs.Steps.{KeepsSymbols}
 use Rattle.module_view.specs.Opening.{RefusesToOpen, unsupported, has_long_symbol_name, directive_error}
 use Rattle.module_view.specs.Steps.{section_form}
-use Rattle.module_view.proofs.OpeningLemmas.{refused_form, refused_object, refused_sections, refused_symbols, refused_aux, refused_directive, by_unbuilt, object_opens}
+use Rattle.module_view.proofs.OpeningLemmas.{refused_form, refused_object, refused_sections, refused_symbols, refused_aux, refused_directive, by_unbuilt}
 use Rattle.module_view.proofs.opening.open_object.Goals as goal
 
 pub returns-in-Some-clause-refused : goal.returns-in-Some-clause-refused
@@ -57,9 +57,8 @@ invariant_of-result c =
     let lists = c.in-Ok-read_symbols.ensures in
     let listed = c.in-Ok-read_directives.ensures.directives ∙ ap module_directives same in
     record {
-      opened = object_opens c.args.bytes.now c.requires.object
-          (by_unbuilt c.args.bytes.now c.in-Ok-judge_sections.sections.is_unbuilt c.in-Ok-read_symbols.lists.is_unbuilt c.in-Ok-read_directives.directives.is_unbuilt false c.in_default.ensures c.in-Ok.ensures.well_formed (ap section_form (sym same) ∙ c.in-Ok-judge_sections.ensures.accepted) (ap has_long_symbol_name (sym same) ∙ lists.accepted) (ap aux_fault (sym same) ∙ c.in-Ok-judge_aux.ensures.accepted) (ap bad_directive (sym same) ∙ c.in-Ok-read_directives.ensures.accepted) (c.in-Ok-judge_sections.ensures.unbuilt ∙ ap has_unbuilt_section same) (lists.unbuilt ∙ ap has_unbuilt_symbol same)
-          (c.in-Ok-read_directives.directives.unbuilt ∙ ap (list_any is_unbuilt_directive) listed) c.if-is_unbuilt.false);
+      opened = by_unbuilt c.args.bytes.now c.in-Ok-judge_sections.sections.is_unbuilt c.in-Ok-read_symbols.lists.is_unbuilt c.in-Ok-read_directives.directives.is_unbuilt false c.in_default.ensures c.in-Ok.ensures.well_formed (ap section_form (sym same) ∙ c.in-Ok-judge_sections.ensures.accepted) (ap has_long_symbol_name (sym same) ∙ lists.accepted) (ap aux_fault (sym same) ∙ c.in-Ok-judge_aux.ensures.accepted) (ap bad_directive (sym same) ∙ c.in-Ok-read_directives.ensures.accepted) (c.in-Ok-judge_sections.ensures.unbuilt ∙ ap has_unbuilt_section same) (lists.unbuilt ∙ ap has_unbuilt_symbol same)
+          (c.in-Ok-read_directives.directives.unbuilt ∙ ap (list_any is_unbuilt_directive) listed) c.if-is_unbuilt.false;
       viewed = same;
       defined = lists.definitions ∙ ap definitions_of same;
       referred = lists.references ∙ ap references_of same;

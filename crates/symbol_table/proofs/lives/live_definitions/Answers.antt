@@ -4,7 +4,7 @@ use Rattle.std.proofs.lemmas.List.Elements.{filter-append}
 use Rattle.symbol_names.specs.Lists.{Provided, provided_by, is_live}
 use Rattle.symbol_names.specs.Kept.{rows_of, noted_view}
 use Rattle.symbol_table.specs.Passes.{AreLives}
-use Rattle.symbol_table.proofs.PassLemmas.{of_first, of_first_more, of_first_all, none_or_some}
+use Rattle.symbol_table.proofs.PassLemmas.{each_first, each_first_more, each_first_all, none_or_some}
 use Rattle.symbol_table.proofs.LiveLemmas.{no_lives}
 use Rattle.symbol_table.proofs.lives.live_definitions.Goals as goal
 
@@ -20,14 +20,14 @@ loop-position-preserved c =
     let test = is_live (rows_of c.args.chosen.now) in
     let modules = c.args.modules.now in
     let k = c.loop-position.position in
-    let module_bytes = c.index-modules-position.result.bytes.now in
+    let noted = c.index-modules-position.result in
     subst (λ (es : List Provided). AreLives c.args.names.now.keys es c.note_lives.new.lives.firsts.items c.note_lives.new.lives.clash)
-    (sym (ap (filter test) (of_first_more provided_by modules k c.index-modules-position.result (omega arith) c.index-modules-position.is)
-    ∙ filter-append test (of_first provided_by (map noted_view modules) k) (provided_by k module_bytes)))
+    (sym (ap (filter test) (each_first_more provided_by modules k c.index-modules-position.result (omega arith) c.index-modules-position.is)
+    ∙ filter-append test (each_first provided_by (map noted_view modules) k) (provided_by k (noted_view noted))))
     (c.note_lives.ensures.noted _ c.loop-position.invariant)
 
 pub returns : goal.returns
 returns c =
     subst (λ (es : List Provided). AreLives c.args.names.now.keys (filter (is_live (rows_of c.args.chosen.now)) es) c.loop-position.lives.firsts.items c.loop-position.lives.clash)
-    (of_first_all provided_by c.args.modules.now c.loop-position.position (omega arith))
+    (each_first_all provided_by c.args.modules.now c.loop-position.position (omega arith))
     c.loop-position.invariant

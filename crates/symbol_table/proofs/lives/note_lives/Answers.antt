@@ -2,12 +2,12 @@ use Rattle.std.proofs.Common.{◌+◌, ◌++◌, true, false, List, length, map,
 use Rattle.std.specs.Prelude.{filter}
 use Rattle.std.specs.List.{AllZip}
 use Rattle.std.proofs.lemmas.List.{append-nil, take_all}
-use Rattle.module_view.specs.SymbolLists.{definitions_of}
+use Rattle.module_view.specs.ImportModule.{module_definitions}
 use Rattle.module_view.specs.declared.definition.Definition.{Definition}
 use Rattle.symbol_table.specs.declared.lives.Lives.{Lives}
 use Rattle.symbol_names.specs.Interning.{NotesDefinition}
 use Rattle.symbol_names.specs.Lists.{Provided, provided, is_live}
-use Rattle.symbol_names.specs.Kept.{rows_of}
+use Rattle.symbol_names.specs.Kept.{rows_of, noted_view}
 use Rattle.symbol_table.specs.Passes.{AreLives}
 use Rattle.symbol_names.proofs.NumberLemmas.{number_within, zip_length}
 use Rattle.symbol_table.proofs.LiveLemmas.{noted_at, live_more}
@@ -25,7 +25,7 @@ note_live-requires-clause-long c = c.loop-definition.invariant.long
 
 pub note_live-requires-clause-within : goal.note_live-requires-clause-within
 note_live-requires-clause-within c =
-    let definitions = definitions_of c.args.«module».now.bytes.now in
+    let definitions = module_definitions (noted_view c.args.«module».now) in
     let names = c.args.names.now.keys in
     let items = c.deref-definition-items.result.now in
     let zipped : AllZip (NotesDefinition names) definitions items =
@@ -34,7 +34,7 @@ note_live-requires-clause-within c =
 
 pub loop-definition-preserved : goal.loop-definition-preserved
 loop-definition-preserved c =
-    let definitions = definitions_of c.args.«module».now.bytes.now in
+    let definitions = module_definitions (noted_view c.args.«module».now) in
     let names = c.args.names.now.keys in
     let rows = rows_of c.args.chosen.now in
     let items = c.deref-definition-items.result.now in
@@ -69,7 +69,7 @@ returns-clause-long c = c.loop-definition.invariant.long
 
 pub returns-clause-noted : goal.returns-clause-noted
 returns-clause-noted c = λ earlier was.
-    let definitions = definitions_of c.args.«module».now.bytes.now in
+    let definitions = module_definitions (noted_view c.args.«module».now) in
     let names = c.args.names.now.keys in
     let items = c.deref-definition-items.result.now in
     let zipped : AllZip (NotesDefinition names) definitions items =

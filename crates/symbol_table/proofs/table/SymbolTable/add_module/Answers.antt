@@ -25,7 +25,7 @@ invariant_of-self-in_err-reserve c =
 pub add_lists-requires : goal.add_lists-requires
 add_lists-requires c =
     subst (λ (count : ℕ). AreWithin count c.in_ok-lists.lists) (sym c.len-count.ensures.len)
-    (lists_within c.note_lists-noted.new.names.keys c.args.«module».now.bytes c.in_ok-lists.lists c.in_ok-lists.ensures.noted)
+    (lists_within c.note_lists-noted.new.names.keys c.args.«module».now c.in_ok-lists.lists c.in_ok-lists.ensures.noted)
 
 pub invariant_of-self-in_err-add_lists : goal.invariant_of-self-in_err-add_lists
 invariant_of-self-in_err-add_lists c =
@@ -41,13 +41,12 @@ invariant_of-self-2 c =
     let names = c.note_lists-noted.new.names.keys in
     let given = c.self.inside.given in
     let kept = c.self.inside.modules.items in
-    let bytes = c.args.«module».now.bytes in
     let lists = c.in_ok-lists.lists in
     let notes = c.in_ok-lists.ensures.noted in
     let grown = subst (λ (ms : List ModuleNames). KeepsTable names given ms c.self.inside.asked) (sym c.reserve.ensures.items) (table_grows _ _ _ _ _ c.note_lists-noted.ensures.kept c.len-count.ensures.unique c.self.invariant) in
     table_push names given c.reserve.new.self.items c.push.new.self.items _ lists c.self.inside.asked c.add_lists.new.asked grown
     (omega (arith, c.requires, ap (λ (v : LinkView). length v.modules) c.self.view_is, length-map kept noted_view, ap length c.reserve.ensures.items))
-    (notes_module names _ bytes c.bytes.ensures.bytes notes.definitions notes.commons notes.weaks notes.alternates notes.records)
+    (notes_module names _ c.args.«module».now c.bytes.ensures.bytes (c.again.ensures ∙ c.import.ensures) notes.definitions notes.commons notes.weaks notes.alternates notes.records)
     (ap opening_error c.bytes.ensures.bytes ∙ c.bytes.ensures.opened)
     (subst (λ (b : List ℕ). AllZip (NotesAsked names) (asked_by 0 b) lists.asked.items) (sym c.bytes.ensures.bytes) notes.asked)
     refl refl c.in_ok-add_lists.ensures.added c.in_ok-push.ensures.items
