@@ -62,8 +62,8 @@ all_marked bytes section i definitions is all =
 place_within : (bytes : List ℕ) (count : ℕ) (p : Place) → section_total bytes < count → IsPlaceIn bytes p → IsWithin count p
 place_within bytes count (place.Section section value) room stands = omega (arith, stands.last)
 place_within bytes count (place.Absolute value) room stands = tt
-place_within bytes count place.Slot room stands = absurd stands
-place_within bytes count place.Thunk room stands = absurd stands
+place_within bytes count place.Slot room stands = tt
+place_within bytes count place.Thunk room stands = tt
 
 pub within_marks : (bytes : List ℕ) (definitions : List Definition) (i : ℕ) (definition : Definition) (count : ℕ) → opening_error bytes ≡ None → definitions ≡ definitions_of bytes → i < length definitions → definition ≡ get_or definitions i definition → section_total bytes < count → IsWithin count definition.place
 within_marks bytes definitions i definition count opened is lt read room =

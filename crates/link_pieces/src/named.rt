@@ -21,7 +21,7 @@ pub(crate) fn name_sections(
         → slice_index_or named.new.items section false ≡ is_named «module».now.bytes section) }
 {
     unmark(named, count as usize + 1)?;
-    for definition in module.definitions() {
+    for definition in module.symbol_definitions() {
         mark(named, definition.place);
     }
     Ok(())

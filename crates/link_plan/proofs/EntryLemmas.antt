@@ -15,9 +15,9 @@ use Rattle.section_group.specs.SectionOrder.{no_piece}
 use Rattle.module_view.specs.Module.{module_at}
 use Rattle.symbol_names.specs.LinkView.{LinkView}
 use Rattle.module_view.specs.Opening.{IsOpened}
-use Rattle.module_view.specs.SymbolLists.{definitions_of}
+use Rattle.module_view.specs.ImportModule.{module_definitions}
 use Rattle.module_view.specs.declared.definition.Definition.{Definition}
-use Rattle.module_view.proofs.CallerLemmas.{IsPlaceIn, definitions_stand}
+use Rattle.module_view.proofs.CallerLemmas.{IsPlaceIn, module_definitions_stand}
 use Rattle.symbol_table.specs.declared.meaning.Meaning.{Meaning}
 use Rattle.symbol_table.specs.declared.meaning.Meaning.TheVariants as meaning
 use Rattle.symbol_table.specs.declared.meaning.NoMeaning.{NoMeaning}
@@ -38,11 +38,12 @@ use Rattle.link_plan.proofs.CallerLemmas.{planned_at, plan_count}
 
 value_inside : (link : LinkView) (chosen : List (List Bool)) (position section value : ℕ) → All IsOpened link.modules → MeansPlace link.modules chosen position section value → value ≤ raw_size_of (module_at link.modules position).bytes section
 value_inside link chosen position section value opened means =
-    let bytes = (module_at link.modules position).bytes in
+    let view = module_at link.modules position in
+    let bytes = view.bytes in
     let opens = module_opens link.modules position opened means.within in
     elim means.stands [
       | inl defines ↦
-          let stands = subst (IsPlaceIn bytes) defines.stands (All-contains (λ (d : Definition). IsPlaceIn bytes d.place) (definitions_of bytes) defines.definition (definitions_stand bytes opens) defines.own) in
+          let stands = subst (IsPlaceIn bytes) defines.stands (All-contains (λ (d : Definition). IsPlaceIn bytes d.place) (module_definitions view) defines.definition (module_definitions_stand view opens) defines.own) in
           stands.value
       | inr says ↦
           let parts = and_parts (is_section_number (section_total bytes) section) (nat_le value (raw_size_of bytes section)) says.inside in

@@ -20,6 +20,11 @@ use Rattle.module_view.specs.declared.error.ModuleError.TheVariants as error
 use Rattle.module_view.specs.SymbolLists.{is_absolute, is_definition, place_in_section, place_of, defines, definition_of, definitions_of}
 use Rattle.link_base.proofs.RefusalLemmas.{or_none}
 use Rattle.module_view.specs.declared.error.ModuleError.{ModuleError}
+use Rattle.short_import.specs.declared.import.Import.{Import}
+use Rattle.short_import.specs.declared.import.ImportKind.{ImportKind}
+use Rattle.short_import.specs.declared.import.ImportKind.TheVariants as kind
+use Rattle.module_view.specs.Module.{ModuleView}
+use Rattle.module_view.specs.ImportModule.{entry_definition, symbol_definitions, import_definitions, definitions_with, module_definitions}
 use Rattle.module_view.specs.Opening.{opening_error, form_error, object_error, content_error}
 pub use Rattle.coff_aux.proofs.CallerLemmas.{unmarked}
 
@@ -66,8 +71,8 @@ pub record StandsIn (bytes : List ℕ) (section offset : ℕ) : Type 0 where
 abbrev pub IsPlaceIn : List ℕ → Place → Type 0
 IsPlaceIn bytes (place.Section section value) = StandsIn bytes section value
 IsPlaceIn bytes (place.Absolute value) = Unit {0}
-IsPlaceIn bytes place.Slot = ⊥
-IsPlaceIn bytes place.Thunk = ⊥
+IsPlaceIn bytes place.Slot = Unit {0}
+IsPlaceIn bytes place.Thunk = Unit {0}
 
 -- a number above 0 is that of a section
 above : (number : ℤ) → lt_z (pos 0) number ≡ true → 1 ≤ section_of_number number
@@ -144,3 +149,21 @@ definitions_stand bytes opened =
     (all_filtered (IsEntryOf bytes) (λ (e : SymbolEntry). IsPlaceIn bytes (definition_of e).place) defines (symbol_entries bytes) (entries_are bytes) (λ e entry passes.
     subst (λ (view : SymbolView). IsPlaceIn bytes (place_of view)) (sym entry.is)
     (definition_stands bytes e.0 (opened_sound bytes opened) entry.starts (ap is_definition (sym entry.is) ∙ passes))))
+
+-- those of a short import stand in no section
+import_stands : (bytes : List ℕ) (import : Import) → All (λ d. IsPlaceIn bytes d.place) (import_definitions import)
+unfolding import_definitions
+import_stands bytes import =
+    All-cons (λ (d : Definition). IsPlaceIn bytes d.place) (entry_definition import.symbol) (symbol_definitions import.kind import.symbol) tt (by_kind import.kind)
+  where
+    by_kind : (kind : ImportKind) → All (λ d. IsPlaceIn bytes d.place) (symbol_definitions kind import.symbol)
+    by_kind kind.Code = All-cons (λ (d : Definition). IsPlaceIn bytes d.place) _ [] tt (All-nil (λ (d : Definition). IsPlaceIn bytes d.place))
+    by_kind kind.Data = All-nil (λ (d : Definition). IsPlaceIn bytes d.place)
+    by_kind kind.Const = All-cons (λ (d : Definition). IsPlaceIn bytes d.place) _ [] tt (All-nil (λ (d : Definition). IsPlaceIn bytes d.place))
+
+pub module_definitions_stand : (view : ModuleView) → opening_error view.bytes ≡ None → All (λ d. IsPlaceIn view.bytes d.place) (module_definitions view)
+module_definitions_stand view opened = by_import view.imported
+  where
+    by_import : (imported : Option Import) → All (λ d. IsPlaceIn view.bytes d.place) (definitions_with view.bytes imported)
+    by_import None = definitions_stand view.bytes opened
+    by_import (Some import) = import_stands view.bytes import

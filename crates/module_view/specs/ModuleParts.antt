@@ -7,8 +7,8 @@ use Rattle.module_view.specs.declared.input_module.Origin.{Origin}
 use Rattle.module_view.specs.declared.symbols.SymbolLists.{SymbolLists}
 use Rattle.module_view.specs.Module.{ModuleView}
 use Rattle.short_import.specs.declared.import.Import.{Import}
-use Rattle.module_view.specs.ImportModule.{object_bytes, imported_in, definitions_with}
-use Rattle.module_view.specs.SymbolLists.{references_of, weaks_of, commons_of}
+use Rattle.module_view.specs.ImportModule.{object_bytes, imported_in}
+use Rattle.module_view.specs.SymbolLists.{definitions_of, references_of, weaks_of, commons_of}
 use Rattle.directives.specs.Said.{said}
 use Rattle.directives.specs.declared.item.Directive.{Directive}
 use Rattle.module_view.specs.ModuleDirectives.{module_directives}
@@ -23,12 +23,11 @@ view_with origin bytes imported =
 abbrev pub view_of : Origin → List ℕ → ModuleView
 view_of origin bytes = view_with origin (object_bytes bytes) (imported_in bytes)
 
--- the bytes open, the object and the lists are those of the bytes, and the definitions those of the short import where there is
--- one
-pub record KeepsLists (bytes object : List ℕ) (imported : Option Import) (lists : SymbolLists) (symbols : List SectionSymbols) (directives : List Directive) : Type 0 where
+-- the bytes open, and the object and the lists are those of the bytes
+pub record KeepsLists (bytes object : List ℕ) (lists : SymbolLists) (symbols : List SectionSymbols) (directives : List Directive) : Type 0 where
   pub opened : opening_error bytes ≡ None
   pub viewed : object ≡ bytes
-  pub defined : lists.definitions.items ≡ definitions_with bytes imported
+  pub defined : lists.definitions.items ≡ definitions_of bytes
   pub referred : lists.references.items ≡ references_of bytes
   pub weak : lists.weaks.items ≡ weaks_of bytes
   pub common : lists.commons.items ≡ commons_of bytes

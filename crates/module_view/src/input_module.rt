@@ -4,7 +4,7 @@ ghost use Rattle.std.specs.Prelude.{◌≡◌, Some, map};
 ghost use Rattle.std.specs.Option.{option_copied};
 ghost use Rattle.coff_records.specs.ObjectFile.{starts_symbol};
 ghost use Rattle.module_view.specs.ImportModule.{module_definitions};
-ghost use Rattle.module_view.specs.SymbolLists.{references_of, weaks_of, commons_of};
+ghost use Rattle.module_view.specs.SymbolLists.{definitions_of, references_of, weaks_of, commons_of};
 ghost use Rattle.coff_aux.specs.Comdats.{comdat_of};
 ghost use Rattle.directives.specs.Said.{said};
 ghost use Rattle.module_view.specs.ModuleDirectives.{module_directives};
@@ -31,13 +31,32 @@ pub struct Origin<'a> {
 #[derive(Drop)]
 pub struct Module<'a> {
     pub(crate) origin: Origin<'a>,
-    pub(crate) import: Option<Import<'a>>,
+    pub(crate) import: Option<OpenImport<'a>>,
     pub(crate) bytes: &'a [u8],
     pub(crate) object: Object<'a>,
     pub(crate) lists: SymbolLists<'a>,
     /// The first two symbols of each section, where one is a COMDAT.
     pub(crate) comdats: Vec<SectionSymbols>,
     pub(crate) directives: Vec<Directive<'a>>,
+}
+
+/// A short import, and what it defines.
+#[derive(Drop)]
+pub(crate) struct OpenImport<'a> {
+    pub(crate) import: Import<'a>,
+    pub(crate) definitions: Vec<Definition<'a>>,
+}
+
+impl<'a> Model for OpenImport<'a> {
+    ghost use Rattle.std.specs.Prelude.{◌≡◌};
+    ghost use Rattle.short_import.specs.declared.import.Import.{Import};
+    ghost use Rattle.module_view.specs.ImportModule.{import_definitions};
+
+    ghost Value = { Import };
+
+    ghost view = { λ m. m.import };
+
+    ghost invariant = { λ m. m.definitions.items ≡ import_definitions m.import };
 }
 
 impl<'a> Model for Module<'a> {
@@ -49,7 +68,7 @@ impl<'a> Model for Module<'a> {
 
     ghost view = { λ m. view_with m.origin m.bytes.now m.import };
 
-    ghost invariant = { λ m. KeepsLists m.bytes.now m.object m.import m.lists m.comdats.items m.directives.items };
+    ghost invariant = { λ m. KeepsLists m.bytes.now m.object m.lists m.comdats.items m.directives.items };
 }
 
 impl<'a> Module<'a> {
@@ -87,13 +106,27 @@ impl<'a> Module<'a> {
     pub fn import(&self) -> Option<&Import<'a>>
         ensures { option_copied result ≡ self.now.imported }
     {
-        self.import.as_ref()
+        match &self.import {
+            Some(open) => Some(&open.import),
+            None => None,
+        }
     }
 
     /// What it defines, in the order of its symbols. A short import defines its entry of the import address table, and by its
     /// kind the symbol.
     pub fn definitions(&self) -> &[Definition<'a>]
         ensures definitions { result.now ≡ module_definitions self.now }
+        ensures opened { IsOpened self.now }
+    {
+        match &self.import {
+            Some(open) => &open.definitions,
+            None => &self.lists.definitions,
+        }
+    }
+
+    /// What the symbols of its object define, in their order: nothing, where it is a short import.
+    pub fn symbol_definitions(&self) -> &[Definition<'a>]
+        ensures definitions { result.now ≡ definitions_of self.now.bytes }
         ensures opened { IsOpened self.now }
     {
         &self.lists.definitions

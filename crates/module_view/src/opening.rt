@@ -1,22 +1,20 @@
 //! How a file is opened as a module.
 
 ghost use Rattle.std.specs.Prelude.{◌≡◌, ◌<◌, ◌^◌, ◌-◌, length, Some, None, IfOk, OnOk, IfErr};
-ghost use Rattle.module_view.specs.ImportModule.{no_object, import_in, import_definitions};
+ghost use Rattle.module_view.specs.ImportModule.{no_object, import_in};
 ghost use Rattle.module_view.specs.ModuleParts.{view_of, view_with};
 ghost use Rattle.module_view.specs.Opening.{file_error, import_error, opening_error, RefusesToOpen};
 
 use crate::aux_faults::judge_aux;
-use crate::definition::Definition;
 use crate::directive_list::read_directives;
 use crate::error::ModuleError;
 use crate::first_bytes::{form_shown, is_short_import};
 use crate::import::{definitions_by, no_object, read_import};
-use crate::input_module::{Module, Origin};
+use crate::input_module::{Module, OpenImport, Origin};
 use crate::sections::judge_sections;
-use crate::symbols::{SymbolLists, read_symbols};
+use crate::symbols::read_symbols;
 use coff_object::{LongTexts, Object};
 use link_base::Kind;
-use short_import::Import;
 use std::alloc::Global;
 
 /// The module with these bytes. A short import is refused for its first fault (`Import`), and then for a name of more than
@@ -57,19 +55,15 @@ fn open_import<'a>(
         Err(error) => return Err(error),
     };
     let definitions = definitions_by(alloc, bytes, &import)?;
+    let open = OpenImport { import, definitions };
     match open_object(alloc, origin, no_object()) {
-        Ok(nothing) => Ok(with_import(nothing, import, definitions)),
+        Ok(nothing) => Ok(with_import(nothing, open)),
         Err(error) => Err(error),
     }
 }
 
-/// A module as this short import, which defines these.
-fn with_import<'a>(
-    nothing: Module<'a>,
-    import: Import<'a>,
-    definitions: Vec<Definition<'a>>,
-) -> Module<'a>
-    requires { definitions.items ≡ import_definitions import }
+/// A module as this short import.
+fn with_import<'a>(nothing: Module<'a>, import: OpenImport<'a>) -> Module<'a>
     ensures { result ≡ record nothing.entry { imported = Some import.entry } }
 {
     let Module {
@@ -86,34 +80,9 @@ fn with_import<'a>(
         import: Some(import),
         bytes,
         object,
-        lists: with_definitions(lists, definitions),
+        lists,
         comdats,
         directives,
-    }
-}
-
-/// These lists, with other definitions.
-fn with_definitions<'a>(
-    lists: SymbolLists<'a>,
-    definitions: Vec<Definition<'a>>,
-) -> SymbolLists<'a>
-    ensures { result ≡ record lists.entry { definitions = definitions.entry } }
-{
-    let SymbolLists {
-        references,
-        weaks,
-        commons,
-        starts,
-        is_unbuilt,
-        ..
-    } = lists;
-    SymbolLists {
-        definitions,
-        references,
-        weaks,
-        commons,
-        starts,
-        is_unbuilt,
     }
 }
 
