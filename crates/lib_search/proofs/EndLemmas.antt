@@ -11,12 +11,12 @@ use Rattle.link_base.specs.declared.stop.Stop.TheVariants as stop
 use Rattle.link_files.specs.Store.{Store}
 use Rattle.link_files.specs.Outside.{FilesView}
 use Rattle.link_words.specs.Outcome.{LinkOptions}
-use Rattle.lib_search.specs.declared.found.FoundFile.{FoundFile as Found}
+use Rattle.file_search.specs.declared.found.FoundFile.{FoundFile as Found}
+use Rattle.file_search.specs.FoundFiles.{FoundFile}
+use Rattle.file_search.specs.InputFiles.{input_files}
+use Rattle.file_search.specs.Reading.{file_found, files_found, GivesInputs}
 use Rattle.lib_search.specs.declared.link_list.LinkList.{LinkList}
-use Rattle.lib_search.specs.FoundFiles.{FoundFile}
-use Rattle.lib_search.specs.InputFiles.{input_files}
 use Rattle.lib_search.specs.Inputs.{opening_fault}
-use Rattle.lib_search.specs.Reading.{file_found, files_found, GivesInputs}
 use Rattle.lib_search.specs.SearchSteps.{SearchState}
 use Rattle.lib_search.specs.Loading.{inputs_state, state_after, Reaches, AtOpening}
 use Rattle.lib_search.specs.LoadingSteps.{CompletesFrom}

@@ -10,10 +10,10 @@ use Rattle.link_base.specs.Refusals.{RefusesFor, stop_of}
 use Rattle.link_files.specs.Store.{Store}
 use Rattle.link_files.specs.Outside.{FilesView, AreUntouched}
 use Rattle.link_words.specs.Outcome.{LinkOptions}
+use Rattle.file_search.specs.DefaultLibraries.{default_libraries}
+use Rattle.file_search.specs.DefaultSteps.{wanted_by}
 use Rattle.lib_search.specs.declared.link_list.LinkList.{LinkList}
 use Rattle.lib_search.specs.declared.loading.Loading.{Loading}
-use Rattle.lib_search.specs.DefaultLibraries.{default_libraries}
-use Rattle.lib_search.specs.DefaultSteps.{wanted_by}
 use Rattle.lib_search.specs.SearchSteps.{MemberPlace, Searched, SearchState, Goes, goes_unless, with_member, join_fault, join_step, next_member, next_step, wants_library}
 use Rattle.lib_search.specs.Loading.{Reaches}
 use Rattle.lib_search.specs.LinkOf.{link_of}

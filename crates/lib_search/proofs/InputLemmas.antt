@@ -9,10 +9,10 @@ use Rattle.link_base.specs.declared.stop.Refusal.TheVariants as refusal
 use Rattle.link_base.specs.Refusals.{first_refusal_below, RefusesFor}
 use Rattle.link_base.proofs.RefusalLemmas.{first_refusal_below-found}
 use Rattle.module_view.specs.Module.{ModuleView}
-use Rattle.lib_search.specs.declared.found.FoundFile.{FoundFile as Found}
-use Rattle.lib_search.specs.FoundFiles.{FoundFile, no_file}
+use Rattle.file_search.specs.declared.found.FoundFile.{FoundFile as Found}
+use Rattle.file_search.specs.FoundFiles.{FoundFile, no_file}
+use Rattle.file_search.specs.Reading.{file_found, files_found}
 use Rattle.lib_search.specs.Inputs.{is_library, is_module, file_module, modules_among, libraries_among, file_fault, opening_fault_at, opening_fault}
-use Rattle.lib_search.specs.Reading.{file_found, files_found}
 
 found_more : (files : List Found) (i : ℕ) (file : Found) → i < length files → file ≡ get_or files i file → files_found (take (i + 1) files) ≡ files_found (take i files) ++ file_found file ∷ []
 found_more files i file lt is =

@@ -6,8 +6,8 @@ use Rattle.module_view.specs.Module.{ModuleView}
 use Rattle.symbol_names.specs.Alternates.{alternates_by, all_alternates}
 use Rattle.symbol_names.specs.LinkView.{LinkView}
 use Rattle.symbol_names.specs.References.{all_asked}
+use Rattle.file_search.specs.FoundFiles.{FoundFile}
 use Rattle.lib_search.specs.SearchSteps.{MemberPlace, Searched, member_at, with_member, with_library}
-use Rattle.lib_search.specs.FoundFiles.{FoundFile}
 use Rattle.lib_search.specs.LinkOf.{link_of}
 use Rattle.lib_search.specs.AlternateParts.{KeepsAlternates, KeepsSearch}
 use Rattle.lib_search.specs.declared.alternates.Alternates.{Alternates}

@@ -1,7 +1,3 @@
-pub mod FindLemmas
-pub mod ReadLemmas
-pub mod NotedLemmas
-pub mod DefaultLemmas
 pub mod LibraryLemmas
 pub mod InputLemmas
 pub mod ModuleLemmas

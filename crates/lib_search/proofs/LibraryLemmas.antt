@@ -13,7 +13,7 @@ use Rattle.lib_reader.specs.LibraryWalk.{listing_of, long_names_of}
 use Rattle.lib_reader.specs.MemberFault.{member_fault}
 use Rattle.lib_reader.specs.MemberName.{member_name}
 use Rattle.module_view.specs.Module.{ModuleView}
-use Rattle.lib_search.specs.FoundFiles.{FoundFile, no_file}
+use Rattle.file_search.specs.FoundFiles.{FoundFile, no_file}
 use Rattle.lib_search.specs.Joining.{bad_library, joining_fault}
 use Rattle.lib_search.specs.OpenLibraries.{ListsBelow, ListsSoFar}
 use Rattle.lib_search.proofs.ListingLemmas.{same_item}

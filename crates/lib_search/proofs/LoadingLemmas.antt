@@ -16,16 +16,16 @@ use Rattle.link_files.specs.Outside.{FilesView, AreUntouched, ReadFailed}
 use Rattle.link_words.specs.Outcome.{LinkOptions}
 use Rattle.module_view.specs.Module.{ModuleView}
 use Rattle.symbol_names.specs.LinkView.{LinkView}
-use Rattle.lib_search.specs.declared.default_libraries.DefaultLibraries.{DefaultLibraries}
+use Rattle.file_search.specs.declared.default_libraries.DefaultLibraries.{DefaultLibraries}
+use Rattle.file_search.specs.FileNames.{tried_names}
+use Rattle.file_search.specs.FoundFiles.{FoundFile, no_file, read_fault}
+use Rattle.file_search.specs.InputFiles.{text_at, input_file}
+use Rattle.file_search.specs.DefaultLibraries.{default_names, default_libraries}
+use Rattle.file_search.specs.DefaultSteps.{KeepsDefaults, wanted_by}
+use Rattle.file_search.specs.Reading.{LeavesFiles, Tries, GivesNamed, ReadsNamed}
 use Rattle.lib_search.specs.declared.loading.Loading.{Loading}
 use Rattle.lib_search.specs.LinkOf.{link_of}
-use Rattle.lib_search.specs.FileNames.{tried_names}
-use Rattle.lib_search.specs.FoundFiles.{FoundFile, no_file, read_fault}
-use Rattle.lib_search.specs.InputFiles.{text_at, input_file}
-use Rattle.lib_search.specs.DefaultLibraries.{default_names, default_libraries}
-use Rattle.lib_search.specs.DefaultSteps.{KeepsDefaults, wanted_by}
 use Rattle.lib_search.specs.Joining.{no_library}
-use Rattle.lib_search.specs.Reading.{LeavesFiles, Tries, GivesNamed, ReadsNamed}
 use Rattle.lib_search.specs.SearchSteps.{MemberPlace, Searched, SearchState, Faults, Goes, goes_unless, member_at, with_module, with_member, with_library, after_default, default_step_as, default_step, join_step, wants_library, next_default, next_member, next_step}
 use Rattle.lib_search.specs.Loading.{state_in, state_after_one, state_after, Reaches, HasLoadingFault, AtStep}
 use Rattle.lib_search.specs.LoadingSteps.{state_now, KeepsLoading, ReadsNext, ReadsDefault}

@@ -9,7 +9,7 @@ use Rattle.lib_reader.specs.LibraryWalk.{listing_of}
 use Rattle.symbol_names.specs.References.{all_asked}
 use Rattle.symbol_table.specs.OpenNames.{asked_at, is_open_at}
 use Rattle.symbol_names.specs.Alternates.{all_alternates}
-use Rattle.lib_search.specs.FoundFiles.{FoundFile}
+use Rattle.file_search.specs.FoundFiles.{FoundFile}
 use Rattle.lib_search.specs.SearchSteps.{MemberPlace, Searched, place_in, library_at, listing_at, first_listing, is_place, unless_joined, listed_member, asked_member, member_by_reference, stands_in, alternate_member, member_by_alternate, next_member}
 use Rattle.lib_search.specs.SearchParts.{IsFresh}
 

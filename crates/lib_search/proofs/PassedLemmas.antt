@@ -10,7 +10,7 @@ use Rattle.symbol_table.specs.LinkerNames.{linker_meaning}
 use Rattle.symbol_names.specs.Lists.{of_all, provided_by, has_name, all_definitions, offered_by, offers, all_commons}
 use Rattle.symbol_names.specs.References.{Asked, asked_by_name, asked_by, all_asked}
 use Rattle.symbol_table.specs.OpenNames.{nothing_asked, asked_at, is_open, is_open_at, is_provided}
-use Rattle.lib_search.specs.FoundFiles.{FoundFile}
+use Rattle.file_search.specs.FoundFiles.{FoundFile}
 use Rattle.lib_search.specs.SearchSteps.{MemberPlace, Searched, is_place, unless_joined, listed_member, first_listing, asked_member, member_at, with_module, with_member}
 use Rattle.lib_search.specs.SearchParts.{IsPassed}
 use Rattle.lib_search.proofs.ModuleLemmas.{of_all_push}

@@ -7,9 +7,9 @@ use Rattle.link_base.specs.declared.stop.Stop.{Stop}
 use Rattle.link_base.specs.declared.stop.Stop.TheVariants as stop
 use Rattle.link_files.specs.Outside.{FilesView, AreUntouched, ReadFailed}
 use Rattle.link_words.specs.Outcome.{LinkOptions}
+use Rattle.file_search.specs.Reading.{LeavesFiles, TriesInput}
 use Rattle.lib_search.specs.declared.link_list.LinkList.{LinkList}
 use Rattle.lib_search.specs.LinkOf.{link_of}
-use Rattle.lib_search.specs.Reading.{LeavesFiles, TriesInput}
 use Rattle.lib_search.specs.Loading.{HasLoadingFault, Loads, TriesDefault}
 
 -- the modules and their names; where the store is told, these modules join

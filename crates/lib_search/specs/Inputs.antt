@@ -5,7 +5,7 @@ use Rattle.link_base.specs.Refusals.{first_refusal_below}
 use Rattle.link_base.specs.declared.fault.Fault.{Fault}
 use Rattle.lib_reader.specs.LibraryWalk.{has_magic}
 use Rattle.module_view.specs.Module.{ModuleView}
-use Rattle.lib_search.specs.FoundFiles.{FoundFile, no_file}
+use Rattle.file_search.specs.FoundFiles.{FoundFile, no_file}
 use Rattle.lib_search.specs.Joining.{joining_fault, no_library}
 
 abbrev pub is_library : FoundFile → Bool

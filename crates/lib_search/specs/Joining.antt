@@ -10,7 +10,7 @@ use Rattle.module_view.specs.declared.error.ModuleError.{ModuleError}
 use Rattle.module_view.specs.declared.error.ModuleError.TheVariants as bad
 use Rattle.module_view.specs.Module.{ModuleView}
 use Rattle.module_view.specs.Opening.{opening_error}
-use Rattle.lib_search.specs.FoundFiles.{FoundFile}
+use Rattle.file_search.specs.FoundFiles.{FoundFile}
 
 -- ---- a module
 

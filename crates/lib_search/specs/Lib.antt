@@ -1,13 +1,7 @@
 pub mod LinkOf
-pub mod FileNames
-pub mod FoundFiles
-pub mod InputFiles
-pub mod DefaultLibraries
-pub mod DefaultSteps
 pub mod Joining
 pub mod Inputs
 pub mod SearchSteps
-pub mod Reading
 pub mod Loading
 pub mod OpenLibraries
 pub mod SearchParts

@@ -4,12 +4,12 @@ use Rattle.link_base.specs.declared.fault.Fault.{Fault}
 use Rattle.link_files.specs.Store.{Store}
 use Rattle.module_view.specs.Module.{ModuleView}
 use Rattle.link_words.specs.Outcome.{LinkOptions}
+use Rattle.file_search.specs.FileNames.{tried_names}
+use Rattle.file_search.specs.FoundFiles.{FoundFile}
+use Rattle.file_search.specs.InputFiles.{input_files, input_total, reading_fault}
+use Rattle.file_search.specs.Reading.{Tries}
 use Rattle.lib_search.specs.LinkOf.{link_of}
-use Rattle.lib_search.specs.FileNames.{tried_names}
-use Rattle.lib_search.specs.FoundFiles.{FoundFile}
-use Rattle.lib_search.specs.InputFiles.{input_files, input_total, reading_fault}
 use Rattle.lib_search.specs.Inputs.{modules_among, libraries_among, opening_fault}
-use Rattle.lib_search.specs.Reading.{Tries}
 use Rattle.lib_search.specs.SearchSteps.{SearchState, Step, Ends, Faults, Goes, next_step, wants_library, next_default}
 
 -- ---- the search

@@ -7,13 +7,13 @@ use Rattle.link_base.specs.declared.stop.Stop.{Stop}
 use Rattle.link_base.specs.declared.stop.Stop.TheVariants as stop
 use Rattle.link_files.specs.Outside.{FilesView, AreUntouched, ReadFailed}
 use Rattle.link_words.specs.Outcome.{LinkOptions}
+use Rattle.file_search.specs.FileNames.{tried_names}
+use Rattle.file_search.specs.DefaultLibraries.{default_names}
+use Rattle.file_search.specs.DefaultSteps.{KeepsDefaults}
+use Rattle.file_search.specs.Reading.{LeavesFiles, Tries}
 use Rattle.lib_search.specs.declared.link_list.LinkList.{LinkList}
 use Rattle.lib_search.specs.declared.loading.Loading.{Loading}
 use Rattle.lib_search.specs.LinkOf.{link_of}
-use Rattle.lib_search.specs.FileNames.{tried_names}
-use Rattle.lib_search.specs.DefaultLibraries.{default_names}
-use Rattle.lib_search.specs.DefaultSteps.{KeepsDefaults}
-use Rattle.lib_search.specs.Reading.{LeavesFiles, Tries}
 use Rattle.lib_search.specs.SearchSteps.{SearchState, Faults, Goes, next_step, wants_library, next_default}
 use Rattle.lib_search.specs.Loading.{Reaches, HasLoadingFault, Loads, TriesDefault}
 

@@ -3,7 +3,7 @@ use Rattle.std.specs.Prelude.{◌≡◌, ℕ, List, Option, option_map}
 use Rattle.std.specs.Option.{option_or}
 use Rattle.link_base.specs.Refusals.{first_refusal_below}
 use Rattle.lib_reader.specs.Listing.{Entry, first_of_name}
-use Rattle.lib_search.specs.FoundFiles.{FoundFile}
+use Rattle.file_search.specs.FoundFiles.{FoundFile}
 use Rattle.lib_search.specs.SearchSteps.{MemberPlace, place_in, listing_at}
 
 -- each name has the place of its first listing in the libraries below a number

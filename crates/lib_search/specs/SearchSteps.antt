@@ -17,9 +17,9 @@ use Rattle.symbol_names.specs.Alternates.{all_alternates}
 use Rattle.symbol_names.specs.References.{all_asked}
 use Rattle.symbol_table.specs.OpenNames.{asked_at, is_open_at, is_open_name, is_provided}
 use Rattle.link_words.specs.Outcome.{LinkOptions}
-use Rattle.lib_search.specs.FoundFiles.{FoundFile, no_file, read_fault}
-use Rattle.lib_search.specs.InputFiles.{text_at, input_file}
-use Rattle.lib_search.specs.DefaultLibraries.{default_libraries}
+use Rattle.file_search.specs.FoundFiles.{FoundFile, no_file, read_fault}
+use Rattle.file_search.specs.InputFiles.{text_at, input_file}
+use Rattle.file_search.specs.DefaultLibraries.{default_libraries}
 use Rattle.lib_search.specs.Joining.{joining_fault, bad_library, no_library}
 
 -- a member of a library, by the library's place among all of them and the offset of the member's header

@@ -5,16 +5,11 @@
 #![tactic(auto)]
 
 mod alternates;
-mod default_libraries;
-mod find;
-mod found;
 mod join;
 mod library;
-mod library_name;
 mod link_list;
 mod loading;
 mod open;
-mod read;
 mod search;
 mod searched;
 

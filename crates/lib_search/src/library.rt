@@ -6,7 +6,7 @@ ghost use Rattle.link_base.specs.Limits.{FILE_LIMIT as most_bytes, MODULE_LIMIT 
 ghost use Rattle.link_base.specs.NameText.{same_name};
 ghost use Rattle.link_base.specs.Refusals.{RefusesFor};
 ghost use Rattle.lib_reader.specs.Listing.{Entry};
-ghost use Rattle.lib_search.specs.FoundFiles.{FoundFile, no_file};
+ghost use Rattle.file_search.specs.FoundFiles.{FoundFile, no_file};
 ghost use Rattle.lib_search.specs.Joining.{bad_library, no_library};
 ghost use Rattle.lib_search.specs.OpenLibraries.{ListsBelow, ListsSoFar};
 ghost use Rattle.lib_search.specs.SearchSteps.{library_at, first_listing, member_view, member_fault_in};
@@ -29,7 +29,7 @@ pub(crate) struct OpenLibrary<'a> {
 impl<'a> Model for OpenLibrary<'a> {
     ghost use Rattle.std.specs.Prelude.{◌≤◌, length};
     ghost use Rattle.link_base.specs.Limits.{FILE_LIMIT as most_bytes};
-    ghost use Rattle.lib_search.specs.FoundFiles.{FoundFile};
+    ghost use Rattle.file_search.specs.FoundFiles.{FoundFile};
 
     ghost Value = { FoundFile };
 
@@ -100,7 +100,7 @@ impl<'a> Model for Libraries<'a> {
     ghost use Rattle.std.specs.Prelude.{List, length};
     ghost use Rattle.indexmap.specs.IndexMap.{get};
     ghost use Rattle.link_base.specs.NameText.{same_name};
-    ghost use Rattle.lib_search.specs.FoundFiles.{FoundFile};
+    ghost use Rattle.file_search.specs.FoundFiles.{FoundFile};
     ghost use Rattle.lib_search.specs.OpenLibraries.{ListsBelow};
 
     ghost Value = { List FoundFile };

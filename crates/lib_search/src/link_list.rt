@@ -7,7 +7,7 @@ ghost use Rattle.lib_search.specs.Completion.{Completes};
 ghost use Rattle.lib_search.specs.LoadingSteps.{state_now, KeepsLoading, CompletesFrom};
 
 use crate::loading::{Loading, join_member, read_defaults, start};
-use crate::read::read_inputs;
+use file_search::read_inputs;
 use input_arena::Inputs;
 use link_base::Stop;
 use link_files::Files;

@@ -3,12 +3,12 @@
 ghost use Rattle.std.specs.Prelude.{◌≡◌, ◌≤◌, ◌++◌, ◌∷◌, [], None, length, All, IfOk, OnOk, IfErr};
 ghost use Rattle.link_base.specs.Limits.{FILE_LIMIT as most_bytes, MODULE_LIMIT as most_modules};
 ghost use Rattle.link_base.specs.Refusals.{RefusesFor};
+ghost use Rattle.file_search.specs.Reading.{file_found, files_found};
 ghost use Rattle.lib_search.specs.Inputs.{modules_among, libraries_among, file_fault, opening_fault};
-ghost use Rattle.lib_search.specs.Reading.{file_found, files_found};
 
-use crate::found::FoundFile;
 use crate::join::join;
 use crate::library::{OpenLibrary, push_library};
+use file_search::FoundFile;
 use lib_reader::begins_library;
 use link_base::{Memory, Refusal};
 use module_view::{Module, Origin};

@@ -1,8 +1,6 @@
 //! Inputs and default libraries of some command lines.
 
-mod default_names;
 mod joining;
-mod reading;
 
 use link_words::{Command, Options, WordsError, read_words};
 use std::alloc::Global;

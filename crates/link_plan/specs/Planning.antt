@@ -8,8 +8,8 @@ use Rattle.link_files.specs.Store.{Store}
 use Rattle.link_files.specs.Outside.{FilesView, AreUntouched}
 use Rattle.module_view.specs.Module.{ModuleView}
 use Rattle.link_words.specs.Outcome.{LinkOptions}
+use Rattle.file_search.specs.Reading.{LeavesFiles}
 use Rattle.lib_search.specs.LinkOf.{link_of}
-use Rattle.lib_search.specs.Reading.{LeavesFiles}
 use Rattle.lib_search.specs.Loading.{HasLoadingFault, Loads}
 use Rattle.lib_search.specs.Completion.{FailsLoading}
 use Rattle.link_plan.specs.declared.planning.LinkPlan.{LinkPlan}

@@ -14,8 +14,8 @@ use Rattle.link_words.specs.declared.errors.UsageKind.{UsageKind}
 use Rattle.link_words.specs.UsageWord.{usage_word}
 use Rattle.link_words.specs.Commands.{words_say}
 use Rattle.link_plan.specs.PlanFaults.{plan_fault}
+use Rattle.file_search.specs.Reading.{LeavesFiles}
 use Rattle.lib_search.specs.LinkOf.{link_of}
-use Rattle.lib_search.specs.Reading.{LeavesFiles}
 use Rattle.lib_search.specs.Loading.{HasLoadingFault}
 use Rattle.lib_search.specs.Completion.{FailsLoading}
 use Rattle.link_plan.specs.declared.planning.LinkPlan.{LinkPlan}

@@ -14,6 +14,7 @@ use Rattle.link_words.specs.LinkWords.{word_refusal, settings, line_refusal, lin
 use Rattle.link_words.specs.Commands.{words_say}
 use Rattle.link_plan.specs.Fixes.{fixes_from}
 use Rattle.link_plan.specs.Entry.{entry_place}
+use Rattle.file_search.specs.FoundFiles.{FoundFile}
 use Rattle.lib_search.specs.LinkOf.{link_of}
 use Rattle.link_directives.specs.LinkDirectives.{mismatch_of}
 use Rattle.module_view.specs.ModuleDirectives.{module_says}
@@ -42,7 +43,6 @@ use Rattle.module_view.specs.Unbuilt.{is_unbuilt_form, is_in_comdat, is_unbuilt_
 use Rattle.link_pieces.specs.Pieces.{is_named, link_pieces, link_contents}
 use Rattle.link_plan.specs.PlanFaults.{plan_fault}
 use Rattle.symbol_table.specs.OpenNames.{is_provided}
-use Rattle.lib_search.specs.FoundFiles.{FoundFile}
 use Rattle.lib_search.specs.Inputs.{modules_among, opening_fault}
 use Rattle.lib_search.specs.SearchSteps.{wants_library, next_member, member_by_reference, member_by_alternate, first_listing}
 use Rattle.lib_search.specs.Loading.{inputs_state}

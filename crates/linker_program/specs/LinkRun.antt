@@ -11,7 +11,7 @@ use Rattle.image_writer.specs.ExpectedImage.{MeansPlan}
 use Rattle.link_words.specs.Outcome.{Refused as RefusedWord}
 use Rattle.link_words.specs.Outcome.{LinkOptions, CommandSaid, Link, At}
 use Rattle.link_words.specs.Commands.{words_say}
-use Rattle.lib_search.specs.Reading.{TriesInput}
+use Rattle.file_search.specs.Reading.{TriesInput}
 use Rattle.lib_search.specs.Loading.{TriesDefault}
 use Rattle.linker_program.specs.declared.status.Status.{Status}
 use Rattle.linker_program.specs.declared.status.Status.TheVariants as status

@@ -3,7 +3,7 @@ use Rattle.indexmap.specs.IndexMap.{get}
 use Rattle.link_base.specs.NameText.{same_name}
 use Rattle.lib_reader.specs.Listing.{Entry}
 use Rattle.lib_reader.specs.LibraryWalk.{listing_of}
-use Rattle.lib_search.specs.FoundFiles.{FoundFile}
+use Rattle.file_search.specs.FoundFiles.{FoundFile}
 use Rattle.lib_search.specs.OpenLibraries.{ListsSoFar}
 use Rattle.lib_search.proofs.LibraryLemmas.{lists_begin, lists_end}
 use Rattle.lib_search.proofs.library.note_listings.Goals as goal

@@ -1,7 +1,7 @@
 use Rattle.std.proofs.Common.{◌≡◌, List, get_or}
 use Rattle.indexmap.specs.IndexMap.{get}
 use Rattle.link_base.specs.NameText.{same_name}
-use Rattle.lib_search.specs.FoundFiles.{FoundFile, no_file}
+use Rattle.file_search.specs.FoundFiles.{FoundFile, no_file}
 use Rattle.lib_search.specs.OpenLibraries.{ListsBelow, ListsSoFar}
 use Rattle.lib_search.proofs.library.note_listings.Given as goal
 

@@ -2,8 +2,8 @@ use Rattle.std.proofs.Common.{List, ◌++◌, ◌∷◌, [], take, sym, ap, subs
 use Rattle.std.proofs.lemmas.List.{take_more}
 use Rattle.link_words.specs.Outcome.{options_said}
 use Rattle.module_view.specs.Module.{ModuleView}
-use Rattle.lib_search.specs.DefaultLibraries.{default_names}
-use Rattle.lib_search.specs.DefaultSteps.{KeepsDefaults}
+use Rattle.file_search.specs.DefaultLibraries.{default_names}
+use Rattle.file_search.specs.DefaultSteps.{KeepsDefaults}
 use Rattle.lib_search.proofs.loading.defaults_of.Goals as goal
 
 pub loop-module-preserved : goal.loop-module-preserved

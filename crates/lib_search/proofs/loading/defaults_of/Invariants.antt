@@ -1,7 +1,7 @@
 use Rattle.std.proofs.Common.{◌≡◌, take}
 use Rattle.link_words.specs.Outcome.{options_said}
-use Rattle.lib_search.specs.DefaultLibraries.{default_names}
-use Rattle.lib_search.specs.DefaultSteps.{KeepsDefaults}
+use Rattle.file_search.specs.DefaultLibraries.{default_names}
+use Rattle.file_search.specs.DefaultSteps.{KeepsDefaults}
 use Rattle.lib_search.proofs.loading.defaults_of.Given as goal
 
 abbrev pub invariant-loop-module : goal.invariant-loop-module

@@ -1,10 +1,10 @@
 use Rattle.std.proofs.Common.{Err, ap, subst, sym, ◌∙◌}
 use Rattle.link_base.specs.declared.stop.Stop.{Stop}
+use Rattle.file_search.specs.Reading.{file_found}
 use Rattle.lib_search.specs.LoadingSteps.{state_now, ReadsDefault}
 use Rattle.link_files.specs.Outside.{files_of}
 use Rattle.link_words.specs.Outcome.{options_said}
 use Rattle.link_words.specs.SettingsView.{texts_of}
-use Rattle.lib_search.specs.Reading.{file_found}
 use Rattle.lib_search.proofs.LoadingLemmas.{next_named, reads_next, bad_next, stops_next}
 use Rattle.lib_search.proofs.loading.read_default.Goals as goal
 

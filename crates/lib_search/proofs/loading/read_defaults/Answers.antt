@@ -1,7 +1,7 @@
 use Rattle.std.proofs.Common.{◌<◌, length, ◌∙◌, arith}
 use Rattle.link_files.specs.Outside.{files_of}
 use Rattle.link_words.specs.Outcome.{options_said}
-use Rattle.lib_search.specs.DefaultSteps.{wanted_by}
+use Rattle.file_search.specs.DefaultSteps.{wanted_by}
 use Rattle.lib_search.specs.LoadingSteps.{state_now}
 use Rattle.lib_search.proofs.LoadingLemmas.{next_wanted}
 use Rattle.lib_search.proofs.GoneLemmas.{gone_read, gone_stops}

@@ -4,9 +4,9 @@ use Rattle.link_base.specs.declared.fault.Fault.{Fault}
 use Rattle.link_base.specs.Refusals.{first_refusal_below, RefusesFor}
 use Rattle.link_base.proofs.RefusalLemmas.{first_refusal_below-more}
 use Rattle.module_view.specs.Module.{ModuleView}
-use Rattle.lib_search.specs.FoundFiles.{FoundFile}
+use Rattle.file_search.specs.FoundFiles.{FoundFile}
+use Rattle.file_search.specs.Reading.{file_found, files_found}
 use Rattle.lib_search.specs.Inputs.{modules_among, libraries_among, opening_fault_at}
-use Rattle.lib_search.specs.Reading.{file_found, files_found}
 use Rattle.lib_search.proofs.InputLemmas.{modules_more, libraries_more, opens_here, opening_stops}
 use Rattle.lib_search.proofs.open.open_inputs.Goals as goal
 

@@ -1,8 +1,8 @@
 use Rattle.std.proofs.Common.{◌≡◌, ◌≤◌, length, take, None}
 use Rattle.link_base.specs.Limits.{MODULE_LIMIT}
 use Rattle.link_base.specs.Refusals.{first_refusal_below}
+use Rattle.file_search.specs.Reading.{files_found}
 use Rattle.lib_search.specs.Inputs.{modules_among, libraries_among, opening_fault_at}
-use Rattle.lib_search.specs.Reading.{files_found}
 use Rattle.lib_search.proofs.open.open_inputs.Given as goal
 
 abbrev pub invariant-loop-file : goal.invariant-loop-file

@@ -4,7 +4,7 @@ use Rattle.link_base.specs.Refusals.{RefusesFor}
 use Rattle.link_base.specs.declared.fault.Fault.{Fault}
 use Rattle.lib_reader.specs.LibraryWalk.{long_names_of}
 use Rattle.lib_reader.specs.MemberFault.{member_fault}
-use Rattle.lib_search.specs.FoundFiles.{FoundFile}
+use Rattle.file_search.specs.FoundFiles.{FoundFile}
 use Rattle.lib_search.specs.SearchSteps.{member_fault_in}
 use Rattle.lib_search.proofs.LibraryLemmas.{not_refused, member_of, member_same, joins_as}
 use Rattle.lib_search.proofs.library.OpenLibrary.open_member.Goals as goal

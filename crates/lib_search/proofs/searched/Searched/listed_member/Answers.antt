@@ -1,7 +1,7 @@
 use Rattle.std.proofs.Common.{◌≡◌, Bool, true, false, cond, List, Some, None, sym, ap, ◌∙◌}
 use Rattle.std.specs.Prelude.{option_and_then}
 use Rattle.std.specs.List.{list_any}
-use Rattle.lib_search.specs.FoundFiles.{FoundFile}
+use Rattle.file_search.specs.FoundFiles.{FoundFile}
 use Rattle.lib_search.specs.SearchSteps.{Searched, is_place, unless_joined, first_listing}
 use Rattle.lib_search.proofs.searched.Searched.listed_member.Goals as goal
 

@@ -1,0 +1,4 @@
+pub mod FindLemmas
+pub mod ReadLemmas
+pub mod NotedLemmas
+pub mod DefaultLemmas

@@ -1,7 +1,0 @@
-use Rattle.std.proofs.Common.{take}
-use Rattle.link_words.specs.SettingsView.{texts_of}
-use Rattle.lib_search.specs.DefaultSteps.{NotesMore}
-use Rattle.lib_search.proofs.default_libraries.note_inputs.Given as goal
-
-abbrev pub invariant-loop-input : goal.invariant-loop-input
-invariant-loop-input l = NotesMore l.fn.seen l.seen (texts_of (take l.input-index l.inputs))
