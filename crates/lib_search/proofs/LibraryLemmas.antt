@@ -8,16 +8,14 @@ use Rattle.link_base.specs.Refusals.{first_refusal_below}
 use Rattle.link_base.specs.NameText.{same_name}
 use Rattle.lib_reader.specs.Listing.{Entry, first_of_name}
 use Rattle.lib_reader.specs.declared.error.LibError.{LibError}
-use Rattle.lib_reader.specs.ArchiveMember.{name_text, data_of}
+use Rattle.lib_reader.specs.ArchiveMember.{data_of}
 use Rattle.lib_reader.specs.LibraryWalk.{listing_of, long_names_of}
 use Rattle.lib_reader.specs.MemberFault.{member_fault}
-use Rattle.lib_reader.specs.MemberName.{member_name}
-use Rattle.module_view.specs.Module.{ModuleView}
 use Rattle.file_search.specs.FoundFiles.{FoundFile, no_file}
 use Rattle.lib_search.specs.Joining.{bad_library, joining_fault}
 use Rattle.lib_search.specs.OpenLibraries.{ListsBelow, ListsSoFar}
 use Rattle.lib_search.proofs.ListingLemmas.{same_item}
-use Rattle.lib_search.specs.SearchSteps.{MemberPlace, place_in, listing_at, member_view, member_fault_in}
+use Rattle.lib_search.specs.SearchSteps.{MemberPlace, place_in, listing_at, name_of_member, member_fault_in}
 
 pub same_is : (a b : List ℕ) → same_name a b ≡ true → a ≡ b
 same_is a b e = (bytes_eq-Decides a b).0 e
@@ -148,18 +146,10 @@ pub not_refused : {A : Type 0} (o : Option A) → true ≡ is_none o → o ≡ N
 not_refused None e = refl
 not_refused (Some x) e = absurd cc
 
-abbrev pub member_of : List ℕ → List ℕ → List ℕ → ModuleView
-member_of file name bytes = record { file = file; member = Some name; bytes = bytes }
-
--- it joins by its name and its bytes
-pub member_same : (library : FoundFile) (at : ℕ) (file name bytes : List ℕ) → file ≡ library.file → name ≡ member_name (long_names_of library.bytes) (name_text library.bytes at) → bytes ≡ data_of library.bytes at → member_of file name bytes ≡ member_view library at
-member_same library at file name bytes file_is name_is bytes_are =
-    ap (λ (f : List ℕ). member_of f name bytes) file_is
-    ∙ ap (λ (n : List ℕ). member_of library.file n bytes) name_is
-    ∙ ap (λ (b : List ℕ). member_of library.file (member_name (long_names_of library.bytes) (name_text library.bytes at)) b) bytes_are
-
 -- where its header is well formed, its fault is that of the module
-pub joins_as : (library : FoundFile) (at position : ℕ) (view : ModuleView) → member_fault (long_names_of library.bytes) library.bytes at ≡ None → view ≡ member_view library at → joining_fault view position ≡ member_fault_in library at position
-joins_as library at position view none is =
-    ap (λ (v : ModuleView). joining_fault v position) is
-    ∙ sym (ap (λ (o : Option LibError). option_or (option_map (bad_library library.file) o) (joining_fault (member_view library at) position)) none)
+pub joins_as : (library : FoundFile) (at position : ℕ) (file name bytes : List ℕ) → member_fault (long_names_of library.bytes) library.bytes at ≡ None → file ≡ library.file → name ≡ name_of_member library at → bytes ≡ data_of library.bytes at → joining_fault file (Some name) bytes position ≡ member_fault_in library at position
+joins_as library at position file name bytes none file_is name_is bytes_are =
+    ap (λ (f : List ℕ). joining_fault f (Some name) bytes position) file_is
+    ∙ ap (λ (n : List ℕ). joining_fault library.file (Some n) bytes position) name_is
+    ∙ ap (λ (b : List ℕ). joining_fault library.file (Some (name_of_member library at)) b position) bytes_are
+    ∙ sym (ap (λ (o : Option LibError). option_or (option_map (bad_library library.file) o) (joining_fault library.file (Some (name_of_member library at)) (data_of library.bytes at) position)) none)

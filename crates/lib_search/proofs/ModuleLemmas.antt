@@ -4,16 +4,16 @@ use Rattle.std.specs.List.{flat_map, range_with_len}
 use Rattle.std.proofs.lemmas.List.{length-append, get_or_append_left, get_or_push}
 use Rattle.link_base.proofs.RangeLemmas.{joined_more}
 use Rattle.module_view.specs.Module.{ModuleView, no_module, module_at}
-use Rattle.symbol_names.specs.Lists.{of_all}
+use Rattle.symbol_names.specs.Lists.{of_each, of_all}
 
 -- the lists of the first modules
-abbrev pub of_first : {A : Type 0} → (ℕ → List ℕ → List A) → List ModuleView → ℕ → List A
-of_first list modules n = flat_map (λ k. list k (module_at modules k).bytes) (range_with_len 0 n)
+abbrev pub each_first : {A : Type 0} → (ℕ → ModuleView → List A) → List ModuleView → ℕ → List A
+each_first list modules n = flat_map (λ k. list k (module_at modules k)) (range_with_len 0 n)
 
-pub of_first_more : {A : Type 0} (list : ℕ → List ℕ → List A) (modules : List ModuleView) (n : ℕ) (m : ModuleView) → n < length modules → m ≡ module_at modules n → of_first list modules (n + 1) ≡ of_first list modules n ++ list n m.bytes
-of_first_more {A} list modules n m lt is =
-    joined_more (λ k. list k (module_at modules k).bytes) 0 n n (omega arith)
-    ∙ ap (λ (v : ModuleView). of_first list modules n ++ list n v.bytes) (sym is)
+pub each_first_more : {A : Type 0} (list : ℕ → ModuleView → List A) (modules : List ModuleView) (n : ℕ) (m : ModuleView) → n < length modules → m ≡ module_at modules n → each_first list modules (n + 1) ≡ each_first list modules n ++ list n m
+each_first_more {A} list modules n m lt is =
+    joined_more (λ k. list k (module_at modules k)) 0 n n (omega arith)
+    ∙ ap (λ (v : ModuleView). each_first list modules n ++ list n v) (sym is)
 
 same_joined : {A : Type 0} (f g : ℕ → List A) (a n : ℕ) → ((k : ℕ) → a ≤ k → k < a + n → f k ≡ g k) → flat_map f (range_with_len a n) ≡ flat_map g (range_with_len a n)
 same_joined f g a zero same = refl
@@ -22,13 +22,16 @@ same_joined {A} f g a (suc n) same =
     ∙ ap (λ (ys : List A). g a ++ ys) (same_joined f g (a + 1) n (λ k low high. same k (omega arith) (omega arith)))
 
 -- those of one module more come after the others
-pub of_all_push : {A : Type 0} (list : ℕ → List ℕ → List A) (modules : List ModuleView) (m : ModuleView) → of_all list (modules ++ m ∷ []) ≡ of_all list modules ++ list (length modules) m.bytes
-of_all_push {A} list modules m =
+pub of_each_push : {A : Type 0} (list : ℕ → ModuleView → List A) (modules : List ModuleView) (m : ModuleView) → of_each list (modules ++ m ∷ []) ≡ of_each list modules ++ list (length modules) m
+of_each_push {A} list modules m =
     let more = modules ++ m ∷ [] in
     let n = length modules in
     let longer : length more ≡ n + 1 = length-append modules (m ∷ []) in
-    ap (of_first list more) longer
-    ∙ of_first_more list more n m (omega (arith, longer)) (sym (get_or_push modules m no_module n refl))
-    ∙ ap (λ (xs : List A). xs ++ list n m.bytes)
-    (same_joined (λ k. list k (module_at more k).bytes) (λ k. list k (module_at modules k).bytes) 0 n (λ k low high.
-    ap (λ (v : ModuleView). list k v.bytes) (get_or_append_left modules (m ∷ []) no_module k (omega (arith, high)))))
+    ap (each_first list more) longer
+    ∙ each_first_more list more n m (omega (arith, longer)) (sym (get_or_push modules m no_module n refl))
+    ∙ ap (λ (xs : List A). xs ++ list n m)
+    (same_joined (λ k. list k (module_at more k)) (λ k. list k (module_at modules k)) 0 n (λ k low high.
+    ap (list k) (get_or_append_left modules (m ∷ []) no_module k (omega (arith, high)))))
+
+pub of_all_push : {A : Type 0} (list : ℕ → List ℕ → List A) (modules : List ModuleView) (m : ModuleView) → of_all list (modules ++ m ∷ []) ≡ of_all list modules ++ list (length modules) m.bytes
+of_all_push list modules m = of_each_push (λ k (view : ModuleView). list k view.bytes) modules m

@@ -13,7 +13,7 @@ use Rattle.symbol_table.specs.OpenNames.{nothing_asked, asked_at, is_open, is_op
 use Rattle.file_search.specs.FoundFiles.{FoundFile}
 use Rattle.lib_search.specs.SearchSteps.{MemberPlace, Searched, is_place, unless_joined, listed_member, first_listing, asked_member, member_at, with_module, with_member}
 use Rattle.lib_search.specs.SearchParts.{IsPassed}
-use Rattle.lib_search.proofs.ModuleLemmas.{of_all_push}
+use Rattle.lib_search.proofs.ModuleLemmas.{of_each_push, of_all_push}
 
 abbrev pub searched_of : LinkView → List FoundFile → List MemberPlace → Searched
 searched_of link libraries joined = record { link = link; libraries = libraries; joined = joined }
@@ -54,11 +54,11 @@ provided_more modules m name h =
     let definitions = list_any (has_name name) in
     let commons = list_any (offers name) in
     let linked = is_some (linker_meaning name) in
-    ap (λ (ds : List _). definitions ds || (commons (all_commons (modules ++ m ∷ [])) || linked)) (of_all_push provided_by modules m)
-    ∙ ap (λ (cs : List _). definitions (all_definitions modules ++ provided_by n m.bytes) || (commons cs || linked)) (of_all_push offered_by modules m)
-    ∙ ap (λ (b : Bool). b || (commons (all_commons modules ++ offered_by n m.bytes) || linked)) (list_any-append (has_name name) (all_definitions modules) (provided_by n m.bytes))
-    ∙ ap (λ (b : Bool). (definitions (all_definitions modules) || definitions (provided_by n m.bytes)) || (b || linked)) (list_any-append (offers name) (all_commons modules) (offered_by n m.bytes))
-    ∙ or_more (definitions (all_definitions modules)) (commons (all_commons modules)) linked (definitions (provided_by n m.bytes)) (commons (offered_by n m.bytes)) h
+    ap (λ (ds : List _). definitions ds || (commons (all_commons (modules ++ m ∷ [])) || linked)) (of_each_push provided_by modules m)
+    ∙ ap (λ (cs : List _). definitions (all_definitions modules ++ provided_by n m) || (commons cs || linked)) (of_all_push offered_by modules m)
+    ∙ ap (λ (b : Bool). b || (commons (all_commons modules ++ offered_by n m.bytes) || linked)) (list_any-append (has_name name) (all_definitions modules) (provided_by n m))
+    ∙ ap (λ (b : Bool). (definitions (all_definitions modules) || definitions (provided_by n m)) || (b || linked)) (list_any-append (offers name) (all_commons modules) (offered_by n m.bytes))
+    ∙ or_more (definitions (all_definitions modules)) (commons (all_commons modules)) linked (definitions (provided_by n m)) (commons (offered_by n m.bytes)) h
 
 closed_more : (search before after : Bool) → (before ≡ true → after ≡ true) → (search && not before) ≡ false → (search && not after) ≡ false
 closed_more false before after more h = refl

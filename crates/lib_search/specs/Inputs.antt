@@ -5,6 +5,7 @@ use Rattle.link_base.specs.Refusals.{first_refusal_below}
 use Rattle.link_base.specs.declared.fault.Fault.{Fault}
 use Rattle.lib_reader.specs.LibraryWalk.{has_magic}
 use Rattle.module_view.specs.Module.{ModuleView}
+use Rattle.module_view.specs.ImportModule.{file_view}
 use Rattle.file_search.specs.FoundFiles.{FoundFile, no_file}
 use Rattle.lib_search.specs.Joining.{joining_fault, no_library}
 
@@ -16,7 +17,7 @@ is_module found = not (has_magic found.bytes)
 
 -- a file as a module
 abbrev pub file_module : FoundFile → ModuleView
-file_module found = record { file = found.file; member = None; bytes = found.bytes }
+file_module found = file_view found.file None found.bytes
 
 -- the modules and the libraries among files, in their order
 abbrev pub modules_among : List FoundFile → List ModuleView
@@ -27,7 +28,7 @@ libraries_among files = filter is_library files
 
 -- why a file does not open, after as many modules
 abbrev pub file_fault : FoundFile → ℕ → Option Fault
-file_fault found position = if has_magic found.bytes then no_library found else joining_fault (file_module found) position
+file_fault found position = if has_magic found.bytes then no_library found else joining_fault found.file None found.bytes position
 
 abbrev pub opening_fault_at : List FoundFile → ℕ → Option Fault
 opening_fault_at files k = file_fault (slice_index_or files k no_file) (length (modules_among (take k files)))

@@ -12,6 +12,7 @@ use Rattle.lib_reader.specs.MemberFault.{member_fault}
 use Rattle.lib_reader.specs.Listing.{first_of_name}
 use Rattle.lib_reader.specs.LibraryWalk.{listing_of, long_names_of}
 use Rattle.module_view.specs.Module.{ModuleView}
+use Rattle.module_view.specs.ImportModule.{file_view}
 use Rattle.symbol_names.specs.LinkView.{LinkView}
 use Rattle.symbol_names.specs.Alternates.{all_alternates}
 use Rattle.symbol_names.specs.References.{all_asked}
@@ -108,12 +109,11 @@ goes_unless None state = Goes state
 
 -- ---- a member joins
 
+abbrev pub name_of_member : FoundFile → ℕ → List ℕ
+name_of_member library at = member_name (long_names_of library.bytes) (name_text library.bytes at)
+
 abbrev pub member_view : FoundFile → ℕ → ModuleView
-member_view library at = record {
-  file = library.file;
-  member = Some (member_name (long_names_of library.bytes) (name_text library.bytes at));
-  bytes = data_of library.bytes at;
-}
+member_view library at = file_view library.file (Some (name_of_member library at)) (data_of library.bytes at)
 
 -- the library is at fault where the member's header is bad; that the member is not named then is own
 abbrev pub header_fault : FoundFile → ℕ → Option Fault
@@ -122,7 +122,8 @@ header_fault library at =
 
 abbrev pub member_fault_in : FoundFile → ℕ → ℕ → Option Fault
 member_fault_in library at position =
-    option_or (header_fault library at) (joining_fault (member_view library at) position)
+    option_or (header_fault library at)
+    (joining_fault library.file (Some (name_of_member library at)) (data_of library.bytes at) position)
 
 abbrev pub member_at : Searched → MemberPlace → ModuleView
 member_at searched place = member_view (library_at searched.libraries place.0) place.1

@@ -4,14 +4,14 @@ ghost use Rattle.std.specs.Prelude.{◌≡◌, ◌≤◌, ◌<◌, length, None,
 ghost use Rattle.link_base.specs.Limits.{FILE_LIMIT as most_bytes, MODULE_LIMIT as most_modules};
 ghost use Rattle.link_base.specs.Refusals.{RefusesFor};
 ghost use Rattle.module_view.specs.ModuleParts.{view_of};
-ghost use Rattle.module_view.specs.Opening.{opening_error};
 ghost use Rattle.lib_search.specs.Joining.{module_fault, joining_fault};
 
-use link_base::{Fault, MODULE_LIMIT, Name, Refusal};
+use link_base::{Fault, Kind, MODULE_LIMIT, Name, Refusal};
 use module_view::{Module, ModuleError, Origin, open_module};
 use std::alloc::Global;
 
-/// Opens a file or a member as the module at a position, from 0. One that does not open is refused, and so is one too many.
+/// Opens a file or a member as the module at a position, from 0. One that does not open is refused, a short import, and one too
+/// many.
 pub(crate) fn join<'a>(
     alloc: Global,
     origin: Origin<'a>,
@@ -20,14 +20,21 @@ pub(crate) fn join<'a>(
 ) -> Result<Module<'a>, Refusal<'a>>
     requires { length bytes.now ≤ most_bytes }
     ensures opened { IfOk result (λ opened. opened ≡ view_of origin.entry bytes.now) }
-    ensures accepted { OnOk result (joining_fault (view_of origin.entry bytes.now) position ≡ None) }
+    ensures accepted { OnOk result (joining_fault origin.entry.file origin.entry.member bytes.now position ≡ None) }
     ensures few { OnOk result (position < most_modules) }
-    ensures refused { IfErr result (RefusesFor (joining_fault (view_of origin.entry bytes.now) position)) }
+    ensures refused { IfErr result (RefusesFor (joining_fault origin.entry.file origin.entry.member bytes.now position)) }
 {
     let file = origin.file.again();
     let member = again(&origin.member);
     match open_module(alloc, origin, bytes) {
         Ok(module) => {
+            if module.import().is_some() {
+                return Err(Refusal::Fault(Fault::Unsupported {
+                    file,
+                    member,
+                    kind: Kind::NotBuilt,
+                }));
+            }
             if position >= MODULE_LIMIT {
                 return Err(Refusal::Fault(Fault::InputLimit {
                     sum: MODULE_LIMIT as u64 + 1,

@@ -38,6 +38,11 @@ import_in bytes =
 abbrev pub imported_in : List ℕ → Option Import
 imported_in bytes = if is_short_import bytes then Some (import_in bytes) else None
 
+-- a file, or a member of one, as a module
+abbrev pub file_view : List ℕ → Option (List ℕ) → List ℕ → ModuleView
+file_view file member bytes =
+    record { file = file; member = member; bytes = object_bytes bytes; imported = imported_in bytes }
+
 -- ---- what it defines
 
 -- the entry of the import address table, under the symbol after the import prefix

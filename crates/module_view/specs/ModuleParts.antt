@@ -7,7 +7,7 @@ use Rattle.module_view.specs.declared.input_module.Origin.{Origin}
 use Rattle.module_view.specs.declared.symbols.SymbolLists.{SymbolLists}
 use Rattle.module_view.specs.Module.{ModuleView}
 use Rattle.short_import.specs.declared.import.Import.{Import}
-use Rattle.module_view.specs.ImportModule.{object_bytes, imported_in}
+use Rattle.module_view.specs.ImportModule.{file_view}
 use Rattle.module_view.specs.SymbolLists.{definitions_of, references_of, weaks_of, commons_of}
 use Rattle.directives.specs.Said.{said}
 use Rattle.directives.specs.declared.item.Directive.{Directive}
@@ -21,7 +21,7 @@ view_with origin bytes imported =
 
 -- the module that a file or a member with these bytes is
 abbrev pub view_of : Origin → List ℕ → ModuleView
-view_of origin bytes = view_with origin (object_bytes bytes) (imported_in bytes)
+view_of origin bytes = file_view origin.file origin.member bytes
 
 -- the bytes open, and the object and the lists are those of the bytes
 pub record KeepsLists (bytes object : List ℕ) (lists : SymbolLists) (symbols : List SectionSymbols) (directives : List Directive) : Type 0 where

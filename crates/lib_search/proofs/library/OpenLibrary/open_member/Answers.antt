@@ -1,21 +1,28 @@
 use Rattle.std.proofs.Common.{◌≡◌, None, Option, subst}
-use Rattle.std.specs.Prelude.{IfErr}
+use Rattle.std.specs.Prelude.{OnOk, IfErr}
 use Rattle.link_base.specs.Refusals.{RefusesFor}
 use Rattle.link_base.specs.declared.fault.Fault.{Fault}
 use Rattle.lib_reader.specs.LibraryWalk.{long_names_of}
 use Rattle.lib_reader.specs.MemberFault.{member_fault}
 use Rattle.file_search.specs.FoundFiles.{FoundFile}
 use Rattle.lib_search.specs.SearchSteps.{member_fault_in}
-use Rattle.lib_search.proofs.LibraryLemmas.{not_refused, member_of, member_same, joins_as}
+use Rattle.lib_search.proofs.LibraryLemmas.{not_refused, joins_as}
 use Rattle.lib_search.proofs.library.OpenLibrary.open_member.Goals as goal
+
+pub returns-clause-accepted : goal.returns-clause-accepted
+returns-clause-accepted c =
+    let library : FoundFile = record { file = c.self.inside.file; bytes = c.self.inside.library } in
+    let none : member_fault (long_names_of library.bytes) library.bytes c.args.at ≡ None = not_refused _ c.in-Ok.ensures.found in
+    subst (λ (l : FoundFile). OnOk c.join.result (member_fault_in l c.args.at c.args.position ≡ None)) c.self.view_is
+    (subst (λ (fault : Option Fault). OnOk c.join.result (fault ≡ None))
+    (joins_as library c.args.at c.args.position c.again-2.result c.in-Ok.member.name c.in-Ok.member.bytes.now none c.again-2.ensures c.in-Ok.ensures.name c.in-Ok.ensures.content)
+    c.join.ensures.accepted)
 
 pub returns-clause-refused : goal.returns-clause-refused
 returns-clause-refused c =
     let library : FoundFile = record { file = c.self.inside.file; bytes = c.self.inside.library } in
-    let at = c.args.at in
-    let none : member_fault (long_names_of library.bytes) library.bytes at ≡ None = not_refused _ c.in-Ok.ensures.found in
-    let view = member_same library at c.again-2.result c.in-Ok.member.name c.in-Ok.member.bytes.now c.again-2.ensures c.in-Ok.ensures.name c.in-Ok.ensures.content in
-    subst (λ (l : FoundFile). IfErr c.join.result (RefusesFor (member_fault_in l at c.args.position))) c.self.view_is
+    let none : member_fault (long_names_of library.bytes) library.bytes c.args.at ≡ None = not_refused _ c.in-Ok.ensures.found in
+    subst (λ (l : FoundFile). IfErr c.join.result (RefusesFor (member_fault_in l c.args.at c.args.position))) c.self.view_is
     (subst (λ (fault : Option Fault). IfErr c.join.result (RefusesFor fault))
-    (joins_as library at c.args.position (member_of c.again-2.result c.in-Ok.member.name c.in-Ok.member.bytes.now) none view)
+    (joins_as library c.args.at c.args.position c.again-2.result c.in-Ok.member.name c.in-Ok.member.bytes.now none c.again-2.ensures c.in-Ok.ensures.name c.in-Ok.ensures.content)
     c.join.ensures.refused)
