@@ -19,7 +19,6 @@ use Rattle.module_view.specs.declared.definition.Place.TheVariants as place
 use Rattle.module_view.specs.declared.error.ModuleError.TheVariants as error
 use Rattle.module_view.specs.SymbolLists.{is_absolute, is_definition, place_in_section, place_of, defines, definition_of, definitions_of}
 use Rattle.link_base.proofs.RefusalLemmas.{or_none}
-use Rattle.module_view.specs.declared.error.ModuleError.{ModuleError}
 use Rattle.short_import.specs.declared.import.Import.{Import}
 use Rattle.short_import.specs.declared.import.ImportKind.{ImportKind}
 use Rattle.short_import.specs.declared.import.ImportKind.TheVariants as kind

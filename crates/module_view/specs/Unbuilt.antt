@@ -1,9 +1,9 @@
 -- Forms of files that are not linked yet. Own.
-use Rattle.std.specs.Prelude.{ℕ, Bool, true, false, ◌&&◌, ◌||◌, ◌==◌, List, [], ◌∷◌, codes}
+use Rattle.std.specs.Prelude.{ℕ, Bool, true, false, ◌&&◌, ◌||◌, ◌==◌, List, codes}
 use Rattle.std.specs.List.{list_any}
 use Rattle.std.specs.Int.Signed.{lt_z}
 use Rattle.std.specs.Ordering.{int_eq}
-use Rattle.link_base.specs.NameText.{same_name, begins, begins_import}
+use Rattle.link_base.specs.NameText.{same_name, begins_import}
 use Rattle.link_base.specs.SectionName.{base_name}
 use Rattle.link_base.specs.PeFormat.{SYM_CLASS_EXTERNAL, SYM_CLASS_WEAK_EXTERNAL, SYM_UNDEFINED}
 use Rattle.coff_records.specs.ObjectFile.{section_total, section_name_of, flags_of, SymbolView, name_in, section_number_in, section_of_number, class_in, symbol_entries}

@@ -1,16 +1,16 @@
 -- A name without a number: nothing defines it.
 use Rattle.std.proofs.Common.{◌≡◌, ℕ, zero, suc, ◌<◌, Bool, true, false, cond, List, [], ◌∷◌, ◌≤◌, length, get_or, map, filter, Option, Some, None, refl, sym, ap, subst, ◌∙◌, add-one, arith}
 use Rattle.std.proofs.lemmas.Grind.{common_steps}
-use Rattle.std.specs.Prelude.{position, Err, option_map}
+use Rattle.std.specs.Prelude.{position, Ok, Err, option_map}
 use Rattle.std.specs.List.{position_or_len, All, AllZip, find}
-use Rattle.std.specs.Option.{option_or, ok_or}
+use Rattle.std.specs.Option.{option_or}
 use Rattle.std.proofs.lemmas.Bool.{true≢false}
 use Rattle.std.proofs.lemmas.Option.{slice_get_within, get_or_from_slice_get, slice_get-get_or}
 use Rattle.std.proofs.lemmas.List.Elements.{All-append, All-filter, All-map}
 use Rattle.std.proofs.lemmas.List.Quantifiers.{position-Some}
 use Rattle.std.proofs.lemmas.List.Sums.{fails_before_first}
 use Rattle.std.proofs.lemmas.List.{length-map}
-use Rattle.link_base.specs.NameText.{same_name}
+use Rattle.link_base.specs.NameText.{same_name, begins_import, behind_import}
 use Rattle.link_base.proofs.RangeLemmas.{all_joined}
 use Rattle.std.proofs.lemmas.Slice.Eq.{bytes_eq-Decides}
 use Rattle.module_view.specs.Module.{ModuleView, module_at}
@@ -28,9 +28,11 @@ use Rattle.symbol_names.specs.Alternates.{alternates_by, all_alternates, is_left
 use Rattle.symbol_table.specs.TableParts.{link_view}
 use Rattle.symbol_table.specs.LinkerNames.{linker_meaning}
 use Rattle.symbol_names.specs.Lists.{of_all, Provided, provided, provided_by, has_name, is_live, all_definitions, live_definitions, Offered, offered, offered_by, offers, all_commons, Said, said, said_by, says, all_weaks}
-use Rattle.symbol_table.specs.Resolution.{defined_meaning, common_meaning, definition_named, common_named, weak_named, greatest_of, Ends, own_or, alternate_step, weak_step, at_end, step, meaning_if, meaning_within, most_steps, meaning_of}
+use Rattle.symbol_table.specs.Resolution.{defined_meaning, common_meaning, definition_named, common_named, weak_named, greatest_of, Ends, Leads, own_or, slot_step, alternate_step, weak_step, slot_of, at_end, step, meaning_within, names_ahead, meaning_of}
 use Rattle.symbol_names.specs.Interning.{Numbers, NotesDefinition, NotesCommon, NotesAlternate, NotesWeak, NotesModule}
 use Rattle.symbol_names.specs.Kept.{noted_view}
+use Rattle.symbol_table.proofs.ChainLemmas.{settles_before}
+use Rattle.symbol_table.proofs.EndLemmas.{settles_means, means_settles}
 
 -- ---- where a test finds nothing
 
@@ -112,12 +114,12 @@ module _ (names : List (List ℕ)) (kept : List ModuleNames) (noted : All (Notes
       lefts_differ pairs notes zipped =
           zip_left (NotesAlternate names) (λ (p : List ℕ × List ℕ). same_name p.0 name ≡ false) pairs notes zipped (λ p m is. differs names name p.0 m.left absent is.left)
 
-  step_ends : (given : GivenNames) (chosen : List (List Bool)) → AllZip (NotesAlternate names) given.pairs.items given.noted.items → step (link_view given kept) chosen name ≡ Ends (meaning_if (linker_meaning name))
+  step_is : (given : GivenNames) (chosen : List (List Bool)) → AllZip (NotesAlternate names) given.pairs.items given.noted.items → step (link_view given kept) chosen name ≡ own_or (linker_meaning name) (slot_step name)
   unfolding step
-  step_ends given chosen pairs =
+  step_is given chosen pairs =
       let view = link_view given kept in
       let modules = map noted_view kept in
-      let behind = λ (found : Option Said) (pair : Option (List ℕ × List ℕ)). weak_step chosen found (alternate_step pair) in
+      let behind = λ (found : Option Said) (pair : Option (List ℕ × List ℕ)). weak_step chosen found (alternate_step name pair) in
       let defined : definition_named modules chosen name ≡ None =
       none_found (has_name name) (live_definitions modules chosen) (All-filter (is_live chosen) (λ entry. has_name name entry ≡ false) (all_definitions modules) no_definition) in
       let common : common_named modules name ≡ None = ap greatest_of (none_kept (offers name) (all_commons modules) no_common) in
@@ -127,18 +129,38 @@ module _ (names : List (List ℕ)) (kept : List ModuleNames) (noted : All (Notes
       ∙ ap (λ (found : Option Offered). own_or (option_or (option_map common_meaning found) (linker_meaning name)) (behind (weak_named modules name) (alternate_named view name))) common
       ∙ ap (λ (found : Option Said). own_or (linker_meaning name) (behind found (alternate_named view name))) weak
       ∙ ap (λ (pair : Option (List ℕ × List ℕ)). own_or (linker_meaning name) (behind None pair)) alternate
-      ∙ ends (linker_meaning name)
-    where
-      ends : (own : Option Meaning) → own_or own (Ends (Err Undefined)) ≡ Ends (meaning_if own)
-      ends None = refl
-      ends (Some m) = refl
 
-  pub absent_means : (given : GivenNames) (chosen : List (List Bool)) → AllZip (NotesAlternate names) given.pairs.items given.noted.items → meaning_of (link_view given kept) chosen name ≡ meaning_if (linker_meaning name)
+  -- it means what the linker means by it
+  pub absent_own : (given : GivenNames) (chosen : List (List Bool)) (meant : Meaning) → AllZip (NotesAlternate names) given.pairs.items given.noted.items → linker_meaning name ≡ Some meant → meaning_of (link_view given kept) chosen name ≡ Ok meant
   unfolding meaning_of meaning_within
-  absent_means given chosen pairs =
+  absent_own given chosen meant pairs own =
       let view = link_view given kept in
-      ap (λ (n : ℕ). meaning_within view chosen n name) (add-one (most_steps view))
-      ∙ ap (at_end (meaning_within view chosen (most_steps view))) (step_ends given chosen pairs)
+      let count = length (names_ahead view name) in
+      ap (λ (n : ℕ). meaning_within view chosen n name) (add-one count)
+      ∙ ap (at_end (meaning_within view chosen count)) (step_is given chosen pairs ∙ ap (λ (o : Option Meaning). own_or o (slot_step name)) own)
+
+  -- or nothing
+  pub absent_nothing : (given : GivenNames) (chosen : List (List Bool)) → AllZip (NotesAlternate names) given.pairs.items given.noted.items → linker_meaning name ≡ None → begins_import name ≡ false → meaning_of (link_view given kept) chosen name ≡ Err Undefined
+  unfolding meaning_of meaning_within
+  absent_nothing given chosen pairs own plain =
+      let view = link_view given kept in
+      let count = length (names_ahead view name) in
+      ap (λ (n : ℕ). meaning_within view chosen n name) (add-one count)
+      ∙ ap (at_end (meaning_within view chosen count))
+      (step_is given chosen pairs
+      ∙ ap (λ (o : Option Meaning). own_or o (slot_step name)) own
+      ∙ ap (λ (b : Bool). cond b (Leads true (behind_import name)) (Ends (Err Undefined))) plain)
+
+  -- or it is a slot
+  pub absent_slot : (given : GivenNames) (chosen : List (List Bool)) (rest : List ℕ) → AllZip (NotesAlternate names) given.pairs.items given.noted.items → linker_meaning name ≡ None → begins_import name ≡ true → rest ≡ behind_import name → meaning_of (link_view given kept) chosen name ≡ slot_of rest (meaning_of (link_view given kept) chosen rest)
+  absent_slot given chosen rest pairs own begins is =
+      let view = link_view given kept in
+      let leads : step view chosen name ≡ Leads true rest =
+      step_is given chosen pairs
+      ∙ ap (λ (o : Option Meaning). own_or o (slot_step name)) own
+      ∙ ap (λ (b : Bool). cond b (Leads true (behind_import name)) (Ends (Err Undefined))) begins
+      ∙ ap (Leads true) (sym is) in
+      settles_means view chosen name (slot_of rest (meaning_of view chosen rest)) (settles_before view chosen name rest true (meaning_of view chosen rest) leads (means_settles view chosen rest))
 
 -- ---- the number of a name
 
@@ -156,7 +178,3 @@ position_absent names name e number numbered =
     let fails = fails_before_first (same_name name) names number [] (omega (arith, nowhere (same_name name) names e)) in
     let is : get_or names number [] ≡ name = get_or_from_slice_get names number name [] numbered in
     absurd (true≢false (sym ((bytes_eq-Decides name (get_or names number [])).1 (sym is)) ∙ fails))
-
-pub ok_or_is : (own : Option Meaning) → ok_or own Undefined ≡ meaning_if own
-ok_or_is None = refl
-ok_or_is (Some m) = refl

@@ -3,7 +3,7 @@ use Rattle.std.proofs.Common.{◌≡◌, ℕ, zero, suc, ◌+◌, ◌<◌, Bool,
 use Rattle.std.specs.Prelude.{option_map}
 use Rattle.std.specs.Option.{option_or}
 use Rattle.std.specs.List.{All, Contains, find, list_any}
-use Rattle.link_base.specs.NameText.{same_name}
+use Rattle.link_base.specs.NameText.{same_name, begins_import, behind_import}
 use Rattle.std.proofs.lemmas.List.Elements.{All-nil, All-cons, All-map, All-weaker, All-contains_itself}
 use Rattle.link_base.proofs.RangeLemmas.{all_joined}
 use Rattle.coff_records.specs.ObjectFile.{symbol_at, starts_symbol, section_of_number, section_number_in, value_in, name_in}
@@ -28,7 +28,7 @@ use Rattle.symbol_names.specs.Defaults.{is_inside, place_default, local_default,
 use Rattle.symbol_names.specs.LinkView.{LinkView}
 use Rattle.symbol_names.specs.Alternates.{alternate_named}
 use Rattle.symbol_names.specs.Lists.{Provided, provided, provided_by, has_name, is_chosen_in, is_live_at, is_live, all_definitions, live_definitions, Offered, Said, said, said_by, says, all_weaks}
-use Rattle.symbol_table.specs.Resolution.{definition_named, common_named, weak_named, meaning_at, defined_meaning, common_meaning, place_meaning, Step, Ends, Leads, default_step, alternate_step, weak_step, own_or, own_meaning, step, at_end, meaning_within, most_steps, meaning_of}
+use Rattle.symbol_table.specs.Resolution.{definition_named, common_named, weak_named, meaning_at, defined_meaning, common_meaning, place_meaning, Step, Ends, Leads, default_step, alternate_step, weak_step, own_or, own_meaning, step, is_local_slot, slot_of, at_end, meaning_within, names_ahead, meaning_of}
 
 -- ---- a place
 
@@ -193,21 +193,25 @@ ends_are a b e = ap ended e
   where
     ended : Step → Result Meaning NoMeaning
     ended (Ends r) = r
-    ended (Leads n) = a
+    ended (Leads slot n) = a
 
-leads_nowhere : (name : List ℕ) (end : Result Meaning NoMeaning) → Leads name ≡ Ends end → ⊥
-leads_nowhere name end e = cc
+leads_nowhere : (slot : Bool) (name : List ℕ) (end : Result Meaning NoMeaning) → Leads slot name ≡ Ends end → ⊥
+leads_nowhere slot name end e = cc
 
 default_place : (modules : List ModuleView) (chosen : List (List Bool)) (at : ℕ) (d : WeakDefault) (position section value : ℕ) (weak : Weak) → at < length modules → Contains (weaks_of (module_at modules at).bytes) weak → ((s v : ℕ) → d ≡ default.Place s v → is_inside (module_at modules at).bytes s v ≡ true) → default_step chosen at d ≡ Ends (Ok (meaning.Section position section value)) → MeansPlace modules chosen position section value
-default_place modules chosen at (default.Name name) position section value weak within own inside e = absurd (leads_nowhere name (Ok (meaning.Section position section value)) e)
+default_place modules chosen at (default.Name name) position section value weak within own inside e = absurd (leads_nowhere false name (Ok (meaning.Section position section value)) e)
 default_place modules chosen at (default.Place s v) position section value weak within own inside e = chosen_place modules chosen at s v position section value weak within own (inside s v refl) (ends_are (place_meaning chosen at s v) (Ok (meaning.Section position section value)) e)
 default_place modules chosen at (default.Absolute v) position section value weak within own inside e = let same = ends_are (Ok (meaning.Absolute v)) (Ok (meaning.Section position section value)) e in absurd cc
 default_place modules chosen at default.Nothing position section value weak within own inside e = let same = ends_are (Err Undefined) (Ok (meaning.Section position section value)) e in absurd cc
 
-weak_place : (modules : List ModuleView) (chosen : List (List Bool)) (found : Option Said) (pair : Option (List ℕ × List ℕ)) (position section value : ℕ) → ((entry : Said) → found ≡ Some entry → IsSaid modules entry) → weak_step chosen found (alternate_step pair) ≡ Ends (Ok (meaning.Section position section value)) → MeansPlace modules chosen position section value
-weak_place modules chosen None None position section value each e = let same = ends_are (Err Undefined) (Ok (meaning.Section position section value)) e in absurd cc
-weak_place modules chosen None (Some pair) position section value each e = absurd (leads_nowhere pair.1 (Ok (meaning.Section position section value)) e)
-weak_place modules chosen (Some entry) pair position section value each e =
+weak_place : (modules : List ModuleView) (chosen : List (List Bool)) (name : List ℕ) (found : Option Said) (pair : Option (List ℕ × List ℕ)) (position section value : ℕ) → ((entry : Said) → found ≡ Some entry → IsSaid modules entry) → weak_step chosen found (alternate_step name pair) ≡ Ends (Ok (meaning.Section position section value)) → MeansPlace modules chosen position section value
+weak_place modules chosen name None None position section value each e = absurd (by_itself (begins_import name) e)
+  where
+    by_itself : (b : Bool) → cond b (Leads true (behind_import name)) (Ends (Err Undefined)) ≡ Ends (Ok (meaning.Section position section value)) → ⊥
+    by_itself true e = leads_nowhere true (behind_import name) (Ok (meaning.Section position section value)) e
+    by_itself false e = let same = ends_are (Err Undefined) (Ok (meaning.Section position section value)) e in cc
+weak_place modules chosen name None (Some pair) position section value each e = absurd (leads_nowhere false pair.1 (Ok (meaning.Section position section value)) e)
+weak_place modules chosen name (Some entry) pair position section value each e =
     let is = each entry refl in
     default_place modules chosen entry.«module» entry.default position section value is.weak is.within is.own is.inside e
 
@@ -226,9 +230,9 @@ step_place : (view : LinkView) (chosen : List (List Bool)) (name : List ℕ) (po
 unfolding step
 step_place view chosen name position section value e = go (own_meaning view.modules chosen name) refl e
   where
-    go : (own : Option Meaning) → own_meaning view.modules chosen name ≡ own → own_or own (weak_step chosen (weak_named view.modules name) (alternate_step (alternate_named view name))) ≡ Ends (Ok (meaning.Section position section value)) → MeansPlace view.modules chosen position section value
+    go : (own : Option Meaning) → own_meaning view.modules chosen name ≡ own → own_or own (weak_step chosen (weak_named view.modules name) (alternate_step name (alternate_named view name))) ≡ Ends (Ok (meaning.Section position section value)) → MeansPlace view.modules chosen position section value
     go None is e =
-        weak_place view.modules chosen (weak_named view.modules name) (alternate_named view name) position section value (λ entry found. found_is (IsSaid view.modules) (says name) (all_weaks view.modules) entry (weaks_are view.modules) found) e
+        weak_place view.modules chosen name (weak_named view.modules name) (alternate_named view name) position section value (λ entry found. found_is (IsSaid view.modules) (says name) (all_weaks view.modules) entry (weaks_are view.modules) found) e
     go (Some m) is e =
         let means : Ok m ≡ Ok (meaning.Section position section value) = ends_are (Ok m) (Ok (meaning.Section position section value)) e in
         let same : Some m ≡ Some (meaning.Section position section value) = cc in
@@ -238,6 +242,15 @@ step_place view chosen name position section value e = go (own_meaning view.modu
 
 -- ---- a name
 
+-- a slot is no place in a section
+no_slot_place : (name : List ℕ) (end : Result Meaning NoMeaning) (position section value : ℕ) → slot_of name end ≡ Ok (meaning.Section position section value) → ⊥
+no_slot_place name (Err none) position section value e = cc
+no_slot_place name (Ok meant) position section value e = go (is_local_slot meant) e
+  where
+    go : (b : Bool) → cond b (Err Undefined) (Ok (meaning.LocalSlot name)) ≡ Ok (meaning.Section position section value) → ⊥
+    go true e = cc
+    go false e = cc
+
 within_place : (view : LinkView) (chosen : List (List Bool)) (steps : ℕ) (name : List ℕ) (position section value : ℕ) → meaning_within view chosen steps name ≡ Ok (meaning.Section position section value) → MeansPlace view.modules chosen position section value
 unfolding meaning_within
 within_place view chosen zero name position section value e = absurd cc
@@ -246,12 +259,13 @@ within_place view chosen (suc steps) name position section value e =
   where
     go : (s : Step) → step view chosen name ≡ s → at_end (meaning_within view chosen steps) s ≡ Ok (meaning.Section position section value) → ((other : List ℕ) → meaning_within view chosen steps other ≡ Ok (meaning.Section position section value) → MeansPlace view.modules chosen position section value) → MeansPlace view.modules chosen position section value
     go (Ends end) is e later = step_place view chosen name position section value (is ∙ ap Ends e)
-    go (Leads other) is e later = later other e
+    go (Leads false other) is e later = later other e
+    go (Leads true other) is e later = absurd (no_slot_place other (meaning_within view chosen steps other) position section value e)
 
 pub meaning_stands : (view : LinkView) (chosen : List (List Bool)) (name : List ℕ) (position section value : ℕ) → meaning_of view chosen name ≡ Ok (meaning.Section position section value) → MeansPlace view.modules chosen position section value
 unfolding meaning_of
 meaning_stands view chosen name position section value e =
-    within_place view chosen (most_steps view + 1) name position section value e
+    within_place view chosen (length (names_ahead view name) + 1) name position section value e
 
 -- each of the modules opens
 pub module_opens : (modules : List ModuleView) (position : ℕ) → All IsOpened modules → position < length modules → opening_error (module_at modules position).bytes ≡ None

@@ -11,3 +11,4 @@ pub mod PassLemmas
 pub mod WeakLemmas
 pub mod TableLemmas
 pub mod WorkedNames
+pub mod RestLemmas

@@ -33,10 +33,10 @@ own_is modules chosen names firsts commons number name first greatest numbered =
     (ap (option_map kept_meaning) (greatest number name numbered) ∙ common_means (common_named modules name))
 
 -- one more name
-pub step_is : (view : LinkView) (chosen : List (List Bool)) (names : List (List ℕ)) (firsts : List (Option FirstLive)) (commons : List (Option GreatestCommon)) (weaks : List (Option FirstWeak)) (alternates : List (Option ℕ)) (number : ℕ) (name : List ℕ) (own : Option Meaning) (link : Link) → AreFirst names (live_definitions view.modules chosen) firsts → TellsGreatest names (all_commons view.modules) commons → TellsWeaks names (all_weaks view.modules) weaks → TellsAlternates names (all_alternates view) alternates → Numbers names number name → own ≡ option_or (option_map first_meaning (get_or firsts number None)) (option_or (option_map kept_meaning (get_or commons number None)) (linker_meaning name)) → ((entry : Option Said) (pair : Option (List ℕ × List ℕ)) → KeepsWeak names entry (get_or weaks number None) → KeepsAlternate names pair (get_or alternates number None) → IsStep names (own_or own (weak_step chosen entry (alternate_step pair))) link) → IsStep names (step view chosen name) link
+pub step_is : (view : LinkView) (chosen : List (List Bool)) (names : List (List ℕ)) (firsts : List (Option FirstLive)) (commons : List (Option GreatestCommon)) (weaks : List (Option FirstWeak)) (alternates : List (Option ℕ)) (number : ℕ) (name : List ℕ) (own : Option Meaning) (link : Link) → AreFirst names (live_definitions view.modules chosen) firsts → TellsGreatest names (all_commons view.modules) commons → TellsWeaks names (all_weaks view.modules) weaks → TellsAlternates names (all_alternates view) alternates → Numbers names number name → own ≡ option_or (option_map first_meaning (get_or firsts number None)) (option_or (option_map kept_meaning (get_or commons number None)) (linker_meaning name)) → ((entry : Option Said) (pair : Option (List ℕ × List ℕ)) → KeepsWeak names entry (get_or weaks number None) → KeepsAlternate names pair (get_or alternates number None) → IsStep names (own_or own (weak_step chosen entry (alternate_step name pair))) link) → IsStep names (step view chosen name) link
 unfolding step
 step_is view chosen names firsts commons weaks alternates number name own link first greatest weak alternate numbered is each =
-    subst (λ (o : Option Meaning). IsStep names (own_or o (weak_step chosen (weak_named view.modules name) (alternate_step (alternate_named view name)))) link)
+    subst (λ (o : Option Meaning). IsStep names (own_or o (weak_step chosen (weak_named view.modules name) (alternate_step name (alternate_named view name)))) link)
     (is ∙ own_is view.modules chosen names firsts commons number name first greatest numbered)
     (each (weak_named view.modules name) (alternate_named view name) (weak number name numbered) (alternate number name numbered))
 

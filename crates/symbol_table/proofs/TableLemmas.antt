@@ -193,9 +193,9 @@ steps_below view chosen names links steps = λ k d lt.
   where
     below : (s : Step) (l : Link) → IsStep names s l → LeadsBelow (length links) l
     below (Ends end) (link.Ends other) is = tt
-    below (Leads name) (link.Leads number) is = omega (arith, number_within names number name is, steps.long)
-    below (Ends end) (link.Leads number) is = absurd is
-    below (Leads name) (link.Ends other) is = absurd is
+    below (Leads slot name) (link.Leads number slotted) is = omega (arith, number_within names number name is.1, steps.long)
+    below (Ends end) (link.Leads number slotted) is = absurd is
+    below (Leads slot name) (link.Ends other) is = absurd is
 
 -- the steps of all names, by what the passes say of the modules
 pub steps_hold : (names : List (List ℕ)) (given : GivenNames) (noted : List NotedAlternate) (kept m1 m3 m4 m5 : List ModuleNames) (chosen c2 c8 : List (Vec Bool Global)) (firsts f5 : List (Option FirstLive)) (clash : Option Clash) (commons k6 : List (Option GreatestCommon)) (weaks w7 : List (Option FirstWeak)) (alternates a9 : List (Option ℕ)) (links : List Link) → KeepsLink names given kept → noted ≡ given.noted.items → m1 ≡ kept → c2 ≡ chosen → m3 ≡ kept → m4 ≡ kept → m5 ≡ kept → f5 ≡ firsts → k6 ≡ commons → w7 ≡ weaks → a9 ≡ alternates → c8 ≡ chosen → AreLives names (live_definitions (map noted_view m1) (rows_of c2)) firsts clash → TellsGreatest names (all_commons (map noted_view m3)) commons → TellsWeaks names (all_weaks (map noted_view m4)) weaks → ((pairs : List (List ℕ × List ℕ)) → AllZip (NotesAlternate names) pairs noted → TellsAlternates names (pairs ++ of_all alternates_by (map noted_view m5)) alternates) → ((view : LinkView) → AreFirst names (live_definitions view.modules (rows_of c8)) f5 → TellsGreatest names (all_commons view.modules) k6 → TellsWeaks names (all_weaks view.modules) w7 → TellsAlternates names (all_alternates view) a9 → AreSteps view (rows_of c8) names links) → AreSteps (link_view given kept) (rows_of chosen) names links

@@ -69,7 +69,7 @@ weakly : ℕ → ℕ → WeakDefault → Said
 weakly name position said = record { «module» = position; name = name ∷ []; default = said }
 
 -- `a` of the module 0 leads to `b`, though that of the module 1 is a number
-first_weak : weak_step rows (find (says (97 ∷ [])) (weakly 97 0 (default.Name (98 ∷ [])) ∷ weakly 97 1 (default.Absolute 7) ∷ [])) (Ends (Err Undefined)) ≡ Leads (98 ∷ [])
+first_weak : weak_step rows (find (says (97 ∷ [])) (weakly 97 0 (default.Name (98 ∷ [])) ∷ weakly 97 1 (default.Absolute 7) ∷ [])) (Ends (Err Undefined)) ≡ Leads false (98 ∷ [])
 unfolding weakly
 first_weak = refl
 
@@ -85,26 +85,27 @@ place_of_lost = refl
 -- ---- names of the linker
 
 -- a default is not looked at where the linker means something by the name
-before_its_default : own_or (linker_meaning (codes "__ImageBase")) (Leads (98 ∷ [])) ≡ Ends (Ok meaning.ImageBase)
+before_its_default : own_or (linker_meaning (codes "__ImageBase")) (Leads false (98 ∷ [])) ≡ Ends (Ok meaning.ImageBase)
 unfolding linker_meaning
 before_its_default = refl
 
 -- ---- alternates
 
 -- of two alternates of `a`, the first
-first_alternate : alternate_step (find (is_left (97 ∷ [])) ((97 ∷ [], 98 ∷ []) ∷ (97 ∷ [], 99 ∷ []) ∷ [])) ≡ Leads (98 ∷ [])
+first_alternate : alternate_step (97 ∷ []) (find (is_left (97 ∷ [])) ((97 ∷ [], 98 ∷ []) ∷ (97 ∷ [], 99 ∷ []) ∷ [])) ≡ Leads false (98 ∷ [])
 first_alternate = refl
 
 -- none is looked at where a weak external is there, though it means nothing
-behind_its_weak : weak_step rows (Some (weakly 97 0 default.Nothing)) (Leads (98 ∷ [])) ≡ Ends (Err Undefined)
+behind_its_weak : weak_step rows (Some (weakly 97 0 default.Nothing)) (Leads false (98 ∷ [])) ≡ Ends (Err Undefined)
 unfolding weakly
 behind_its_weak = refl
 
--- no modules, and alternates that lead from `a` to `b` and on to the image's address, and from `c` to `d` and back
+-- no modules, and alternates that lead from `a` to `b` and on to the image's address, from `c` to `d` and back, and from `f` to
+-- its slot
 standing : LinkView
 standing = record {
   words = [];
-  alternates = (97 ∷ [], 98 ∷ []) ∷ (98 ∷ [], codes "__ImageBase") ∷ (99 ∷ [], 100 ∷ []) ∷ (100 ∷ [], 99 ∷ []) ∷ [];
+  alternates = (97 ∷ [], 98 ∷ []) ∷ (98 ∷ [], codes "__ImageBase") ∷ (99 ∷ [], 100 ∷ []) ∷ (100 ∷ [], 99 ∷ []) ∷ (102 ∷ [], codes "__imp_f") ∷ [];
   modules = [];
 }
 
@@ -119,6 +120,32 @@ back_again = refl
 without_any : meaning_of standing [] (101 ∷ []) ≡ Err Undefined
 unfolding meaning_of meaning_within step linker_meaning standing
 without_any = refl
+
+-- ---- slots
+
+-- of `a`, which points to what the chain of `a` ends with
+slot_of_a : meaning_of standing [] (codes "__imp_a") ≡ Ok (meaning.LocalSlot (97 ∷ []))
+unfolding meaning_of meaning_within step linker_meaning standing
+slot_of_a = refl
+
+-- there is none of a slot that is made so
+slot_of_slot : meaning_of standing [] (codes "__imp___imp_a") ≡ Err Undefined
+unfolding meaning_of meaning_within step linker_meaning standing
+slot_of_slot = refl
+
+-- none of what means nothing, and none of what has no end
+slot_of_nothing : meaning_of standing [] (codes "__imp_e") ≡ Err Undefined
+unfolding meaning_of meaning_within step linker_meaning standing
+slot_of_nothing = refl
+
+slot_of_cycle : meaning_of standing [] (codes "__imp_c") ≡ Err WeakCycle
+unfolding meaning_of meaning_within step linker_meaning standing
+slot_of_cycle = refl
+
+-- a name that leads to its own slot comes back
+back_by_slot : meaning_of standing [] (102 ∷ []) ≡ Err WeakCycle
+unfolding meaning_of meaning_within step linker_meaning standing
+back_by_slot = refl
 
 -- ---- names that are asked for
 

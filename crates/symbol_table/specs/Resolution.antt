@@ -1,8 +1,9 @@
 -- What a name means in a list of modules, by their positions, where rows tell which of their sections are chosen (PE Format,
 -- "COFF Symbol Table" and "Weak Externals"; alternates, and the order among commons and among defaults, are own).
-use Rattle.std.specs.Prelude.{ℕ, suc, zero, ◌+◌, Bool, nat_le, if◌then◌else◌, List, length, filter, Option, Some, None, Result, Ok, Err, option_map}
-use Rattle.std.specs.List.{find, list_all}
+use Rattle.std.specs.Prelude.{ℕ, suc, zero, ◌+◌, Bool, true, false, nat_le, if◌then◌else◌, List, ◌∷◌, ◌++◌, length, map, drop, filter, filter_map, Option, Some, None, Result, Ok, Err, option_map}
+use Rattle.std.specs.List.{find, list_all, flat_map, range_with_len}
 use Rattle.std.specs.Option.{option_or}
+use Rattle.link_base.specs.NameText.{begins_import, behind_import}
 use Rattle.module_view.specs.Module.{ModuleView}
 use Rattle.module_view.specs.declared.definition.Place.{Place}
 use Rattle.module_view.specs.declared.definition.Place.TheVariants as place
@@ -60,26 +61,37 @@ meaning_if (Some meaning) = Ok meaning
 
 -- ---- a step of a chain
 
--- a name ends a chain with a meaning or with nothing, or leads to another name
+-- a name ends a chain with a meaning or with nothing, or leads to another name, to which it may be a slot
 pub data Step : Type 0 where
   Ends : Result Meaning NoMeaning → Step
-  Leads : List ℕ → Step
+  Leads : (slot : Bool) → List ℕ → Step
 
 -- a place in a section that is not chosen is nothing
 abbrev pub place_meaning : List (List Bool) → ℕ → ℕ → ℕ → Result Meaning NoMeaning
 place_meaning chosen position section value =
     if is_chosen_in chosen position section then Ok (meaning.Section position section value) else Err Undefined
 
+-- the name that a default leads to
+abbrev pub name_said : WeakDefault → Option (List ℕ)
+name_said (default.Name name) = Some name
+name_said (default.Place section value) = None
+name_said (default.Absolute value) = None
+name_said default.Nothing = None
+
 abbrev pub default_step : List (List Bool) → ℕ → WeakDefault → Step
-default_step chosen position (default.Name name) = Leads name
+default_step chosen position (default.Name name) = Leads false name
 default_step chosen position (default.Place section value) = Ends (place_meaning chosen position section value)
 default_step chosen position (default.Absolute value) = Ends (Ok (meaning.Absolute value))
 default_step chosen position default.Nothing = Ends (Err Undefined)
 
+-- a name that begins with the import prefix, and that no import defines, is that of a slot of the name after the prefix (own)
+abbrev pub slot_step : List ℕ → Step
+slot_step name = if begins_import name then Leads true (behind_import name) else Ends (Err Undefined)
+
 -- a name without a weak external means what its alternate means
-abbrev pub alternate_step : Option (List ℕ × List ℕ) → Step
-alternate_step None = Ends (Err Undefined)
-alternate_step (Some pair) = Leads pair.1
+abbrev pub alternate_step : List ℕ → Option (List ℕ × List ℕ) → Step
+alternate_step name None = slot_step name
+alternate_step name (Some pair) = Leads false pair.1
 
 abbrev pub weak_step : List (List Bool) → Option Said → Step → Step
 weak_step chosen None step = step
@@ -98,24 +110,55 @@ own_meaning modules chosen name =
 unfoldable pub step : LinkView → List (List Bool) → List ℕ → Step
 step link chosen name =
     own_or (own_meaning link.modules chosen name)
-    (weak_step chosen (weak_named link.modules name) (alternate_step (alternate_named link name)))
+    (weak_step chosen (weak_named link.modules name) (alternate_step name (alternate_named link name)))
 
 -- ---- a chain
 
+abbrev pub is_local_slot : Meaning → Bool
+is_local_slot (meaning.LocalSlot name) = true
+is_local_slot (meaning.Section position section value) = false
+is_local_slot (meaning.Common position symbol) = false
+is_local_slot (meaning.Slot position) = false
+is_local_slot (meaning.Thunk position) = false
+is_local_slot (meaning.Absolute value) = false
+is_local_slot meaning.ImageBase = false
+
+-- what a slot of a name means, by what the name means: a pointer to that, but for a pointer there is none
+abbrev pub slot_of : List ℕ → Result Meaning NoMeaning → Result Meaning NoMeaning
+slot_of name (Err none) = Err none
+slot_of name (Ok meant) = if is_local_slot meant then Err Undefined else Ok (meaning.LocalSlot name)
+
+-- what a name means that leads to another, or is a slot of it, by what that one means
+abbrev pub passed_on : Bool → List ℕ → Result Meaning NoMeaning → Result Meaning NoMeaning
+passed_on false name end = end
+passed_on true name end = slot_of name end
+
 abbrev pub at_end : (List ℕ → Result Meaning NoMeaning) → Step → Result Meaning NoMeaning
 at_end means (Ends end) = end
-at_end means (Leads name) = means name
+at_end means (Leads slot name) = passed_on slot name (means name)
 
 -- the end of a chain within a number of steps
 unfoldable pub meaning_within : LinkView → List (List Bool) → ℕ → List ℕ → Result Meaning NoMeaning
 meaning_within link chosen zero name = Err WeakCycle
 meaning_within link chosen (suc steps) name = at_end (meaning_within link chosen steps) (step link chosen name)
 
--- how many weak externals and alternates there are
-abbrev pub most_steps : LinkView → ℕ
-most_steps link = length (all_weaks link.modules) + length (all_alternates link)
+abbrev pub default_name : Said → Option (List ℕ)
+default_name entry = name_said entry.default
 
--- what a name means is the end of its chain. Each name that leads to another is that of a weak external or the left one of an
--- alternate, so that a chain that has not ended after one step more than there are of these has come to a name twice
+-- the names that weak externals and alternates lead to
+abbrev pub led_to : LinkView → List (List ℕ)
+led_to link = filter_map default_name (all_weaks link.modules) ++ map (λ pair. pair.1) (all_alternates link)
+
+-- what is left of a text without its first bytes, however many
+abbrev pub tails_of : List ℕ → List (List ℕ)
+tails_of text = map (λ k. drop k text) (range_with_len 0 (length text + 1))
+
+-- the names that the chain of a name can come to: what is left of the name, or of one that a weak external or an alternate leads
+-- to, without prefixes
+abbrev pub names_ahead : LinkView → List ℕ → List (List ℕ)
+names_ahead link name = flat_map tails_of (name ∷ led_to link)
+
+-- what a name means is the end of its chain: one that has not ended after one step more than there are names that it can come to
+-- has come to a name twice
 unfoldable pub meaning_of : LinkView → List (List Bool) → List ℕ → Result Meaning NoMeaning
-meaning_of link chosen name = meaning_within link chosen (most_steps link + 1) name
+meaning_of link chosen name = meaning_within link chosen (length (names_ahead link name) + 1) name

@@ -19,6 +19,7 @@ mod linker_names;
 mod lives;
 mod meaning;
 mod resolved;
+mod rests;
 mod table;
 
 pub use laws::tables_are_shared;

@@ -1,16 +1,16 @@
 //! Where names lead, by their numbers.
 
-ghost use Rattle.std.specs.Prelude.{◌≡◌, ◌<◌, ℕ, List, Option, None, length, slice_index_or, option_map, IfOk};
+ghost use Rattle.std.specs.Prelude.{◌≡◌, ◌<◌, ℕ, List, Option, None, false, length, slice_index_or, option_map, IfOk};
 ghost use Rattle.std.specs.Option.{option_or};
 ghost use Rattle.symbol_names.specs.Alternates.{all_alternates};
 ghost use Rattle.symbol_names.specs.LinkView.{LinkView};
 ghost use Rattle.symbol_table.specs.LinkerNames.{linker_meaning};
 ghost use Rattle.symbol_names.specs.Lists.{Said, live_definitions, all_commons, all_weaks};
-ghost use Rattle.symbol_table.specs.Resolution.{meaning_at, place_meaning, default_step, alternate_step, own_or, weak_step};
+ghost use Rattle.symbol_table.specs.Resolution.{meaning_at, place_meaning, default_step, slot_step, alternate_step, own_or, weak_step};
 ghost use Rattle.symbol_names.specs.Kept.{rows_of};
 ghost use Rattle.symbol_table.specs.Passes.{first_meaning, kept_meaning, AreFirst, TellsGreatest, KeepsSaid, KeepsWeak, TellsWeaks, KeepsAlternate, TellsAlternates};
 ghost use Rattle.symbol_names.specs.Interning.{Numbers};
-ghost use Rattle.symbol_table.specs.Links.{IsStep, AreSteps};
+ghost use Rattle.symbol_table.specs.Links.{IsStep, HasRests, AreSteps};
 
 use crate::first_weak::FirstWeak;
 use crate::greatest::GreatestCommon;
@@ -28,8 +28,8 @@ use symbol_names::{NotedDefault, is_chosen, name_at};
 pub(crate) enum Link<'a> {
     /// To no other: what it means, or why it means nothing.
     Ends(Result<Meaning<'a>, NoMeaning>),
-    /// To the name of a number.
-    Leads(usize),
+    /// To the name of a number, of which it may be a slot.
+    Leads { number: usize, slot: bool },
 }
 
 /// Where each name leads, by its number. The lists of commons, weak externals and alternates may end before it.
@@ -42,7 +42,8 @@ pub(crate) fn links<'a>(
     alternates: &[Option<u32>],
     chosen: &[Vec<bool>],
 ) -> Result<Vec<Link<'a>>, Memory>
-    requires { length firsts.now ≡ length names.now.keys }
+    requires long { length firsts.now ≡ length names.now.keys }
+    requires rests { HasRests names.now.keys }
     ensures { IfOk result (λ links. (view : LinkView)
         → AreFirst names.now.keys (live_definitions view.modules (rows_of chosen.now)) firsts.now
         → TellsGreatest names.now.keys (all_commons view.modules) commons.now
@@ -55,7 +56,8 @@ pub(crate) fn links<'a>(
         let own = own_meaning(names, number, firsts[number], entry_at(commons, number));
         let weak = entry_at(weaks, number);
         let alternate = entry_at(alternates, number);
-        links.push(link_of(own, weak, alternate, chosen))?;
+        let slot = slot_link(names, number);
+        links.push(link_of(own, weak, alternate, chosen, slot))?;
     }
     Ok(links)
 }
@@ -70,23 +72,24 @@ fn entry_at<T: Copy>(list: &[Option<T>], number: usize) -> Option<T>
     }
 }
 
-/// Where a name leads, by what it means without its default and its alternate.
+/// Where a name leads, by what it means without its default and its alternate, and by where it leads if it has neither.
 fn link_of<'a>(
     own: Option<Meaning<'a>>,
     weak: Option<FirstWeak>,
     alternate: Option<u32>,
     chosen: &[Vec<bool>],
+    slot: Link<'a>,
 ) -> Link<'a>
-    ensures { (names : List (List ℕ)) (entry : Option Said) (pair : Option (List ℕ × List ℕ)) → KeepsWeak names entry weak
-        → KeepsAlternate names pair alternate
-        → IsStep names (own_or own.entry (weak_step (rows_of chosen.now) entry (alternate_step pair))) result }
+    ensures { (names : List (List ℕ)) (name : List ℕ) (entry : Option Said) (pair : Option (List ℕ × List ℕ))
+        → IsStep names (slot_step name) slot.entry → KeepsWeak names entry weak → KeepsAlternate names pair alternate
+        → IsStep names (own_or own.entry (weak_step (rows_of chosen.now) entry (alternate_step name pair))) result }
 {
     if let Some(meaning) = own {
         return Link::Ends(Ok(meaning));
     }
     match weak {
         Some(weak) => weak_link(weak, chosen),
-        None => alternate_link(alternate),
+        None => alternate_link(alternate, slot),
     }
 }
 
@@ -135,7 +138,7 @@ fn weak_link<'a>(weak: FirstWeak, chosen: &[Vec<bool>]) -> Link<'a>
         → IsStep names (default_step (rows_of chosen.now) entry.«module» entry.default) result }
 {
     match weak.default {
-        NotedDefault::Name(number) => Link::Leads(number as usize),
+        NotedDefault::Name(number) => leads_to(number as usize),
         NotedDefault::Place { section, value } => {
             Link::Ends(place_meaning(weak.module, section, value, chosen))
         }
@@ -144,14 +147,40 @@ fn weak_link<'a>(weak: FirstWeak, chosen: &[Vec<bool>]) -> Link<'a>
     }
 }
 
-/// Where a name leads by its first alternate.
-fn alternate_link<'a>(alternate: Option<u32>) -> Link<'a>
-    ensures { (names : List (List ℕ)) (pair : Option (List ℕ × List ℕ)) → KeepsAlternate names pair alternate
-        → IsStep names (alternate_step pair) result }
+/// Where a name leads by its first alternate, or else by itself.
+fn alternate_link<'a>(alternate: Option<u32>, slot: Link<'a>) -> Link<'a>
+    ensures { (names : List (List ℕ)) (name : List ℕ) (pair : Option (List ℕ × List ℕ)) → IsStep names (slot_step name) slot.entry
+        → KeepsAlternate names pair alternate → IsStep names (alternate_step name pair) result }
 {
     match alternate {
-        Some(number) => Link::Leads(number as usize),
-        None => Link::Ends(Err(NoMeaning::Undefined)),
+        Some(number) => leads_to(number as usize),
+        None => slot,
+    }
+}
+
+/// To the name of a number, of which it is no slot.
+fn leads_to<'a>(number: usize) -> Link<'a>
+    ensures { result ≡ Link.Leads number false }
+{
+    Link::Leads {
+        number,
+        slot: false,
+    }
+}
+
+/// Where the name of a number leads by itself: a slot to the name after the import prefix, and any other nowhere.
+fn slot_link<'a>(names: &IndexSet<Name<'a>>, number: usize) -> Link<'a>
+    requires within { number < length names.now.keys }
+    requires rests { HasRests names.now.keys }
+    ensures { (name : List ℕ) → Numbers names.now.keys number name → IsStep names.now.keys (slot_step name) result }
+{
+    let name = name_at(names, number);
+    if !name.is_import() {
+        return Link::Ends(Err(NoMeaning::Undefined));
+    }
+    match names.get_index_of(&Name::of(name.rest())) {
+        Some(number) => Link::Leads { number, slot: true },
+        None => unreachable!(),
     }
 }
 

@@ -9,7 +9,7 @@ ghost use Rattle.symbol_names.specs.Lists.{is_chosen_in};
 ghost use Rattle.symbol_table.specs.Clash.{clash_of};
 ghost use Rattle.symbol_table.specs.Resolution.{meaning_of};
 
-use crate::chains::end_of;
+use crate::chains::{end_of, slot_of};
 use crate::link::Link;
 use crate::linker_names::linker_meaning;
 use crate::meaning::{Clash, Meaning, NoMeaning};
@@ -66,15 +66,23 @@ impl<'a> ResolvedNames<'a> {
     }
 
     /// What a name means: its first live definition, its greatest common, what the linker means by it, what its first weak
-    /// external does by default, or what the name does that its first alternate stands for.
+    /// external does by default, or what the name does that its first alternate stands for. A name that begins with the import
+    /// prefix and has none of these is that of a slot that points to what the name after the prefix means.
     pub fn resolve(&self, name: Name<'a>) -> Result<Meaning<'a>, NoMeaning>
         ensures meaning { result ≡ meaning_of self.now.link self.now.chosen name.entry }
         ensures opened { All IsOpened self.now.link.modules }
     {
-        match self.names.get_index_of(&name) {
-            Some(number) => end_of(&self.links[number]),
-            None => linker_meaning(&name).ok_or(NoMeaning::Undefined),
+        if let Some(number) = self.names.get_index_of(&name) {
+            return end_of(&self.links[number]);
         }
+        if let Some(meaning) = linker_meaning(&name) {
+            return Ok(meaning);
+        }
+        if !name.is_import() {
+            return Err(NoMeaning::Undefined);
+        }
+        let rest = Name::of(name.rest());
+        slot_of(rest.again(), self.resolve(rest))
     }
 
     /// What the name of a symbol means, by the position of its module and its record.

@@ -17,6 +17,7 @@ use crate::link::links;
 use crate::linker_names::linker_meaning;
 use crate::lives::{Lives, live_definitions};
 use crate::resolved::ResolvedNames;
+use crate::rests::note_rests;
 use indexmap::IndexSet;
 use link_base::{Memory, Name};
 use module_view::Module;
@@ -150,11 +151,12 @@ impl<'a> SymbolTable<'a> {
         ensures { IfOk result (λ names. names ≡ record { link = self.entry; chosen = rows_of chosen.items }) }
     {
         let SymbolTable {
-            names,
+            mut names,
             given,
             modules,
             ..
         } = self;
+        note_rests(&mut names)?;
         let Lives { firsts, clash } = live_definitions(alloc, &names, &modules, &chosen)?;
         let commons = greatest_commons(alloc, &names, &modules)?;
         let weaks = first_weaks(alloc, &names, &modules)?;
@@ -168,7 +170,7 @@ impl<'a> SymbolTable<'a> {
             &alternates,
             &chosen,
         )?;
-        settle(alloc, &mut links)?;
+        settle(alloc, &names, &mut links)?;
         Ok(ResolvedNames {
             names,
             given,

@@ -1,7 +1,7 @@
 use Rattle.std.proofs.Common.{ap}
 use Rattle.symbol_names.specs.Interning.{AreRecords}
 use Rattle.symbol_names.proofs.RecordLemmas.{none_noted, plain_definitions}
-use Rattle.std.proofs.Common.{List, ℕ, subst, sym, Vec, Global, ◌∙◌}
+use Rattle.std.proofs.Common.{ℕ, subst, sym, Vec, Global, ◌∙◌}
 use Rattle.symbol_names.proofs.lists.note_provided.Goals as goal
 use Rattle.symbol_names.proofs.lists.note_provided.Goals.{then-is_some, else-is_some}
 

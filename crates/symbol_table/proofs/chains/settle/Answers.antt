@@ -12,10 +12,13 @@ use Rattle.symbol_table.proofs.chains.settle.Goals.{then-is_some+in_ok-follow, e
 pub loop-number-init : goal.loop-number-init
 loop-number-init c = record {
   long = refl;
-  below = c.requires;
-  known = λ view chosen names known. known;
+  below = c.requires.below;
+  known = λ view chosen known. known;
   done = λ number less. absurd (omega (arith, less));
 }
+
+pub follow-requires-clause-long : goal.follow-requires-clause-long
+follow-requires-clause-long c = c.loop-number.invariant.long ∙ c.requires.long
 
 pub follow-requires-clause-within : goal.follow-requires-clause-within
 follow-requires-clause-within c =
@@ -29,6 +32,7 @@ follow-requires-clause-below c =
 pub loop-number-preserved : goal.loop-number-preserved
 loop-number-preserved c =
     let before = c.loop-number.invariant in
+    let names = c.args.names.now.keys in
     let start = c.args.links.now.items in
     let now = c.loop-number.links.items in
     let number = c.loop-number.number in
@@ -37,20 +41,21 @@ loop-number-preserved c =
     elim c.if-is_some.branch [
       | then-is_some+in_ok-follow w ↦
           let followed = w.in_ok-follow.ensures in
-          subst (λ (links : Vec Link Global). AreSettled start links.items (number + 1)) (sym w.links-is)
-          (settled_more start now w.follow.new.links.items number before followed.long followed.below followed.known followed.ended followed.stay)
+          subst (λ (links : Vec Link Global). AreSettled names start links.items (number + 1)) (sym w.links-is)
+          (settled_more names start now w.follow.new.links.items number before followed.long followed.below followed.known followed.ended followed.stay)
       | else-is_some w ↦
-          subst (λ (links : Vec Link Global). AreSettled start links.items (number + 1)) (sym w.links-is)
-          (settled_same start now number before (ap next_of (sym read) ∙ sym c.next_of.ensures ∙ none_from c.next_of.result (sym c.is_some.ensures ∙ w.if-is_some.false)))
+          subst (λ (links : Vec Link Global). AreSettled names start links.items (number + 1)) (sym w.links-is)
+          (settled_same names start now number before (ap next_of (sym read) ∙ sym c.next_of.ensures ∙ none_from c.next_of.result (sym c.is_some.ensures ∙ w.if-is_some.false)))
     ]
 
 pub returns : goal.returns
-returns c = λ view chosen names are.
+returns c = λ view chosen are.
+    let names = c.args.names.now.keys in
     let before = c.loop-number.invariant in
     let whole : length c.args.links.now.items ≤ c.loop-number.number = omega (arith, c.loop-number-test.false, c.len-number-end.ensures, c.args.links.now.ok.0) in
     record {
       long = before.long ∙ are.long;
       each = λ number name numbered.
-          known_end view chosen names c.loop-number.links.items number name (before.known view chosen names (steps_known view chosen names c.args.links.now.items are)) numbered
+          known_end view chosen names c.loop-number.links.items number name (before.known view chosen (steps_known view chosen names c.args.links.now.items are)) numbered
           (before.done number (omega (arith, slice_get_within names number name numbered, whole, are.long)));
     }

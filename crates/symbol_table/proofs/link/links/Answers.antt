@@ -31,7 +31,7 @@ loop-number-preserved c =
           subst (IsStep names (step view chosen name)) (sym (get_or_append_left links (link ∷ []) no_link j (omega (arith, long))) ∙ ap (λ (ls : List Link). link_at ls j) (sym c.in_ok-push.ensures.items)) (c.loop-number.invariant.each view j name first greatest weak alternate below numbered))
           (λ numbered.
           subst (IsStep names (step view chosen name)) (sym (get_or_push links link no_link number long) ∙ ap (λ (ls : List Link). link_at ls number) (sym c.in_ok-push.ensures.items))
-          (step_is view chosen names c.args.firsts.now c.args.commons.now c.args.weaks.now c.args.alternates.now number name c.own_meaning-own.result link first greatest weak alternate numbered (c.own_meaning-own.ensures name numbered ∙ ap (λ (common : Option GreatestCommon). option_or (option_map first_meaning (get_or c.args.firsts.now number None)) (option_or (option_map kept_meaning common) (linker_meaning name))) c.entry_at.ensures) (λ entry pair keeps stands. c.link_of.ensures names entry pair (subst (KeepsWeak names entry) (sym c.entry_at-weak.ensures) keeps) (subst (KeepsAlternate names pair) (sym c.entry_at-alternate.ensures) stands))))
+          (step_is view chosen names c.args.firsts.now c.args.commons.now c.args.weaks.now c.args.alternates.now number name c.own_meaning-own.result link first greatest weak alternate numbered (c.own_meaning-own.ensures name numbered ∙ ap (λ (common : Option GreatestCommon). option_or (option_map first_meaning (get_or c.args.firsts.now number None)) (option_or (option_map kept_meaning common) (linker_meaning name))) c.entry_at.ensures) (λ entry pair keeps stands. c.link_of.ensures names name entry pair (c.slot_link-slot.ensures name numbered) (subst (KeepsWeak names entry) (sym c.entry_at-weak.ensures) keeps) (subst (KeepsAlternate names pair) (sym c.entry_at-alternate.ensures) stands))))
           k lt;
     }
 
