@@ -1,7 +1,5 @@
 -- A loading that has gone on from a state, and how it goes on from there or ends.
-use Rattle.std.proofs.Common.{◌≡◌, ℕ, ◌+◌, ◌-◌, ◌*◌, ◌^◌, ◌<◌, ◌≤◌, Bool, true, false, cond, nat_lt, List, [], ◌∷◌, length, Option, Some, None, Err, sym, ap, ◌∙◌, lt-ltb, le-ltb, ◌⊎◌, inl, inr, arith}
-use Rattle.std.proofs.lemmas.Bool.{cases_lt}
-use Rattle.std.proofs.lemmas.List.{length-append}
+use Rattle.std.proofs.Common.{◌≡◌, ℕ, ◌+◌, ◌-◌, ◌*◌, ◌^◌, ◌<◌, Bool, true, false, cond, nat_lt, List, length, Option, Some, None, Err, sym, ap, ◌∙◌, lt-ltb, arith}
 use Rattle.std.specs.Option.{ForSome}
 use Rattle.link_base.specs.Limits.{MODULE_LIMIT}
 use Rattle.link_base.specs.declared.fault.Fault.{Fault}
@@ -18,7 +16,7 @@ use Rattle.file_search.specs.DefaultLibraries.{default_libraries}
 use Rattle.file_search.specs.DefaultSteps.{wanted_by}
 use Rattle.lib_search.specs.declared.link_list.LinkList.{LinkList}
 use Rattle.lib_search.specs.declared.loading.Loading.{Loading}
-use Rattle.lib_search.specs.SearchSteps.{MemberPlace, Searched, SearchState, Goes, goes_unless, member_at, with_member, join_fault, join_step, next_member, next_step, wants_library}
+use Rattle.lib_search.specs.SearchSteps.{MemberPlace, Searched, SearchState, Goes, goes_unless, with_member, join_fault, join_step, next_member, next_step, wants_library}
 use Rattle.lib_search.specs.Loading.{Reaches}
 use Rattle.lib_search.specs.LinkOf.{link_of}
 use Rattle.lib_search.specs.LoadingSteps.{state_now, modules_now, KeepsLoading, ReadsNext, ReadsDefault, GivesFrom, CompletesFrom}
@@ -74,13 +72,6 @@ capped n = cond (nat_lt n (2 ^ 64)) n 0
 capped_is : (n : ℕ) → n < 2 ^ 64 → capped n ≡ n
 capped_is n lt = ap (λ (b : Bool). cond b n 0) (lt-ltb n (2 ^ 64) lt)
 
-capped_below : (n : ℕ) → capped n < 2 ^ 64
-capped_below n = go (cases_lt n (2 ^ 64))
-  where
-    go : (n < 2 ^ 64) ⊎ (2 ^ 64 ≤ n) → capped n < 2 ^ 64
-    go (inl lt) = let same = capped_is n lt in omega (arith, same, lt)
-    go (inr le) = let none : capped n ≡ 0 = ap (λ (b : Bool). cond b n 0) (le-ltb n (2 ^ 64) le) in omega (arith, none)
-
 -- as many modules as may still join, and then the default libraries that are still to be read
 abbrev pub left_to_do : Loading → ℕ
 left_to_do loading = (MODULE_LIMIT + 1 - length (modules_now loading)) * 2 ^ 64 + capped (length (wanted_by loading.defaults) - loading.read)
@@ -95,12 +86,6 @@ less_to_read options loading more total after_total before after keeps lt few re
     let now = capped_is (length (wanted_by loading.defaults) - loading.read) (omega (arith, few)) in
     let later = capped_is (length (wanted_by more.defaults) - more.read) (omega (arith, same, few)) in
     omega (arith, same, modules, now, later, reads.one_more, lt)
-
-pub less_to_join : (loading more : Loading) (place : MemberPlace) → length (modules_now loading) ≤ MODULE_LIMIT → more.search.searched ≡ with_member loading.search.searched place → left_to_do more < left_to_do loading
-less_to_join loading more place few is =
-    let modules = ap (λ (s : Searched). length s.link.modules) is ∙ length-append (modules_now loading) (member_at loading.search.searched place ∷ []) in
-    let below = capped_below (length (wanted_by more.defaults) - more.read) in
-    omega (arith, modules, few, below)
 
 -- ---- the search
 
