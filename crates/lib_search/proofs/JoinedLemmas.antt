@@ -9,7 +9,7 @@ use Rattle.symbol_names.specs.References.{all_asked}
 use Rattle.file_search.specs.FoundFiles.{FoundFile}
 use Rattle.lib_search.specs.SearchSteps.{MemberPlace, Searched, member_at, with_member, with_library}
 use Rattle.lib_search.specs.LinkOf.{link_of}
-use Rattle.lib_search.specs.AlternateParts.{KeepsAlternates, KeepsSearch}
+use Rattle.lib_search.specs.AlternateParts.{KeepsAlternates, AreTogether}
 use Rattle.lib_search.specs.declared.alternates.Alternates.{Alternates}
 use Rattle.lib_search.proofs.PassedLemmas.{asked_longer}
 use Rattle.lib_search.proofs.WaitLemmas.{alternates_push, alternates_joined, keeps_joined}
@@ -27,10 +27,10 @@ module _ (s later : Searched) (place : MemberPlace) (asked : ℕ) (is : later �
       subst (λ (n : ℕ). KeepsAlternates later n a) (sym count)
       (subst (λ (v : Searched). KeepsAlternates v (length (all_asked s.link)) a) (sym is) (alternates_joined s place a keeps))
 
-pub keeps_now : (s later : Searched) (place : MemberPlace) (view : ModuleView) (modules more : List ModuleView) (before woken after : Alternates) (passed : ℕ) → later ≡ with_member s place → view ≡ member_at s place → more ≡ modules ++ view ∷ [] → woken.pairs.items ≡ before.pairs.items → after.pairs.items ≡ woken.pairs.items ++ alternates_by (length s.link.modules) view.bytes → KeepsAlternates later (length (all_asked later.link)) after → KeepsSearch s modules before passed → KeepsSearch later more after passed
+pub keeps_now : (s later : Searched) (place : MemberPlace) (view : ModuleView) (modules more : List ModuleView) (before woken after : Alternates) (passed : ℕ) → later ≡ with_member s place → view ≡ member_at s place → more ≡ modules ++ view ∷ [] → woken.pairs.items ≡ before.pairs.items → after.pairs.items ≡ woken.pairs.items ++ alternates_by (length s.link.modules) view.bytes → KeepsAlternates later (length (all_asked later.link)) after → AreTogether s modules before passed → AreTogether later more after passed
 keeps_now s later place view modules more before woken after passed is view_is more_is woken_is after_is kept keeps =
-    subst (λ (v : Searched). KeepsSearch v more after passed) (sym is)
-    (subst (λ (ms : List ModuleView). KeepsSearch (with_member s place) ms after passed) (sym (more_is ∙ ap (λ (v : ModuleView). modules ++ v ∷ []) view_is))
+    subst (λ (v : Searched). AreTogether v more after passed) (sym is)
+    (subst (λ (ms : List ModuleView). AreTogether (with_member s place) ms after passed) (sym (more_is ∙ ap (λ (v : ModuleView). modules ++ v ∷ []) view_is))
     (keeps_joined s place modules before after passed keeps
     (subst (λ (v : Searched). KeepsAlternates v (length (all_asked v.link)) after) is kept)
     (after_is
@@ -46,7 +46,7 @@ said_by_more options modules i m lt is =
 
 -- ---- a library is added
 
-pub keeps_library : (s later : Searched) (library : FoundFile) (modules : List ModuleView) (before after : Alternates) (passed : ℕ) → later ≡ with_library s library → after.pairs.items ≡ before.pairs.items → KeepsAlternates later (length (all_asked later.link)) after → KeepsSearch s modules before passed → KeepsSearch later modules after 0
+pub keeps_library : (s later : Searched) (library : FoundFile) (modules : List ModuleView) (before after : Alternates) (passed : ℕ) → later ≡ with_library s library → after.pairs.items ≡ before.pairs.items → KeepsAlternates later (length (all_asked later.link)) after → AreTogether s modules before passed → AreTogether later modules after 0
 keeps_library s later library modules before after passed is pairs kept keeps =
     let link : later.link ≡ s.link = ap (λ (v : Searched). v.link) is in
     record {

@@ -24,11 +24,13 @@ use Rattle.file_search.specs.DefaultLibraries.{default_names, default_libraries}
 use Rattle.file_search.specs.DefaultSteps.{KeepsDefaults, wanted_by}
 use Rattle.file_search.specs.Reading.{LeavesFiles, Tries, GivesNamed, ReadsNamed}
 use Rattle.lib_search.specs.declared.loading.Loading.{Loading}
+use Rattle.lib_search.specs.declared.search.Search.{Search}
 use Rattle.lib_search.specs.LinkOf.{link_of}
 use Rattle.lib_search.specs.Joining.{no_library}
 use Rattle.lib_search.specs.SearchSteps.{MemberPlace, Searched, SearchState, Faults, Goes, goes_unless, member_at, with_module, with_member, with_library, after_default, default_step_as, default_step, join_step, wants_library, next_default, next_member, next_step}
 use Rattle.lib_search.specs.Loading.{state_in, state_after_one, state_after, Reaches, HasLoadingFault, AtStep}
-use Rattle.lib_search.specs.LoadingSteps.{state_now, KeepsLoading, ReadsNext, ReadsDefault}
+use Rattle.lib_search.specs.AlternateParts.{KeepsSearch}
+use Rattle.lib_search.specs.LoadingSteps.{state_now, modules_now, KeepsLoading, ReadsNext, ReadsDefault}
 
 -- ---- files that stay as they are
 
@@ -104,12 +106,12 @@ next_named options loading total keeps = ap (λ (names : List (List ℕ)). text_
 pub next_wanted : (options : LinkOptions) (loading : Loading) (total : ℕ) → KeepsLoading options loading → loading.read < length (wanted_by loading.defaults) → wants_library options (state_now loading total) ≡ true
 next_wanted options loading total keeps lt =
     let long = ap (λ (names : List (List ℕ)). length names) keeps.defaults.wanted in
-    lt-ltb loading.read (length (default_libraries options loading.search.link.modules)) (omega (arith, lt, long))
+    lt-ltb loading.read (length (default_libraries options (modules_now loading))) (omega (arith, lt, long))
 
 pub none_wanted : (options : LinkOptions) (loading : Loading) (total : ℕ) → KeepsLoading options loading → length (wanted_by loading.defaults) ≤ loading.read → wants_library options (state_now loading total) ≡ false
 none_wanted options loading total keeps le =
     let long = ap (λ (names : List (List ℕ)). length names) keeps.defaults.wanted in
-    le-ltb loading.read (length (default_libraries options loading.search.link.modules)) (omega (arith, le, long))
+    le-ltb loading.read (length (default_libraries options (modules_now loading))) (omega (arith, le, long))
 
 pub next_within : (options : LinkOptions) (loading : Loading) (total : ℕ) → KeepsLoading options loading → wants_library options (state_now loading total) ≡ true → loading.read < length (wanted_by loading.defaults)
 next_within options loading total keeps wants = go (cases_lt loading.read (length (wanted_by loading.defaults)))
@@ -125,28 +127,42 @@ abbrev pub state_of : Searched → ℕ → ℕ → SearchState
 state_of searched total defaults = record { searched = searched; total = total; defaults = defaults }
 
 -- the same modules with more libraries
-keeps_library : (options : LinkOptions) (loading later : Loading) (found : FoundFile) → later.search ≡ with_library loading.search found → later.defaults ≡ loading.defaults → KeepsLoading options loading → KeepsLoading options later
-keeps_library options loading later found search defaults keeps =
-    let link : later.search.link ≡ loading.search.link = ap (λ (s : Searched). s.link) search in
+keeps_library : (options : LinkOptions) (loading later : Loading) (found : FoundFile) → later.search.searched ≡ with_library loading.search.searched found → later.defaults ≡ loading.defaults → KeepsSearch later.search → KeepsLoading options loading → KeepsLoading options later
+keeps_library options loading later found search defaults together keeps =
+    let link : later.search.searched.link ≡ loading.search.searched.link = ap (λ (s : Searched). s.link) search in
     record {
+      search = together;
       link_is = link ∙ keeps.link_is ∙ ap (λ (l : LinkView). link_of options l.modules) (sym link);
       few = let long = ap (λ (l : LinkView). length l.modules) link in omega (arith, long, keeps.few);
       defaults =
           subst (λ (l : LinkView). KeepsDefaults options (default_names options l.modules) later.defaults) (sym link)
-          (subst (KeepsDefaults options (default_names options loading.search.link.modules)) (sym defaults) keeps.defaults);
+          (subst (KeepsDefaults options (default_names options (modules_now loading))) (sym defaults) keeps.defaults);
+    }
+
+-- another search that stands where this one does
+pub keeps_search : (options : LinkOptions) (loading : Loading) (search : Search) → search.searched ≡ loading.search.searched → KeepsSearch search → KeepsLoading options loading → KeepsLoading options (record loading { search = search })
+keeps_search options loading search same together keeps =
+    let link : search.searched.link ≡ loading.search.searched.link = ap (λ (s : Searched). s.link) same in
+    record {
+      search = together;
+      link_is = link ∙ keeps.link_is ∙ ap (λ (l : LinkView). link_of options l.modules) (sym link);
+      few = let long = ap (λ (l : LinkView). length l.modules) link in omega (arith, long, keeps.few);
+      defaults = subst (λ (l : LinkView). KeepsDefaults options (default_names options l.modules) loading.defaults) (sym link) keeps.defaults;
     }
 
 -- a member joined
-pub keeps_member : (options : LinkOptions) (loading : Loading) (now : Searched) (place : MemberPlace) (view : ModuleView) (defaults : DefaultLibraries) (read : ℕ) → now ≡ with_member loading.search place → view ≡ member_at loading.search place → length loading.search.link.modules < MODULE_LIMIT → KeepsDefaults options (default_names options (loading.search.link.modules ++ view ∷ [])) defaults → KeepsLoading options loading → KeepsLoading options (record { search = now; defaults = defaults; read = read })
-keeps_member options loading now place view defaults read now_is view_is few names keeps =
-    let modules = loading.search.link.modules in
-    let link : now.link ≡ with_module loading.search.link (member_at loading.search place) = ap (λ (s : Searched). s.link) now_is in
-    let joined : now.link.modules ≡ modules ++ view ∷ [] =
+pub keeps_member : (options : LinkOptions) (loading : Loading) (now : Search) (place : MemberPlace) (view : ModuleView) (defaults : DefaultLibraries) (read : ℕ) → now.searched ≡ with_member loading.search.searched place → view ≡ member_at loading.search.searched place → length (modules_now loading) < MODULE_LIMIT → KeepsDefaults options (default_names options (modules_now loading ++ view ∷ [])) defaults → KeepsSearch now → KeepsLoading options loading → KeepsLoading options (record { search = now; defaults = defaults; read = read })
+keeps_member options loading now place view defaults read now_is view_is few names together keeps =
+    let modules = modules_now loading in
+    let member = member_at loading.search.searched place in
+    let link : now.searched.link ≡ with_module loading.search.searched.link member = ap (λ (s : Searched). s.link) now_is in
+    let joined : now.searched.link.modules ≡ modules ++ view ∷ [] =
     ap (λ (l : LinkView). l.modules) link ∙ ap (λ (v : ModuleView). modules ++ v ∷ []) (sym view_is) in
     record {
+      search = together;
       link_is =
           link
-          ∙ ap (λ (l : LinkView). with_module l (member_at loading.search place)) keeps.link_is
+          ∙ ap (λ (l : LinkView). with_module l member) keeps.link_is
           ∙ ap (link_of options) (ap (λ (v : ModuleView). modules ++ v ∷ []) (sym view_is) ∙ sym joined);
       few = let long = ap (λ (ms : List ModuleView). length ms) joined ∙ length-append modules (view ∷ []) in omega (arith, long, few);
       defaults = subst (λ (ms : List ModuleView). KeepsDefaults options (default_names options ms) defaults) (sym joined) names;
@@ -154,10 +170,10 @@ keeps_member options loading now place view defaults read now_is view_is few nam
 
 -- ---- a default library is read
 
-pub reads_next : (options : LinkOptions) (loading later : Loading) (total after_total : ℕ) (folders : List (List ℕ)) (name : List ℕ) (before after : FilesView) (found : FoundFile) → KeepsLoading options loading → wants_library options (state_now loading total) ≡ true → folders ≡ options.lib_paths → name ≡ next_default options (state_now loading total) → GivesNamed folders name total after_total before after found → later.search ≡ with_library loading.search found → later.defaults ≡ loading.defaults → later.read ≡ loading.read + 1 → no_library found ≡ None → ReadsNext options (state_now loading total) after_total before after later
-reads_next options loading later total after_total folders name before after found keeps wants folders_are named gives search defaults read well = record {
+pub reads_next : (options : LinkOptions) (loading later : Loading) (total after_total : ℕ) (folders : List (List ℕ)) (name : List ℕ) (before after : FilesView) (found : FoundFile) → KeepsLoading options loading → wants_library options (state_now loading total) ≡ true → folders ≡ options.lib_paths → name ≡ next_default options (state_now loading total) → GivesNamed folders name total after_total before after found → later.search.searched ≡ with_library loading.search.searched found → later.defaults ≡ loading.defaults → later.read ≡ loading.read + 1 → KeepsSearch later.search → no_library found ≡ None → ReadsNext options (state_now loading total) after_total before after later
+reads_next options loading later total after_total folders name before after found keeps wants folders_are named gives search defaults read together well = record {
   files = gives.files;
-  kept = keeps_library options loading later found search defaults keeps;
+  kept = keeps_library options loading later found search defaults together keeps;
   link_kept = ap (λ (s : Searched). s.link) search;
   one_more = read;
   told = λ store is.
@@ -167,8 +183,8 @@ reads_next options loading later total after_total folders name before after fou
       well
       ∙ ap Goes
       (ap (λ (s : Searched). state_of s (total + length found.bytes) (loading.read + 1)) (sym search)
-      ∙ ap (λ (t : ℕ). state_of later.search t (loading.read + 1)) (sym gives.total_is)
-      ∙ ap (state_of later.search after_total) (sym read));
+      ∙ ap (λ (t : ℕ). state_of later.search.searched t (loading.read + 1)) (sym gives.total_is)
+      ∙ ap (state_of later.search.searched after_total) (sym read));
 }
 
 pub bad_next : (options : LinkOptions) (loading : Loading) (total after_total : ℕ) (folders : List (List ℕ)) (name : List ℕ) (before after : FilesView) (found : FoundFile) (refused : Refusal) → wants_library options (state_now loading total) ≡ true → folders ≡ options.lib_paths → name ≡ next_default options (state_now loading total) → GivesNamed folders name total after_total before after found → RefusesFor (no_library found) refused → ReadsDefault options (state_now loading total) after_total before after (Err (stop_of refused))

@@ -19,7 +19,7 @@ use Rattle.symbol_names.specs.Lists.{of_all}
 use Rattle.symbol_names.specs.References.{Asked, all_asked, asked_by}
 use Rattle.symbol_table.specs.OpenNames.{nothing_asked, asked_at, asks_for, is_open_at, is_open_name, is_provided, open_from}
 use Rattle.lib_search.specs.SearchSteps.{MemberPlace, Searched, first_listing, listed_member, alternate_member, member_by_alternate, member_at, with_module, with_member}
-use Rattle.lib_search.specs.AlternateParts.{is_waiting, IsLeast, is_among, noted_under, pair_at, is_asked_name, IsQuiet, KeepsAlternates, KeepsSearch, Wakes}
+use Rattle.lib_search.specs.AlternateParts.{is_waiting, IsLeast, is_among, noted_under, pair_at, is_asked_name, IsQuiet, KeepsAlternates, AreTogether, Wakes}
 use Rattle.lib_search.specs.declared.alternates.Alternates.{Alternates}
 use Rattle.lib_search.proofs.AlternateLemmas.{first_of, none_more, some_found}
 use Rattle.lib_search.proofs.FromLemmas.{IsFirstOpen, none_open}
@@ -415,7 +415,7 @@ alternates_push link m =
     ∙ sym (append_assoc link.alternates (of_all alternates_by link.modules) (alternates_by (length link.modules) m.bytes))
 
 -- a member joined, and says some
-pub keeps_joined : (s : Searched) (place : MemberPlace) (modules : List ModuleView) (before after : Alternates) (passed : ℕ) → KeepsSearch s modules before passed → KeepsAlternates (with_member s place) (length (all_asked (with_member s place).link)) after → after.pairs.items ≡ before.pairs.items ++ alternates_by (length s.link.modules) (member_at s place).bytes → KeepsSearch (with_member s place) (modules ++ member_at s place ∷ []) after passed
+pub keeps_joined : (s : Searched) (place : MemberPlace) (modules : List ModuleView) (before after : Alternates) (passed : ℕ) → AreTogether s modules before passed → KeepsAlternates (with_member s place) (length (all_asked (with_member s place).link)) after → after.pairs.items ≡ before.pairs.items ++ alternates_by (length s.link.modules) (member_at s place).bytes → AreTogether (with_member s place) (modules ++ member_at s place ∷ []) after passed
 keeps_joined s place modules before after passed keeps kept pairs = record {
   modules_are = ap (λ (ms : List ModuleView). ms ++ member_at s place ∷ []) keeps.modules_are;
   over = passed_joined s place passed keeps.over;

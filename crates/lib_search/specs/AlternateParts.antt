@@ -14,6 +14,7 @@ use Rattle.symbol_table.specs.OpenNames.{asked_at, asks_for, is_open_at}
 use Rattle.lib_search.specs.SearchSteps.{Searched, alternate_member}
 use Rattle.lib_search.specs.SearchParts.{IsPassed}
 use Rattle.lib_search.specs.declared.alternates.Alternates.{Alternates}
+use Rattle.lib_search.specs.declared.search.Search.{Search}
 
 -- ---- numbers of alternates
 
@@ -63,8 +64,12 @@ pub record Wakes (name : List ℕ) (before after : Alternates) : Type 0 where
 -- ---- the parts of a search
 
 -- the names are those of the modules, and the alternates all that are said
-pub record KeepsSearch (searched : Searched) (modules : List ModuleView) (alternates : Alternates) (passed : ℕ) : Type 0 where
+pub record AreTogether (searched : Searched) (modules : List ModuleView) (alternates : Alternates) (passed : ℕ) : Type 0 where
   pub modules_are : searched.link.modules ≡ modules
   pub over : IsPassed searched passed
   pub pairs_are : alternates.pairs.items ≡ all_alternates searched.link
   pub kept : KeepsAlternates searched (length (all_asked searched.link)) alternates
+
+-- those of a search are
+abbrev pub KeepsSearch : Search → Type 0
+KeepsSearch search = AreTogether search.searched search.modules.items search.alternates search.passed

@@ -1,11 +1,12 @@
 -- What the steps of a loading promise to one another.
-use Rattle.std.specs.Prelude.{◌≡◌, ◌+◌, ◌≤◌, ℕ, false, List, length, Result, Ok, Err}
+use Rattle.std.specs.Prelude.{◌≡◌, ◌+◌, ◌≤◌, ℕ, List, length, Result, Ok, Err}
 use Rattle.std.specs.Option.{ForSome}
 use Rattle.link_base.specs.Limits.{MODULE_LIMIT}
 use Rattle.link_base.specs.declared.fault.Fault.{Fault}
 use Rattle.link_base.specs.declared.stop.Stop.{Stop}
 use Rattle.link_base.specs.declared.stop.Stop.TheVariants as stop
 use Rattle.link_files.specs.Outside.{FilesView, AreUntouched, ReadFailed}
+use Rattle.module_view.specs.Module.{ModuleView}
 use Rattle.link_words.specs.Outcome.{LinkOptions}
 use Rattle.file_search.specs.FileNames.{tried_names}
 use Rattle.file_search.specs.DefaultLibraries.{default_names}
@@ -14,18 +15,23 @@ use Rattle.file_search.specs.Reading.{LeavesFiles, Tries}
 use Rattle.lib_search.specs.declared.link_list.LinkList.{LinkList}
 use Rattle.lib_search.specs.declared.loading.Loading.{Loading}
 use Rattle.lib_search.specs.LinkOf.{link_of}
-use Rattle.lib_search.specs.SearchSteps.{SearchState, Faults, Goes, next_step, wants_library, next_default}
+use Rattle.lib_search.specs.SearchSteps.{SearchState, Faults, Goes, next_step, next_default}
+use Rattle.lib_search.specs.AlternateParts.{KeepsSearch}
 use Rattle.lib_search.specs.Loading.{Reaches, HasLoadingFault, Loads, TriesDefault}
 
 -- where a loading stands, after as many bytes
 abbrev pub state_now : Loading → ℕ → SearchState
-state_now loading total = record { searched = loading.search; total = total; defaults = loading.read }
+state_now loading total = record { searched = loading.search.searched; total = total; defaults = loading.read }
+
+abbrev pub modules_now : Loading → List ModuleView
+modules_now loading = loading.search.searched.link.modules
 
 -- it has the names of its modules, and the default libraries that these name
 pub record KeepsLoading (options : LinkOptions) (loading : Loading) : Type 0 where
-  pub link_is : loading.search.link ≡ link_of options loading.search.link.modules
-  pub few : length loading.search.link.modules ≤ MODULE_LIMIT
-  pub defaults : KeepsDefaults options (default_names options loading.search.link.modules) loading.defaults
+  pub search : KeepsSearch loading.search
+  pub link_is : loading.search.searched.link ≡ link_of options (modules_now loading)
+  pub few : length (modules_now loading) ≤ MODULE_LIMIT
+  pub defaults : KeepsDefaults options (default_names options (modules_now loading)) loading.defaults
 
 -- ---- a default library is read
 
@@ -33,7 +39,7 @@ pub record KeepsLoading (options : LinkOptions) (loading : Loading) : Type 0 whe
 pub record ReadsNext (options : LinkOptions) (state : SearchState) (after_total : ℕ) (before after : FilesView) (loading : Loading) : Type 0 where
   pub files : AreUntouched before after
   pub kept : KeepsLoading options loading
-  pub link_kept : loading.search.link ≡ state.searched.link
+  pub link_kept : loading.search.searched.link ≡ state.searched.link
   pub one_more : loading.read ≡ state.defaults + 1
   pub told : ForSome before.store (λ store. next_step store options state ≡ Goes (state_now loading after_total))
 
@@ -60,20 +66,6 @@ pub record FaultsFrom (options : LinkOptions) (state : SearchState) (before afte
 pub record FailsFrom (options : LinkOptions) (state : SearchState) (before after : FilesView) (name : List ℕ) : Type 0 where
   pub files : ReadFailed before after
   pub told : ForSome before.store (λ store. Reaches store options state → TriesDefault store options name)
-
--- no default library is left to read
-pub record ReadsAll (options : LinkOptions) (state : SearchState) (after_total : ℕ) (before after : FilesView) (loading : Loading) : Type 0 where
-  pub files : AreUntouched before after
-  pub kept : KeepsLoading options loading
-  pub link_kept : loading.search.link ≡ state.searched.link
-  pub none_left : wants_library options (state_now loading after_total) ≡ false
-  pub told : ForSome before.store (λ store. Reaches store options state → Reaches store options (state_now loading after_total))
-
-abbrev pub ReadsDefaults : LinkOptions → SearchState → ℕ → FilesView → FilesView → Result Loading Stop → Type 0
-ReadsDefaults options state after_total before after (Ok loading) = ReadsAll options state after_total before after loading
-ReadsDefaults options state after_total before after (Err (stop.Fault fault)) = FaultsFrom options state before after fault
-ReadsDefaults options state after_total before after (Err (stop.Read name)) = FailsFrom options state before after name
-ReadsDefaults options state after_total before after (Err stop.Memory) = LeavesFiles before after
 
 -- the modules that join
 pub record GivesFrom (options : LinkOptions) (state : SearchState) (before after : FilesView) (list : LinkList) : Type 0 where

@@ -6,7 +6,7 @@ ghost use Rattle.link_words.specs.Outcome.{options_said};
 ghost use Rattle.lib_search.specs.Completion.{Completes};
 ghost use Rattle.lib_search.specs.LoadingSteps.{state_now, KeepsLoading, CompletesFrom};
 
-use crate::loading::{Loading, join_member, read_defaults, start};
+use crate::loading::{Loading, join_member, read_default, start};
 use file_search::read_inputs;
 use input_arena::Inputs;
 use link_base::Stop;
@@ -49,7 +49,7 @@ pub fn complete<'a, F: Files>(
     }
 }
 
-/// Searches libraries until nothing is left to join.
+/// Searches libraries until nothing is left to join: default libraries are read before the search goes on.
 fn search<'a, F: Files>(
     alloc: Global,
     files: &mut F,
@@ -66,17 +66,20 @@ fn search<'a, F: Files>(
 {
     let mut loading = loading;
     loop {
-        loading = match read_defaults(alloc, files, inputs, options, loading) {
-            Ok(later) => later,
-            Err(stop) => return Err(stop),
-        };
+        if loading.read < loading.defaults.count() {
+            match read_default(alloc, files, inputs, options, loading) {
+                Ok(later) => loading = later,
+                Err(stop) => return Err(stop),
+            }
+            continue;
+        }
         let Some(place) = loading.search.next_member() else {
             let (modules, table) = loading.search.finish();
             return Ok(LinkList { modules, table });
         };
-        loading = match join_member(alloc, inputs, loading, place) {
-            Ok(later) => later,
+        match join_member(alloc, inputs, &mut loading, place) {
+            Ok(()) => {}
             Err(refusal) => return Err(Stop::from(refusal)),
-        };
+        }
     }
 }

@@ -10,7 +10,8 @@ ghost use Rattle.file_search.specs.DefaultSteps.{KeepsDefaults};
 ghost use Rattle.file_search.specs.Reading.{file_found, files_found};
 ghost use Rattle.lib_search.specs.Inputs.{opening_fault};
 ghost use Rattle.lib_search.specs.Loading.{inputs_state};
-ghost use Rattle.lib_search.specs.LoadingSteps.{state_now, KeepsLoading, ReadsDefault, ReadsDefaults};
+ghost use Rattle.lib_search.specs.AlternateParts.{KeepsSearch};
+ghost use Rattle.lib_search.specs.LoadingSteps.{state_now, KeepsLoading, ReadsDefault};
 ghost use Rattle.lib_search.specs.Joining.{no_library};
 ghost use Rattle.lib_search.specs.SearchParts.{IsFresh};
 ghost use Rattle.lib_search.specs.SearchSteps.{join_fault, with_member, with_library, wants_library};
@@ -74,34 +75,8 @@ fn defaults_of<'a>(
     Ok(defaults)
 }
 
-/// Reads the default libraries that are left. The first that is not read, whose read fails, or that is no library, ends the
-/// loading.
-pub(crate) fn read_defaults<'a, F: Files>(
-    alloc: Global,
-    files: &mut F,
-    inputs: &mut Inputs<'a>,
-    options: &Options<'a>,
-    loading: Loading<'a>,
-) -> Result<Loading<'a>, Stop<'a>>
-    requires reads_below { F.read_faults files.old < 2 ^ 64 - 1 }
-    requires writes_below { F.write_faults files.old < 2 ^ 64 - 1 }
-    requires kept { KeepsLoading (options_said options.now) loading }
-    ensures { ReadsDefaults (options_said options.now) (state_now loading.entry inputs.old) inputs.new
-        (files_of F.store F.read_faults F.write_faults files.old)
-        (files_of F.store F.read_faults F.write_faults files.new) result }
-{
-    let mut loading = loading;
-    while loading.read < loading.defaults.count() {
-        match read_default(alloc, files, inputs, options, loading) {
-            Ok(later) => loading = later,
-            Err(stop) => return Err(stop),
-        }
-    }
-    Ok(loading)
-}
-
-/// Reads the next default library.
-fn read_default<'a, F: Files>(
+/// Reads the next default library. One that is not read, whose read fails, or that is no library, ends the loading.
+pub(crate) fn read_default<'a, F: Files>(
     alloc: Global,
     files: &mut F,
     inputs: &mut Inputs<'a>,
@@ -130,7 +105,9 @@ fn read_default<'a, F: Files>(
 fn with_default<'a>(loading: Loading<'a>, found: FoundFile<'a>) -> Result<Loading<'a>, Refusal<'a>>
     requires few { loading.read < 2 ^ 64 - 1 }
     requires short { length found.bytes.now ≤ most_bytes }
-    ensures search { IfOk result (λ later. later.search ≡ with_library loading.entry.search (file_found found.entry)) }
+    requires kept { KeepsSearch loading.search }
+    ensures search { IfOk result (λ later. later.search.searched ≡ with_library loading.entry.search.searched (file_found found.entry)) }
+    ensures kept { IfOk result (λ later. KeepsSearch later.search) }
     ensures defaults { IfOk result (λ later. later.defaults ≡ loading.entry.defaults) }
     ensures read { IfOk result (λ later. later.read ≡ loading.entry.read + 1) }
     ensures accepted { OnOk result (no_library (file_found found.entry) ≡ None) }
@@ -153,27 +130,20 @@ fn with_default<'a>(loading: Loading<'a>, found: FoundFile<'a>) -> Result<Loadin
 pub(crate) fn join_member<'a>(
     alloc: Global,
     inputs: &mut Inputs<'a>,
-    loading: Loading<'a>,
+    loading: &mut Loading<'a>,
     place: (usize, u32),
-) -> Result<Loading<'a>, Refusal<'a>>
-    requires fresh { IsFresh loading.search place }
-    ensures search { IfOk result (λ later. later.search ≡ with_member loading.entry.search place) }
-    ensures defaults { IfOk result (λ later. (options : LinkOptions) → KeepsLoading options loading.entry → KeepsLoading options later) }
-    ensures read { IfOk result (λ later. later.read ≡ loading.entry.read) }
+) -> Result<(), Refusal<'a>>
+    requires fresh { IsFresh loading.old.search.searched place }
+    requires kept { KeepsSearch loading.old.search }
+    ensures search { OnOk result (loading.new.search.searched ≡ with_member loading.old.search.searched place) }
+    ensures kept { OnOk result ((options : LinkOptions) → KeepsLoading options loading.old → KeepsLoading options loading.new) }
+    ensures read { OnOk result (loading.new.read ≡ loading.old.read) }
     ensures total_kept { inputs.new ≡ inputs.old }
-    ensures accepted { OnOk result (join_fault loading.entry.search place ≡ None) }
-    ensures refused { IfErr result (RefusesFor (join_fault loading.entry.search place)) }
+    ensures accepted { OnOk result (join_fault loading.old.search.searched place ≡ None) }
+    ensures refused { IfErr result (RefusesFor (join_fault loading.old.search.searched place)) }
 {
-    let Loading {
-        search,
-        mut defaults,
-        read,
-    } = loading;
-    let module = search.open_member(alloc, place)?;
-    defaults.add_module(alloc, inputs, &module)?;
-    Ok(Loading {
-        search: search.with_member(place, module)?,
-        defaults,
-        read,
-    })
+    let module = loading.search.open_member(alloc, place)?;
+    loading.defaults.add_module(alloc, inputs, &module)?;
+    loading.search.add_member(place, module)?;
+    Ok(())
 }

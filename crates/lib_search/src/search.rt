@@ -7,7 +7,7 @@ ghost use Rattle.link_base.specs.Refusals.{RefusesFor};
 ghost use Rattle.link_words.specs.Outcome.{options_said};
 ghost use Rattle.symbol_names.specs.Alternates.{all_alternates};
 ghost use Rattle.symbol_names.specs.References.{all_asked};
-ghost use Rattle.lib_search.specs.AlternateParts.{KeepsAlternates};
+ghost use Rattle.lib_search.specs.AlternateParts.{KeepsAlternates, KeepsSearch};
 ghost use Rattle.lib_search.specs.LinkOf.{asked_words, link_of};
 ghost use Rattle.lib_search.specs.SearchSteps.{member_by_reference, member_by_alternate, next_member, join_fault, member_at, with_member, with_library};
 ghost use Rattle.lib_search.specs.SearchParts.{IsFresh};
@@ -20,28 +20,16 @@ use link_base::{Memory, Name, Refusal};
 use link_words::Options;
 use module_view::Module;
 use std::alloc::Global;
-use std::marker::Model;
 use symbol_table::SymbolTable;
 
 /// What has joined, where is searched, and what is known of who may join next.
 #[derive(Drop)]
 pub(crate) struct Search<'a> {
-    modules: Vec<Module<'a>>,
-    searched: Searched<'a>,
-    alternates: Alternates<'a>,
+    pub(crate) modules: Vec<Module<'a>>,
+    pub(crate) searched: Searched<'a>,
+    pub(crate) alternates: Alternates<'a>,
     /// No member can join for the references below this number, until a library is added.
-    passed: usize,
-}
-
-impl<'a> Model for Search<'a> {
-    ghost use Rattle.lib_search.specs.SearchSteps.{Searched};
-    ghost use Rattle.lib_search.specs.AlternateParts.{KeepsSearch};
-
-    ghost Value = { Searched };
-
-    ghost view = { λ s. s.searched };
-
-    ghost invariant = { λ s. KeepsSearch s.searched s.modules.items s.alternates s.passed };
+    pub(crate) passed: usize,
 }
 
 impl<'a> Search<'a> {
@@ -52,7 +40,8 @@ impl<'a> Search<'a> {
         inputs: OpenInputs<'a>,
     ) -> Result<Search<'a>, Memory>
         requires { length inputs.modules.items ≤ most_modules }
-        ensures { IfOk result (λ search. search ≡ record {
+        ensures kept { IfOk result KeepsSearch }
+        ensures searched { IfOk result (λ search. search.searched ≡ record {
           link = link_of (options_said options.now) inputs.entry.modules.items;
           libraries = inputs.entry.libraries.items;
           joined = [];
@@ -73,9 +62,11 @@ impl<'a> Search<'a> {
     /// The member that joins next: that of the first name that is asked for, is open, and is listed, or else that of the first
     /// alternate that stands for an open name.
     pub(crate) fn next_member(&mut self) -> Option<(usize, u32)>
-        ensures place { result ≡ next_member self.old }
-        ensures fresh { IfSome result (IsFresh self.old) }
-        ensures kept { self.new ≡ self.old }
+        requires { KeepsSearch self.old }
+        ensures place { result ≡ next_member self.old.searched }
+        ensures fresh { IfSome result (IsFresh self.old.searched) }
+        ensures same { self.new.searched ≡ self.old.searched }
+        ensures kept { KeepsSearch self.new }
     {
         match self.member_by_reference() {
             Some(place) => Some(place),
@@ -86,8 +77,10 @@ impl<'a> Search<'a> {
     /// That of the first name that is asked for, is open, and is listed. The names that lead to none are passed over from then
     /// on.
     fn member_by_reference(&mut self) -> Option<(usize, u32)>
-        ensures place { result ≡ member_by_reference self.old }
-        ensures kept { self.new ≡ self.old }
+        requires { KeepsSearch self.old }
+        ensures place { result ≡ member_by_reference self.old.searched }
+        ensures same { self.new.searched ≡ self.old.searched }
+        ensures kept { KeepsSearch self.new }
     {
         let (place, passed) = self.searched.member_from(self.passed);
         self.passed = passed;
@@ -97,8 +90,10 @@ impl<'a> Search<'a> {
     /// That of the first alternate that stands for an open name, and whose other name is listed: those of the command line come
     /// before those of the modules.
     fn member_by_alternate(&mut self) -> Option<(usize, u32)>
-        ensures place { result ≡ member_by_alternate self.old }
-        ensures kept { self.new ≡ self.old }
+        requires { KeepsSearch self.old }
+        ensures place { result ≡ member_by_alternate self.old.searched }
+        ensures same { self.new.searched ≡ self.old.searched }
+        ensures kept { KeepsSearch self.new }
     {
         self.alternates.first_member(&self.searched)
     }
@@ -109,48 +104,42 @@ impl<'a> Search<'a> {
         alloc: Global,
         place: (usize, u32),
     ) -> Result<Module<'a>, Refusal<'a>>
-        requires { place.0 < length self.now.libraries }
-        ensures opened { IfOk result (λ opened. opened ≡ member_at self.now place) }
-        ensures accepted { OnOk result (join_fault self.now place ≡ None) }
-        ensures few { OnOk result (length self.now.link.modules < most_modules) }
-        ensures refused { IfErr result (RefusesFor (join_fault self.now place)) }
+        requires kept { KeepsSearch self.now }
+        requires within { place.0 < length self.now.searched.libraries }
+        ensures opened { IfOk result (λ opened. opened ≡ member_at self.now.searched place) }
+        ensures accepted { OnOk result (join_fault self.now.searched place ≡ None) }
+        ensures few { OnOk result (length self.now.searched.link.modules < most_modules) }
+        ensures refused { IfErr result (RefusesFor (join_fault self.now.searched place)) }
     {
         self.searched.open_member(alloc, place, self.modules.len())
     }
 
     /// The member at a place joins as this module. It may ask for the left names of alternates, and say some.
-    pub(crate) fn with_member(
-        self,
+    pub(crate) fn add_member(
+        &mut self,
         place: (usize, u32),
         module: Module<'a>,
-    ) -> Result<Search<'a>, Memory>
-        requires few { length self.link.modules < most_modules }
-        requires fresh { IsFresh self place }
-        requires member { «module» ≡ member_at self place }
-        ensures { IfOk result (λ search. search ≡ with_member self.entry place) }
+    ) -> Result<(), Memory>
+        requires kept { KeepsSearch self.old }
+        requires few { length self.old.searched.link.modules < most_modules }
+        requires fresh { IsFresh self.old.searched place }
+        requires member { «module» ≡ member_at self.old.searched place }
+        ensures joined { OnOk result (self.new.searched ≡ with_member self.old.searched place) }
+        ensures kept { OnOk result (KeepsSearch self.new) }
     {
-        let Search {
-            mut modules,
-            searched,
-            mut alternates,
-            passed,
-        } = self;
-        let asked = searched.asked_count();
-        let searched = searched.with_member(place, &module)?;
-        alternates.wake_from(&searched, asked)?;
-        alternates.add_module(&searched, &module)?;
-        push_module(&mut modules, module)?;
-        Ok(Search {
-            modules,
-            searched,
-            alternates,
-            passed,
-        })
+        let asked = self.searched.asked_count();
+        self.searched.add_member(place, &module)?;
+        self.alternates.wake_from(&self.searched, asked)?;
+        self.alternates.add_module(&self.searched, &module)?;
+        push_module(&mut self.modules, module)?;
+        Ok(())
     }
 
     /// A library is searched after those before it. No name is passed over any more, and each alternate may lead to a member.
     pub(crate) fn with_library(self, library: OpenLibrary<'a>) -> Result<Search<'a>, Memory>
-        ensures { IfOk result (λ search. search ≡ with_library self.entry library.entry) }
+        requires { KeepsSearch self }
+        ensures added { IfOk result (λ search. search.searched ≡ with_library self.entry.searched library.entry) }
+        ensures kept { IfOk result KeepsSearch }
     {
         let Search {
             modules,
@@ -171,8 +160,9 @@ impl<'a> Search<'a> {
 
     /// The modules that joined, and their names.
     pub(crate) fn finish(self) -> (Vec<Module<'a>>, SymbolTable<'a>)
-        ensures modules { result.0.items ≡ self.entry.link.modules }
-        ensures names { result.1 ≡ self.entry.link }
+        requires { KeepsSearch self }
+        ensures modules { result.0.items ≡ self.entry.searched.link.modules }
+        ensures names { result.1 ≡ self.entry.searched.link }
     {
         (self.modules, self.searched.into_table())
     }

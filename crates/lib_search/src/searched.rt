@@ -128,28 +128,19 @@ impl<'a> Searched<'a> {
     }
 
     /// The member at a place joins as this module.
-    pub(crate) fn with_member(
-        self,
+    pub(crate) fn add_member(
+        &mut self,
         place: (usize, u32),
         module: &Module<'a>,
-    ) -> Result<Searched<'a>, Memory>
-        requires few { length self.link.modules < most_modules }
-        requires fresh { IsFresh self place }
-        requires member { «module».now ≡ member_at self place }
-        ensures { IfOk result (λ searched. searched ≡ with_member self.entry place) }
+    ) -> Result<(), Memory>
+        requires few { length self.old.link.modules < most_modules }
+        requires fresh { IsFresh self.old place }
+        requires member { «module».now ≡ member_at self.old place }
+        ensures { OnOk result (self.new ≡ with_member self.old place) }
     {
-        let Searched {
-            mut table,
-            libraries,
-            mut joined,
-        } = self;
-        joined.insert(place)?;
-        table.add_module(module)?;
-        Ok(Searched {
-            table,
-            libraries,
-            joined,
-        })
+        self.joined.insert(place)?;
+        self.table.add_module(module)?;
+        Ok(())
     }
 
     /// A library is searched after those before it.

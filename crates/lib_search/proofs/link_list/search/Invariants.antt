@@ -1,17 +1,15 @@
-use Rattle.std.proofs.Common.{length, ◌-◌, ◌+◌}
-use Rattle.link_base.specs.Limits.{MODULE_LIMIT}
 use Rattle.link_files.specs.Outside.{files_of}
 use Rattle.link_words.specs.Outcome.{options_said}
 use Rattle.lib_search.specs.LoadingSteps.{state_now}
-use Rattle.lib_search.proofs.GoneLemmas.{GoneOn}
+use Rattle.lib_search.proofs.GoneLemmas.{GoneOn, left_to_do}
 use Rattle.lib_search.proofs.link_list.search.Given as goal
 
-abbrev pub invariant-loop-later : goal.invariant-loop-later
-invariant-loop-later g l =
+abbrev pub invariant-loop-loading : goal.invariant-loop-loading
+invariant-loop-loading g l =
     GoneOn (options_said l.fn.options) (state_now l.fn.loading l.fn.inputs)
     (files_of g.F.Files.store g.F.Files.read_faults g.F.Files.write_faults l.fn.files)
     (files_of g.F.Files.store g.F.Files.read_faults g.F.Files.write_faults l.files)
     l.loading l.inputs
 
-abbrev pub decreases-loop-later : goal.decreases-loop-later
-decreases-loop-later g l = MODULE_LIMIT + 1 - length l.loading.search.link.modules
+abbrev pub decreases-loop-loading : goal.decreases-loop-loading
+decreases-loop-loading g l = left_to_do l.loading

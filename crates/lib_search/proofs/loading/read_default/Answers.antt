@@ -16,7 +16,7 @@ returns-in-Ok-with_default g c =
     let named = c.name_at-name.ensures ∙ next_named options c.args.loading c.args.inputs.now c.requires.kept in
     reads_next options c.args.loading c.in-Ok-with_default.later c.args.inputs.now c.find_file.new.inputs (texts_of c.deref.result.now) c.name_at-name.result.now before after (file_found c.in-Ok.found)
     c.requires.kept c.requires.wants (ap texts_of c.deref.ensures.value) named c.in-Ok.ensures
-    c.in-Ok-with_default.ensures.search c.in-Ok-with_default.ensures.defaults c.in-Ok-with_default.ensures.read c.in-Ok-with_default.ensures.accepted
+    c.in-Ok-with_default.ensures.search c.in-Ok-with_default.ensures.defaults c.in-Ok-with_default.ensures.read c.in-Ok-with_default.ensures.kept c.in-Ok-with_default.ensures.accepted
 
 pub returns-in-Ok : goal.returns-in-Ok
 returns-in-Ok g c =

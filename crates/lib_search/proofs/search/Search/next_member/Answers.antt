@@ -6,13 +6,13 @@ use Rattle.lib_search.proofs.search.Search.next_member.Goals as goal
 
 pub returns-in-Some-clause-fresh : goal.returns-in-Some-clause-fresh
 returns-in-Some-clause-fresh c =
-    let s = c.args.self.now in
+    let s = c.args.self.now.searched in
     next_place s c.in-Some.place
     (ap (λ (o : Option MemberPlace). option_or o (member_by_alternate s)) (sym c.member_by_reference.ensures.place ∙ c.in-Some.is))
 
 pub returns-in-None-clause-fresh : goal.returns-in-None-clause-fresh
 returns-in-None-clause-fresh c =
-    let s = c.args.self.now in
+    let s = c.args.self.now.searched in
     next_fresh s c.member_by_alternate.result
-    (c.member_by_alternate.ensures.place ∙ ap member_by_alternate c.member_by_reference.ensures.kept
+    (c.member_by_alternate.ensures.place ∙ ap member_by_alternate c.member_by_reference.ensures.same
     ∙ sym (ap (λ (o : Option MemberPlace). option_or o (member_by_alternate s)) (sym c.member_by_reference.ensures.place ∙ c.in-None.is)))

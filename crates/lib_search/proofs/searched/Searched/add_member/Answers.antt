@@ -2,7 +2,7 @@ use Rattle.std.proofs.Common.{◌≡◌, false, refl, sym, ap, ◌∙◌}
 use Rattle.std.specs.List.{list_any}
 use Rattle.lib_search.specs.SearchSteps.{Searched, is_place, member_at, with_member}
 use Rattle.lib_search.proofs.PassedLemmas.{searched_of, joins_now, fresh_joined}
-use Rattle.lib_search.proofs.searched.Searched.with_member.Goals as goal
+use Rattle.lib_search.proofs.searched.Searched.add_member.Goals as goal
 
 pub returns : goal.returns
 returns c =
