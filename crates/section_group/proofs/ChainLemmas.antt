@@ -89,7 +89,7 @@ found_place n m k e =
     not_some : (a : ℕ) → Some a ≡ None → ⊥
     not_some a h = cc
 
-no_place : (n m : ℕ) → None ≡ cond (ltb n m) (Some n) None → m ≤ n
+pub no_place : (n m : ℕ) → None ≡ cond (ltb n m) (Some n) None → m ≤ n
 no_place n m e =
     elim (cases_lt n m) [
       | inl lt ↦ absurd (not_some n (rw lt-ltb at e))
