@@ -1,8 +1,9 @@
 //! Where base names lead: the chains of merges, followed to their ends.
 
-ghost use Rattle.std.specs.Prelude.{◌≡◌, IfOk, length, map};
-ghost use Rattle.indexmap.specs.IndexMap.{keys};
+ghost use Rattle.std.specs.Prelude.{◌≡◌, IfOk, IfSome, length, map, option_map};
+ghost use Rattle.indexmap.specs.IndexMap.{get, keys};
 ghost use Rattle.section_group.specs.Chains.{led_by, Follows};
+ghost use Rattle.section_group.specs.Merging.{same_name};
 ghost use Rattle.section_group.specs.Places.{target_at};
 
 use crate::places::last_places;
@@ -48,6 +49,15 @@ impl<'a> Renames<'a> {
             Some(at) => self.ends[at].again(),
             None => name.again(),
         }
+    }
+
+    /// The target of a name that is merged, and the name that it leads to.
+    pub(crate) fn target_and_end(&self, name: &Name<'a>) -> Option<(&Name<'a>, &Name<'a>)>
+        ensures target { option_map (λ two. two.0.now) result ≡ get same_name self.now.targets name.now }
+        ensures end { IfSome result (λ two. two.1.now ≡ led_by (keys self.now.targets) self.now.ends.items name.now) }
+    {
+        let (at, _, target) = self.targets.get_full(name)?;
+        Some((target, &self.ends[at]))
     }
 }
 
