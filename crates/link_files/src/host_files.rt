@@ -1,6 +1,6 @@
 //! The trusted edge of the files: those of the system.
 
-ghost use Rattle.std.specs.Prelude.{◌≡◌, ◌≤◌, length, IfOk};
+ghost use Rattle.std.specs.Prelude.{◌≡◌, ◌≤◌, length, IfOk, OnOk, Some};
 ghost use Rattle.std.specs.IoError.{error_kind};
 ghost use Rattle.link_files.specs.HostCounts.{no_faults};
 ghost use Rattle.link_files.specs.HostErrors.{read_error_of, create_error_of};
@@ -10,7 +10,7 @@ use crate::files::{FileError, Files, WriteError};
 use crate::host_sink::write_whole;
 use std::alloc::Allocator;
 use std::fs::OpenFile;
-use std::io::{ErrorKind, Read};
+use std::io::{ErrorKind, Read, Seek, SeekFrom};
 use std::marker::Model;
 use std::{fs, io, rt};
 
@@ -88,18 +88,32 @@ fn read_file<R: rt::Files, A: Allocator>(
 ) -> Result<Vec<u8, A>, FileError>
     ensures { IfOk result (λ bytes. length bytes.items ≤ limit) }
 {
-    let file = match fs::open(system, name) {
+    let mut file = match fs::open(system, name) {
         Ok(file) => file,
         Err(error) => return Err(read_error(&error)),
     };
-    let len = match file.metadata() {
-        Ok(metadata) => metadata.len(),
+    let len = match len_of(&mut file, limit) {
+        Ok(len) => len,
         Err(error) => return Err(read_error(&error)),
     };
     if len > limit {
         return Err(FileError::TooLarge);
     }
     read_rest(alloc, file, len, limit)
+}
+
+/// The length of a file that stands at its start, and stands there again afterwards. Seeking its end costs less than its
+/// metadata, which tell the length where it cannot seek, and where its end is above the limit: a folder's may be anything.
+fn len_of<F: Seek + OpenFile>(file: &mut F, limit: u64) -> io::Result<u64>
+    ensures { OnOk result (F.stream_position file.old ≡ Some 0 → F.stream_position file.new ≡ Some 0) }
+{
+    if let Ok(len) = file.seek(SeekFrom::End(0)) {
+        file.rewind()?;
+        if len <= limit {
+            return Ok(len);
+        }
+    }
+    Ok(file.metadata()?.len())
 }
 
 /// All that the reader has left. It is too large where more than `limit` bytes come, and nothing is read behind the

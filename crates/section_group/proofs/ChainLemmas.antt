@@ -1,10 +1,10 @@
 -- Following merges: look-ups, chains, and where chains come back.
-use Rattle.std.proofs.Common.{◌≡◌, ℕ, zero, suc, ltb, not, map, position, unwrap_or, lt-ltb, le-ltb, ◌+◌, ◌<◌, ◌≤◌, Bool, true, false, cond, List, [], ◌∷◌, ◌++◌, length, take, get_or, Option, Some, None, is_some, refl, sym, ap, ◌∙◌, inl, inr, arith}
+use Rattle.std.proofs.Common.{◌≡◌, ℕ, zero, suc, ltb, not, map, position, unwrap_or, lt-ltb, le-ltb, ◌+◌, ◌<◌, ◌≤◌, Bool, true, false, cond, List, [], ◌∷◌, ◌++◌, length, take, get_or, Option, Some, None, refl, sym, ap, ◌∙◌, inl, inr, arith}
 use Rattle.std.proofs.lemmas.List.{take_more, get_or_default, get_or_past, length-map}
 use Rattle.std.proofs.Math.ListN.{get_or-map}
 use Rattle.std.proofs.Math.Numerals.{one-add}
 use Rattle.std.specs.List.{position_or_len}
-use Rattle.std.proofs.lemmas.Bool.{cases_lt, false≢true, true≢false}
+use Rattle.std.proofs.lemmas.Bool.{cases_lt}
 use Rattle.std.proofs.lemmas.Bool.Decides.{same_from_decides}
 use Rattle.std.proofs.lemmas.Slice.Eq.{bytes_eq-Decides}
 use Rattle.std.specs.Map.{lookup, keys_of, values_of}
@@ -47,32 +47,28 @@ more_targets merges i item q lt is =
     ap (λ (t : List (List ℕ × List ℕ)). target_among t q) (take_more merges i item lt ∙ ap (λ (x : List ℕ × List ℕ). take i merges ++ x ∷ []) (sym is))
     ∙ target_among-append (take i merges) (item ∷ []) q
 
-first_add : (o : Option (List ℕ)) (b : Bool) (right : List ℕ) → (b ≡ true → is_some o ≡ false) → cond b (Some right) o ≡ option_or o (cond b (Some right) None)
-first_add None b right absent = refl
-first_add (Some x) true right absent = absurd (true≢false (absent refl))
-first_add (Some x) false right absent = refl
+-- a name that has a target keeps it
+kept : (o : Option (List ℕ)) (b : Bool) (x right : List ℕ) → (b ≡ true → o ≡ Some x) → cond b (Some x) o ≡ option_or o (cond b (Some right) None)
+kept None true x right there = absurd (not_some (there refl))
+  where
+    not_some : None ≡ Some x → ⊥
+    not_some h = cc
+kept None false x right there = refl
+kept (Some y) true x right there = sym (there refl)
+kept (Some y) false x right there = refl
 
-later_add : (o : Option (List ℕ)) (b : Bool) (right : List ℕ) → (b ≡ true → is_some o ≡ true) → o ≡ option_or o (cond b (Some right) None)
-later_add None true right there = absurd (false≢true (there refl))
-later_add None false right there = refl
-later_add (Some x) b right there = refl
+-- the map after the target that a name has is put in again
+pub puts_again : (left right before : List ℕ) (old new : List ℕ → Option (List ℕ)) → old left ≡ Some before → ((q : List ℕ) → new q ≡ cond (same_name left q) (Some before) (old q)) → (q : List ℕ) → new q ≡ option_or (old q) (target_among ((left, right) ∷ []) q)
+puts_again left right before old new there after q =
+    after q ∙ ap (λ (b : Bool). cond b (Some before) (old q)) (same_flip left q)
+    ∙ kept (old q) (same_name q left) before right (λ e. ap old (same_is q left e) ∙ there)
 
 -- the map after a step, at a name: it had what the merges up to i give over what it had at first
-pub adds : (merges : List (List ℕ × List ℕ)) (i : ℕ) (item : List ℕ × List ℕ) (first old new : List ℕ → Option (List ℕ)) → i < length merges → item ≡ get_or merges i item → ((q : List ℕ) → old q ≡ option_or (first q) (target_among (take i merges) q)) → is_some (old item.0) ≡ false → ((q : List ℕ) → new q ≡ cond (same_name item.0 q) (Some item.1) (old q)) → (q : List ℕ) → new q ≡ option_or (first q) (target_among (take (i + 1) merges) q)
-adds merges i item first old new lt is before absent after q =
-    let flip = same_flip item.0 q in
-    after q ∙ ap (λ (b : Bool). cond b (Some item.1) (old q)) flip
-    ∙ first_add (old q) (same_name q item.0) item.1 (λ e. ap (λ (x : List ℕ). is_some (old x)) (same_is q item.0 e) ∙ absent)
-    ∙ ap (λ (o : Option (List ℕ)). option_or o (cond (same_name q item.0) (Some item.1) None)) (before q)
-    ∙ or_else_assoc (first q) (target_among (take i merges) q) (cond (same_name q item.0) (Some item.1) None)
-    ∙ ap (option_or (first q)) (sym (more_targets merges i item q lt is))
-
-pub stays : (merges : List (List ℕ × List ℕ)) (i : ℕ) (item : List ℕ × List ℕ) (first old : List ℕ → Option (List ℕ)) → i < length merges → item ≡ get_or merges i item → ((q : List ℕ) → old q ≡ option_or (first q) (target_among (take i merges) q)) → is_some (old item.0) ≡ true → (q : List ℕ) → old q ≡ option_or (first q) (target_among (take (i + 1) merges) q)
-stays merges i item first old lt is before there q =
-    later_add (old q) (same_name q item.0) item.1 (λ e. ap (λ (x : List ℕ). is_some (old x)) (same_is q item.0 e) ∙ there)
-    ∙ ap (λ (o : Option (List ℕ)). option_or o (cond (same_name q item.0) (Some item.1) None)) (before q)
-    ∙ or_else_assoc (first q) (target_among (take i merges) q) (cond (same_name q item.0) (Some item.1) None)
-    ∙ ap (option_or (first q)) (sym (more_targets merges i item q lt is))
+pub adds : (merges : List (List ℕ × List ℕ)) (i : ℕ) (item : List ℕ × List ℕ) (first old new : Option (List ℕ)) (q : List ℕ) → i < length merges → item ≡ get_or merges i item → old ≡ option_or first (target_among (take i merges) q) → new ≡ option_or old (target_among (item ∷ []) q) → new ≡ option_or first (target_among (take (i + 1) merges) q)
+adds merges i item first old new q lt is before after =
+    after ∙ ap (λ (o : Option (List ℕ)). option_or o (target_among (item ∷ []) q)) before
+    ∙ or_else_assoc first (target_among (take i merges) q) (target_among (item ∷ []) q)
+    ∙ ap (option_or first) (sym (more_targets merges i item q lt is))
 
 -- ---- what a name leads to
 
@@ -89,7 +85,7 @@ found_place n m k e =
     not_some : (a : ℕ) → Some a ≡ None → ⊥
     not_some a h = cc
 
-no_place : (n m : ℕ) → None ≡ cond (ltb n m) (Some n) None → m ≤ n
+pub no_place : (n m : ℕ) → None ≡ cond (ltb n m) (Some n) None → m ≤ n
 no_place n m e =
     elim (cases_lt n m) [
       | inl lt ↦ absurd (not_some n (rw lt-ltb at e))

@@ -2,6 +2,7 @@ pub mod Merging
 pub mod SectionOrder
 pub mod Placement
 pub mod Chains
+pub mod Places
 pub mod Steps
 pub mod Gathering
 pub mod Keys

@@ -48,14 +48,15 @@ fn is_bad<'a>(merge: &(Name<'a>, Name<'a>), renames: &Renames<'a>) -> bool
         → result ≡ fails given follows.steps merge.now }
 {
     let (left, right) = merge;
-    let leads_elsewhere = match renames.targets.get(left) {
-        Some(target) => target != right,
+    match renames.target_and_end(left) {
+        Some((target, end)) => {
+            target != right
+                || renames.targets.contains_key(end)
+                || is_reserved(left)
+                || is_reserved(right)
+        }
         None => true,
-    };
-    leads_elsewhere
-        || renames.targets.contains_key(&renames.lead(left))
-        || is_reserved(left)
-        || is_reserved(right)
+    }
 }
 
 /// Whether the linker lays out the section by rules of its own.

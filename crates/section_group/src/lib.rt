@@ -18,6 +18,7 @@ mod order;
 mod owners;
 mod parts;
 mod piece;
+mod places;
 mod renames;
 mod sections;
 mod targets;

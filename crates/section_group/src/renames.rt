@@ -1,10 +1,12 @@
-//! Where base names lead: the chains of merges, followed to their ends. A round doubles how far each name is followed,
-//! so that no chain is walked from each of its names.
+//! Where base names lead: the chains of merges, followed to their ends.
 
-ghost use Rattle.std.specs.Prelude.{◌≡◌, ◌+◌, ℕ, List, IfOk, length};
-ghost use Rattle.indexmap.specs.IndexMap.{keys};
-ghost use Rattle.section_group.specs.Chains.{led_by, AreTargets, Leads, Follows};
+ghost use Rattle.std.specs.Prelude.{◌≡◌, IfOk, IfSome, length, map, option_map};
+ghost use Rattle.indexmap.specs.IndexMap.{get, keys};
+ghost use Rattle.section_group.specs.Chains.{led_by, Follows};
+ghost use Rattle.section_group.specs.Merging.{same_name};
+ghost use Rattle.section_group.specs.Places.{target_at};
 
+use crate::places::last_places;
 use crate::targets::read_targets;
 use indexmap::IndexMap;
 use link_base::{Memory, Name};
@@ -22,15 +24,19 @@ pub(crate) struct Renames<'a> {
 }
 
 impl<'a> Renames<'a> {
-    /// Each name led one step, to its target.
-    fn new(targets: IndexMap<Name<'a>, Name<'a>>, alloc: Global) -> Result<Renames<'a>, Memory>
+    /// Each name led to the target of the last merge on its way.
+    fn new(
+        alloc: Global,
+        targets: IndexMap<Name<'a>, Name<'a>>,
+        lasts: &[usize],
+    ) -> Result<Renames<'a>, Memory>
+        requires { length lasts.now ≡ length targets.entries }
         ensures targets { IfOk result (λ r. r.targets.entries ≡ targets.entry.entries) }
-        ensures leads { IfOk result (λ r. (given : List (List ℕ × List ℕ)) → AreTargets given targets.entry.entries
-            → Leads given 1 (keys r.targets) r.ends.items) }
+        ensures ends { IfOk result (λ r. r.ends.items ≡ map (target_at targets.entry.entries) lasts.now) }
     {
-        let mut ends = Vec::with_capacity(alloc, targets.len())?;
-        for target in targets.values() {
-            ends.push(target.again())?;
+        let mut ends = Vec::with_capacity(alloc, lasts.len())?;
+        for last in lasts {
+            ends.push(target_at(&targets, *last))?;
         }
         Ok(Renames { targets, ends })
     }
@@ -45,20 +51,23 @@ impl<'a> Renames<'a> {
         }
     }
 
-    /// Each name led twice as far.
-    fn further(self, alloc: Global) -> Result<Renames<'a>, Memory>
-        ensures targets { IfOk result (λ r. r.targets.entries ≡ self.entry.targets.entries) }
-        ensures leads { IfOk result (λ r. (given : List (List ℕ × List ℕ)) (steps : ℕ) → AreTargets given self.entry.targets.entries
-            → Leads given steps (keys self.entry.targets) self.entry.ends.items → Leads given (steps + steps) (keys r.targets) r.ends.items) }
+    /// The target of a name that is merged, and the name that it leads to.
+    pub(crate) fn target_and_end(&self, name: &Name<'a>) -> Option<(&Name<'a>, &Name<'a>)>
+        ensures target { option_map (λ two. two.0.now) result ≡ get same_name self.now.targets name.now }
+        ensures end { IfSome result (λ two. two.1.now ≡ led_by (keys self.now.targets) self.now.ends.items name.now) }
     {
-        let mut ends = Vec::with_capacity(alloc, self.ends.len())?;
-        for end in &self.ends {
-            ends.push(self.lead(end))?;
-        }
-        Ok(Renames {
-            targets: self.targets,
-            ends,
-        })
+        let (at, _, target) = self.targets.get_full(name)?;
+        Some((target, &self.ends[at]))
+    }
+}
+
+/// The target of the merge at a place, or an empty name.
+fn target_at<'a>(targets: &IndexMap<Name<'a>, Name<'a>>, place: usize) -> Name<'a>
+    ensures { result ≡ target_at targets.now.entries place }
+{
+    match targets.get_index(place) {
+        Some((_, target)) => target.again(),
+        None => Name::of(b""),
     }
 }
 
@@ -69,11 +78,7 @@ pub(crate) fn follow<'a>(
 ) -> Result<Renames<'a>, Memory>
     ensures { IfOk result (λ r. Follows merges.now r.targets.entries r.ends.items) }
 {
-    let mut renames = Renames::new(read_targets(alloc, merges)?, alloc)?;
-    let mut steps = 1u128;
-    while steps < merges.len() as u128 + PRESETS {
-        renames = renames.further(alloc)?;
-        steps *= 2;
-    }
-    Ok(renames)
+    let targets = read_targets(alloc, merges)?;
+    let lasts = last_places(alloc, &targets, merges.len() as u128 + PRESETS)?;
+    Renames::new(alloc, targets, &lasts)
 }

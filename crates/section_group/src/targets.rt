@@ -45,9 +45,24 @@ fn add_targets<'a>(
     ensures { OnOk result ((q : List ℕ) → get same_name targets.new q ≡ option_or (get same_name targets.old q) (target_among merges.now q)) }
 {
     for (left, right) in merges {
-        if !targets.contains_key(left) {
-            targets.insert(left.again(), right.again())?;
-        }
+        add_target(targets, left, right)?;
+    }
+    Ok(())
+}
+
+/// Adds the target of a name, unless it has one. The name is looked up once, or twice where it has another target.
+fn add_target<'a>(
+    targets: &mut IndexMap<Name<'a>, Name<'a>>,
+    left: &Name<'a>,
+    right: &Name<'a>,
+) -> Result<(), Memory>
+    ensures { OnOk result ((q : List ℕ) → get same_name targets.new q ≡ option_or (get same_name targets.old q) (target_among ((left.now, right.now) ∷ []) q)) }
+{
+    let Some(before) = targets.insert(left.again(), right.again())? else {
+        return Ok(());
+    };
+    if before != *right {
+        targets.insert(left.again(), before)?;
     }
     Ok(())
 }

@@ -1,16 +1,12 @@
-use Rattle.std.proofs.Common.{◌≡◌, ◌+◌, ◌*◌, ℕ, List, ap, arith, ◌∙◌}
-use Rattle.std.specs.Map.{lookup}
-use Rattle.section_group.specs.Merging.{led}
-use Rattle.section_group.specs.Merging.{same_name}
+use Rattle.std.proofs.Common.{◌+◌, length, sym, subst}
+use Rattle.section_group.specs.Places.{LeadsFar}
+use Rattle.section_group.proofs.PlaceLemmas.{follows_made}
 use Rattle.section_group.proofs.renames.follow.Goals as goal
 
-pub loop-steps-preserved : goal.loop-steps-preserved
-loop-steps-preserved c =
-    let made = c.in_ok-renames-2.ensures in
-    let steps = c.loop-steps.steps in
-    let merges = c.args.merges.now in
-    let twice : steps + steps ≡ steps * 2 = omega arith in (
-      omega arith,
-      λ name. ap (λ (es : List (List ℕ × List ℕ)). lookup (same_name name) es) made.targets ∙ c.loop-steps.invariant.1 name,
-      λ name. made.leads merges steps c.loop-steps.invariant.1 c.loop-steps.invariant.2 name ∙ ap (λ (n : ℕ). led merges n name) twice,
-    )
+pub returns : goal.returns
+returns c =
+    let given = c.args.merges.now in
+    let entries = c.in_ok-targets.targets.entries in
+    let targets = c.in_ok-targets.ensures in
+    follows_made given entries c.deref.result.now c.new.result c.new.ensures.targets c.new.ensures.ends targets
+    (subst (LeadsFar given entries (length given + 5)) (sym c.deref.ensures.value) (c.in_ok-lasts.ensures.leads given targets))
