@@ -92,7 +92,7 @@ built = refl
 
 -- the modules that join
 modules : List ModuleView
-modules = record { file = codes "a.obj"; member = None; bytes = object } ∷ []
+modules = record { file = codes "a.obj"; member = None; bytes = object; imported = None } ∷ []
 
 -- no stage before the tables has a fault
 accepted : plan_fault options (link_of options modules) ≡ None
