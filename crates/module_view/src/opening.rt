@@ -55,7 +55,10 @@ fn open_import<'a>(
         Err(error) => return Err(error),
     };
     let definitions = definitions_by(alloc, bytes, &import)?;
-    let open = OpenImport { import, definitions };
+    let open = OpenImport {
+        import,
+        definitions,
+    };
     match open_object(alloc, origin, no_object()) {
         Ok(nothing) => Ok(with_import(nothing, open)),
         Err(error) => Err(error),

@@ -36,7 +36,9 @@ fn defines(alloc: Global, kind: u8, expected: &[(&[u8], u32, Place)]) -> Result<
         found &= definition.name == Name::of(name);
         found &= definition.symbol == *symbol && definition.place == *place;
     }
-    let empty = module.object().map_or(true, |object| object.section_count() == 0);
+    let empty = module
+        .object()
+        .map_or(true, |object| object.section_count() == 0);
     Ok(found && empty && module.import().is_some() && module.references().is_empty())
 }
 
