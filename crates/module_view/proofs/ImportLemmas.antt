@@ -1,5 +1,6 @@
 -- The object of nothing, as which a short import goes, opens.
-use Rattle.std.proofs.Common.{◌≡◌, ◌<◌, ℕ, List, length, Option, None, refl, sym, ap, subst, ◌∙◌, arith}
+use Rattle.std.proofs.Common.{◌≡◌, ◌<◌, ℕ, List, length, Option, None, Result, refl, sym, ap, subst, ◌∙◌, arith}
+use Rattle.std.specs.Prelude.{IfErr}
 use Rattle.module_view.specs.ModuleDirectives.{module_says}
 use Rattle.link_base.specs.Bytes.{number_at, first_below}
 use Rattle.coff_records.specs.FileRanges.{is_truncated, table_leaves}
@@ -22,7 +23,7 @@ pub nothing_is_short : length no_object < 4294967295
 unfolding no_object
 nothing_is_short = omega arith
 
--- so that no error stands, and only want of memory is answered
-pub only_memory : (bytes : List ℕ) (standing : Option ModuleError) (e : ModuleError) → bytes ≡ no_object → standing ≡ None → RefusesToOpen (opening_error bytes) e → RefusesToOpen standing e
-only_memory bytes standing e nothing none refused =
-    subst (λ (o : Option ModuleError). RefusesToOpen o e) (ap opening_error nothing ∙ nothing_opens ∙ sym none) refused
+-- so that it is refused as a short import without an error is: for want of memory alone
+pub only_memory : {X : Type 0} (result : Result X ModuleError) (bytes : List ℕ) (standing : Option ModuleError) → bytes ≡ no_object → standing ≡ None → IfErr result (RefusesToOpen (opening_error bytes)) → IfErr result (RefusesToOpen standing)
+only_memory result bytes standing nothing none refused =
+    subst (λ (o : Option ModuleError). IfErr result (RefusesToOpen o)) (ap opening_error nothing ∙ nothing_opens ∙ sym none) refused

@@ -11,6 +11,7 @@ ghost use Rattle.module_view.specs.ModuleDirectives.{module_directives};
 ghost use Rattle.module_view.specs.Opening.{IsOpened};
 
 use crate::definition::{Common, Definition};
+use crate::open_import::OpenImport;
 use crate::reference::{Reference, Weak};
 use crate::symbols::SymbolLists;
 use coff_aux::{Comdat, SectionSymbols, comdat_in, is_section_number};
@@ -38,25 +39,6 @@ pub struct Module<'a> {
     /// The first two symbols of each section, where one is a COMDAT.
     pub(crate) comdats: Vec<SectionSymbols>,
     pub(crate) directives: Vec<Directive<'a>>,
-}
-
-/// A short import, and what it defines.
-#[derive(Drop)]
-pub(crate) struct OpenImport<'a> {
-    pub(crate) import: Import<'a>,
-    pub(crate) definitions: Vec<Definition<'a>>,
-}
-
-impl<'a> Model for OpenImport<'a> {
-    ghost use Rattle.std.specs.Prelude.{◌≡◌};
-    ghost use Rattle.short_import.specs.declared.import.Import.{Import};
-    ghost use Rattle.module_view.specs.ImportModule.{import_definitions};
-
-    ghost Value = { Import };
-
-    ghost view = { λ m. m.import };
-
-    ghost invariant = { λ m. m.definitions.items ≡ import_definitions m.import };
 }
 
 impl<'a> Model for Module<'a> {
@@ -107,7 +89,7 @@ impl<'a> Module<'a> {
         ensures { option_copied result ≡ self.now.imported }
     {
         match &self.import {
-            Some(open) => Some(&open.import),
+            Some(open) => Some(open.import()),
             None => None,
         }
     }
@@ -119,7 +101,7 @@ impl<'a> Module<'a> {
         ensures opened { IsOpened self.now }
     {
         match &self.import {
-            Some(open) => &open.definitions,
+            Some(open) => open.definitions(),
             None => &self.lists.definitions,
         }
     }

@@ -13,6 +13,7 @@ mod first_bytes;
 mod import;
 mod input_module;
 mod laws;
+mod open_import;
 mod opening;
 mod placed_section;
 mod reference;

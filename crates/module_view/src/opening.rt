@@ -9,8 +9,9 @@ use crate::aux_faults::judge_aux;
 use crate::directive_list::read_directives;
 use crate::error::ModuleError;
 use crate::first_bytes::{form_shown, is_short_import};
-use crate::import::{definitions_by, no_object, read_import};
-use crate::input_module::{Module, OpenImport, Origin};
+use crate::import::no_object;
+use crate::input_module::{Module, Origin};
+use crate::open_import::OpenImport;
 use crate::sections::judge_sections;
 use crate::symbols::read_symbols;
 use coff_object::{LongTexts, Object};
@@ -36,7 +37,7 @@ pub fn open_module<'a>(
     if is_short_import(bytes) {
         open_import(alloc, origin, bytes)
     } else {
-        open_object(alloc, origin, bytes)
+        open_object(alloc, origin, bytes, None)
     }
 }
 
@@ -50,53 +51,22 @@ fn open_import<'a>(
     ensures accepted { OnOk result (import_error bytes.now ≡ None) }
     ensures refused { IfErr result (RefusesToOpen (import_error bytes.now)) }
 {
-    let import = match read_import(bytes) {
+    let import = match OpenImport::read(alloc, bytes) {
         Ok(import) => import,
         Err(error) => return Err(error),
     };
-    let definitions = definitions_by(alloc, bytes, &import)?;
-    let open = OpenImport {
-        import,
-        definitions,
-    };
-    match open_object(alloc, origin, no_object()) {
-        Ok(nothing) => Ok(with_import(nothing, open)),
-        Err(error) => Err(error),
-    }
+    open_object(alloc, origin, no_object(), Some(import))
 }
 
-/// A module as this short import.
-fn with_import<'a>(nothing: Module<'a>, import: OpenImport<'a>) -> Module<'a>
-    ensures { result ≡ record nothing.entry { imported = Some import.entry } }
-{
-    let Module {
-        origin,
-        bytes,
-        object,
-        lists,
-        comdats,
-        directives,
-        ..
-    } = nothing;
-    Module {
-        origin,
-        import: Some(import),
-        bytes,
-        object,
-        lists,
-        comdats,
-        directives,
-    }
-}
-
-/// The module of an object.
+/// The module of an object, and of the short import that goes as it, where one does.
 fn open_object<'a>(
     alloc: Global,
     origin: Origin<'a>,
     bytes: &'a [u8],
+    import: Option<OpenImport<'a>>,
 ) -> Result<Module<'a>, ModuleError>
     requires { length bytes.now < 2 ^ 32 - 1 }
-    ensures opened { IfOk result (λ m. m ≡ view_with origin.entry bytes.now None) }
+    ensures opened { IfOk result (λ m. m ≡ view_with origin.entry bytes.now import.entry) }
     ensures accepted { OnOk result (opening_error bytes.now ≡ None) }
     ensures refused { IfErr result (RefusesToOpen (opening_error bytes.now)) }
 {
@@ -130,7 +100,7 @@ fn open_object<'a>(
     }
     Ok(Module {
         origin,
-        import: None,
+        import,
         bytes,
         object,
         lists,

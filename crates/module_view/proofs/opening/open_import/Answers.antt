@@ -10,4 +10,4 @@ open_object-requires c =
 -- the import has no error, and the object of nothing opens
 pub returns-clause-refused : goal.returns-clause-refused
 returns-clause-refused c =
-    only_memory c.no_object.result.now (import_error c.args.bytes.now) c.in-Err-open_object.error c.no_object.ensures c.in-Ok.ensures.accepted c.in-Err-open_object.ensures.refused
+    only_memory c.open_object.result c.no_object.result.now (import_error c.args.bytes.now) c.no_object.ensures c.in-Ok.ensures.accepted c.open_object.ensures.refused
