@@ -1,0 +1,2 @@
+pub mod LinkerPieces
+pub mod LinkerFields
