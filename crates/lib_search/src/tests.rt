@@ -1,4 +1,4 @@
-//! Inputs and default libraries of some command lines.
+//! Which members join a link, tried on whole stores of files.
 
 mod joining;
 

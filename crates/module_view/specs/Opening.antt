@@ -1,5 +1,6 @@
--- Which bytes do not open as a module, and why. Of a short import: its faults, then a name that is too long. Of other bytes: the forms that the first bytes show, then the faults of the object, then the forms that its names
--- show, then the faults of auxiliary records, then malformed directives, then the forms that are not linked yet. The order is own.
+-- Which bytes do not open as a module, and why. Of a short import: its faults, then a name that is too long. Of other bytes: the
+-- forms that the first bytes show, then the faults of the object, then the forms that its names show, then the faults of
+-- auxiliary records, then malformed directives, then the forms that are not linked yet. The order is own.
 use Rattle.std.specs.Prelude.{◌≡◌, ℕ, Bool, ◌||◌, ◌&&◌, not, ◌==◌, nat_lt, if◌then◌else◌, List, [], ◌∷◌, length, Option, Some, None, option_map, codes}
 use Rattle.std.specs.List.{list_any}
 use Rattle.link_base.specs.Bytes.{u16_at, has_bytes}

@@ -1,7 +1,8 @@
 //! A module of a link: an object file or a short import that was opened, and the lists that a link reads of it, of its symbols
 //! and of its directives. It takes the bytes of a file, which `coff_object`, `short_import` and `directives` read, and gives
-//! modules to symbol resolution and to layout. Its contracts promise that a file is refused exactly for the first error of a table, and that each list
-//! holds what the format says, in order. What names and directives mean across modules is left to others.
+//! modules to symbol resolution and to layout. Its contracts promise that a file is refused exactly for the first error of a
+//! table, and that each list holds what the format says, in order. What names and directives mean across modules is left to
+//! others.
 #![tactic(auto)]
 
 mod aux_faults;

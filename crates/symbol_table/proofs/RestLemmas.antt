@@ -70,6 +70,15 @@ rests_end before names number rest count plain is le has = λ k name numbered ne
       | inr same ↦ absurd (false≢true (sym plain ∙ ap begins_import (sym same) ∙ begins))
     ]
 
+-- what is left has an old number: it is asked for by itself
+pub rests_stop : (before names after : List (List ℕ)) (number : ℕ) (rest behind : List ℕ) (at : ℕ) → KeepsNumbers names after → length after ≡ length names → Numbers after at behind → behind ≡ behind_import rest → NotesRests before names number rest → (count : ℕ) → count ≤ length before → HasRestsBut before number count → HasRestsBut after (number + 1) count
+rests_stop before names after number rest behind at kept same_len there is was count le has = λ k name numbered near begins.
+    old k name (was.noted count le has k name (numbered_before names after k name kept (omega (arith, same_len, slice_get_within after k name numbered)) numbered) near begins)
+  where
+    old : (k : ℕ) (name : List ℕ) → IsNumbered names (behind_import name) ⊎ (name ≡ rest) → IsNumbered after (behind_import name)
+    old k name (inl numbered) = still_numbered names after (behind_import name) kept numbered
+    old k name (inr same) = subst (IsNumbered after) (is ∙ ap behind_import (sym same)) (record { number = at; numbered = there })
+
 -- ---- the rests of all names
 
 pub record RestsSoFar (before names : List (List ℕ)) (number : ℕ) : Type 0 where

@@ -1,6 +1,6 @@
 //! The names that are left of others behind the import prefix.
 
-ghost use Rattle.std.specs.Prelude.{◌≡◌, ◌<◌, ◌≤◌, ◌+◌, ℕ, List, length, IfOk, OnOk};
+ghost use Rattle.std.specs.Prelude.{◌≡◌, ◌<◌, ◌≤◌, ◌+◌, ℕ, false, List, length, IfOk, OnOk};
 ghost use Rattle.symbol_names.specs.Interning.{Numbers, KeepsNumbers};
 ghost use Rattle.symbol_table.specs.Links.{HasRests, HasRestsBut};
 
@@ -19,7 +19,8 @@ pub(crate) fn note_rests<'a>(names: &mut IndexSet<Name<'a>>) -> Result<(), Memor
     Ok(())
 }
 
-/// Numbers what is left of the name of a number, and what is left of that.
+/// Numbers what is left of the name of a number, and what is left of that, up to one that has a number already: what is left of
+/// it has one too, or gets it in its own turn. So no name is numbered twice, however many others end in it.
 fn note_rests_of<'a>(names: &mut IndexSet<Name<'a>>, number: usize) -> Result<(), Memory>
     requires { number < length names.old.keys }
     ensures kept { KeepsNumbers names.old.keys names.new.keys }
@@ -30,19 +31,22 @@ fn note_rests_of<'a>(names: &mut IndexSet<Name<'a>>, number: usize) -> Result<()
     let mut rest = name_at(names, number);
     while rest.is_import() {
         rest = Name::of(rest.rest());
-        number_of(names, &rest)?;
+        let (_, is_new) = numbered(names, &rest)?;
+        if !is_new {
+            return Ok(());
+        }
     }
     Ok(())
 }
 
-/// The number of a name: its own, or the next one.
-fn number_of<'a>(names: &mut IndexSet<Name<'a>>, name: &Name<'a>) -> Result<usize, Memory>
+/// The number of a name, its own or the next one, and whether it is the next one.
+fn numbered<'a>(names: &mut IndexSet<Name<'a>>, name: &Name<'a>) -> Result<(usize, bool), Memory>
     ensures kept { KeepsNumbers names.old.keys names.new.keys }
     ensures long { length names.old.keys ≤ length names.new.keys }
-    ensures numbered { IfOk result (λ number. Numbers names.new.keys number name.now) }
+    ensures numbered { IfOk result (λ it. Numbers names.new.keys it.0 name.now) }
+    ensures old { IfOk result (λ it. it.1 ≡ false → length names.new.keys ≡ length names.old.keys) }
     ensures alone { OnOk result ((number : ℕ) (other : List ℕ) → Numbers names.new.keys number other
         → length names.old.keys ≤ number → other ≡ name.now) }
 {
-    let (number, _) = names.insert_full(name.again())?;
-    Ok(number)
+    Ok(names.insert_full(name.again())?)
 }
