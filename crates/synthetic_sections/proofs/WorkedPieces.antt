@@ -1,16 +1,11 @@
 -- The definitions on small values.
-use Rattle.std.proofs.Common.{◌≡◌, [], ◌∷◌, map, length, refl}
-use Rattle.synthetic_sections.specs.LinkerPieces.{table_pieces, table_zeros, thunk_piece, slot_piece}
+use Rattle.std.proofs.Common.{◌≡◌, [], ◌∷◌, map, refl}
+use Rattle.synthetic_sections.specs.LinkerPieces.{table_pieces, thunk_piece, slot_piece}
 
 -- tables of one import by its ordinal, which has neither a hint nor a name
 by_ordinal : map (λ piece. piece.number) (table_pieces 3 (40 ∷ 16 ∷ 16 ∷ 0 ∷ 6 ∷ [])) ≡ 0 ∷ 1 ∷ 2 ∷ 4 ∷ []
 unfolding table_pieces
 by_ordinal = refl
-
--- and as many bytes for each
-bytes_of_each : map (λ bytes. length bytes) (table_zeros (40 ∷ 16 ∷ 16 ∷ 0 ∷ 6 ∷ [])) ≡ 40 ∷ 16 ∷ 16 ∷ 6 ∷ []
-unfolding table_zeros
-bytes_of_each = refl
 
 -- no import, no table
 without_any : table_pieces 3 (0 ∷ 0 ∷ 0 ∷ 0 ∷ 0 ∷ []) ≡ []

@@ -1,6 +1,6 @@
 -- The sections that the linker makes itself for imports, as pieces of a module behind all others (PE Format, "The .idata Section";
 -- the numbers of the pieces, and jumps and slots as pieces, are own).
-use Rattle.std.specs.Prelude.{ℕ, ◌+◌, true, false, ◌==◌, if◌then◌else◌, List, [], ◌∷◌, ◌++◌, replicate, slice_index_or, None, codes}
+use Rattle.std.specs.Prelude.{ℕ, ◌+◌, Bool, true, false, ◌==◌, if◌then◌else◌, List, [], ◌∷◌, ◌++◌, replicate, slice_index_or, None, codes}
 use Rattle.link_base.specs.PeFormat.{SCN_CNT_CODE, SCN_CNT_INITIALIZED_DATA, SCN_MEM_EXECUTE, SCN_MEM_READ}
 use Rattle.section_group.specs.declared.piece.Piece.{Piece}
 
@@ -12,21 +12,29 @@ DATA_FLAGS = SCN_CNT_INITIALIZED_DATA + SCN_MEM_READ
 abbrev pub CODE_FLAGS : ℕ
 CODE_FLAGS = SCN_CNT_CODE + (SCN_MEM_EXECUTE + SCN_MEM_READ)
 
--- ---- the import tables
-
--- one of them, by its number in the module
-abbrev pub table_piece : ℕ → ℕ → List ℕ → ℕ → ℕ → Piece
-table_piece position number name align size = record {
+-- a section of initialised data or of code, as a piece of the module at a position, without its bytes
+abbrev pub made_piece : ℕ → ℕ → List ℕ → ℕ → ℕ → ℕ → Bool → Piece
+made_piece position number name flags align size named = record {
   «module» = position;
   number = number;
   name = name;
-  flags = DATA_FLAGS;
+  flags = flags;
   size = size;
   align = align;
   body = None;
   init = true;
-  named = false;
+  named = named;
 }
+
+-- ---- the import tables
+
+-- the number of the table of the slots
+abbrev pub SLOTS : ℕ
+SLOTS = 2
+
+-- one of them, by its number in the module
+abbrev pub table_piece : ℕ → ℕ → List ℕ → ℕ → ℕ → Piece
+table_piece position number name align size = made_piece position number name DATA_FLAGS align size false
 
 -- a table without bytes is not made
 abbrev pub table_if : ℕ → ℕ → List ℕ → ℕ → ℕ → List Piece
@@ -41,18 +49,13 @@ unfoldable pub table_pieces : ℕ → List ℕ → List Piece
 table_pieces position sizes =
     table_if position 0 (codes ".idata$2") 4 (size_at sizes 0)
     ++ (table_if position 1 (codes ".idata$4") 8 (size_at sizes 1)
-    ++ (table_if position 2 (codes ".idata$5") 8 (size_at sizes 2)
+    ++ (table_if position SLOTS (codes ".idata$5") 8 (size_at sizes 2)
     ++ (table_if position 3 (codes ".idata$6") 2 (size_at sizes 3)
     ++ table_if position 4 (codes ".idata$7") 1 (size_at sizes 4))))
 
--- their bytes are not known before they have places: zeros hold these
-abbrev pub zeros_if : ℕ → List (List ℕ)
-zeros_if size = if size == 0 then [] else replicate size 0 ∷ []
-
-unfoldable pub table_zeros : List ℕ → List (List ℕ)
-table_zeros sizes =
-    zeros_if (size_at sizes 0)
-    ++ (zeros_if (size_at sizes 1) ++ (zeros_if (size_at sizes 2) ++ (zeros_if (size_at sizes 3) ++ zeros_if (size_at sizes 4))))
+-- their bytes are not known before they have places: until then they hold nothing
+abbrev pub no_bytes : Piece → List ℕ
+no_bytes piece = []
 
 -- ---- jumps
 
@@ -62,17 +65,7 @@ FIRST_THUNK = 16
 
 -- the code of the import in the module at a position, by which it can be called under its own name
 abbrev pub thunk_piece : ℕ → ℕ → Piece
-thunk_piece position import = record {
-  «module» = position;
-  number = FIRST_THUNK + import;
-  name = codes ".text";
-  flags = CODE_FLAGS;
-  size = 6;
-  align = 16;
-  body = None;
-  init = true;
-  named = true;
-}
+thunk_piece position import = made_piece position (FIRST_THUNK + import) (codes ".text") CODE_FLAGS 16 6 true
 
 -- a jump through memory, at an address that is counted from its own end (Intel 64 and IA-32 Architectures, JMP, FF /4)
 abbrev pub thunk_bytes : List ℕ
@@ -85,17 +78,7 @@ abbrev pub FIRST_LOCAL_SLOT : ℕ
 FIRST_LOCAL_SLOT = 131072
 
 abbrev pub slot_piece : ℕ → ℕ → Piece
-slot_piece position slot = record {
-  «module» = position;
-  number = FIRST_LOCAL_SLOT + slot;
-  name = codes ".rdata";
-  flags = DATA_FLAGS;
-  size = 8;
-  align = 8;
-  body = None;
-  init = true;
-  named = false;
-}
+slot_piece position slot = made_piece position (FIRST_LOCAL_SLOT + slot) (codes ".rdata") DATA_FLAGS 8 8 false
 
 -- an address, which a field holds
 abbrev pub slot_bytes : List ℕ

@@ -7,18 +7,15 @@ use link_base::TargetFault;
 use link_base::pe_format::{REL_AMD64_ADDR64, REL_AMD64_REL32};
 use relocate::{Fix, Target};
 
-/// The field of a jump through the slot at an offset in a piece, by its index (PE Format, "Type Indicators", x64 Processors).
-pub fn thunk_field(piece: u32, offset: u32) -> Fix
-    ensures { result ≡ thunk_field piece offset }
+/// The field of a jump through this slot (PE Format, "Type Indicators", x64 Processors).
+pub fn thunk_field(meant: Result<Target, TargetFault>) -> Fix
+    ensures { result ≡ thunk_field meant }
 {
     Fix {
         index: 0,
         at: 2,
         kind: REL_AMD64_REL32,
-        target: Some(Ok(Target::Piece {
-            piece,
-            value: offset,
-        })),
+        target: Some(meant),
     }
 }
 

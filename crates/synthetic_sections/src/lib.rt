@@ -9,4 +9,4 @@ mod fields;
 mod pieces;
 
 pub use fields::{slot_field, thunk_field};
-pub use pieces::{FIRST_LOCAL_SLOT, FIRST_THUNK, push_slot, push_tables, push_thunk};
+pub use pieces::{FIRST_LOCAL_SLOT, FIRST_THUNK, SLOTS, push_slot, push_tables, push_thunk};
