@@ -1,5 +1,5 @@
--- What callers may cite of the pieces of a link: what each is, and the one that a section or a common is.
-use Rattle.std.proofs.Common.{◌≡◌, ℕ, ◌+◌, ◌<◌, true, eqb, List, length, map, filter, get_or, Some, inl, inr, refl, sym, ap, ◌∙◌, arith}
+-- What callers may cite of the pieces of a link: what each is, and the one that a section, a common or a slot is.
+use Rattle.std.proofs.Common.{◌≡◌, ℕ, ◌+◌, ◌<◌, true, eqb, ltb, List, length, map, filter, get_or, Some, inl, inr, refl, sym, ap, ◌∙◌, arith}
 use Rattle.std.specs.List.{All, Contains}
 use Rattle.std.proofs.lemmas.Bool.{eqb-true, ltb-true, and_parts}
 use Rattle.std.proofs.lemmas.List.Elements.{All-map, All-weaker, All-append, All-contains_itself}
@@ -14,8 +14,10 @@ use Rattle.module_view.specs.Module.{module_at}
 use Rattle.symbol_names.specs.LinkView.{LinkView}
 use Rattle.module_view.specs.SymbolLists.{commons_of}
 use Rattle.link_pieces.specs.Commons.{FIRST_COMMON, is_meant_common, meant_commons, common_piece}
-use Rattle.link_pieces.specs.Pieces.{is_linked, linked_sections, piece_of, pieces_in, link_pieces, IsPieceOf}
-use Rattle.link_pieces.specs.PieceIndex.{is_section, is_numbered, is_section_of, is_common_of, holds, piece_index, common_index}
+use Rattle.link_pieces.specs.Pieces.{is_linked, linked_sections, piece_of, pieces_in, module_pieces, link_pieces, IsPieceOf}
+use Rattle.link_pieces.specs.LinkerPieces.{linker_pieces, IsLinkerPiece}
+use Rattle.link_pieces.proofs.LinkerLemmas.{linker_pieces_are}
+use Rattle.link_pieces.specs.PieceIndex.{is_section, is_numbered, is_section_of, is_common_of, holds, piece_index, common_index, linker_index}
 use Rattle.link_pieces.proofs.CommonLemmas.{all_kept_of}
 
 -- ---- what each piece is
@@ -24,28 +26,33 @@ section_pieces : (link : LinkView) (m : ℕ) → m < length link.modules → All
 section_pieces link m within =
     let bytes = (module_at link.modules m).bytes in
     all_kept (IsPieceOf link) (piece_of m bytes) (is_linked link m bytes) 1 (section_total bytes) (λ section first last linked.
-    record {
+    inl (record {
       within = within;
       is = inl (record { first = first; last = omega (arith, last); linked = linked; is = refl });
-    })
+    }))
 
 common_pieces : (link : LinkView) (m : ℕ) → m < length link.modules → All (IsPieceOf link) (map (common_piece link.modules m) (meant_commons link m (module_at link.modules m).bytes))
 common_pieces link m within =
     let commons = commons_of (module_at link.modules m).bytes in
     All-map (IsPieceOf link) (common_piece link.modules m) (meant_commons link m (module_at link.modules m).bytes)
     (All-weaker (Contains commons) (λ common. IsPieceOf link (common_piece link.modules m common)) (λ common own.
-    record {
+    inl (record {
       within = within;
       is = inr (record { common = common; own = own; is = refl });
-    }) (filter (is_meant_common link m) commons)
+    })) (filter (is_meant_common link m) commons)
     (all_kept_of (Contains commons) (is_meant_common link m) commons (All-contains_itself commons)))
 
-pub pieces_are : (link : LinkView) → All (IsPieceOf link) (link_pieces link)
-pieces_are link =
+module_pieces_are : (link : LinkView) → All (IsPieceOf link) (module_pieces link)
+module_pieces_are link =
     all_joined (IsPieceOf link) (λ m. pieces_in link m (module_at link.modules m).bytes) 0 (length link.modules) (λ m low high.
     let bytes = (module_at link.modules m).bytes in
     let within : m < length link.modules = omega arith in
     All-append (IsPieceOf link) (map (piece_of m bytes) (linked_sections link m bytes)) (map (common_piece link.modules m) (meant_commons link m bytes)) (section_pieces link m within) (common_pieces link m within))
+
+pub pieces_are : (link : LinkView) → All (IsPieceOf link) (link_pieces link)
+pieces_are link =
+    All-append (IsPieceOf link) (module_pieces link) (linker_pieces link) (module_pieces_are link)
+    (All-weaker (IsLinkerPiece link) (IsPieceOf link) (λ piece is. inr is) (linker_pieces link) (linker_pieces_are link))
 
 pub piece_is : (link : LinkView) (k : ℕ) → k < length (link_pieces link) → IsPieceOf link (get_or (link_pieces link) k no_piece)
 piece_is link k lt = pieces_are link k no_piece lt
@@ -70,23 +77,34 @@ same_place position number piece e =
 pub found_piece : (link : LinkView) (position section k : ℕ) → piece_index link position section ≡ Some k → IsFoundAt link position section k
 found_piece link position section k e =
     let pieces = link_pieces link in
-    let found = first_below-some (length pieces) k (holds (is_section_of position section) pieces) e in
+    let count = length link.modules in
+    let found = first_below-some (length pieces) k (holds (is_section_of count position section) pieces) e in
     let piece = get_or pieces k no_piece in
-    let parts = and_parts (is_section piece) (is_numbered position section piece) found.1.0 in
-    let small = ltb-true piece.number FIRST_COMMON parts.0 in
+    let parts = and_parts (is_section count piece) (is_numbered position section piece) found.1.0 in
+    let own = and_parts (ltb piece.«module» count) (ltb piece.number FIRST_COMMON) parts.0 in
+    let inside = ltb-true piece.«module» count own.0 in
+    let small = ltb-true piece.number FIRST_COMMON own.1 in
     let same = same_place position section piece parts.1 in
-    elim (piece_is link k found.0).is [
-      | inl whole ↦
-          record {
-            within = found.0;
-            is = whole.is ∙ ap (λ (m : ℕ). piece_of m (module_at link.modules m).bytes piece.number) same.0 ∙ ap (piece_of position (module_at link.modules position).bytes) same.1;
-          }
-      | inr common ↦
-          let number : piece.number ≡ FIRST_COMMON + common.common.symbol = ap (λ (p : Piece). p.number) common.is in
-          absurd (omega (arith, small, number))
+    elim (piece_is link k found.0) [
+      | inl of_module ↦ elim of_module.is [
+        | inl whole ↦
+            record {
+              within = found.0;
+              is = whole.is ∙ ap (λ (m : ℕ). piece_of m (module_at link.modules m).bytes piece.number) same.0 ∙ ap (piece_of position (module_at link.modules position).bytes) same.1;
+            }
+        | inr common ↦
+            let number : piece.number ≡ FIRST_COMMON + common.common.symbol = ap (λ (p : Piece). p.number) common.is in
+            absurd (omega (arith, small, number))
+      ]
+      | inr of_linker ↦ absurd (omega (arith, inside, of_linker.of_linker))
     ]
 
 -- a common's piece is there
 pub found_common : (link : LinkView) (position symbol k : ℕ) → common_index link position symbol ≡ Some k → k < length (link_pieces link)
 found_common link position symbol k e =
     (first_below-some (length (link_pieces link)) k (holds (is_common_of position symbol) (link_pieces link)) e).0
+
+-- one that the linker makes is there
+pub found_linker : (link : LinkView) (number k : ℕ) → linker_index link number ≡ Some k → k < length (link_pieces link)
+found_linker link number k e =
+    (first_below-some (length (link_pieces link)) k (holds (is_numbered (length link.modules) number) (link_pieces link)) e).0

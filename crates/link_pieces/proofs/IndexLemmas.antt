@@ -4,7 +4,7 @@ use Rattle.std.specs.Option.{option_or}
 use Rattle.std.specs.List.{All}
 use Rattle.std.proofs.lemmas.Bool.{cases_lt, eq-eqb, lt-ltb, le-ltb}
 use Rattle.std.proofs.lemmas.Bool.Decides.{eqb_tells}
-use Rattle.std.proofs.lemmas.List.{get_or-set_same, get_or-set_other, get_or_default, get_or_past, get_or_push, get_or_append_left, length-append, length-replicate}
+use Rattle.std.proofs.lemmas.List.{get_or-set_same, get_or-set_other, get_or_default, get_or_past, get_or_push, get_or_append_left, length-append, length-replicate, length-set}
 use Rattle.std.proofs.Math.ListN.{get_or-map as get_or-map_same}
 use Rattle.link_base.specs.Bytes.{first_below}
 use Rattle.section_group.specs.declared.piece.Piece.{Piece}
@@ -14,12 +14,14 @@ use Rattle.coff_records.specs.ObjectFile.{section_total}
 use Rattle.module_view.specs.Module.{ModuleView, no_module, module_at}
 use Rattle.symbol_names.specs.LinkView.{LinkView}
 use Rattle.link_pieces.specs.Commons.{FIRST_COMMON, HasFewSections}
-use Rattle.link_pieces.specs.Pieces.{link_pieces, IsPieceOf}
+use Rattle.link_pieces.specs.Pieces.{link_pieces, IsModulePiece, IsPieceOf}
+use Rattle.link_pieces.specs.LocalSlots.{slot_names}
+use Rattle.link_pieces.specs.LinkerPieces.{numbers_below}
 use Rattle.link_pieces.proofs.CallerLemmas.{pieces_are}
 use Rattle.std.proofs.lemmas.List.Elements.{All-weaker}
 use Rattle.link_pieces.proofs.CommonLemmas.{common_place}
-use Rattle.link_pieces.specs.PieceIndex.{RowsView, row_start, is_section_of, is_common_of, holds, indexed}
-use Rattle.link_pieces.specs.Rows.{rows_of, section_places, common_places, AreRows, HasStarts, HasRows, HasPlace}
+use Rattle.link_pieces.specs.PieceIndex.{RowsView, row_start, is_numbered, is_section_of, is_common_of, holds, indexed}
+use Rattle.link_pieces.specs.Rows.{rows_of, section_places, common_places, AreRows, HasStarts, HasRows, HasPlace, HasLinkerPlace, HasSomePlace}
 use Rattle.link_base.proofs.RefusalLemmas.{or_none}
 
 -- what a place of a list holds, once a piece is noted where none was
@@ -216,13 +218,19 @@ index_same test pieces k piece before lt read fails was =
 
 -- ---- sections and commons
 
-pub of_section : (position section : ℕ) (piece : Piece) → piece.number < FIRST_COMMON → (eqb piece.«module» position && eqb piece.number section) ≡ is_section_of position section piece
-of_section position section piece small =
-    ap (λ (b : Bool). b && (eqb piece.«module» position && eqb piece.number section)) (sym (lt-ltb piece.number FIRST_COMMON small))
+and_false : (b : Bool) → (b && false) ≡ false
+and_false true = refl
+and_false false = refl
 
-pub no_section : (position section : ℕ) (piece : Piece) → FIRST_COMMON ≤ piece.number → is_section_of position section piece ≡ false
-no_section position section piece large =
-    ap (λ (b : Bool). b && (eqb piece.«module» position && eqb piece.number section)) (le-ltb piece.number FIRST_COMMON large)
+pub of_section : (count position section : ℕ) (piece : Piece) → piece.«module» < count → piece.number < FIRST_COMMON → (eqb piece.«module» position && eqb piece.number section) ≡ is_section_of count position section piece
+of_section count position section piece inside small =
+    rw (lt-ltb piece.«module» count inside, lt-ltb piece.number FIRST_COMMON small) refl
+
+pub no_section : (count position section : ℕ) (piece : Piece) → FIRST_COMMON ≤ piece.number → is_section_of count position section piece ≡ false
+no_section count position section piece large = rw (le-ltb piece.number FIRST_COMMON large, and_false (ltb piece.«module» count)) refl
+
+pub not_of_modules : (count position section : ℕ) (piece : Piece) → piece.«module» ≡ count → is_section_of count position section piece ≡ false
+not_of_modules count position section piece same = rw (le-ltb piece.«module» count (omega (arith, same))) refl
 
 pub of_common : (position symbol : ℕ) (piece : Piece) → FIRST_COMMON ≤ piece.number → (eqb piece.«module» position && eqb (piece.number - FIRST_COMMON) symbol) ≡ is_common_of position symbol piece
 of_common position symbol piece large = ap (λ (b : Bool). eqb piece.«module» position && b) (shifted piece.number large)
@@ -244,10 +252,6 @@ no_common position symbol piece small =
       | inl same ↦ absurd (omega (arith, small, same.1))
       | inr other ↦ ap (λ (b : Bool). eqb piece.«module» position && b) other.0 ∙ and_false (eqb piece.«module» position)
     ]
-  where
-    and_false : (b : Bool) → (b && false) ≡ false
-    and_false true = refl
-    and_false false = refl
 
 -- ---- rows with what is noted of the first pieces
 
@@ -276,8 +280,8 @@ noted_same places modules test pieces k piece rows lt read fails are = record {
 
 -- ---- places in rows
 
-place_of : (link : LinkView) (piece : Piece) → All HasFewSections link.modules → IsPieceOf link piece → HasPlace link.modules piece.«module» piece.number
-place_of link piece few whole = record {
+module_place : (link : LinkView) (piece : Piece) → All HasFewSections link.modules → IsModulePiece link piece → HasPlace link.modules piece.«module» piece.number
+module_place link piece few whole = record {
   within = whole.within;
   section = λ small.
       elim whole.is [
@@ -296,9 +300,17 @@ place_of link piece few whole = record {
       ];
 }
 
-pub all_placed : (link : LinkView) → All HasFewSections link.modules → All (λ piece. HasPlace link.modules piece.«module» piece.number) (link_pieces link)
-all_placed link few =
-    All-weaker (IsPieceOf link) (λ (piece : Piece). HasPlace link.modules piece.«module» piece.number) (λ piece whole. place_of link piece few whole) (link_pieces link) (pieces_are link)
+some_place : (link : LinkView) (places : ℕ) (piece : Piece) → places ≡ numbers_below (length (slot_names link)) → places ≤ FIRST_COMMON → All HasFewSections link.modules → IsPieceOf link piece → HasSomePlace link.modules places piece.«module» piece.number
+some_place link places piece same below few (inl of_module) = inl (module_place link piece few of_module)
+some_place link places piece same below few (inr of_linker) = inr (record {
+  of_linker = of_linker.of_linker;
+  within = omega (arith, of_linker.numbered, same);
+  few = omega (arith, of_linker.numbered, same, below);
+})
+
+pub all_placed : (link : LinkView) (places : ℕ) → places ≡ numbers_below (length (slot_names link)) → places ≤ FIRST_COMMON → All HasFewSections link.modules → All (λ piece. HasSomePlace link.modules places piece.«module» piece.number) (link_pieces link)
+all_placed link places same below few =
+    All-weaker (IsPieceOf link) (λ (piece : Piece). HasSomePlace link.modules places piece.«module» piece.number) (λ piece whole. some_place link places piece same below few whole) (link_pieces link) (pieces_are link)
 
 -- rows of so many places have it
 pub in_section_rows : (modules : List ModuleView) (rows : RowsView) (position number : ℕ) → HasStarts section_places modules (length modules) rows.starts (length rows.pieces) → HasPlace modules position number → number < FIRST_COMMON → row_start rows position + number < row_start rows (position + 1)
@@ -312,3 +324,58 @@ in_common_rows modules rows position number starts has large =
     let next = starts.next position has.within in
     let room = has.common large in
     omega (arith, next, room)
+
+-- ---- the pieces that the linker makes
+
+-- a list with what is noted of the first pieces that it makes
+pub record AreLinkerNoted (modules : List ModuleView) (places : ℕ) (pieces : List Piece) (count : ℕ) (row : List (Option ℕ)) : Type 0 where
+  pub for_each : length row ≡ places
+  pub noted : (n : ℕ) → get_or row n None ≡ first_below count (holds (is_numbered (length modules) n) (map bare pieces))
+
+pub no_linker_noted : (modules : List ModuleView) (places : ℕ) (pieces : List Piece) (row : List (Option ℕ)) → row ≡ replicate places None → AreLinkerNoted modules places pieces 0 row
+unfolding first_below
+no_linker_noted modules places pieces row empty = record {
+  for_each = ap length empty ∙ length-replicate places None;
+  noted = λ n. ap (λ (os : List (Option ℕ)). get_or os n None) empty ∙ each places n;
+}
+  where
+    each : (n k : ℕ) → get_or (replicate n nothing) k None ≡ None
+    each zero k = refl
+    each (suc n) zero = refl
+    each (suc n) (suc k) = each n k
+
+-- one more that it makes
+pub linker_more : (modules : List ModuleView) (places : ℕ) (pieces : List Piece) (k : ℕ) (piece : Piece) (row after : List (Option ℕ)) → k < length pieces → piece ≡ get_or pieces k piece → piece.«module» ≡ length modules → piece.number < length row → after ≡ set row piece.number (option_or (get_or row piece.number None) (Some k)) → AreLinkerNoted modules places pieces k row → AreLinkerNoted modules places pieces (k + 1) after
+linker_more modules places pieces k piece row after lt read same room is are = record {
+  for_each = ap length is ∙ length-set row piece.number (option_or (get_or row piece.number None) (Some k)) ∙ are.for_each;
+  noted = λ n.
+      index_more (is_numbered (length modules) n) pieces k piece (eqb piece.number n) (get_or row n None) (get_or after n None) lt read (passes n) (are.noted n)
+      (ap (λ (os : List (Option ℕ)). get_or os n None) is ∙ put_at row piece.number k n room);
+}
+  where
+    passes : (n : ℕ) → eqb piece.number n ≡ is_numbered (length modules) n (bare piece)
+    passes n = rw (eq-eqb piece.«module» (length modules) same) refl
+
+-- one that it does not make
+pub linker_same : (modules : List ModuleView) (places : ℕ) (pieces : List Piece) (k : ℕ) (piece : Piece) (row : List (Option ℕ)) → k < length pieces → piece ≡ get_or pieces k piece → (piece.«module» ≡ length modules → ⊥) → AreLinkerNoted modules places pieces k row → AreLinkerNoted modules places pieces (k + 1) row
+linker_same modules places pieces k piece row lt read other are = record {
+  for_each = are.for_each;
+  noted = λ n. index_same (is_numbered (length modules) n) pieces k piece (get_or row n None) lt read (fails n) (are.noted n);
+}
+  where
+    fails : (n : ℕ) → is_numbered (length modules) n (bare piece) ≡ false
+    fails n =
+        elim (eqb_tells piece.«module» (length modules)) [
+          | inl same ↦ absurd (other same.1)
+          | inr apart ↦ rw apart.0 refl
+        ]
+
+-- ---- which place a piece has
+
+pub of_module : (modules : List ModuleView) (places position number : ℕ) → (position ≡ length modules → ⊥) → HasSomePlace modules places position number → HasPlace modules position number
+of_module modules places position number other (inl place) = place
+of_module modules places position number other (inr place) = absurd (other place.of_linker)
+
+pub of_linker : (modules : List ModuleView) (places position number : ℕ) → position ≡ length modules → HasSomePlace modules places position number → HasLinkerPlace modules places position number
+of_linker modules places position number same (inl place) = absurd (omega (arith, same, place.within))
+of_linker modules places position number same (inr place) = place

@@ -3,3 +3,5 @@ pub mod CommonLemmas
 pub mod PieceLemmas
 pub mod CallerLemmas
 pub mod IndexLemmas
+mod SlotLemmas
+pub mod LinkerLemmas

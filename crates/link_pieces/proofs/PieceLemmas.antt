@@ -26,7 +26,11 @@ use Rattle.module_view.proofs.CallerLemmas.{opened_sound}
 use Rattle.link_directives.specs.LinkDirectives.{raised_alignment}
 use Rattle.link_directives.proofs.CallerLemmas.{raised_holds}
 use Rattle.link_pieces.specs.Commons.{meant_commons, common_alignment, common_piece}
-use Rattle.link_pieces.specs.Pieces.{is_linked, linked_sections, piece_of, section_contents, no_contents, pieces_in, contents_in, link_pieces, link_contents}
+use Rattle.link_pieces.specs.Pieces.{is_linked, linked_sections, piece_of, section_contents, no_contents, pieces_in, contents_in, module_pieces, module_contents, link_pieces, link_contents}
+use Rattle.synthetic_sections.specs.LinkerPieces.{slot_piece}
+use Rattle.link_pieces.specs.LocalSlots.{slot_names}
+use Rattle.link_pieces.specs.LinkerPieces.{pointer, linker_pieces, linker_contents}
+use Rattle.link_pieces.proofs.LinkerLemmas.{slots_aligned}
 use Rattle.link_pieces.proofs.CommonLemmas.{common_aligned}
 
 -- ---- pieces beside what they hold
@@ -76,8 +80,8 @@ commons_filled : (modules : List ModuleView) (position : ℕ) (commons : List Co
 commons_filled modules position [] = tt
 commons_filled modules position (common ∷ commons) = (λ e. absurd (false≢true e), commons_filled modules position commons)
 
-link_filled : (link : LinkView) → ((m : ℕ) → m < length link.modules → object_fault (module_at link.modules m).bytes ≡ None) → Paired IsFilled (link_pieces link) (link_contents link)
-link_filled link sound =
+modules_filled : (link : LinkView) → ((m : ℕ) → m < length link.modules → object_fault (module_at link.modules m).bytes ≡ None) → Paired IsFilled (module_pieces link) (module_contents link)
+modules_filled link sound =
     paired_joined IsFilled (λ m. pieces_in link m (module_at link.modules m).bytes) (λ m. contents_in link m (module_at link.modules m).bytes) 0 (length link.modules) (λ m low high.
     let bytes = (module_at link.modules m).bytes in
     let within : m < length link.modules = omega arith in
@@ -86,6 +90,16 @@ link_filled link sound =
     (paired_kept IsFilled (piece_of m bytes) (section_contents bytes) (is_linked link m bytes) 1 (section_total bytes) (λ section first last.
     section_filled m bytes section (sound m within) first (omega arith)))
     (commons_filled link.modules m commons))
+
+-- a slot has as many bytes as an address
+slots_filled : (position a n : ℕ) → Paired IsFilled (map (slot_piece position) (range_with_len a n)) (map pointer (range_with_len a n))
+slots_filled position a zero = tt
+slots_filled position a (suc n) = (λ e. refl, slots_filled position (a + 1) n)
+
+link_filled : (link : LinkView) → ((m : ℕ) → m < length link.modules → object_fault (module_at link.modules m).bytes ≡ None) → Paired IsFilled (link_pieces link) (link_contents link)
+link_filled link sound =
+    paired_append IsFilled (module_pieces link) (linker_pieces link) (module_contents link) (linker_contents link) (modules_filled link sound)
+    (slots_filled (length link.modules) 0 (length (slot_names link)))
 
 filled_at : (pieces : List Piece) (k : ℕ) → Paired IsFilled (map bare pieces) (map piece_contents pieces) → k < length pieces → HasItsBytes pieces k
 filled_at [] k paired lt = absurd (omega arith)
@@ -130,17 +144,21 @@ commons_aligned modules position [] = All-nil (λ piece. IsAlignment piece.align
 commons_aligned modules position (common ∷ commons) =
     All-cons (λ (piece : Piece). IsAlignment piece.align) (common_piece modules position common) (map (common_piece modules position) commons) (raised_aligned modules common.name (common_alignment common.size) (common_aligned common.size)) (commons_aligned modules position commons)
 
-pub aligned : (link : LinkView) (pieces : List Piece) → All IsOpened link.modules → map bare pieces ≡ link_pieces link → All (λ piece. IsAlignment piece.align) pieces
-aligned link pieces sound same =
-    over_bare (λ piece. IsAlignment piece.align) pieces
-    (subst (All (λ (piece : Piece). IsAlignment piece.align)) (sym same)
-    (all_joined (λ piece. IsAlignment piece.align) (λ m. pieces_in link m (module_at link.modules m).bytes) 0 (length link.modules) (λ m low high.
+modules_aligned : (link : LinkView) → All IsOpened link.modules → All (λ piece. IsAlignment piece.align) (module_pieces link)
+modules_aligned link sound =
+    all_joined (λ piece. IsAlignment piece.align) (λ m. pieces_in link m (module_at link.modules m).bytes) 0 (length link.modules) (λ m low high.
     let bytes = (module_at link.modules m).bytes in
     let within : m < length link.modules = omega arith in
     All-append (λ (piece : Piece). IsAlignment piece.align) (map (piece_of m bytes) (linked_sections link m bytes)) (map (common_piece link.modules m) (meant_commons link m bytes))
     (all_kept (λ piece. IsAlignment piece.align) (piece_of m bytes) (is_linked link m bytes) 1 (section_total bytes) (λ section first last linked.
     alignment (alignment_of (flags_of bytes section)) (section_alignment bytes section (each_sound link sound m within) first (omega arith))))
-    (commons_aligned link.modules m (meant_commons link m bytes)))))
+    (commons_aligned link.modules m (meant_commons link m bytes)))
+
+pub aligned : (link : LinkView) (pieces : List Piece) → All IsOpened link.modules → map bare pieces ≡ link_pieces link → All (λ piece. IsAlignment piece.align) pieces
+aligned link pieces sound same =
+    over_bare (λ piece. IsAlignment piece.align) pieces
+    (subst (All (λ (piece : Piece). IsAlignment piece.align)) (sym same)
+    (All-append (λ (piece : Piece). IsAlignment piece.align) (module_pieces link) (linker_pieces link) (modules_aligned link sound) (slots_aligned (length link.modules) (length (slot_names link)))))
 
 -- ---- modules, one more in a loop
 

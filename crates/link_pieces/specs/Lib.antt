@@ -5,3 +5,5 @@ pub mod Pieces
 pub mod PieceIndex
 pub mod Steps
 pub mod Rows
+pub mod LocalSlots
+pub mod LinkerPieces

@@ -1,10 +1,12 @@
--- Which piece a section or a common of a module is. Own.
-use Rattle.std.specs.Prelude.{◌≡◌, ℕ, ◌+◌, Bool, ◌&&◌, ◌==◌, nat_lt, if◌then◌else◌, List, length, slice_index_or, Option, None}
+-- Which piece a section or a common of a module is, and which one is of a number of those that the linker makes. Own.
+use Rattle.std.specs.Prelude.{◌≡◌, ℕ, ◌+◌, Bool, ◌&&◌, ◌==◌, nat_lt, if◌then◌else◌, List, length, slice_index_or, Option, None, option_and_then}
 use Rattle.link_base.specs.Bytes.{first_below}
 use Rattle.section_group.specs.declared.piece.Piece.{Piece}
 use Rattle.section_group.specs.SectionOrder.{no_piece}
 use Rattle.symbol_names.specs.LinkView.{LinkView}
 use Rattle.link_pieces.specs.Commons.{FIRST_COMMON}
+use Rattle.synthetic_sections.specs.LinkerPieces.{FIRST_LOCAL_SLOT}
+use Rattle.link_pieces.specs.LocalSlots.{slot_names, slot_number}
 use Rattle.link_pieces.specs.Pieces.{link_pieces}
 
 -- ---- a piece, by its number in its module
@@ -12,12 +14,12 @@ use Rattle.link_pieces.specs.Pieces.{link_pieces}
 abbrev pub is_numbered : ℕ → ℕ → Piece → Bool
 is_numbered position number piece = (piece.«module» == position) && (piece.number == number)
 
--- it is a section, whose numbers are below those of commons
-abbrev pub is_section : Piece → Bool
-is_section piece = nat_lt piece.number FIRST_COMMON
+-- it is a section of one of so many modules: the numbers of sections are below those of commons
+abbrev pub is_section : ℕ → Piece → Bool
+is_section count piece = nat_lt piece.«module» count && nat_lt piece.number FIRST_COMMON
 
-abbrev pub is_section_of : ℕ → ℕ → Piece → Bool
-is_section_of position section piece = is_section piece && is_numbered position section piece
+abbrev pub is_section_of : ℕ → ℕ → ℕ → Piece → Bool
+is_section_of count position section piece = is_section count piece && is_numbered position section piece
 
 abbrev pub is_common_of : ℕ → ℕ → Piece → Bool
 is_common_of position symbol piece = is_numbered position (FIRST_COMMON + symbol) piece
@@ -30,12 +32,22 @@ holds test pieces k = test (slice_index_or pieces k no_piece)
 -- the piece that is a section of the module at a position, where that comes into the image
 abbrev pub piece_index : LinkView → ℕ → ℕ → Option ℕ
 piece_index link position section =
-    first_below (length (link_pieces link)) (holds (is_section_of position section) (link_pieces link))
+    first_below (length (link_pieces link)) (holds (is_section_of (length link.modules) position section) (link_pieces link))
 
 -- the piece that is a common of the module at a position, by the record of its symbol, where some name means it
 abbrev pub common_index : LinkView → ℕ → ℕ → Option ℕ
 common_index link position symbol =
     first_below (length (link_pieces link)) (holds (is_common_of position symbol) (link_pieces link))
+
+-- the piece that the linker makes, by its number, where it makes one
+abbrev pub linker_index : LinkView → ℕ → Option ℕ
+linker_index link number =
+    first_below (length (link_pieces link)) (holds (is_numbered (length link.modules) number) (link_pieces link))
+
+-- the piece that is the slot of a name, where the link refers to it
+abbrev pub slot_index : LinkView → List ℕ → Option ℕ
+slot_index link name =
+    option_and_then (λ slot. linker_index link (FIRST_LOCAL_SLOT + slot)) (slot_number (slot_names link) name)
 
 -- ---- an index
 
@@ -54,12 +66,20 @@ indexed rows position number =
     then slice_index_or rows.pieces (row_start rows position + number) None
     else None
 
--- rows for sections and rows for commons
+-- rows for sections, rows for commons, and the slots with one row for all that the linker makes
 pub record IndexView : Type 0 where
   pub sections : RowsView
   pub commons : RowsView
+  pub slots : List (List ℕ)
+  pub linker : List (Option ℕ)
+
+-- what it says of the slot of a name
+abbrev pub slot_indexed : IndexView → List ℕ → Option ℕ
+slot_indexed index name =
+    option_and_then (λ slot. slice_index_or index.linker (FIRST_LOCAL_SLOT + slot) None) (slot_number index.slots name)
 
 -- they tell the piece of each
 pub record IsPieceIndex (link : LinkView) (index : IndexView) : Type 0 where
   pub sections : (position section : ℕ) → indexed index.sections position section ≡ piece_index link position section
   pub commons : (position symbol : ℕ) → indexed index.commons position symbol ≡ common_index link position symbol
+  pub slots : (name : List ℕ) → slot_indexed index name ≡ slot_index link name

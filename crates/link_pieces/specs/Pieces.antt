@@ -1,5 +1,5 @@
 -- The pieces of a link: the sections of its modules that come into the image and the commons that names mean, in the order
--- of the modules, and what they hold. Own.
+-- of the modules, then those that the linker makes, and what they hold. Own.
 use Rattle.std.specs.Prelude.{◌≡◌, ◌<◌, ◌≤◌, ◌⊎◌, ℕ, Bool, true, false, not, ◌==◌, ◌&&◌, List, [], ◌++◌, length, map, filter, None, unwrap_or}
 use Rattle.std.specs.List.{range_with_len, flat_map, list_any}
 use Rattle.coff_records.specs.ObjectFile.{section_total, section_name_of, raw_size_of, flags_of, alignment_of, is_uninitialised, body_of}
@@ -14,6 +14,7 @@ use Rattle.module_view.specs.declared.definition.Place.TheVariants as place
 use Rattle.symbol_names.specs.LinkView.{LinkView}
 use Rattle.link_pieces.specs.NameMeaning.{takes_part}
 use Rattle.link_pieces.specs.Commons.{meant_commons, common_piece, IsCommonOf}
+use Rattle.link_pieces.specs.LinkerPieces.{linker_pieces, linker_contents, IsLinkerPiece}
 
 -- ---- a section
 
@@ -72,11 +73,18 @@ contents_in link position bytes =
     map (section_contents bytes) (linked_sections link position bytes)
     ++ map no_contents (meant_commons link position bytes)
 
+abbrev pub module_pieces : LinkView → List Piece
+module_pieces link = flat_map (λ k. pieces_in link k (module_at link.modules k).bytes) (range_with_len 0 (length link.modules))
+
+abbrev pub module_contents : LinkView → List (List ℕ)
+module_contents link = flat_map (λ k. contents_in link k (module_at link.modules k).bytes) (range_with_len 0 (length link.modules))
+
+-- those of the modules, then those that the linker makes
 abbrev pub link_pieces : LinkView → List Piece
-link_pieces link = flat_map (λ k. pieces_in link k (module_at link.modules k).bytes) (range_with_len 0 (length link.modules))
+link_pieces link = module_pieces link ++ linker_pieces link
 
 abbrev pub link_contents : LinkView → List (List ℕ)
-link_contents link = flat_map (λ k. contents_in link k (module_at link.modules k).bytes) (range_with_len 0 (length link.modules))
+link_contents link = module_contents link ++ linker_contents link
 
 -- ---- what a piece is
 
@@ -88,6 +96,10 @@ pub record IsSectionOf (link : LinkView) (piece : Piece) : Type 0 where
   pub is : piece ≡ piece_of piece.«module» (module_at link.modules piece.«module»).bytes piece.number
 
 -- or a common of its module
-pub record IsPieceOf (link : LinkView) (piece : Piece) : Type 0 where
+pub record IsModulePiece (link : LinkView) (piece : Piece) : Type 0 where
   pub within : piece.«module» < length link.modules
   pub is : IsSectionOf link piece ⊎ IsCommonOf link.modules piece.«module» (module_at link.modules piece.«module»).bytes piece
+
+-- or one that the linker makes
+abbrev pub IsPieceOf : LinkView → Piece → Type 0
+IsPieceOf link piece = IsModulePiece link piece ⊎ IsLinkerPiece link piece

@@ -1,6 +1,6 @@
 -- The rows of an index of pieces, one for each module: for its sections with a place for the number 0, and for its symbol
--- records, where it has commons. They decide nothing.
-use Rattle.std.specs.Prelude.{◌≡◌, ℕ, ◌+◌, ◌-◌, ◌<◌, ◌≤◌, ◌==◌, if◌then◌else◌, List, length, slice_index_or, replicate, Option, None}
+-- records, where it has commons; and one for the pieces that the linker makes. They decide nothing.
+use Rattle.std.specs.Prelude.{◌≡◌, ◌⊎◌, ℕ, ◌+◌, ◌-◌, ◌<◌, ◌≤◌, ◌==◌, if◌then◌else◌, List, length, slice_index_or, replicate, Option, None}
 use Rattle.coff_records.specs.ObjectFile.{section_total, record_total}
 use Rattle.module_view.specs.Module.{ModuleView, module_at}
 use Rattle.module_view.specs.SymbolLists.{commons_of}
@@ -10,8 +10,9 @@ use Rattle.link_pieces.specs.PieceIndex.{RowsView, IndexView, row_start}
 abbrev pub rows_of : List ℕ → List (Option ℕ) → RowsView
 rows_of starts pieces = record { starts = starts; pieces = pieces }
 
-abbrev pub index_of : RowsView → RowsView → IndexView
-index_of sections commons = record { sections = sections; commons = commons }
+abbrev pub index_of : RowsView → RowsView → List (List ℕ) → List (Option ℕ) → IndexView
+index_of sections commons slots linker =
+    record { sections = sections; commons = commons; slots = slots; linker = linker }
 
 abbrev pub section_places : List ℕ → ℕ
 section_places bytes = section_total bytes + 1
@@ -40,3 +41,13 @@ pub record HasPlace (modules : List ModuleView) (position number : ℕ) : Type 0
   pub within : position < length modules
   pub section : number < FIRST_COMMON → number < section_places (module_at modules position).bytes
   pub common : FIRST_COMMON ≤ number → number - FIRST_COMMON < common_places (module_at modules position).bytes
+
+-- a piece of the linker's module has one among so many
+pub record HasLinkerPlace (modules : List ModuleView) (places position number : ℕ) : Type 0 where
+  pub of_linker : position ≡ length modules
+  pub within : number < places
+  pub few : number < FIRST_COMMON
+
+abbrev pub HasSomePlace : List ModuleView → ℕ → ℕ → ℕ → Type 0
+HasSomePlace modules places position number =
+    HasPlace modules position number ⊎ HasLinkerPlace modules places position number

@@ -1,18 +1,22 @@
-//! The units of layout of a link: the sections of its modules that come into the image, and the commons that names mean. It
-//! takes modules from `module_view`, says by `comdat` and `symbol_table` what their names mean, and gives pieces to the
-//! crates that plan, group and place them. Its contracts promise that each section that is chosen and placed, and each
-//! common that a name means, is one piece, in the order of the modules and of their section headers and symbols, aligned and
-//! with its own bytes; and that the piece of a section or of a common is found at once.
+//! The units of layout of a link: the sections of its modules that come into the image, the commons that names mean, and the
+//! local slots of names that begin with the import prefix. It takes modules from `module_view`, says by `comdat` and
+//! `symbol_table` what their names mean, and gives pieces to the crates that plan, group and place them. Its contracts promise
+//! that each section that is chosen and placed, each common that a name means, and each slot that a link refers to is one
+//! piece, in the order of the modules and of their section headers and symbols, and of the bytes of the slots' names, aligned
+//! and with its own bytes; and that the piece of a section, of a common or of a slot is found at once.
 #![tactic(auto)]
 
 mod commons;
+mod linker;
 mod named;
 mod names;
 mod piece_index;
 mod piece_rows;
 mod pieces;
+mod slots;
 
 pub use commons::FIRST_COMMON;
 pub use names::{LinkNames, check_clash, link_names};
 pub use piece_index::PieceIndex;
 pub use pieces::pieces_of;
+pub use slots::{LocalSlots, note_slot};

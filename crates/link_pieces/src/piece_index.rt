@@ -1,62 +1,79 @@
-//! Which piece a section or a common is.
+//! Which piece a section, a common or a local slot is.
 
-ghost use Rattle.std.specs.Prelude.{◌≡◌, ◌<◌, ◌^◌, ◌≤◌, ◌+◌, All, length, map, IfOk};
+ghost use Rattle.std.specs.Prelude.{◌≡◌, ◌<◌, ◌^◌, ◌≤◌, ◌+◌, All, length, map, slice_index_or, None, IfOk};
 ghost use Rattle.section_group.specs.BarePieces.{bare};
 ghost use Rattle.link_pieces.specs.Pieces.{link_pieces};
+ghost use Rattle.link_pieces.specs.LocalSlots.{slot_names};
+ghost use Rattle.link_pieces.specs.LinkerPieces.{numbers_below};
 ghost use Rattle.coff_records.specs.ObjectFile.{section_total};
 ghost use Rattle.symbol_names.specs.LinkView.{LinkView};
 ghost use Rattle.link_pieces.specs.Commons.{FIRST_COMMON};
-ghost use Rattle.link_pieces.specs.PieceIndex.{indexed, IsPieceIndex};
-ghost use Rattle.link_pieces.specs.Rows.{section_places, common_places, HasRows, HasPlace};
+ghost use Rattle.link_pieces.specs.PieceIndex.{indexed, slot_indexed, IsPieceIndex};
+ghost use Rattle.link_pieces.specs.Rows.{section_places, common_places, HasRows, HasSomePlace};
 
 use crate::commons::FIRST_COMMON;
-use crate::piece_rows::PieceRows;
-use link_base::Memory;
+use crate::linker::linker_places;
+use crate::piece_rows::{PieceRows, no_pieces, put_first};
+use crate::slots::LocalSlots;
+use link_base::{Memory, Name};
 use module_view::Module;
 use section_group::Piece;
 use std::alloc::Global;
 use std::marker::Model;
+use synthetic_sections::FIRST_LOCAL_SLOT;
 
-/// The piece of each section that comes into the image, by the position of its module and its number, and that of each
-/// common that a name means, by the record of its symbol.
+/// The piece of each section that comes into the image, by the position of its module and its number, that of each common
+/// that a name means, by the record of its symbol, and that of each local slot, by its name.
 #[derive(Drop)]
-pub struct PieceIndex {
+pub struct PieceIndex<'a> {
     sections: PieceRows,
     commons: PieceRows,
+    slots: LocalSlots<'a>,
+    /// The pieces that the linker makes, by their numbers.
+    linker: Vec<Option<u32>>,
 }
 
-impl Model for PieceIndex {
+impl<'a> Model for PieceIndex<'a> {
     ghost use Rattle.link_pieces.specs.PieceIndex.{IndexView};
 
     ghost Value = { IndexView };
 
     ghost use Rattle.link_pieces.specs.Rows.{index_of};
 
-    ghost view = { λ index. index_of index.sections index.commons };
+    ghost view = { λ index. index_of index.sections index.commons index.slots index.linker.items };
 }
 
-impl PieceIndex {
-    /// The index of the pieces of these modules. More than 2^32 places are want of memory.
+impl<'a> PieceIndex<'a> {
+    /// The index of the pieces of these modules, with these local slots. More than 2^32 places are want of memory.
     pub fn new(
         alloc: Global,
         modules: &[Module<'_>],
+        slots: LocalSlots<'a>,
         pieces: &[Piece<'_>],
-    ) -> Result<PieceIndex, Memory>
-        requires placed { All (λ piece. HasPlace modules.now piece.«module» piece.number) pieces.now }
+    ) -> Result<PieceIndex<'a>, Memory>
+        requires placed { All (λ piece. HasSomePlace modules.now (numbers_below (length slots)) piece.«module» piece.number) pieces.now }
         requires few { length pieces.now < 2 ^ 31 }
-        ensures { IfOk result (λ index. (link : LinkView) → map bare pieces.now ≡ link_pieces link → IsPieceIndex link index) }
+        ensures { IfOk result (λ index. (link : LinkView) → link.modules ≡ modules.now → slot_names link ≡ slots.entry → map bare pieces.now ≡ link_pieces link → IsPieceIndex link index) }
     {
         let mut sections = section_rows(alloc, modules)?;
         let mut commons = common_rows(alloc, modules)?;
+        let mut linker = no_pieces(alloc, linker_places(slots.len()))?;
         for index in 0..pieces.len() {
             let piece = &pieces[index];
-            if piece.number < FIRST_COMMON {
+            if piece.module as usize == modules.len() {
+                put_first(&mut linker, piece.number as usize, index as u32);
+            } else if piece.number < FIRST_COMMON {
                 sections.note(piece.module, piece.number, index as u32);
             } else {
                 commons.note(piece.module, piece.number - FIRST_COMMON, index as u32);
             }
         }
-        Ok(PieceIndex { sections, commons })
+        Ok(PieceIndex {
+            sections,
+            commons,
+            slots,
+            linker,
+        })
     }
 
     /// The piece that is a section of the module at a position, where it comes into the image.
@@ -71,6 +88,14 @@ impl PieceIndex {
         ensures { result ≡ indexed self.now.commons «module» symbol }
     {
         self.commons.at(module, symbol)
+    }
+
+    /// The piece that is the local slot of a name, where the link refers to it.
+    pub fn of_slot(&self, name: &Name<'a>) -> Option<u32>
+        ensures { result ≡ slot_indexed self.now name.now }
+    {
+        let slot = self.slots.number(name)?;
+        *self.linker.get(FIRST_LOCAL_SLOT as usize + slot as usize)?
     }
 }
 

@@ -34,7 +34,7 @@ impl PieceRows {
         ensures starts { IfOk result (λ rows. rows.starts ≡ starts.items) }
         ensures pieces { IfOk result (λ rows. rows.pieces ≡ replicate end None) }
     {
-        let pieces = vec![in alloc; None; end as usize]?;
+        let pieces = no_pieces(alloc, end)?;
         Ok(PieceRows { starts, pieces })
     }
 
@@ -65,8 +65,15 @@ impl PieceRows {
     }
 }
 
+/// So many places without a piece.
+pub(crate) fn no_pieces(alloc: Global, places: u32) -> Result<Vec<Option<u32>>, Memory>
+    ensures { IfOk result (λ pieces. pieces.items ≡ replicate places None) }
+{
+    Ok(vec![in alloc; None; places as usize]?)
+}
+
 /// Notes a piece at a place, where none is noted there.
-fn put_first(pieces: &mut Vec<Option<u32>>, at: usize, index: u32)
+pub(crate) fn put_first(pieces: &mut Vec<Option<u32>>, at: usize, index: u32)
     requires { at < length pieces.old.items }
     ensures { pieces.new.items ≡ slice_set pieces.old.items at (option_or (slice_index_or pieces.old.items at None) (Some index)) }
 {

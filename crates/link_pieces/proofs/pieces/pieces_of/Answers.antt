@@ -1,4 +1,4 @@
-use Rattle.std.proofs.Common.{◌≡◌, ◌<◌, ◌≤◌, ℕ, List, length, map, take, sym, ap, subst, ◌∙◌, arith}
+use Rattle.std.proofs.Common.{◌≡◌, ◌<◌, ◌≤◌, ◌++◌, ℕ, List, length, map, take, sym, ap, subst, ◌∙◌, arith}
 use Rattle.std.specs.List.{All, range_with_len, flat_map}
 use Rattle.std.proofs.lemmas.List.{get_or_default, take_all}
 use Rattle.std.proofs.lemmas.List.Elements.{All-nil}
@@ -13,7 +13,9 @@ use Rattle.link_pieces.specs.Pieces.{pieces_in, contents_in}
 use Rattle.link_base.proofs.RangeLemmas.{joined_grows}
 use Rattle.link_pieces.proofs.PieceLemmas.{over_bare, aligned, bodies, modules_more}
 use Rattle.link_pieces.proofs.IndexLemmas.{all_placed}
-use Rattle.link_pieces.specs.Rows.{HasPlace}
+use Rattle.link_pieces.specs.Rows.{HasSomePlace}
+use Rattle.link_pieces.specs.LocalSlots.{slot_names}
+use Rattle.link_pieces.specs.LinkerPieces.{slots_below, pointers_below, linker_pieces, linker_contents, numbers_below}
 use Rattle.section_group.specs.declared.piece.Piece.{Piece}
 use Rattle.link_pieces.proofs.pieces.pieces_of.Goals as goal
 
@@ -56,30 +58,41 @@ pub push_module-requires : goal.push_module-requires
 push_module-requires c =
     subst (λ (ms : List ModuleView). AreAsked ms c.in_ok-alignments.alignments) (sym c.requires.same) c.in_ok-alignments.ensures
 
+-- the pieces of all modules, and the slots after them
+with_slots_after : {A : Type 0} (list : ℕ → List ℕ → List A) (k : ℕ) (modules own : List ModuleView) → own ≡ modules → k ≡ length modules → (items after last more : List A) → items ≡ flat_map (λ n. list n (module_at modules n).bytes) (range_with_len 0 k) → after ≡ items ++ last → last ≡ more → after ≡ flat_map (λ n. list n (module_at own n).bytes) (range_with_len 0 (length own)) ++ more
+with_slots_after {A} list k modules own same all items after last more is grown last_is =
+    grown ∙ ap (λ (xs : List A). xs ++ last) (whole_list list k modules own same all items is) ∙ ap (λ (xs : List A). flat_map (λ n. list n (module_at own n).bytes) (range_with_len 0 (length own)) ++ xs) last_is
+
+-- so many slots in the module behind these are those of the link
+own_slots : (link : LinkView) (modules : List ModuleView) (position slots : ℕ) → link.modules ≡ modules → position ≡ length modules → slots ≡ length (slot_names link) → slots_below position slots ≡ linker_pieces link
+own_slots link modules position slots same at count =
+    ap (λ (n : ℕ). slots_below n slots) (at ∙ sym (ap length same)) ∙ ap (slots_below (length link.modules)) count
+
 pub returns-clause-pieces : goal.returns-clause-pieces
 returns-clause-pieces c =
-    whole_list (pieces_in c.args.names.now) c.loop-position.position c.args.modules.now c.args.names.now.modules c.requires.same (omega arith) (map bare c.loop-position.pieces.items) c.loop-position.invariant.pieces
+    with_slots_after (pieces_in c.args.names.now) c.loop-position.position c.args.modules.now c.args.names.now.modules c.requires.same (omega arith) (map bare c.loop-position.pieces.items) (map bare c.push_slots.new.pieces.items) _ (linker_pieces c.args.names.now) c.loop-position.invariant.pieces c.in_ok-push_slots.ensures.pieces
+    (own_slots c.args.names.now c.args.modules.now _ c.args.slots c.requires.same (omega arith) c.requires.slots)
 
 pub returns-clause-contents : goal.returns-clause-contents
 returns-clause-contents c =
-    whole_list (contents_in c.args.names.now) c.loop-position.position c.args.modules.now c.args.names.now.modules c.requires.same (omega arith) (map piece_contents c.loop-position.pieces.items) c.loop-position.invariant.contents
+    with_slots_after (contents_in c.args.names.now) c.loop-position.position c.args.modules.now c.args.names.now.modules c.requires.same (omega arith) (map piece_contents c.loop-position.pieces.items) (map piece_contents c.push_slots.new.pieces.items) _ (linker_contents c.args.names.now) c.loop-position.invariant.contents c.in_ok-push_slots.ensures.contents
+    (ap pointers_below c.requires.slots)
 
 pub returns-clause-aligned : goal.returns-clause-aligned
 returns-clause-aligned c =
-    let link = c.args.names.now in
     let same = c.requires.same in
-    let all : c.loop-position.position ≡ length c.args.modules.now = omega arith in
-    aligned link c.loop-position.pieces.items (all_opened c.loop-position.position c.args.modules.now link same (omega arith) c.loop-position.invariant.opened)
-    (whole_list (pieces_in link) c.loop-position.position c.args.modules.now link.modules same all (map bare c.loop-position.pieces.items) c.loop-position.invariant.pieces)
+    aligned c.args.names.now c.push_slots.new.pieces.items (all_opened c.loop-position.position c.args.modules.now c.args.names.now same (omega arith) c.loop-position.invariant.opened)
+    (with_slots_after (pieces_in c.args.names.now) c.loop-position.position c.args.modules.now c.args.names.now.modules same (omega arith) (map bare c.loop-position.pieces.items) (map bare c.push_slots.new.pieces.items) _ (linker_pieces c.args.names.now) c.loop-position.invariant.pieces c.in_ok-push_slots.ensures.pieces
+    (own_slots c.args.names.now c.args.modules.now _ c.args.slots same (omega arith) c.requires.slots))
 
 pub returns-clause-bodies : goal.returns-clause-bodies
 returns-clause-bodies c =
-    let link = c.args.names.now in
     let same = c.requires.same in
-    let all : c.loop-position.position ≡ length c.args.modules.now = omega arith in
-    bodies link c.loop-position.pieces.items (all_opened c.loop-position.position c.args.modules.now link same (omega arith) c.loop-position.invariant.opened)
-    (whole_list (pieces_in link) c.loop-position.position c.args.modules.now link.modules same all (map bare c.loop-position.pieces.items) c.loop-position.invariant.pieces)
-    (whole_list (contents_in link) c.loop-position.position c.args.modules.now link.modules same all (map piece_contents c.loop-position.pieces.items) c.loop-position.invariant.contents)
+    bodies c.args.names.now c.push_slots.new.pieces.items (all_opened c.loop-position.position c.args.modules.now c.args.names.now same (omega arith) c.loop-position.invariant.opened)
+    (with_slots_after (pieces_in c.args.names.now) c.loop-position.position c.args.modules.now c.args.names.now.modules same (omega arith) (map bare c.loop-position.pieces.items) (map bare c.push_slots.new.pieces.items) _ (linker_pieces c.args.names.now) c.loop-position.invariant.pieces c.in_ok-push_slots.ensures.pieces
+    (own_slots c.args.names.now c.args.modules.now _ c.args.slots same (omega arith) c.requires.slots))
+    (with_slots_after (contents_in c.args.names.now) c.loop-position.position c.args.modules.now c.args.names.now.modules same (omega arith) (map piece_contents c.loop-position.pieces.items) (map piece_contents c.push_slots.new.pieces.items) _ (linker_contents c.args.names.now) c.loop-position.invariant.contents c.in_ok-push_slots.ensures.contents
+    (ap pointers_below c.requires.slots))
 
 pub returns-clause-opened : goal.returns-clause-opened
 returns-clause-opened c =
@@ -90,9 +103,13 @@ returns-clause-placed c =
     let link = c.args.names.now in
     let modules = c.args.modules.now in
     let same = c.requires.same in
+    let places = numbers_below c.args.slots in
     let few = subst (All HasFewSections) (sym same) (subst (All HasFewSections) (take_all c.loop-position.position modules (omega arith)) c.loop-position.invariant.few_sections) in
-    let pieces = c.loop-position.pieces.items in
-    let are = whole_list (pieces_in link) c.loop-position.position modules link.modules same (omega arith) (map bare pieces) c.loop-position.invariant.pieces in
-    subst (λ (ms : List ModuleView). All (λ (piece : Piece). HasPlace ms piece.«module» piece.number) pieces) same
-    (over_bare (λ (piece : Piece). HasPlace link.modules piece.«module» piece.number) pieces
-    (subst (All (λ (piece : Piece). HasPlace link.modules piece.«module» piece.number)) (sym are) (all_placed link few)))
+    let pieces = c.push_slots.new.pieces.items in
+    let are =
+    with_slots_after (pieces_in link) c.loop-position.position modules link.modules same (omega arith) (map bare c.loop-position.pieces.items) (map bare pieces) _ (linker_pieces link) c.loop-position.invariant.pieces c.in_ok-push_slots.ensures.pieces
+    (own_slots link modules _ c.args.slots same (omega arith) c.requires.slots) in
+    subst (λ (ms : List ModuleView). All (λ (piece : Piece). HasSomePlace ms places piece.«module» piece.number) pieces) same
+    (over_bare (λ (piece : Piece). HasSomePlace link.modules places piece.«module» piece.number) pieces
+    (subst (All (λ (piece : Piece). HasSomePlace link.modules places piece.«module» piece.number)) (sym are)
+    (all_placed link places (ap numbers_below c.requires.slots) c.requires.few_slots few)))
