@@ -1,5 +1,5 @@
 -- What callers may cite of the pieces of a link: what each is, and the one that a section, a common or a slot is.
-use Rattle.std.proofs.Common.{◌≡◌, ℕ, ◌+◌, ◌<◌, true, eqb, ltb, List, length, map, filter, get_or, Some, inl, inr, refl, sym, ap, ◌∙◌, arith}
+use Rattle.std.proofs.Common.{◌≡◌, ℕ, ◌+◌, ◌<◌, true, eqb, ltb, List, length, map, filter, get_or, Option, Some, None, inl, inr, refl, sym, ap, ◌∙◌, arith}
 use Rattle.std.specs.List.{All, Contains}
 use Rattle.std.proofs.lemmas.Bool.{eqb-true, ltb-true, and_parts}
 use Rattle.std.proofs.lemmas.List.Elements.{All-map, All-weaker, All-append, All-contains_itself}
@@ -17,7 +17,10 @@ use Rattle.link_pieces.specs.Commons.{FIRST_COMMON, is_meant_common, meant_commo
 use Rattle.link_pieces.specs.Pieces.{is_linked, linked_sections, piece_of, pieces_in, module_pieces, link_pieces, IsPieceOf}
 use Rattle.link_pieces.specs.LinkerPieces.{linker_pieces, IsLinkerPiece}
 use Rattle.link_pieces.proofs.LinkerLemmas.{linker_pieces_are}
-use Rattle.link_pieces.specs.PieceIndex.{is_section, is_numbered, is_section_of, is_common_of, holds, piece_index, common_index, linker_index}
+use Rattle.link_pieces.specs.PieceIndex.{is_section, is_numbered, is_section_of, is_common_of, holds, piece_index, common_index, linker_index, slot_index}
+use Rattle.std.specs.Option.{option_and_then}
+use Rattle.synthetic_sections.specs.LinkerPieces.{FIRST_LOCAL_SLOT}
+use Rattle.link_pieces.specs.LocalSlots.{slot_names, slot_number}
 use Rattle.link_pieces.proofs.CommonLemmas.{all_kept_of}
 
 -- ---- what each piece is
@@ -108,3 +111,11 @@ found_common link position symbol k e =
 pub found_linker : (link : LinkView) (number k : ℕ) → linker_index link number ≡ Some k → k < length (link_pieces link)
 found_linker link number k e =
     (first_below-some (length (link_pieces link)) k (holds (is_numbered (length link.modules) number) (link_pieces link)) e).0
+
+-- and so is the slot of a name
+pub found_slot : (link : LinkView) (name : List ℕ) (k : ℕ) → slot_index link name ≡ Some k → k < length (link_pieces link)
+found_slot link name k e = go (slot_number (slot_names link) name) e
+  where
+    go : (number : Option ℕ) → option_and_then (λ slot. linker_index link (FIRST_LOCAL_SLOT + slot)) number ≡ Some k → k < length (link_pieces link)
+    go None e = absurd cc
+    go (Some slot) e = found_linker link (FIRST_LOCAL_SLOT + slot) k e

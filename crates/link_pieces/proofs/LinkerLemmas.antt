@@ -40,6 +40,7 @@ linker_pieces_are link =
     all_made (IsLinkerPiece link) (slot_piece (length link.modules)) (length (slot_names link)) (λ k lt.
     record {
       of_linker = refl;
+      first = omega arith;
       numbered = slot_numbered (length (slot_names link)) k lt;
     })
 

@@ -1,5 +1,5 @@
 -- The pieces that the linker makes for a link, in a module of its own behind all others: the local slots. Own.
-use Rattle.std.specs.Prelude.{◌≡◌, ◌<◌, ℕ, ◌+◌, ◌==◌, if◌then◌else◌, List, length, map}
+use Rattle.std.specs.Prelude.{◌≡◌, ◌<◌, ◌≤◌, ℕ, ◌+◌, ◌==◌, if◌then◌else◌, List, length, map}
 use Rattle.std.specs.List.{range_with_len}
 use Rattle.section_group.specs.declared.piece.Piece.{Piece}
 use Rattle.symbol_names.specs.LinkView.{LinkView}
@@ -33,4 +33,5 @@ numbers_below slots = if slots == 0 then 0 else FIRST_LOCAL_SLOT + slots
 -- a piece is one of them
 pub record IsLinkerPiece (link : LinkView) (piece : Piece) : Type 0 where
   pub of_linker : piece.«module» ≡ length link.modules
+  pub first : FIRST_LOCAL_SLOT ≤ piece.number
   pub numbered : piece.number < numbers_below (length (slot_names link))

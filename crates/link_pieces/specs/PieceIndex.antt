@@ -82,4 +82,5 @@ slot_indexed index name =
 pub record IsPieceIndex (link : LinkView) (index : IndexView) : Type 0 where
   pub sections : (position section : ℕ) → indexed index.sections position section ≡ piece_index link position section
   pub commons : (position symbol : ℕ) → indexed index.commons position symbol ≡ common_index link position symbol
+  pub names : index.slots ≡ slot_names link
   pub slots : (name : List ℕ) → slot_indexed index name ≡ slot_index link name

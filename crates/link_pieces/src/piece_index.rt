@@ -1,8 +1,9 @@
 //! Which piece a section, a common or a local slot is.
 
-ghost use Rattle.std.specs.Prelude.{◌≡◌, ◌<◌, ◌^◌, ◌≤◌, ◌+◌, All, length, map, slice_index_or, None, IfOk};
+ghost use Rattle.std.specs.Prelude.{◌≡◌, ◌<◌, ◌^◌, ◌≤◌, ◌+◌, ◌-◌, All, [], length, map, slice_index_or, None, IfOk};
 ghost use Rattle.section_group.specs.BarePieces.{bare};
 ghost use Rattle.link_pieces.specs.Pieces.{link_pieces};
+ghost use Rattle.synthetic_sections.specs.LinkerPieces as slot;
 ghost use Rattle.link_pieces.specs.LocalSlots.{slot_names};
 ghost use Rattle.link_pieces.specs.LinkerPieces.{numbers_below};
 ghost use Rattle.coff_records.specs.ObjectFile.{section_total};
@@ -96,6 +97,14 @@ impl<'a> PieceIndex<'a> {
     {
         let slot = self.slots.number(name)?;
         *self.linker.get(FIRST_LOCAL_SLOT as usize + slot as usize)?
+    }
+
+    /// The name whose slot has a number among the pieces that the linker makes.
+    pub fn slot_name(&self, number: u32) -> Name<'a>
+        requires { slot.FIRST_LOCAL_SLOT ≤ number }
+        ensures { result ≡ slice_index_or self.now.slots (number - slot.FIRST_LOCAL_SLOT) [] }
+    {
+        self.slots.name(number - FIRST_LOCAL_SLOT)
     }
 }
 

@@ -1,6 +1,6 @@
 //! The local slots of a link.
 
-ghost use Rattle.std.specs.Prelude.{◌≡◌, ◌≤◌, [], length, Ok, OnOk, IfOk};
+ghost use Rattle.std.specs.Prelude.{◌≡◌, ◌≤◌, [], length, slice_index_or, Ok, OnOk, IfOk};
 ghost use Rattle.std.specs.List.{cons_option};
 ghost use Rattle.link_pieces.specs.Commons.{FIRST_COMMON};
 ghost use Rattle.link_pieces.specs.LinkerPieces.{numbers_below};
@@ -78,6 +78,16 @@ impl<'a> LocalSlots<'a> {
         match self.names.get_index_of(name) {
             Some(number) => Some(number as u32),
             None => None,
+        }
+    }
+
+    /// The name of a slot by its number; one that is not there has none.
+    pub(crate) fn name(&self, number: u32) -> Name<'a>
+        ensures { result ≡ slice_index_or self.now number [] }
+    {
+        match self.names.get_index(number as usize) {
+            Some(name) => name.again(),
+            None => Name::of(b""),
         }
     }
 }

@@ -125,6 +125,7 @@ returns c =
           c.loop-index.invariant.commons.noted m j
           ∙ ap (λ (n : ℕ). first_below n (holds (is_common_of m j) (map bare pieces))) all
           ∙ ap (λ (ps : List Piece). first_below (length ps) (holds (is_common_of m j) ps)) are;
+      names = sym names;
       slots = λ name.
           ap (λ (number : Option ℕ). option_and_then (λ slot. get_or c.loop-index.linker.items (FIRST_LOCAL_SLOT + slot) None) number) (ap (λ (slots : List (List ℕ)). slot_number slots name) (sym names))
           ∙ each_slot (λ slot. get_or c.loop-index.linker.items (FIRST_LOCAL_SLOT + slot) None) (λ slot. linker_index link (FIRST_LOCAL_SLOT + slot)) (λ slot.
