@@ -1,5 +1,5 @@
 -- What callers may cite of the fields of a plan: the pieces that they mean are named, and each relocation has its number.
-use Rattle.std.proofs.Common.{◌≡◌, ℕ, zero, suc, ◌+◌, ◌<◌, Bool, true, false, cond, ◌||◌, List, [], ◌∷◌, length, filter, get_or, Option, Some, None, option_map, Result, Ok, Err, refl, ap, ◌∙◌, eq-eqb, arith}
+use Rattle.std.proofs.Common.{◌≡◌, ℕ, zero, suc, ◌+◌, ◌<◌, Bool, true, false, cond, ◌||◌, eqb, List, [], ◌∷◌, length, filter, get_or, Option, Some, None, option_map, Result, Ok, Err, refl, ap, ◌∙◌, eq-eqb, arith}
 use Rattle.std.specs.List.{All, range_with_len, find}
 use Rattle.std.proofs.lemmas.Bool.{or_right}
 use Rattle.std.proofs.lemmas.List.Elements.{All-nil, All-cons, All-head, All-tail}
@@ -25,10 +25,12 @@ use Rattle.symbol_table.specs.declared.meaning.Meaning.TheVariants as meaning
 use Rattle.symbol_table.specs.declared.meaning.NoMeaning.{NoMeaning}
 use Rattle.link_pieces.specs.NameMeaning.{name_meaning, takes_part}
 use Rattle.link_pieces.specs.Pieces.{link_pieces}
-use Rattle.link_pieces.specs.PieceIndex.{piece_index, common_index, is_section, is_section_of, is_common_of, holds}
+use Rattle.link_pieces.specs.PieceIndex.{piece_index, common_index, slot_index, is_section, is_section_of, is_common_of, holds}
+use Rattle.link_pieces.proofs.CallerLemmas.{found_slot}
+use Rattle.synthetic_sections.specs.LinkerFields.{slot_field}
 use Rattle.link_words.specs.Outcome.{LinkOptions}
 use Rattle.link_plan.specs.Targets.{target_in, section_target, common_target, own_target, meant_target, has_meaning, local_target, symbol_target, is_record}
-use Rattle.link_plan.specs.Fixes.{fix_of, fixes_from, piece_at, piece_fixes, piece_in, meant_in, is_that, means_piece, mean_piece, is_meant, is_entry, section_fixes, planned_piece, plan_pieces}
+use Rattle.link_plan.specs.Fixes.{fix_of, fixes_from, piece_at, piece_fixes, piece_in, meant_in, is_that, means_piece, mean_piece, is_meant, is_entry, section_fixes, slot_at, linker_fixes, planned_piece, plan_pieces}
 
 kept_one : {A : Type 0} (P : A → Type 0) (b : Bool) (x : A) (rest : List A) → (b ≡ true → P x) → All P rest → All P (cond b (x ∷ rest) rest)
 kept_one P true x rest here later = All-cons P x rest (here refl) later
@@ -49,11 +51,16 @@ numbered_from link position bytes index (r ∷ rs) (suc k) lt =
     let more = numbered_from link position bytes (index + 1) rs k (omega arith) in omega (arith, more)
 
 pub fixes_numbered : (link : LinkView) (k : ℕ) → AreNumbered (piece_fixes link k)
-fixes_numbered link k = by_kind (is_section (piece_at link k))
+fixes_numbered link k = by_kind (is_section (length link.modules) (piece_at link k)) (eqb (piece_at link k).«module» (length link.modules))
   where
-    by_kind : (section : Bool) → AreNumbered (cond section (section_fixes link (piece_at link k).«module» (module_at link.modules (piece_at link k).«module»).bytes (piece_at link k).number) [])
-    by_kind false i lt = absurd (omega arith)
-    by_kind true i lt =
+    by_kind : (section linker : Bool) → AreNumbered (cond section (section_fixes link (piece_at link k).«module» (module_at link.modules (piece_at link k).«module»).bytes (piece_at link k).number) (cond linker (linker_fixes link (piece_at link k).number) []))
+    by_kind false false i lt = absurd (omega arith)
+    by_kind false true i lt = one i lt
+      where
+        one : (i : ℕ) → i < 1 → (fix_at (linker_fixes link (piece_at link k).number) i).index ≡ i
+        one zero lt = refl
+        one (suc i) lt = absurd (omega (arith, lt))
+    by_kind true linker i lt =
         let at = piece_at link k in
         let held = (module_at link.modules at.«module»).bytes in
         let number = numbered_from link at.«module» held 0 (relocations_of held at.number) i lt in
@@ -74,7 +81,7 @@ OkWithin link (Err fault) = Unit {0}
 index_within : (link : LinkView) (value : ℕ) (found : Option ℕ) (position section : ℕ) → piece_index link position section ≡ found → OkWithin link (target_in value found)
 index_within link value None position section e = tt
 index_within link value (Some piece) position section e =
-    (first_below-some (length (link_pieces link)) piece (holds (is_section_of position section) (link_pieces link)) e).0
+    (first_below-some (length (link_pieces link)) piece (holds (is_section_of (length link.modules) position section) (link_pieces link)) e).0
 
 section_within : (link : LinkView) (position section value : ℕ) → OkWithin link (section_target link position section value)
 section_within link position section value = index_within link value (piece_index link position section) position section refl
@@ -87,12 +94,16 @@ common_found link (Some piece) position symbol e =
 common_within : (link : LinkView) (position symbol : ℕ) → OkWithin link (common_target link position symbol)
 common_within link position symbol = common_found link (common_index link position symbol) position symbol refl
 
+slot_found : (link : LinkView) (found : Option ℕ) (name : List ℕ) → slot_index link name ≡ found → OkWithin link (target_in 0 found)
+slot_found link None name e = tt
+slot_found link (Some piece) name e = found_slot link name piece e
+
 name_within : (link : LinkView) (r : Result Meaning NoMeaning) → OkWithin link (meant_target link r)
 name_within link (Ok (meaning.Section position section value)) = section_within link position section value
 name_within link (Ok (meaning.Common position symbol)) = common_within link position symbol
 name_within link (Ok (meaning.Slot position)) = tt
 name_within link (Ok (meaning.Thunk position)) = tt
-name_within link (Ok (meaning.LocalSlot name)) = tt
+name_within link (Ok (meaning.LocalSlot name)) = slot_found link (slot_index link name) name refl
 name_within link (Ok (meaning.Absolute value)) = tt
 name_within link (Ok meaning.ImageBase) = tt
 name_within link (Err none) = tt
@@ -112,13 +123,13 @@ unfolding local_target
 symbol_within link position symbol true = name_within link (name_meaning link (name_in symbol))
 symbol_within link position symbol false = local_within link position symbol (is_absolute symbol) _
 
+result_within : (link : LinkView) (r : Result Target TargetFault) → OkWithin link r → IsWithin link (meant (Some r))
+result_within link (Ok t) h = h
+result_within link (Err fault) h = tt
+
 record_within : (link : LinkView) (position : ℕ) (found : Option SymbolEntry) → IsWithin link (meant (option_map (λ entry. symbol_target link position entry.1) found))
 record_within link position None = tt
-record_within link position (Some entry) = by_result (symbol_target link position entry.1) (symbol_within link position entry.1 (has_meaning entry.1))
-  where
-    by_result : (r : Result Target TargetFault) → OkWithin link r → IsWithin link (meant (Some r))
-    by_result (Ok t) h = h
-    by_result (Err fault) h = tt
+record_within link position (Some entry) = result_within link (symbol_target link position entry.1) (symbol_within link position entry.1 (has_meaning entry.1))
 
 -- ---- fields
 
@@ -160,11 +171,16 @@ field_stands link k i d within lt some = by_target (target_of (get_or (piece_fix
 pub fields_stand : (link : LinkView) (k : ℕ) → k < length (link_pieces link) → All (λ fix. Stands link (target_of fix)) (filter has_field (piece_fixes link k))
 fields_stand link k within =
     kept_all (λ fix. Stands link (target_of fix)) has_field (piece_fixes link k) (λ i d lt some.
-    field_stands link k i d within lt some (of_piece (is_section (piece_at link k)) i d lt))
+    field_stands link k i d within lt some (of_piece (is_section (length link.modules) (piece_at link k)) (eqb (piece_at link k).«module» (length link.modules)) i d lt))
   where
-    of_piece : (section : Bool) → All (λ fix. IsWithin link (target_of fix)) (cond section (section_fixes link (piece_at link k).«module» (module_at link.modules (piece_at link k).«module»).bytes (piece_at link k).number) [])
-    of_piece false = All-nil (λ fix. IsWithin link (target_of fix))
-    of_piece true =
+    of_piece : (section linker : Bool) → All (λ fix. IsWithin link (target_of fix)) (cond section (section_fixes link (piece_at link k).«module» (module_at link.modules (piece_at link k).«module»).bytes (piece_at link k).number) (cond linker (linker_fixes link (piece_at link k).number) []))
+    of_piece false false = All-nil (λ fix. IsWithin link (target_of fix))
+    of_piece false true =
+        let means = meant_target link (name_meaning link (slot_at link (piece_at link k).number)) in
+        All-cons (λ fix. IsWithin link (target_of fix)) (slot_field means) []
+        (result_within link means (name_within link (name_meaning link (slot_at link (piece_at link k).number))))
+        (All-nil (λ fix. IsWithin link (target_of fix)))
+    of_piece true linker =
         let piece = piece_at link k in
         let bytes = (module_at link.modules piece.«module»).bytes in
         all_within link piece.«module» bytes 0 (relocations_of bytes piece.number)

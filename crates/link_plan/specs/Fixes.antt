@@ -1,6 +1,6 @@
 -- The relocations of the pieces of a link, each with what its symbol means, the first that has a fault, and the pieces that
 -- stand in a section without bytes. Own.
-use Rattle.std.specs.Prelude.{◌≡◌, ℕ, ◌+◌, ◌<◌, ◌==◌, ◌||◌, Bool, false, if◌then◌else◌, List, [], ◌∷◌, length, map, slice_index_or, Option, Some, None, option_and_then}
+use Rattle.std.specs.Prelude.{◌≡◌, ℕ, ◌+◌, ◌-◌, ◌<◌, ◌==◌, ◌||◌, Bool, false, if◌then◌else◌, List, [], ◌∷◌, length, map, slice_index_or, Option, Some, None, option_and_then}
 use Rattle.std.specs.List.{range_with_len, list_any}
 use Rattle.link_base.specs.Refusals.{first_refusal_below}
 use Rattle.link_base.specs.declared.fault.Fault.{Fault}
@@ -23,7 +23,11 @@ use Rattle.symbol_names.specs.LinkView.{LinkView}
 use Rattle.link_pieces.specs.Pieces.{link_pieces, link_contents}
 use Rattle.link_pieces.specs.PieceIndex.{is_section}
 use Rattle.link_words.specs.Outcome.{LinkOptions}
-use Rattle.link_plan.specs.Targets.{record_target}
+use Rattle.synthetic_sections.specs.LinkerPieces.{FIRST_LOCAL_SLOT}
+use Rattle.synthetic_sections.specs.LinkerFields.{slot_field}
+use Rattle.link_pieces.specs.NameMeaning.{name_meaning}
+use Rattle.link_pieces.specs.LocalSlots.{slot_names}
+use Rattle.link_plan.specs.Targets.{record_target, meant_target}
 use Rattle.link_plan.specs.Entry.{entry_place, piece_of_place}
 
 -- ---- the relocations of a section of the module at a position
@@ -50,12 +54,23 @@ section_fixes link position bytes section = fixes_from link position bytes 0 (re
 abbrev pub piece_at : LinkView → ℕ → Piece
 piece_at link k = slice_index_or (link_pieces link) k no_piece
 
+-- a slot has one: the address of what its name means
+abbrev pub slot_fixes : LinkView → List ℕ → List Fix
+slot_fixes link name = slot_field (meant_target link (name_meaning link name)) ∷ []
+
+-- the name of a slot, by the number of its piece
+abbrev pub slot_at : LinkView → ℕ → List ℕ
+slot_at link number = slice_index_or (slot_names link) (number - FIRST_LOCAL_SLOT) []
+
+abbrev pub linker_fixes : LinkView → ℕ → List Fix
+linker_fixes link number = slot_fixes link (slot_at link number)
+
 -- a common has none
 abbrev pub fixes_in : LinkView → Piece → List Fix
 fixes_in link piece =
-    if is_section piece
+    if is_section (length link.modules) piece
     then section_fixes link piece.«module» (module_at link.modules piece.«module»).bytes piece.number
-    else []
+    else (if piece.«module» == length link.modules then linker_fixes link piece.number else [])
 
 abbrev pub piece_fixes : LinkView → ℕ → List Fix
 piece_fixes link k = fixes_in link (piece_at link k)

@@ -16,7 +16,7 @@ use Rattle.symbol_table.specs.declared.meaning.Meaning.{Meaning}
 use Rattle.symbol_table.specs.declared.meaning.Meaning.TheVariants as meaning
 use Rattle.symbol_table.specs.declared.meaning.NoMeaning.{NoMeaning}
 use Rattle.link_pieces.specs.NameMeaning.{name_meaning, takes_part}
-use Rattle.link_pieces.specs.PieceIndex.{piece_index, common_index}
+use Rattle.link_pieces.specs.PieceIndex.{piece_index, common_index, slot_index}
 
 -- ---- a place
 
@@ -32,6 +32,10 @@ section_target link position section value = target_in value (piece_index link p
 abbrev pub common_target : LinkView → ℕ → ℕ → Result Target TargetFault
 common_target link position symbol = target_in 0 (common_index link position symbol)
 
+-- the slot of a name
+abbrev pub slot_target : LinkView → List ℕ → Result Target TargetFault
+slot_target link name = target_in 0 (slot_index link name)
+
 -- an offset in a section, of a symbol that only its module can name: a section that takes no part in the link has been discarded
 abbrev pub own_target : LinkView → ℕ → ℕ → ℕ → Result Target TargetFault
 own_target link position section value =
@@ -45,6 +49,7 @@ meant_target link (Ok (meaning.Section position section value)) = section_target
 meant_target link (Ok (meaning.Common position symbol)) = common_target link position symbol
 meant_target link (Ok (meaning.Absolute value)) = Ok (target.Absolute value)
 meant_target link (Ok meaning.ImageBase) = Ok target.ImageBase
+meant_target link (Ok (meaning.LocalSlot name)) = slot_target link name
 meant_target link other = Err fault.NoSection
 
 -- ---- a symbol

@@ -35,7 +35,7 @@ pub(crate) fn entry_meaning<'a>(
 
 /// Where the entry stands, by what it means. The start of the image is as no entry: the RVA 0.
 pub(crate) fn entry_place<'a>(
-    index: &PieceIndex,
+    index: &PieceIndex<'_>,
     meaning: &Option<Meaning<'a>>,
 ) -> Result<Option<EntryPlace>, Fault<'a>>
     ensures placed { IfOk result (λ place. (link : LinkView) → IsPieceIndex link index.now

@@ -6,14 +6,16 @@ ghost use Rattle.module_view.specs.Module.{module_at};
 ghost use Rattle.symbol_names.specs.LinkView.{LinkView};
 ghost use Rattle.link_pieces.specs.PieceIndex.{IsPieceIndex};
 ghost use Rattle.link_plan.specs.Targets.{AreTargets};
-ghost use Rattle.link_plan.specs.Fixes.{section_fixes};
+ghost use Rattle.synthetic_sections.specs.LinkerPieces.{FIRST_LOCAL_SLOT};
+ghost use Rattle.link_plan.specs.Fixes.{section_fixes, linker_fixes};
 ghost use Rattle.link_plan.specs.Steps.{HoldsTargets};
 
-use crate::targets::{RecordTarget, read_targets};
+use crate::targets::{RecordTarget, meant_target, read_targets};
 use coff_object::Object;
 use link_base::Memory;
 use link_pieces::{LinkNames, PieceIndex};
 use relocate::Fix;
+use synthetic_sections::slot_field;
 
 /// What the symbols of one module mean, by its position: the module whose relocations were read last.
 #[derive(Drop)]
@@ -27,7 +29,7 @@ pub(crate) fn section_fixes<'a>(
     fixes: &mut Vec<Fix>,
     last: &mut LastTargets,
     names: &LinkNames<'a>,
-    index: &PieceIndex,
+    index: &PieceIndex<'a>,
     object: &Object<'a>,
     position: u32,
     section: u32,
@@ -48,11 +50,28 @@ pub(crate) fn section_fixes<'a>(
     put_fixes(fixes, object, section, &last.targets)
 }
 
+/// Puts the field of a local slot into an empty list, by the number of its piece: the address of what its name means.
+pub(crate) fn slot_fixes<'a>(
+    fixes: &mut Vec<Fix>,
+    names: &LinkNames<'a>,
+    index: &PieceIndex<'a>,
+    number: u32,
+) -> Result<(), Memory>
+    requires empty { fixes.old.items ≡ [] }
+    requires indexed { IsPieceIndex names.now index.now }
+    requires number { FIRST_LOCAL_SLOT ≤ number }
+    ensures { OnOk result (fixes.new.items ≡ linker_fixes names.now number) }
+{
+    let meaning = names.resolve(index.slot_name(number));
+    fixes.push(slot_field(meant_target(index, meaning)))?;
+    Ok(())
+}
+
 /// Reads what the symbols of the module at a position mean, where that was not read last.
 fn read_last<'a>(
     last: &mut LastTargets,
     names: &LinkNames<'a>,
-    index: &PieceIndex,
+    index: &PieceIndex<'a>,
     object: &Object<'a>,
     position: u32,
 ) -> Result<(), Memory>

@@ -12,7 +12,7 @@ ghost use Rattle.link_pieces.specs.PieceIndex.{IsPieceIndex};
 ghost use Rattle.link_plan.specs.Fixes.{judged_fault, refused_at, fixes_in, fixes_fault, is_meant, len_if, HaveFields};
 ghost use Rattle.link_plan.specs.Steps.{HoldsTargets};
 
-use crate::fixes::{LastTargets, section_fixes};
+use crate::fixes::{LastTargets, section_fixes, slot_fixes};
 use crate::meant::mark_meant;
 use link_base::{Fault, Memory, Refusal};
 use link_pieces::{FIRST_COMMON, LinkNames, PieceIndex};
@@ -32,7 +32,7 @@ pub(crate) struct JudgedFixes {
 pub(crate) fn judge_pieces<'a>(
     alloc: Global,
     names: &LinkNames<'a>,
-    index: &PieceIndex,
+    index: &PieceIndex<'a>,
     modules: &[Module<'a>],
     pieces: &[Piece<'a>],
     large: bool,
@@ -74,12 +74,12 @@ fn keep(fixups: &mut Vec<Fixups>, fields: Fixups) -> Result<(), Memory>
     Ok(())
 }
 
-/// Replaces a list by the relocations of a piece. A common has none.
+/// Replaces a list by the relocations of a piece. A common has none, and a local slot its field.
 fn read_fixes<'a>(
     fixes: &mut Vec<Fix>,
     last: &mut LastTargets,
     names: &LinkNames<'a>,
-    index: &PieceIndex,
+    index: &PieceIndex<'a>,
     modules: &[Module<'a>],
     piece: &Piece<'a>,
 ) -> Result<(), Memory>
@@ -91,6 +91,9 @@ fn read_fixes<'a>(
     ensures held { OnOk result (HoldsTargets names.now last.new.position last.new.targets.items) }
 {
     fixes.clear();
+    if piece.module as usize == modules.len() {
+        return slot_fixes(fixes, names, index, piece.number);
+    }
     if piece.number >= FIRST_COMMON {
         return Ok(());
     }

@@ -20,12 +20,13 @@ use lib_search::{LinkList, complete};
 use link_base::{Name, Refusal, Stop};
 use link_directives::link_merges;
 use link_files::Files;
-use link_pieces::{LinkNames, PieceIndex, check_clash, link_names, pieces_of};
+use link_pieces::{LinkNames, LocalSlots, PieceIndex, check_clash, link_names, pieces_of};
 use link_words::Options;
 use module_view::Module;
 use relocate::Fixups;
 use section_group::Piece;
 use std::alloc::Global;
+use std::collections::BTreeSet;
 
 /// What a link will hold.
 #[derive(Drop)]
@@ -90,8 +91,9 @@ fn plan_of<'a>(
     let meaning = entry_meaning(&names, &options.entry)?;
     check_includes(&names, &options.includes)?;
     check_references(&names, &modules)?;
-    let mut pieces = pieces_of(alloc, &names, &modules)?;
-    let index = PieceIndex::new(alloc, &modules, &pieces)?;
+    let slots = LocalSlots::of(alloc, &BTreeSet::new(alloc))?;
+    let mut pieces = pieces_of(alloc, &names, &modules, slots.len())?;
+    let index = PieceIndex::new(alloc, &modules, slots, &pieces)?;
     let entry = entry_place(&index, &meaning)?;
     let mut fixes = judge_pieces(alloc, &names, &index, &modules, &pieces, options.large)?;
     mark_entry(&mut fixes.meant, &entry);

@@ -6,13 +6,13 @@ ghost use Rattle.coff_records.specs.ObjectFile.{symbol_at};
 ghost use Rattle.module_view.specs.Module.{module_at};
 ghost use Rattle.symbol_names.specs.LinkView.{LinkView};
 ghost use Rattle.link_pieces.specs.PieceIndex.{IsPieceIndex};
-ghost use Rattle.link_plan.specs.Targets.{section_target, common_target, own_target, meant_target, has_meaning, local_target, symbol_target, AreTargets};
+ghost use Rattle.link_plan.specs.Targets.{section_target, common_target, slot_target, own_target, meant_target, has_meaning, local_target, symbol_target, AreTargets};
 
 use coff_object::{Object, SymbolRecord};
 use link_base::pe_format::{
     SYM_ABSOLUTE, SYM_CLASS_EXTERNAL, SYM_CLASS_WEAK_EXTERNAL, SYM_DEBUG, SYM_UNDEFINED,
 };
-use link_base::{Memory, TargetFault};
+use link_base::{Memory, Name, TargetFault};
 use link_pieces::{LinkNames, PieceIndex};
 use relocate::Target;
 use symbol_table::{Meaning, NoMeaning};
@@ -24,7 +24,7 @@ pub(crate) type RecordTarget = Option<Result<Target, TargetFault>>;
 pub(crate) fn read_targets<'a>(
     targets: &mut Vec<RecordTarget>,
     names: &LinkNames<'a>,
-    index: &PieceIndex,
+    index: &PieceIndex<'a>,
     object: &Object<'a>,
     position: u32,
 ) -> Result<(), Memory>
@@ -64,7 +64,7 @@ fn note(targets: &mut Vec<RecordTarget>, at: usize, target: Result<Target, Targe
 /// What a symbol of the module at a position means, by its record.
 fn symbol_target<'a>(
     names: &LinkNames<'a>,
-    index: &PieceIndex,
+    index: &PieceIndex<'a>,
     at: u32,
     symbol: &SymbolRecord<'a>,
     position: u32,
@@ -92,8 +92,8 @@ fn has_meaning(symbol: &SymbolRecord<'_>) -> bool
 }
 
 /// What a meaning is to a relocation.
-fn meant_target<'a>(
-    index: &PieceIndex,
+pub(crate) fn meant_target<'a>(
+    index: &PieceIndex<'a>,
     meaning: Result<Meaning<'a>, NoMeaning>,
 ) -> Result<Target, TargetFault>
     ensures { (link : LinkView) → IsPieceIndex link index.now → result ≡ meant_target link meaning.entry }
@@ -109,6 +109,7 @@ fn meant_target<'a>(
         Ok(Meaning::Common { module, symbol }) => common_target(index, module, symbol),
         Ok(Meaning::Absolute(value)) => Ok(Target::Absolute(value)),
         Ok(Meaning::ImageBase) => Ok(Target::ImageBase),
+        Ok(Meaning::LocalSlot(name)) => slot_target(index, &name),
         _ => Err(TargetFault::NoSection),
     }
 }
@@ -117,7 +118,7 @@ fn meant_target<'a>(
 #[tactic(auto, unfolding(crate::specs::Targets::local_target))]
 fn local_target(
     names: &LinkNames<'_>,
-    index: &PieceIndex,
+    index: &PieceIndex<'_>,
     symbol: &SymbolRecord<'_>,
     position: u32,
 ) -> Result<Target, TargetFault>
@@ -137,7 +138,7 @@ fn local_target(
 /// An offset in a section of the module at a position, which that module alone can name.
 fn own_target(
     names: &LinkNames<'_>,
-    index: &PieceIndex,
+    index: &PieceIndex<'_>,
     position: u32,
     section: u32,
     value: u32,
@@ -153,7 +154,7 @@ fn own_target(
 
 /// An offset in a section of the module at a position.
 fn section_target(
-    index: &PieceIndex,
+    index: &PieceIndex<'_>,
     position: u32,
     section: u32,
     value: u32,
@@ -167,10 +168,20 @@ fn section_target(
 }
 
 /// A common of the module at a position, by the record of its symbol.
-fn common_target(index: &PieceIndex, position: u32, symbol: u32) -> Result<Target, TargetFault>
+fn common_target(index: &PieceIndex<'_>, position: u32, symbol: u32) -> Result<Target, TargetFault>
     ensures { (link : LinkView) → IsPieceIndex link index.now → result ≡ common_target link position symbol }
 {
     match index.of_common(position, symbol) {
+        Some(piece) => Ok(Target::Piece { piece, value: 0 }),
+        None => Err(TargetFault::Unplaced),
+    }
+}
+
+/// The slot of a name.
+fn slot_target<'a>(index: &PieceIndex<'a>, name: &Name<'a>) -> Result<Target, TargetFault>
+    ensures { (link : LinkView) → IsPieceIndex link index.now → result ≡ slot_target link name.now }
+{
+    match index.of_slot(name) {
         Some(piece) => Ok(Target::Piece { piece, value: 0 }),
         None => Err(TargetFault::Unplaced),
     }
