@@ -6,7 +6,7 @@ use Rattle.std.proofs.lemmas.List.{get_or-set_same, get_or-set_other}
 use Rattle.link_base.proofs.TestLemmas.{or_left, or_right}
 use Rattle.coff_records.specs.ObjectFile.{SymbolView, SymbolEntry, class_in, name_in}
 use Rattle.module_view.specs.SymbolLists.{is_definition, is_weak, is_undefined, is_reference, is_common}
-use Rattle.module_view.specs.Unbuilt.{is_external_name, is_import_reference, is_loader_name, is_unbuilt_symbol}
+use Rattle.module_view.specs.Unbuilt.{is_external_name, is_loader_name, is_unbuilt_symbol}
 
 -- ---- what is told of symbols, after one more
 
@@ -103,9 +103,5 @@ or_none : (b : Bool) → b ≡ (b || false)
 or_none true = refl
 or_none false = refl
 
-pub only_refers : (bytes : List ℕ) (symbol : SymbolView) (noted b : Bool) → is_external_name symbol ≡ false → b ≡ is_import_reference bytes symbol → (noted || b) ≡ (noted || is_unbuilt_symbol bytes symbol)
-unfolding is_unbuilt_symbol
-only_refers bytes symbol noted b other is =
-    ap (λ (c : Bool). noted || c)
-    (is ∙ or_none (is_import_reference bytes symbol)
-    ∙ sym (ap (λ (c : Bool). is_import_reference bytes symbol || (c && is_loader_name (name_in symbol))) other))
+pub not_unbuilt : (symbol : SymbolView) (noted : Bool) → is_external_name symbol ≡ false → noted ≡ (noted || is_unbuilt_symbol symbol)
+not_unbuilt symbol noted other = or_none noted ∙ ap (λ (c : Bool). noted || (c && is_loader_name (name_in symbol))) (sym other)

@@ -1,13 +1,10 @@
 -- Forms of files that are not linked yet. Own.
 use Rattle.std.specs.Prelude.{ℕ, Bool, true, false, ◌&&◌, ◌||◌, ◌==◌, List, codes}
 use Rattle.std.specs.List.{list_any}
-use Rattle.std.specs.Int.Signed.{lt_z}
-use Rattle.std.specs.Ordering.{int_eq}
-use Rattle.link_base.specs.NameText.{same_name, begins_import}
+use Rattle.link_base.specs.NameText.{same_name}
 use Rattle.link_base.specs.SectionName.{base_name}
-use Rattle.link_base.specs.PeFormat.{SYM_CLASS_EXTERNAL, SYM_CLASS_WEAK_EXTERNAL, SYM_UNDEFINED}
-use Rattle.coff_records.specs.ObjectFile.{section_total, section_name_of, flags_of, SymbolView, name_in, section_number_in, section_of_number, class_in, symbol_entries}
-use Rattle.coff_aux.specs.Comdats.{is_section_number, is_comdat}
+use Rattle.link_base.specs.PeFormat.{SYM_CLASS_EXTERNAL, SYM_CLASS_WEAK_EXTERNAL}
+use Rattle.coff_records.specs.ObjectFile.{section_name_of, flags_of, SymbolView, name_in, class_in, symbol_entries}
 use Rattle.module_view.specs.PlacedSection.{comes_in}
 use Rattle.module_view.specs.ModuleDirectives.{sections_in, module_directives}
 use Rattle.directives.specs.Said.{Said}
@@ -29,41 +26,22 @@ is_unbuilt_section bytes section = is_unbuilt_form (section_name_of bytes sectio
 abbrev pub is_external_name : SymbolView → Bool
 is_external_name symbol = (class_in symbol == SYM_CLASS_EXTERNAL) || (class_in symbol == SYM_CLASS_WEAK_EXTERNAL)
 
-abbrev pub is_in_no_section : SymbolView → Bool
-is_in_no_section symbol = int_eq (section_number_in symbol) SYM_UNDEFINED
-
--- it stands in a COMDAT section, of which another one may be chosen
-unfoldable pub is_in_comdat : List ℕ → SymbolView → Bool
-is_in_comdat bytes symbol =
-    lt_z SYM_UNDEFINED (section_number_in symbol)
-    && (is_section_number (section_total bytes) (section_of_number (section_number_in symbol))
-    && is_comdat bytes (section_of_number (section_number_in symbol)))
-
--- a symbol that names an entry of the import address table, and may refer to that of another module
-abbrev pub is_import_reference : List ℕ → SymbolView → Bool
-is_import_reference bytes symbol = (is_in_no_section symbol || is_in_comdat bytes symbol) && begins_import (name_in symbol)
-
 -- a name that the loader of a program looks for (PE Format, "The .tls Section", "The Load Configuration Structure")
 abbrev pub is_loader_name : List ℕ → Bool
 is_loader_name name = same_name name (codes "_tls_used") || same_name name (codes "_load_config_used")
 
--- a symbol that is not linked yet: an entry of the import address table, or a loader's name
-unfoldable pub is_unbuilt_symbol : List ℕ → SymbolView → Bool
-is_unbuilt_symbol bytes symbol =
-    is_import_reference bytes symbol || (is_external_name symbol && is_loader_name (name_in symbol))
+-- a symbol that is not linked yet
+abbrev pub is_unbuilt_symbol : SymbolView → Bool
+is_unbuilt_symbol symbol = is_external_name symbol && is_loader_name (name_in symbol)
 
 -- ---- directives
-
--- a name that means an entry of the import address table, or that the loader of a program looks for
-abbrev pub is_unbuilt_name : List ℕ → Bool
-is_unbuilt_name name = begins_import name || is_loader_name name
 
 -- a row of the export table, or such a name
 abbrev pub is_unbuilt_directive : Said → Bool
 is_unbuilt_directive (says.DefaultLib text) = false
 is_unbuilt_directive (says.Exports row) = true
-is_unbuilt_directive (says.Include name) = is_unbuilt_name name
-is_unbuilt_directive (says.AlternateName left right) = is_unbuilt_name left || is_unbuilt_name right
+is_unbuilt_directive (says.Include name) = is_loader_name name
+is_unbuilt_directive (says.AlternateName left right) = is_loader_name left || is_loader_name right
 is_unbuilt_directive (says.AlignComm name log) = false
 is_unbuilt_directive (says.FailIfMismatch key value) = false
 is_unbuilt_directive (says.Merge left right) = false
@@ -77,4 +55,4 @@ abbrev pub has_unbuilt_directive : List ℕ → Bool
 has_unbuilt_directive bytes = list_any is_unbuilt_directive (module_directives bytes)
 
 abbrev pub has_unbuilt_symbol : List ℕ → Bool
-has_unbuilt_symbol bytes = list_any (λ entry. is_unbuilt_symbol bytes entry.1) (symbol_entries bytes)
+has_unbuilt_symbol bytes = list_any (λ entry. is_unbuilt_symbol entry.1) (symbol_entries bytes)

@@ -30,7 +30,7 @@ pub use laws::modules_are_shared;
 pub use opening::open_module;
 pub use placed_section::comes_in;
 pub use reference::{Reference, Weak};
-pub use unbuilt::is_unbuilt_name;
+pub use unbuilt::is_loader_name;
 
 #[cfg(test)]
 mod tests;

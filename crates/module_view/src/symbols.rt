@@ -13,7 +13,7 @@ ghost use Rattle.module_view.specs.Opening.{unsupported, has_long_symbol_name, R
 use crate::definition::{Common, Definition, Place};
 use crate::error::ModuleError;
 use crate::reference::{Reference, Weak};
-use crate::unbuilt::{is_external_name, is_import_reference, is_unbuilt_external};
+use crate::unbuilt::{is_external_name, is_loader_name};
 use coff_aux::aux_records::WEAK_EXTERN_SEARCH_LIBRARY;
 use coff_aux::{characteristics_in, first_aux, tag_in};
 use coff_object::{LongTexts, Object, SymbolRecord};
@@ -100,14 +100,13 @@ fn note_symbol<'a>(
     ensures commons { OnOk result (lists.new.commons.items ≡ lists.old.commons.items
         ++ (if is_common symbol.now then common_of (index, symbol.now) ∷ [] else [])) }
     ensures starts { lists.new.starts.items ≡ lists.old.starts.items }
-    ensures unbuilt { OnOk result (lists.new.is_unbuilt ≡ (lists.old.is_unbuilt || is_unbuilt_symbol object.now symbol.now)) }
+    ensures unbuilt { OnOk result (lists.new.is_unbuilt ≡ (lists.old.is_unbuilt || is_unbuilt_symbol symbol.now)) }
 {
     if !is_external_name(symbol) {
-        lists.is_unbuilt |= is_import_reference(object, symbol);
         return Ok(());
     }
     let name = symbol.name();
-    lists.is_unbuilt |= is_unbuilt_external(object, symbol, &name);
+    lists.is_unbuilt |= is_loader_name(&name);
     push_definition(&mut lists.definitions, index, symbol, &name)?;
     push_reference(&mut lists.references, object, index, symbol, &name)?;
     push_weak(&mut lists.weaks, object, index, symbol, &name)?;

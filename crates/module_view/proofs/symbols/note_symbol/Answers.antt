@@ -1,6 +1,6 @@
 use Rattle.std.proofs.Common.{sym, ◌∙◌}
 use Rattle.module_view.specs.SymbolLists.{is_definition, is_reference, is_weak, is_common}
-use Rattle.module_view.proofs.SymbolLemmas.{no_definition, no_reference, no_weak, no_common, none_more, only_refers}
+use Rattle.module_view.proofs.SymbolLemmas.{no_definition, no_reference, no_weak, no_common, none_more, not_unbuilt}
 use Rattle.module_view.proofs.symbols.note_symbol.Goals as goal
 
 pub returns-then-not-is_external_name-clause-definitions :
@@ -26,4 +26,4 @@ returns-then-not-is_external_name-clause-commons c =
 pub returns-then-not-is_external_name-clause-unbuilt :
     goal.returns-then-not-is_external_name-clause-unbuilt
 returns-then-not-is_external_name-clause-unbuilt c =
-    only_refers c.args.object.now c.args.symbol.now c.args.lists.now.is_unbuilt c.is_import_reference.result (sym c.is_external_name.ensures ∙ c.if-not-is_external_name.true) c.is_import_reference.ensures
+    not_unbuilt c.args.symbol.now c.args.lists.now.is_unbuilt (sym c.is_external_name.ensures ∙ c.if-not-is_external_name.true)

@@ -13,7 +13,7 @@ invariant-loop-index l = record {
   ends : (goal.iterator-loop-index).is_finite l.index-iterator;
   left : SymbolsLeft l.object l.index-iterator;
   long : list_any (λ entry. is_long (name_in entry.1)) l.index-iterator ≡ has_long_symbol_name l.object;
-  unbuilt : (l.lists.is_unbuilt || list_any (λ entry. is_unbuilt_symbol l.object entry.1) l.index-iterator) ≡ has_unbuilt_symbol l.object;
+  unbuilt : (l.lists.is_unbuilt || list_any (λ entry. is_unbuilt_symbol entry.1) l.index-iterator) ≡ has_unbuilt_symbol l.object;
   definitions : l.lists.definitions.items ++ definitions_in l.index-iterator ≡ definitions_of l.object;
   references : l.lists.references.items ++ map (reference_of l.object) (filter refers l.index-iterator) ≡ references_of l.object;
   weaks : l.lists.weaks.items ++ map (weak_of l.object) (filter (λ entry. is_weak entry.1) l.index-iterator) ≡ weaks_of l.object;
