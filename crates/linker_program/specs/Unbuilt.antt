@@ -1,24 +1,17 @@
 -- Commands and options that are read and not carried out yet. Own; each goes as it is built.
 use Rattle.std.specs.Prelude.{ℕ, Bool, false, ◌||◌, not, ◌==◌, List, length, Option, Some, None, is_some}
 use Rattle.std.specs.List.{list_any}
-use Rattle.link_base.specs.NameText.{begins_import}
-use Rattle.module_view.specs.Unbuilt.{is_unbuilt_name}
+use Rattle.module_view.specs.Unbuilt.{is_loader_name}
 use Rattle.link_words.specs.Outcome.{LinkOptions}
 use Rattle.link_words.specs.Options.{has_default_pdb}
 
--- an entry that is the slot of an import
-abbrev pub is_unbuilt_entry : Option (List ℕ) → Bool
-is_unbuilt_entry None = false
-is_unbuilt_entry (Some name) = begins_import name
-
--- a name that is included or has an alternate is the slot of an import, or one that the loader of a program looks for
+-- a name that is included or has an alternate is one that the loader of a program looks for
 abbrev pub is_unbuilt_alternate : List ℕ × List ℕ → Bool
-is_unbuilt_alternate pair = is_unbuilt_name pair.0 || is_unbuilt_name pair.1
+is_unbuilt_alternate pair = is_loader_name pair.0 || is_loader_name pair.1
 
-abbrev pub asks_for_imports : LinkOptions → Bool
-asks_for_imports options =
-    is_unbuilt_entry options.entry_name
-    || (list_any is_unbuilt_name options.includes || list_any is_unbuilt_alternate options.alternates)
+abbrev pub asks_for_loader_names : LinkOptions → Bool
+asks_for_loader_names options =
+    list_any is_loader_name options.includes || list_any is_unbuilt_alternate options.alternates
 
 abbrev pub is_some_text : {A : Type 0} → List A → Bool
 is_some_text texts = not (length texts == 0)
@@ -39,4 +32,4 @@ asks_for_outputs options = options.debug || (not (has_default_pdb options) || is
 unfoldable pub is_unbuilt_link : LinkOptions → Bool
 is_unbuilt_link options =
     asks_for_exports options
-    || (asks_for_outputs options || (drops_sections options.refs || asks_for_imports options))
+    || (asks_for_outputs options || (drops_sections options.refs || asks_for_loader_names options))

@@ -2,13 +2,13 @@
 
 ghost use Rattle.std.specs.Prelude.{◌≡◌};
 ghost use Rattle.std.specs.List.{list_any};
-ghost use Rattle.module_view.specs.Unbuilt.{is_unbuilt_name};
+ghost use Rattle.module_view.specs.Unbuilt.{is_loader_name};
 ghost use Rattle.link_words.specs.Outcome.{options_said};
-ghost use Rattle.linker_program.specs.Unbuilt.{is_unbuilt_entry, is_unbuilt_alternate, drops_sections, asks_for_exports, asks_for_imports, asks_for_outputs, is_unbuilt_link};
+ghost use Rattle.linker_program.specs.Unbuilt.{is_unbuilt_alternate, drops_sections, asks_for_exports, asks_for_loader_names, asks_for_outputs, is_unbuilt_link};
 
 use link_base::Name;
 use link_words::{Options, has_default_pdb};
-use module_view::is_unbuilt_name;
+use module_view::is_loader_name;
 
 /// Whether a link asks for something that is not built yet.
 #[tactic(auto, unfolding(crate::specs::Unbuilt::is_unbuilt_link))]
@@ -18,7 +18,7 @@ pub(crate) fn is_unbuilt_link(options: &Options<'_>) -> bool
     asks_for_exports(options)
         || asks_for_outputs(options)
         || drops_sections(options.refs)
-        || asks_for_imports(options)
+        || asks_for_loader_names(options)
 }
 
 /// Exports, and a DLL.
@@ -45,20 +45,18 @@ fn drops_sections(refs: Option<bool>) -> bool
     }
 }
 
-/// An entry, or a name that is included or has an alternate, that is not linked yet.
-fn asks_for_imports(options: &Options<'_>) -> bool
-    ensures { result ≡ asks_for_imports (options_said options.now) }
+/// A name that is included or has an alternate, and that the loader of a program looks for.
+fn asks_for_loader_names(options: &Options<'_>) -> bool
+    ensures { result ≡ asks_for_loader_names (options_said options.now) }
 {
-    is_unbuilt_entry(&options.entry)
-        || has_unbuilt_name(&options.includes)
-        || has_unbuilt_alternate(&options.alternates)
+    has_loader_name(&options.includes) || has_unbuilt_alternate(&options.alternates)
 }
 
-/// Whether one of these names is not linked yet.
-fn has_unbuilt_name(names: &[Name<'_>]) -> bool
-    ensures { result ≡ list_any is_unbuilt_name names.now }
+/// Whether the loader of a program looks for one of these names.
+fn has_loader_name(names: &[Name<'_>]) -> bool
+    ensures { result ≡ list_any is_loader_name names.now }
 {
-    names.iter().any(|name| is_unbuilt_name(name))
+    names.iter().any(|name| is_loader_name(name))
 }
 
 /// Whether one of these alternates has a name that is not linked yet.
@@ -72,15 +70,5 @@ fn has_unbuilt_alternate(alternates: &[(Name<'_>, Name<'_>)]) -> bool
 fn is_unbuilt_alternate(pair: &(Name<'_>, Name<'_>)) -> bool
     ensures { result ≡ is_unbuilt_alternate pair.now }
 {
-    is_unbuilt_name(&pair.0) || is_unbuilt_name(&pair.1)
-}
-
-/// An entry that is the slot of an import.
-fn is_unbuilt_entry(entry: &Option<Name<'_>>) -> bool
-    ensures { result ≡ is_unbuilt_entry entry.now }
-{
-    match entry {
-        Some(name) => name.is_import(),
-        None => false,
-    }
+    is_loader_name(&pair.0) || is_loader_name(&pair.1)
 }

@@ -64,12 +64,10 @@ const ROWS: [(&str, &[Section], &str); 8] = [
 ];
 
 /// Directives that are not linked yet.
-const UNBUILT: [&str; 6] = [
+const UNBUILT: [&str; 4] = [
     "/include:a /export:api",
-    "/include:__imp_x",
     "/include:_tls_used",
     "/include:_load_config_used",
-    "/alternatename:__imp_x=y",
     "/alternatename:x=_tls_used",
 ];
 
