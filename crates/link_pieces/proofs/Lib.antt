@@ -3,3 +3,4 @@ pub mod CommonLemmas
 pub mod PieceLemmas
 pub mod CallerLemmas
 pub mod IndexLemmas
+mod SlotLemmas

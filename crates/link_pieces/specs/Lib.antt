@@ -5,3 +5,4 @@ pub mod Pieces
 pub mod PieceIndex
 pub mod Steps
 pub mod Rows
+pub mod LocalSlots

@@ -11,8 +11,10 @@ mod names;
 mod piece_index;
 mod piece_rows;
 mod pieces;
+mod slots;
 
 pub use commons::FIRST_COMMON;
 pub use names::{LinkNames, check_clash, link_names};
 pub use piece_index::PieceIndex;
 pub use pieces::pieces_of;
+pub use slots::{LocalSlots, note_slot};
