@@ -10,7 +10,7 @@ ghost use Rattle.link_plan.specs.PlanFaults.{plan_fault};
 ghost use Rattle.link_plan.specs.Plan.{IsPlanOf};
 ghost use Rattle.link_plan.specs.Planning.{Plans};
 
-use crate::entry::{EntryPlace, entry_meaning, entry_place};
+use crate::entry::{EntryPlace, entry_meaning, entry_place, note_entry_slot};
 use crate::judge::judge_pieces;
 use crate::meant::{mark_entry, name_meant};
 use crate::mismatch::check_mismatch;
@@ -20,12 +20,13 @@ use lib_search::{LinkList, complete};
 use link_base::{Name, Refusal, Stop};
 use link_directives::link_merges;
 use link_files::Files;
-use link_pieces::{LinkNames, PieceIndex, check_clash, link_names, pieces_of};
+use link_pieces::{LinkNames, LocalSlots, PieceIndex, check_clash, link_names, pieces_of};
 use link_words::Options;
 use module_view::Module;
 use relocate::Fixups;
 use section_group::Piece;
 use std::alloc::Global;
+use std::collections::BTreeSet;
 
 /// What a link will hold.
 #[derive(Drop)]
@@ -87,9 +88,12 @@ fn plan_of<'a>(
     check_mismatch(alloc, &modules)?;
     let names = link_names(alloc, table, &modules)?;
     check_clash(&names)?;
+    let mut slots = BTreeSet::new(alloc);
     let meaning = entry_meaning(&names, &options.entry)?;
-    check_includes(&names, &options.includes)?;
-    check_references(&names, &modules)?;
+    note_entry_slot(&mut slots, &meaning)?;
+    check_includes(&names, &options.includes, &mut slots)?;
+    check_references(&names, &modules, &mut slots)?;
+    let slots = LocalSlots::of(alloc, &slots)?;
     let mut pieces = pieces_of(alloc, &names, &modules)?;
     let index = PieceIndex::new(alloc, &modules, &pieces)?;
     let entry = entry_place(&index, &meaning)?;
