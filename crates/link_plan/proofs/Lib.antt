@@ -2,6 +2,7 @@ pub mod StageLemmas
 pub mod CallerLemmas
 pub mod EntryLemmas
 pub mod ReferenceLemmas
+pub mod SlotLemmas
 pub mod TargetLemmas
 pub mod FixLemmas
 pub mod MeantLemmas

@@ -1,17 +1,23 @@
--- The modules of a link, one after the other, and the names that directives include.
-use Rattle.std.proofs.Common.{◌≡◌, ℕ, zero, suc, ◌+◌, ◌<◌, List, [], ◌∷◌, ◌++◌, length, get_or, map, take, Option, Some, None, refl, sym, ap, ◌∙◌, arith}
-use Rattle.std.specs.Prelude.{filter_map}
-use Rattle.std.specs.List.{cons_option}
+-- The modules of a link, one after the other, the names that directives include, and the slots that names mean.
+use Rattle.std.proofs.Common.{◌≡◌, ℕ, zero, suc, ◌+◌, ◌<◌, List, [], ◌∷◌, ◌++◌, length, get_or, map, take, Bool, Option, Some, None, Result, Ok, refl, sym, ap, ◌∙◌, arith}
+use Rattle.std.specs.Prelude.{filter_map, ◌≤◌}
+use Rattle.std.specs.List.{cons_option, flat_map, range_with_len}
 use Rattle.std.specs.Option.{option_or}
-use Rattle.std.proofs.lemmas.List.{get_or_default, take_more}
-use Rattle.link_base.proofs.RefusalLemmas.{or_none}
-use Rattle.link_base.specs.Refusals.{first_standing}
+use Rattle.std.proofs.lemmas.List.{append-nil, get_or_default, take_more, map-append}
+use Rattle.std.proofs.lemmas.List.Concat.{flat_map-append}
+use Rattle.std.proofs.lemmas.List.Elements.{filter_map-append}
+use Rattle.std.proofs.lemmas.List.Sums.{fold-append}
+use Rattle.link_base.proofs.RefusalLemmas.{or_none, first_refusal_below-found}
+use Rattle.link_base.specs.Refusals.{RefusesFor, first_standing, first_refusal_below}
+use Rattle.link_base.specs.declared.stop.Refusal.{Refusal}
+use Rattle.link_base.specs.declared.stop.Refusal.TheVariants as refusal
 use Rattle.link_base.specs.declared.fault.Fault.{Fault}
 use Rattle.directives.specs.Said.{said}
 use Rattle.directives.specs.declared.item.Directive.{Directive}
 use Rattle.module_view.specs.Module.{ModuleView, no_module, module_at}
 use Rattle.symbol_names.specs.LinkView.{LinkView}
 use Rattle.symbol_names.specs.References.{include_said}
+use Rattle.link_pieces.specs.LocalSlots.{names_asked, slot_meant, with_slot, with_slots, with_meant}
 use Rattle.link_plan.specs.References.{included_fault, includes_fault, object_fault_among, references_fault_at}
 
 -- the references of a module are those of the one that was read
@@ -51,6 +57,17 @@ standing_found {A} {B} f (y ∷ xs) (suc k) x b lt read none here =
     by None none found = found none
     by (Some c) none found = absurd cc
 
+-- what is said of the next one holds of all
+pub refuses_standing : {A : Type 0} (f : A → Option Fault) (xs : List A) (k : ℕ) (x : A) (r : Refusal) → k < length xs → x ≡ get_or xs k x → first_standing (map f (take k xs)) ≡ None → RefusesFor (f x) r → RefusesFor (first_standing (map f xs)) r
+refuses_standing f xs k x (refusal.Fault fault) lt read none refused = standing_found f xs k x fault lt read none refused
+refuses_standing f xs k x refusal.Memory lt read none refused = tt
+
+-- the same by positions
+pub refuses_at : (count k : ℕ) (fault_at : ℕ → Option Fault) (r : Refusal) → k < count → first_refusal_below k fault_at ≡ None → RefusesFor (fault_at k) r → RefusesFor (first_refusal_below count fault_at) r
+refuses_at count k fault_at (refusal.Fault fault) lt none refused =
+    first_refusal_below-found k count fault_at fault lt none refused
+refuses_at count k fault_at refusal.Memory lt none refused = tt
+
 -- ---- included names
 
 -- the refusal of a directive that includes a name
@@ -69,3 +86,43 @@ directives_fault link position (directive ∷ directives) =
     by (Some name) rest =
         ap (option_or (included_fault link (Some position) name)) rest
         ∙ ap (λ o. option_or o (first_standing (map (directive_fault link position) directives))) (sym (or_none (included_fault link (Some position) name)))
+
+-- ---- the slots that names mean
+
+-- those of some names, then those of others
+pub meant_append : (link : LinkView) (slots xs ys : List (List ℕ)) → with_meant link slots (xs ++ ys) ≡ with_meant link (with_meant link slots xs) ys
+meant_append link slots xs ys =
+    ap (with_slots slots) (filter_map-append (slot_meant link) xs ys)
+    ∙ fold-append with_slot slots (filter_map (slot_meant link) xs) (filter_map (slot_meant link) ys)
+
+-- of the first ones that are walked, and of the next
+pub meant_next : {A : Type 0} (link : LinkView) (slots : List (List ℕ)) (names : List A → List (List ℕ)) → ((xs ys : List A) → names (xs ++ ys) ≡ names xs ++ names ys) → (xs : List A) (k : ℕ) (x : A) → k < length xs → x ≡ get_or xs k x → with_meant link (with_meant link slots (names (take k xs))) (names (x ∷ [])) ≡ with_meant link slots (names (take (k + 1) xs))
+meant_next {A} link slots names append xs k x lt read =
+    sym (ap (λ (ys : List A). with_meant link slots (names ys)) (take_more xs k x lt ∙ ap (λ (y : A). take k xs ++ y ∷ []) (sym read))
+    ∙ ap (with_meant link slots) (append (take k xs) (x ∷ []))
+    ∙ meant_append link slots (names (take k xs)) (names (x ∷ [])))
+
+-- of the first of a list, and of the rest
+pub meant_first : {A : Type 0} (link : LinkView) (slots : List (List ℕ)) (name : A → Option (List ℕ)) (x : A) (xs : List A) → with_meant link slots (filter_map name (x ∷ xs)) ≡ with_meant link (with_meant link slots (cons_option (name x) [])) (filter_map name xs)
+meant_first link slots name x xs =
+    ap (with_meant link slots) (filter_map-append name (x ∷ []) xs)
+    ∙ meant_append link slots (cons_option (name x) []) (filter_map name xs)
+
+-- the names that directives include, of some and of others
+pub included_append : (xs ys : List Directive) → filter_map include_said (map said (xs ++ ys)) ≡ filter_map include_said (map said xs) ++ filter_map include_said (map said ys)
+included_append xs ys =
+    ap (filter_map include_said) (map-append said xs ys) ∙ filter_map-append include_said (map said xs) (map said ys)
+
+-- positions, and the next
+range_more : (a n j : ℕ) → a + n ≡ j → range_with_len a (n + 1) ≡ range_with_len a n ++ j ∷ []
+range_more a zero j is = ap (λ (k : ℕ). k ∷ []) (omega (arith, is))
+range_more a (suc n) j is =
+    let later : suc n + 1 ≡ suc (n + 1) = omega arith in
+    ap (range_with_len a) later ∙ ap (λ (ks : List ℕ). a ∷ ks) (range_more (a + 1) n j (omega (arith, is)))
+
+-- of the first modules, and of the next
+pub meant_module : (link : LinkView) (slots : List (List ℕ)) (names : ℕ → List (List ℕ)) (k : ℕ) → with_meant link (with_meant link slots (flat_map names (range_with_len 0 k))) (names k) ≡ with_meant link slots (flat_map names (range_with_len 0 (k + 1)))
+meant_module link slots names k =
+    sym (ap (λ (ks : List ℕ). with_meant link slots (flat_map names ks)) (range_more 0 k k (omega arith))
+    ∙ ap (with_meant link slots) (flat_map-append names (range_with_len 0 k) (k ∷ []) ∙ ap (λ (ys : List (List ℕ)). flat_map names (range_with_len 0 k) ++ ys) (append-nil (names k)))
+    ∙ meant_append link slots (flat_map names (range_with_len 0 k)) (names k))

@@ -3,6 +3,7 @@ use Rattle.std.proofs.Common.{◌≡◌, Some, None, refl}
 use Rattle.std.specs.Option.{option_or}
 use Rattle.link_base.specs.Refusals.{RefusesFor}
 use Rattle.link_base.specs.declared.stop.Refusal.{Refusal}
+use Rattle.link_base.specs.declared.stop.Refusal.TheVariants as refusal
 use Rattle.link_base.proofs.RefusalLemmas.{neither_stands, refuses_first, refuses_later}
 use Rattle.link_base.specs.declared.fault.Fault.{Fault}
 use Rattle.symbol_names.specs.LinkView.{LinkView}
@@ -46,9 +47,10 @@ pub entry_stage : (options : LinkOptions) (link : LinkView) (fault : Fault) → 
 unfolding plan_fault
 entry_stage options link fault well is = rw (well.agreed, well.chosen, is) refl
 
-pub includes_stage : (options : LinkOptions) (link : LinkView) (fault : Fault) → AreChosen link → entry_meaning_fault link options.entry_name ≡ None → includes_fault link None options.includes ≡ Some fault → plan_fault options link ≡ Some fault
+pub includes_stage : (options : LinkOptions) (link : LinkView) (r : Refusal) → AreChosen link → entry_meaning_fault link options.entry_name ≡ None → RefusesFor (includes_fault link None options.includes) r → RefusesFor (plan_fault options link) r
 unfolding plan_fault
-includes_stage options link fault well meant is = rw (well.agreed, well.chosen, meant, is) refl
+includes_stage options link (refusal.Fault fault) well meant is = rw (well.agreed, well.chosen, meant, is) refl
+includes_stage options link refusal.Memory well meant is = tt
 
 -- all names mean something
 pub record AreMeant (options : LinkOptions) (link : LinkView) : Type 0 where
@@ -56,9 +58,11 @@ pub record AreMeant (options : LinkOptions) (link : LinkView) : Type 0 where
   pub entry : entry_meaning_fault link options.entry_name ≡ None
   pub included : includes_fault link None options.includes ≡ None
 
-pub references_stage : (options : LinkOptions) (link : LinkView) (fault : Fault) → AreMeant options link → references_fault link ≡ Some fault → plan_fault options link ≡ Some fault
+pub references_stage : (options : LinkOptions) (link : LinkView) (r : Refusal) → AreMeant options link → RefusesFor (references_fault link) r → RefusesFor (plan_fault options link) r
 unfolding plan_fault
-references_stage options link fault meant is = rw (meant.well.agreed, meant.well.chosen, meant.entry, meant.included, is) refl
+references_stage options link (refusal.Fault fault) meant is =
+    rw (meant.well.agreed, meant.well.chosen, meant.entry, meant.included, is) refl
+references_stage options link refusal.Memory meant is = tt
 
 pub place_stage : (options : LinkOptions) (link : LinkView) (fault : Fault) → AreMeant options link → references_fault link ≡ None → meant_fault link (entry_meant link options.entry_name) ≡ Some fault → plan_fault options link ≡ Some fault
 unfolding plan_fault

@@ -1,20 +1,18 @@
 -- The names that modules refer to, and which of them mean nothing. Own.
-use Rattle.std.specs.Prelude.{ℕ, Bool, ◌&&◌, ◌||◌, not, if◌then◌else◌, List, length, map, Option, Some, None, Result, Ok, Err}
+use Rattle.std.specs.Prelude.{ℕ, if◌then◌else◌, List, length, map, Option, Some, None, Result, Ok, Err}
 use Rattle.std.specs.Option.{option_or}
 use Rattle.link_base.specs.Refusals.{first_standing, first_refusal_below}
 use Rattle.link_base.specs.declared.fault.Fault.{Fault}
 use Rattle.link_base.specs.declared.fault.Fault.TheVariants as faults
 use Rattle.module_view.specs.Module.{module_at}
 use Rattle.symbol_names.specs.LinkView.{LinkView}
-use Rattle.coff_records.specs.ObjectFile.{SymbolView, SymbolEntry, name_in, symbol_entries}
-use Rattle.module_view.specs.SymbolLists.{is_definition, place_of, is_reference}
-use Rattle.symbol_names.specs.Lists.{is_live_at}
+use Rattle.coff_records.specs.ObjectFile.{SymbolEntry, name_in, symbol_entries}
 use Rattle.symbol_names.specs.References.{includes_by}
-use Rattle.comdat.specs.Selection.{chosen_sections}
 use Rattle.symbol_table.specs.declared.meaning.Meaning.{Meaning}
 use Rattle.symbol_table.specs.declared.meaning.NoMeaning.{NoMeaning}
 use Rattle.symbol_table.specs.declared.meaning.NoMeaning.TheVariants.{Undefined, WeakCycle}
 use Rattle.link_pieces.specs.NameMeaning.{name_meaning}
+use Rattle.link_pieces.specs.LocalSlots.{asks}
 
 abbrev pub no_meaning_fault : List ℕ → Option ℕ → Result Meaning NoMeaning → Option Fault
 no_meaning_fault name at (Ok meaning) = None
@@ -26,13 +24,6 @@ abbrev pub name_fault : LinkView → List ℕ → Option ℕ → Option Fault
 name_fault link name at = no_meaning_fault name at (name_meaning link name)
 
 -- ---- the symbols of a module whose names must mean something
-
--- a definition in a section that takes no part in the link stands for its name
-abbrev pub is_lost : LinkView → ℕ → SymbolView → Bool
-is_lost link position symbol = is_definition symbol && not (is_live_at (chosen_sections link.modules) position (place_of symbol))
-
-unfoldable pub asks : LinkView → ℕ → SymbolView → Bool
-asks link position symbol = is_reference symbol || is_lost link position symbol
 
 abbrev pub symbol_fault : LinkView → ℕ → SymbolEntry → Option Fault
 symbol_fault link position entry =

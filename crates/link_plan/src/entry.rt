@@ -1,13 +1,16 @@
 //! The entry of an image.
 
-ghost use Rattle.std.specs.Prelude.{◌≡◌, List, None, Some, IfOk, OnOk, IfErr};
+ghost use Rattle.std.specs.Prelude.{◌≡◌, ℕ, List, [], Option, None, Some, IfOk, OnOk, IfErr};
+ghost use Rattle.std.specs.List.{cons_option};
 ghost use Rattle.symbol_names.specs.LinkView.{LinkView};
+ghost use Rattle.link_pieces.specs.LocalSlots.{with_meant};
 ghost use Rattle.link_pieces.specs.PieceIndex.{IsPieceIndex};
 ghost use Rattle.link_plan.specs.Entry.{entry_meant, entry_meaning_fault, meant_place, meant_fault};
 
 use crate::references::name_fault;
-use link_base::{Fault, Name, TargetFault};
-use link_pieces::{LinkNames, PieceIndex};
+use link_base::{Fault, Memory, Name, TargetFault};
+use link_pieces::{LinkNames, PieceIndex, note_slot};
+use std::collections::BTreeSet;
 use symbol_table::Meaning;
 
 /// Where an entry stands: its piece, and the offset in it.
@@ -30,6 +33,20 @@ pub(crate) fn entry_meaning<'a>(
     match names.resolve(name.again()) {
         Ok(meaning) => Ok(Some(meaning)),
         Err(none) => Err(name_fault(name, None, none)),
+    }
+}
+
+/// Notes the name whose slot the entry means, where it means one.
+pub(crate) fn note_entry_slot<'a>(
+    slots: &mut BTreeSet<Name<'a>>,
+    meaning: &Option<Meaning<'a>>,
+) -> Result<(), Memory>
+    ensures { OnOk result ((link : LinkView) (entry : Option (List ℕ)) → meaning.now ≡ entry_meant link entry
+        → slots.new.keys ≡ with_meant link slots.old.keys (cons_option entry [])) }
+{
+    match meaning {
+        Some(meaning) => note_slot(slots, meaning),
+        None => Ok(()),
     }
 }
 

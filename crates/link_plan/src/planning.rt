@@ -10,7 +10,7 @@ ghost use Rattle.link_plan.specs.PlanFaults.{plan_fault};
 ghost use Rattle.link_plan.specs.Plan.{IsPlanOf};
 ghost use Rattle.link_plan.specs.Planning.{Plans};
 
-use crate::entry::{EntryPlace, entry_meaning, entry_place};
+use crate::entry::{EntryPlace, entry_meaning, entry_place, note_entry_slot};
 use crate::judge::judge_pieces;
 use crate::meant::{mark_entry, name_meant};
 use crate::mismatch::check_mismatch;
@@ -88,10 +88,12 @@ fn plan_of<'a>(
     check_mismatch(alloc, &modules)?;
     let names = link_names(alloc, table, &modules)?;
     check_clash(&names)?;
+    let mut slots = BTreeSet::new(alloc);
     let meaning = entry_meaning(&names, &options.entry)?;
-    check_includes(&names, &options.includes)?;
-    check_references(&names, &modules)?;
-    let slots = LocalSlots::of(alloc, &BTreeSet::new(alloc))?;
+    note_entry_slot(&mut slots, &meaning)?;
+    check_includes(&names, &options.includes, &mut slots)?;
+    check_references(&names, &modules, &mut slots)?;
+    let slots = LocalSlots::of(alloc, &slots)?;
     let mut pieces = pieces_of(alloc, &names, &modules, slots.len())?;
     let index = PieceIndex::new(alloc, &modules, slots, &pieces)?;
     let entry = entry_place(&index, &meaning)?;

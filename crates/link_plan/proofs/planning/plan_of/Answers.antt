@@ -2,6 +2,7 @@ use Rattle.std.proofs.Common.{◌≡◌, ◌<◌, ◌||◌, ℕ, Bool, false, le
 use Rattle.std.proofs.lemmas.Result.{err_from_is_err_and}
 use Rattle.std.specs.List.{All}
 use Rattle.link_base.specs.Refusals.{RefusesFor}
+use Rattle.link_base.specs.declared.fault.Fault.{Fault}
 use Rattle.section_group.specs.BarePieces.{bare}
 use Rattle.module_view.specs.Module.{ModuleView}
 use Rattle.module_view.specs.Opening.{IsOpened}
@@ -82,7 +83,9 @@ returns-in_err-check_includes-clause-refused c =
     rw (given.1, given.2)
     (includes_stage options link c.in_err-check_includes.field-0.0 well
     (ap (λ (l : LinkView). entry_meaning_fault l options.entry_name) (sym names_are) ∙ c.in_ok-meaning.ensures.accepted)
-    (ap (includes_fault link None) (sym c.deref-3.ensures.value) ∙ ap (λ (l : LinkView). includes_fault l None c.deref-3.result.now) (sym names_are) ∙ c.in_err-check_includes.ensures.refused))
+    (subst (λ (o : Option Fault). RefusesFor o c.in_err-check_includes.field-0.0)
+    (ap (λ (l : LinkView). includes_fault l None c.deref-3.result.now) names_are ∙ ap (includes_fault link None) c.deref-3.ensures.value)
+    c.in_err-check_includes.ensures.refused))
 
 pub returns-in_err-check_references-clause-refused :
     goal.returns-in_err-check_references-clause-refused
@@ -101,7 +104,7 @@ returns-in_err-check_references-clause-refused c =
     let given = err_from_is_err_and c.from_residual-in_err-check_references.result c.from_residual-in_err-check_references.ensures.1 in
     rw (given.1, given.2)
     (references_stage options link c.in_err-check_references.field-0.0 meant
-    (ap references_fault (sym names_are) ∙ c.in_err-check_references.ensures.refused))
+    (subst (λ (l : LinkView). RefusesFor (references_fault l) c.in_err-check_references.field-0.0) names_are c.in_err-check_references.ensures.refused))
 
 pub pieces_of-requires-clause-same : goal.pieces_of-requires-clause-same
 pieces_of-requires-clause-same c =
