@@ -19,6 +19,9 @@ use Rattle.link_plan.specs.declared.entry.EntryPlace.{EntryPlace}
 use Rattle.link_pieces.specs.ChoiceFaults.{conflict_fault, clash_fault}
 use Rattle.link_plan.proofs.EntryLemmas.{entry_stands}
 use Rattle.link_plan.proofs.StageLemmas.{mismatch_stage, conflict_stage, clash_stage, chosen_well, AreMeant, entry_stage, includes_stage, references_stage, place_stage, fields_stage}
+use Rattle.link_pieces.specs.LocalSlots.{with_meant, modules_asked, slot_names}
+use Rattle.link_pieces.specs.LinkerPieces.{numbers_below}
+use Rattle.link_plan.proofs.SlotLemmas.{slots_noted}
 use Rattle.link_plan.proofs.MeantLemmas.{planned}
 use Rattle.link_plan.proofs.NamedLemmas.{count_named, contents_named, aligned_named, bodies_named}
 use Rattle.link_plan.proofs.planning.plan_of.Goals as goal
@@ -111,6 +114,24 @@ pieces_of-requires-clause-same c =
     let names_are = c.in_ok-names.ensures.names ∙ c.requires.names in
     ap (λ (l : LinkView). l.modules) names_are ∙ sym c.deref-5.ensures.value
 
+pub pieces_of-requires-clause-slots : goal.pieces_of-requires-clause-slots
+pieces_of-requires-clause-slots c =
+    let options = options_said c.args.options.now in
+    let link = link_of options c.args.list.modules.items in
+    let names_are = c.in_ok-names.ensures.names ∙ c.requires.names in
+    let noted = c.in_ok-meaning.ensures.meant ∙ ap (λ (l : LinkView). entry_meant l options.entry_name) names_are in
+    let slots_are : c.in_ok-slots.slots ≡ slot_names link =
+        c.in_ok-slots.ensures
+        ∙ slots_noted link options.entry_name options.includes c.new-slots.result.keys c.note_entry_slot.new.slots.keys c.check_includes.new.slots.keys c.check_references.new.slots.keys refl c.new-slots.ensures.empty
+        (c.in_ok-note_entry_slot.ensures link options.entry_name noted)
+        (c.in_ok-check_includes.ensures.slots ∙ ap (with_meant c.in_ok-names.names c.note_entry_slot.new.slots.keys) c.deref-3.ensures.value ∙ ap (λ (l : LinkView). with_meant l c.note_entry_slot.new.slots.keys options.includes) names_are)
+        (c.in_ok-check_references.ensures.slots ∙ ap (λ (l : LinkView). with_meant l c.check_includes.new.slots.keys (modules_asked l)) names_are) in
+    c.len.ensures.len ∙ ap (λ (slots : List (List ℕ)). length slots) (slots_are ∙ ap slot_names (sym names_are))
+
+pub new-requires-2-clause-placed : goal.new-requires-2-clause-placed
+new-requires-2-clause-placed c =
+    ?
+
 pub returns-in_err-entry-clause-refused : goal.returns-in_err-entry-clause-refused
 returns-in_err-entry-clause-refused c =
     let options = options_said c.args.options.now in
@@ -126,7 +147,14 @@ returns-in_err-entry-clause-refused c =
     } in
     let given = err_from_is_err_and c.from_residual-in_err-entry.result c.from_residual-in_err-entry.ensures.1 in
     let pieces_are : map bare c.deref-7.result.now ≡ link_pieces link = ap (map bare) c.deref-7.ensures.value ∙ c.in_ok-pieces.ensures.pieces ∙ ap link_pieces names_are in
-    let refused = c.in_err-entry.ensures.refused link (c.in_ok-index.ensures link pieces_are) in
+    let noted = c.in_ok-meaning.ensures.meant ∙ ap (λ (l : LinkView). entry_meant l options.entry_name) names_are in
+    let slots_are : c.in_ok-slots.slots ≡ slot_names link =
+        c.in_ok-slots.ensures
+        ∙ slots_noted link options.entry_name options.includes c.new-slots.result.keys c.note_entry_slot.new.slots.keys c.check_includes.new.slots.keys c.check_references.new.slots.keys refl c.new-slots.ensures.empty
+        (c.in_ok-note_entry_slot.ensures link options.entry_name noted)
+        (c.in_ok-check_includes.ensures.slots ∙ ap (with_meant c.in_ok-names.names c.note_entry_slot.new.slots.keys) c.deref-3.ensures.value ∙ ap (λ (l : LinkView). with_meant l c.note_entry_slot.new.slots.keys options.includes) names_are)
+        (c.in_ok-check_references.ensures.slots ∙ ap (λ (l : LinkView). with_meant l c.check_includes.new.slots.keys (modules_asked l)) names_are) in
+    let refused = c.in_err-entry.ensures.refused link (c.in_ok-index.ensures link (sym c.deref-6.ensures.value) (sym slots_are) pieces_are) in
     let is = c.in_ok-meaning.ensures.meant ∙ ap (λ (l : LinkView). entry_meant l options.entry_name) names_are in
     rw (given.1, given.2)
     (place_stage options link c.in_err-entry.field-0.0 meant
@@ -135,7 +163,17 @@ returns-in_err-entry-clause-refused c =
 
 pub judge_pieces-requires-clause-indexed : goal.judge_pieces-requires-clause-indexed
 judge_pieces-requires-clause-indexed c =
-    c.in_ok-index.ensures c.in_ok-names.names (ap (map bare) c.deref-7.ensures.value ∙ c.in_ok-pieces.ensures.pieces)
+    let options = options_said c.args.options.now in
+    let link = link_of options c.args.list.modules.items in
+    let names_are = c.in_ok-names.ensures.names ∙ c.requires.names in
+    let noted = c.in_ok-meaning.ensures.meant ∙ ap (λ (l : LinkView). entry_meant l options.entry_name) names_are in
+    let slots_are : c.in_ok-slots.slots ≡ slot_names link =
+        c.in_ok-slots.ensures
+        ∙ slots_noted link options.entry_name options.includes c.new-slots.result.keys c.note_entry_slot.new.slots.keys c.check_includes.new.slots.keys c.check_references.new.slots.keys refl c.new-slots.ensures.empty
+        (c.in_ok-note_entry_slot.ensures link options.entry_name noted)
+        (c.in_ok-check_includes.ensures.slots ∙ ap (with_meant c.in_ok-names.names c.note_entry_slot.new.slots.keys) c.deref-3.ensures.value ∙ ap (λ (l : LinkView). with_meant l c.note_entry_slot.new.slots.keys options.includes) names_are)
+        (c.in_ok-check_references.ensures.slots ∙ ap (λ (l : LinkView). with_meant l c.check_includes.new.slots.keys (modules_asked l)) names_are) in
+    c.in_ok-index.ensures c.in_ok-names.names (ap (λ (l : LinkView). l.modules) names_are ∙ sym c.deref-6.ensures.value) (ap slot_names names_are ∙ sym slots_are) (ap (map bare) c.deref-7.ensures.value ∙ c.in_ok-pieces.ensures.pieces)
 
 pub returns-in_err-fixes-clause-refused : goal.returns-in_err-fixes-clause-refused
 returns-in_err-fixes-clause-refused c =
@@ -152,7 +190,14 @@ returns-in_err-fixes-clause-refused c =
     } in
     let given = err_from_is_err_and c.from_residual-in_err-fixes.result c.from_residual-in_err-fixes.ensures.1 in
     let pieces_are : map bare c.deref-7.result.now ≡ link_pieces link = ap (map bare) c.deref-7.ensures.value ∙ c.in_ok-pieces.ensures.pieces ∙ ap link_pieces names_are in
-    let accepted = c.in_ok-entry.ensures.accepted link (c.in_ok-index.ensures link pieces_are) in
+    let noted = c.in_ok-meaning.ensures.meant ∙ ap (λ (l : LinkView). entry_meant l options.entry_name) names_are in
+    let slots_are : c.in_ok-slots.slots ≡ slot_names link =
+        c.in_ok-slots.ensures
+        ∙ slots_noted link options.entry_name options.includes c.new-slots.result.keys c.note_entry_slot.new.slots.keys c.check_includes.new.slots.keys c.check_references.new.slots.keys refl c.new-slots.ensures.empty
+        (c.in_ok-note_entry_slot.ensures link options.entry_name noted)
+        (c.in_ok-check_includes.ensures.slots ∙ ap (with_meant c.in_ok-names.names c.note_entry_slot.new.slots.keys) c.deref-3.ensures.value ∙ ap (λ (l : LinkView). with_meant l c.note_entry_slot.new.slots.keys options.includes) names_are)
+        (c.in_ok-check_references.ensures.slots ∙ ap (λ (l : LinkView). with_meant l c.check_includes.new.slots.keys (modules_asked l)) names_are) in
+    let accepted = c.in_ok-entry.ensures.accepted link (c.in_ok-index.ensures link (sym c.deref-6.ensures.value) (sym slots_are) pieces_are) in
     let is = c.in_ok-meaning.ensures.meant ∙ ap (λ (l : LinkView). entry_meant l options.entry_name) names_are in
     let fault = fields_stage options link meant
     (ap references_fault (sym names_are) ∙ c.in_ok-check_references.ensures.accepted)
@@ -174,7 +219,14 @@ returns-clause-planned c =
       included = ap (includes_fault link None) (sym c.deref-3.ensures.value) ∙ ap (λ (l : LinkView). includes_fault l None c.deref-3.result.now) (sym names_are) ∙ c.in_ok-check_includes.ensures.accepted;
     } in
     let pieces_there : map bare c.deref-7.result.now ≡ link_pieces link = ap (map bare) c.deref-7.ensures.value ∙ c.in_ok-pieces.ensures.pieces ∙ ap link_pieces names_are in
-    let indexed = c.in_ok-index.ensures link pieces_there in
+    let noted = c.in_ok-meaning.ensures.meant ∙ ap (λ (l : LinkView). entry_meant l options.entry_name) names_are in
+    let slots_are : c.in_ok-slots.slots ≡ slot_names link =
+        c.in_ok-slots.ensures
+        ∙ slots_noted link options.entry_name options.includes c.new-slots.result.keys c.note_entry_slot.new.slots.keys c.check_includes.new.slots.keys c.check_references.new.slots.keys refl c.new-slots.ensures.empty
+        (c.in_ok-note_entry_slot.ensures link options.entry_name noted)
+        (c.in_ok-check_includes.ensures.slots ∙ ap (with_meant c.in_ok-names.names c.note_entry_slot.new.slots.keys) c.deref-3.ensures.value ∙ ap (λ (l : LinkView). with_meant l c.note_entry_slot.new.slots.keys options.includes) names_are)
+        (c.in_ok-check_references.ensures.slots ∙ ap (λ (l : LinkView). with_meant l c.check_includes.new.slots.keys (modules_asked l)) names_are) in
+    let indexed = c.in_ok-index.ensures link (sym c.deref-6.ensures.value) (sym slots_are) pieces_there in
     let meant = c.in_ok-meaning.ensures.meant ∙ ap (λ (l : LinkView). entry_meant l options.entry_name) names_are in
     let placed = c.in_ok-entry.ensures.placed link indexed in
     let accepted = c.in_ok-entry.ensures.accepted link indexed in
