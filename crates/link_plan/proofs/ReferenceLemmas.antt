@@ -1,6 +1,6 @@
 -- The modules of a link, one after the other, the names that directives include, and the slots that names mean.
-use Rattle.std.proofs.Common.{◌≡◌, ℕ, zero, suc, ◌+◌, ◌<◌, List, [], ◌∷◌, ◌++◌, length, get_or, map, take, Bool, Option, Some, None, Result, Ok, refl, sym, ap, ◌∙◌, arith}
-use Rattle.std.specs.Prelude.{filter_map, ◌≤◌}
+use Rattle.std.proofs.Common.{◌≡◌, ℕ, zero, suc, ◌+◌, ◌<◌, List, [], ◌∷◌, ◌++◌, length, get_or, map, take, Option, Some, None, refl, sym, ap, ◌∙◌, arith}
+use Rattle.std.specs.Prelude.{filter_map}
 use Rattle.std.specs.List.{cons_option, flat_map, range_with_len}
 use Rattle.std.specs.Option.{option_or}
 use Rattle.std.proofs.lemmas.List.{append-nil, get_or_default, take_more, map-append}
@@ -17,7 +17,7 @@ use Rattle.directives.specs.declared.item.Directive.{Directive}
 use Rattle.module_view.specs.Module.{ModuleView, no_module, module_at}
 use Rattle.symbol_names.specs.LinkView.{LinkView}
 use Rattle.symbol_names.specs.References.{include_said}
-use Rattle.link_pieces.specs.LocalSlots.{names_asked, slot_meant, with_slot, with_slots, with_meant}
+use Rattle.link_pieces.specs.LocalSlots.{slot_meant, with_slot, with_slots, with_meant}
 use Rattle.link_plan.specs.References.{included_fault, includes_fault, object_fault_among, references_fault_at}
 
 -- the references of a module are those of the one that was read

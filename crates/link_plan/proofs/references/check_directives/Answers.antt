@@ -4,7 +4,7 @@ use Rattle.std.proofs.lemmas.Result.{err_from_is_err_and}
 use Rattle.std.proofs.lemmas.List.{take_all}
 use Rattle.directives.specs.Said.{said}
 use Rattle.directives.specs.declared.item.Directive.{Directive}
-use Rattle.link_base.specs.Refusals.{RefusesFor, first_standing}
+use Rattle.link_base.specs.Refusals.{first_standing}
 use Rattle.symbol_names.specs.References.{include_said}
 use Rattle.link_pieces.specs.LocalSlots.{with_meant}
 use Rattle.link_plan.proofs.ReferenceLemmas.{directive_fault, directives_fault, standing_more, refuses_standing, meant_next, included_append}

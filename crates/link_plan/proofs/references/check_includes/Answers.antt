@@ -1,6 +1,5 @@
-use Rattle.std.proofs.Common.{◌≡◌, ℕ, List, [], ◌∷◌, None, refl, ap, ◌∙◌, subst, sym, arith}
+use Rattle.std.proofs.Common.{ℕ, List, [], ◌∷◌, None, refl, ap, ◌∙◌, arith}
 use Rattle.std.proofs.lemmas.Result.{err_from_is_err_and}
-use Rattle.std.proofs.lemmas.List.{take_all}
 use Rattle.link_pieces.specs.LocalSlots.{with_meant}
 use Rattle.link_plan.specs.References.{included_fault}
 use Rattle.link_plan.proofs.ReferenceLemmas.{standing_more, refuses_standing, meant_next}
