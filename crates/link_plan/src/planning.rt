@@ -35,7 +35,7 @@ pub struct LinkPlan<'a> {
     pub modules: Vec<Module<'a>>,
     /// What the names of the modules mean.
     pub names: LinkNames<'a>,
-    /// The pieces of the image: module by module, and in each its sections before its commons.
+    /// The pieces of the image: module by module, and in each its sections before its commons; then the local slots.
     pub pieces: Vec<Piece<'a>>,
     /// The fields of each piece.
     pub fixes: Vec<Fixups>,
@@ -46,10 +46,11 @@ pub struct LinkPlan<'a> {
 }
 
 /// The plan of a link with these options. Its inputs are read and opened, and the search of libraries joins what these ask
-/// for; what ends that ends the link. Then the input is refused for the first of: directives that give one key different values (`Mismatch`),
-/// COMDAT sections that conflict (`ComdatConflict`), two definitions of one name (`Duplicate`), an entry or another name that
-/// nothing defines (`Undefined`) or whose default or alternate leads back to it (`WeakCycle`), an entry that has no place in
-/// the image (`BadTarget`), and a relocation that is malformed or whose target cannot be used (`BadReloc`, `BadTarget`).
+/// for; what ends that ends the link. Then the input is refused for the first of: directives that give one key different values
+/// (`Mismatch`), COMDAT sections that conflict (`ComdatConflict`), two definitions of one name (`Duplicate`), an entry or
+/// another name that nothing defines (`Undefined`) or whose default or alternate leads back to it (`WeakCycle`), an entry that
+/// has no place in the image (`BadTarget`), and a relocation that is malformed or whose target cannot be used (`BadReloc`,
+/// `BadTarget`).
 pub fn plan<'a, F: Files>(
     alloc: Global,
     files: &mut F,

@@ -4,6 +4,7 @@ use Rattle.std.specs.List.{All}
 use Rattle.link_base.specs.Refusals.{RefusesFor}
 use Rattle.link_base.specs.declared.fault.Fault.{Fault}
 use Rattle.section_group.specs.BarePieces.{bare}
+use Rattle.section_group.specs.declared.piece.Piece.{Piece}
 use Rattle.module_view.specs.Module.{ModuleView}
 use Rattle.module_view.specs.Opening.{IsOpened}
 use Rattle.symbol_names.specs.LinkView.{LinkView}
@@ -21,6 +22,7 @@ use Rattle.link_plan.proofs.EntryLemmas.{entry_stands}
 use Rattle.link_plan.proofs.StageLemmas.{mismatch_stage, conflict_stage, clash_stage, chosen_well, AreMeant, entry_stage, includes_stage, references_stage, place_stage, fields_stage}
 use Rattle.link_pieces.specs.LocalSlots.{with_meant, modules_asked, slot_names}
 use Rattle.link_pieces.specs.LinkerPieces.{numbers_below}
+use Rattle.link_pieces.specs.Rows.{HasSomePlace}
 use Rattle.link_plan.proofs.SlotLemmas.{slots_noted}
 use Rattle.link_plan.proofs.MeantLemmas.{planned}
 use Rattle.link_plan.proofs.NamedLemmas.{count_named, contents_named, aligned_named, bodies_named}
@@ -121,16 +123,19 @@ pieces_of-requires-clause-slots c =
     let names_are = c.in_ok-names.ensures.names ∙ c.requires.names in
     let noted = c.in_ok-meaning.ensures.meant ∙ ap (λ (l : LinkView). entry_meant l options.entry_name) names_are in
     let slots_are : c.in_ok-slots.slots ≡ slot_names link =
-        c.in_ok-slots.ensures
-        ∙ slots_noted link options.entry_name options.includes c.new-slots.result.keys c.note_entry_slot.new.slots.keys c.check_includes.new.slots.keys c.check_references.new.slots.keys refl c.new-slots.ensures.empty
-        (c.in_ok-note_entry_slot.ensures link options.entry_name noted)
-        (c.in_ok-check_includes.ensures.slots ∙ ap (with_meant c.in_ok-names.names c.note_entry_slot.new.slots.keys) c.deref-3.ensures.value ∙ ap (λ (l : LinkView). with_meant l c.note_entry_slot.new.slots.keys options.includes) names_are)
-        (c.in_ok-check_references.ensures.slots ∙ ap (λ (l : LinkView). with_meant l c.check_includes.new.slots.keys (modules_asked l)) names_are) in
+    c.in_ok-slots.ensures
+    ∙ slots_noted link options.entry_name options.includes c.new-slots.result.keys c.note_entry_slot.new.slots.keys c.check_includes.new.slots.keys c.check_references.new.slots.keys refl c.new-slots.ensures.empty
+    (c.in_ok-note_entry_slot.ensures link options.entry_name noted)
+    (c.in_ok-check_includes.ensures.slots ∙ ap (with_meant c.in_ok-names.names c.note_entry_slot.new.slots.keys) c.deref-3.ensures.value ∙ ap (λ (l : LinkView). with_meant l c.note_entry_slot.new.slots.keys options.includes) names_are)
+    (c.in_ok-check_references.ensures.slots ∙ ap (λ (l : LinkView). with_meant l c.check_includes.new.slots.keys (modules_asked l)) names_are) in
     c.len.ensures.len ∙ ap (λ (slots : List (List ℕ)). length slots) (slots_are ∙ ap slot_names (sym names_are))
 
-pub new-requires-2-clause-placed : goal.new-requires-2-clause-placed
-new-requires-2-clause-placed c =
-    ?
+pub new-requires-clause-placed : goal.new-requires-clause-placed
+new-requires-clause-placed c =
+    let pieces = c.in_ok-pieces.pieces.items in
+    subst (λ (ps : List Piece). All (λ (piece : Piece). HasSomePlace c.deref-6.result.now (numbers_below (length c.in_ok-slots.slots)) piece.«module» piece.number) ps) (sym c.deref-7.ensures.value)
+    (subst (λ (n : ℕ). All (λ (piece : Piece). HasSomePlace c.deref-6.result.now (numbers_below n) piece.«module» piece.number) pieces) c.len.ensures.len
+    (subst (λ (ms : List ModuleView). All (λ (piece : Piece). HasSomePlace ms (numbers_below c.len.result) piece.«module» piece.number) pieces) (c.deref-5.ensures.value ∙ sym c.deref-6.ensures.value) c.in_ok-pieces.ensures.placed))
 
 pub returns-in_err-entry-clause-refused : goal.returns-in_err-entry-clause-refused
 returns-in_err-entry-clause-refused c =
@@ -149,11 +154,11 @@ returns-in_err-entry-clause-refused c =
     let pieces_are : map bare c.deref-7.result.now ≡ link_pieces link = ap (map bare) c.deref-7.ensures.value ∙ c.in_ok-pieces.ensures.pieces ∙ ap link_pieces names_are in
     let noted = c.in_ok-meaning.ensures.meant ∙ ap (λ (l : LinkView). entry_meant l options.entry_name) names_are in
     let slots_are : c.in_ok-slots.slots ≡ slot_names link =
-        c.in_ok-slots.ensures
-        ∙ slots_noted link options.entry_name options.includes c.new-slots.result.keys c.note_entry_slot.new.slots.keys c.check_includes.new.slots.keys c.check_references.new.slots.keys refl c.new-slots.ensures.empty
-        (c.in_ok-note_entry_slot.ensures link options.entry_name noted)
-        (c.in_ok-check_includes.ensures.slots ∙ ap (with_meant c.in_ok-names.names c.note_entry_slot.new.slots.keys) c.deref-3.ensures.value ∙ ap (λ (l : LinkView). with_meant l c.note_entry_slot.new.slots.keys options.includes) names_are)
-        (c.in_ok-check_references.ensures.slots ∙ ap (λ (l : LinkView). with_meant l c.check_includes.new.slots.keys (modules_asked l)) names_are) in
+    c.in_ok-slots.ensures
+    ∙ slots_noted link options.entry_name options.includes c.new-slots.result.keys c.note_entry_slot.new.slots.keys c.check_includes.new.slots.keys c.check_references.new.slots.keys refl c.new-slots.ensures.empty
+    (c.in_ok-note_entry_slot.ensures link options.entry_name noted)
+    (c.in_ok-check_includes.ensures.slots ∙ ap (with_meant c.in_ok-names.names c.note_entry_slot.new.slots.keys) c.deref-3.ensures.value ∙ ap (λ (l : LinkView). with_meant l c.note_entry_slot.new.slots.keys options.includes) names_are)
+    (c.in_ok-check_references.ensures.slots ∙ ap (λ (l : LinkView). with_meant l c.check_includes.new.slots.keys (modules_asked l)) names_are) in
     let refused = c.in_err-entry.ensures.refused link (c.in_ok-index.ensures link (sym c.deref-6.ensures.value) (sym slots_are) pieces_are) in
     let is = c.in_ok-meaning.ensures.meant ∙ ap (λ (l : LinkView). entry_meant l options.entry_name) names_are in
     rw (given.1, given.2)
@@ -168,11 +173,11 @@ judge_pieces-requires-clause-indexed c =
     let names_are = c.in_ok-names.ensures.names ∙ c.requires.names in
     let noted = c.in_ok-meaning.ensures.meant ∙ ap (λ (l : LinkView). entry_meant l options.entry_name) names_are in
     let slots_are : c.in_ok-slots.slots ≡ slot_names link =
-        c.in_ok-slots.ensures
-        ∙ slots_noted link options.entry_name options.includes c.new-slots.result.keys c.note_entry_slot.new.slots.keys c.check_includes.new.slots.keys c.check_references.new.slots.keys refl c.new-slots.ensures.empty
-        (c.in_ok-note_entry_slot.ensures link options.entry_name noted)
-        (c.in_ok-check_includes.ensures.slots ∙ ap (with_meant c.in_ok-names.names c.note_entry_slot.new.slots.keys) c.deref-3.ensures.value ∙ ap (λ (l : LinkView). with_meant l c.note_entry_slot.new.slots.keys options.includes) names_are)
-        (c.in_ok-check_references.ensures.slots ∙ ap (λ (l : LinkView). with_meant l c.check_includes.new.slots.keys (modules_asked l)) names_are) in
+    c.in_ok-slots.ensures
+    ∙ slots_noted link options.entry_name options.includes c.new-slots.result.keys c.note_entry_slot.new.slots.keys c.check_includes.new.slots.keys c.check_references.new.slots.keys refl c.new-slots.ensures.empty
+    (c.in_ok-note_entry_slot.ensures link options.entry_name noted)
+    (c.in_ok-check_includes.ensures.slots ∙ ap (with_meant c.in_ok-names.names c.note_entry_slot.new.slots.keys) c.deref-3.ensures.value ∙ ap (λ (l : LinkView). with_meant l c.note_entry_slot.new.slots.keys options.includes) names_are)
+    (c.in_ok-check_references.ensures.slots ∙ ap (λ (l : LinkView). with_meant l c.check_includes.new.slots.keys (modules_asked l)) names_are) in
     c.in_ok-index.ensures c.in_ok-names.names (ap (λ (l : LinkView). l.modules) names_are ∙ sym c.deref-6.ensures.value) (ap slot_names names_are ∙ sym slots_are) (ap (map bare) c.deref-7.ensures.value ∙ c.in_ok-pieces.ensures.pieces)
 
 pub returns-in_err-fixes-clause-refused : goal.returns-in_err-fixes-clause-refused
@@ -192,11 +197,11 @@ returns-in_err-fixes-clause-refused c =
     let pieces_are : map bare c.deref-7.result.now ≡ link_pieces link = ap (map bare) c.deref-7.ensures.value ∙ c.in_ok-pieces.ensures.pieces ∙ ap link_pieces names_are in
     let noted = c.in_ok-meaning.ensures.meant ∙ ap (λ (l : LinkView). entry_meant l options.entry_name) names_are in
     let slots_are : c.in_ok-slots.slots ≡ slot_names link =
-        c.in_ok-slots.ensures
-        ∙ slots_noted link options.entry_name options.includes c.new-slots.result.keys c.note_entry_slot.new.slots.keys c.check_includes.new.slots.keys c.check_references.new.slots.keys refl c.new-slots.ensures.empty
-        (c.in_ok-note_entry_slot.ensures link options.entry_name noted)
-        (c.in_ok-check_includes.ensures.slots ∙ ap (with_meant c.in_ok-names.names c.note_entry_slot.new.slots.keys) c.deref-3.ensures.value ∙ ap (λ (l : LinkView). with_meant l c.note_entry_slot.new.slots.keys options.includes) names_are)
-        (c.in_ok-check_references.ensures.slots ∙ ap (λ (l : LinkView). with_meant l c.check_includes.new.slots.keys (modules_asked l)) names_are) in
+    c.in_ok-slots.ensures
+    ∙ slots_noted link options.entry_name options.includes c.new-slots.result.keys c.note_entry_slot.new.slots.keys c.check_includes.new.slots.keys c.check_references.new.slots.keys refl c.new-slots.ensures.empty
+    (c.in_ok-note_entry_slot.ensures link options.entry_name noted)
+    (c.in_ok-check_includes.ensures.slots ∙ ap (with_meant c.in_ok-names.names c.note_entry_slot.new.slots.keys) c.deref-3.ensures.value ∙ ap (λ (l : LinkView). with_meant l c.note_entry_slot.new.slots.keys options.includes) names_are)
+    (c.in_ok-check_references.ensures.slots ∙ ap (λ (l : LinkView). with_meant l c.check_includes.new.slots.keys (modules_asked l)) names_are) in
     let accepted = c.in_ok-entry.ensures.accepted link (c.in_ok-index.ensures link (sym c.deref-6.ensures.value) (sym slots_are) pieces_are) in
     let is = c.in_ok-meaning.ensures.meant ∙ ap (λ (l : LinkView). entry_meant l options.entry_name) names_are in
     let fault = fields_stage options link meant
@@ -204,6 +209,11 @@ returns-in_err-fixes-clause-refused c =
     (ap (meant_fault link) (sym is) ∙ accepted) in
     rw (given.1, given.2)
     (subst (λ o. RefusesFor o c.in_err-fixes.field-0.0) (ap (λ (l : LinkView). fixes_fault l options.large) names_are ∙ sym fault) c.in_err-fixes.ensures.refused)
+
+pub returns-in_err-merges-clause-refused : goal.returns-in_err-merges-clause-refused
+returns-in_err-merges-clause-refused c =
+    let given = err_from_is_err_and c.from_residual-in_err-merges.result c.from_residual-in_err-merges.ensures.1 in
+    rw (given.1, given.2) tt
 
 pub returns-clause-planned : goal.returns-clause-planned
 returns-clause-planned c =
@@ -221,11 +231,11 @@ returns-clause-planned c =
     let pieces_there : map bare c.deref-7.result.now ≡ link_pieces link = ap (map bare) c.deref-7.ensures.value ∙ c.in_ok-pieces.ensures.pieces ∙ ap link_pieces names_are in
     let noted = c.in_ok-meaning.ensures.meant ∙ ap (λ (l : LinkView). entry_meant l options.entry_name) names_are in
     let slots_are : c.in_ok-slots.slots ≡ slot_names link =
-        c.in_ok-slots.ensures
-        ∙ slots_noted link options.entry_name options.includes c.new-slots.result.keys c.note_entry_slot.new.slots.keys c.check_includes.new.slots.keys c.check_references.new.slots.keys refl c.new-slots.ensures.empty
-        (c.in_ok-note_entry_slot.ensures link options.entry_name noted)
-        (c.in_ok-check_includes.ensures.slots ∙ ap (with_meant c.in_ok-names.names c.note_entry_slot.new.slots.keys) c.deref-3.ensures.value ∙ ap (λ (l : LinkView). with_meant l c.note_entry_slot.new.slots.keys options.includes) names_are)
-        (c.in_ok-check_references.ensures.slots ∙ ap (λ (l : LinkView). with_meant l c.check_includes.new.slots.keys (modules_asked l)) names_are) in
+    c.in_ok-slots.ensures
+    ∙ slots_noted link options.entry_name options.includes c.new-slots.result.keys c.note_entry_slot.new.slots.keys c.check_includes.new.slots.keys c.check_references.new.slots.keys refl c.new-slots.ensures.empty
+    (c.in_ok-note_entry_slot.ensures link options.entry_name noted)
+    (c.in_ok-check_includes.ensures.slots ∙ ap (with_meant c.in_ok-names.names c.note_entry_slot.new.slots.keys) c.deref-3.ensures.value ∙ ap (λ (l : LinkView). with_meant l c.note_entry_slot.new.slots.keys options.includes) names_are)
+    (c.in_ok-check_references.ensures.slots ∙ ap (λ (l : LinkView). with_meant l c.check_includes.new.slots.keys (modules_asked l)) names_are) in
     let indexed = c.in_ok-index.ensures link (sym c.deref-6.ensures.value) (sym slots_are) pieces_there in
     let meant = c.in_ok-meaning.ensures.meant ∙ ap (λ (l : LinkView). entry_meant l options.entry_name) names_are in
     let placed = c.in_ok-entry.ensures.placed link indexed in
