@@ -1,0 +1,134 @@
+//! The imports of a link, as rows of its import tables.
+
+ghost use Rattle.std.specs.Prelude.{◌≡◌, ◌≤◌, ℕ, [], ◌++◌, length, slice_index_or, IfOk, OnOk, All};
+ghost use Rattle.std.specs.List.{cons_option};
+ghost use Rattle.link_base.specs.Limits.{MODULE_LIMIT};
+ghost use Rattle.import_tables.specs.ImportShape.{name_len, AreWithinLimits};
+ghost use Rattle.link_imports.specs.Imports.{row_by, import_rows, import_slots, slot_offset, AreImports};
+ghost use Rattle.link_imports.specs.Steps.{IsShort};
+
+use import_tables::{ImportRow, ImportShape, shape};
+use link_base::{Memory, NAME_LIMIT};
+use module_view::Module;
+use short_import::ImportBy;
+use std::alloc::Global;
+
+/// The imports of a link, in the order of its modules.
+#[derive(Drop)]
+pub struct LinkImports<'a> {
+    /// A row of the import tables for each.
+    pub rows: Vec<ImportRow<'a>>,
+    /// The sizes of the tables, and the offset of each row's slot.
+    pub shape: ImportShape,
+    /// The offset of the slot of the import that is a module, by the module's position; empty where no module is an import.
+    pub offsets: Vec<u32>,
+}
+
+/// The imports among these modules. One with a name of more than 32,000 bytes, which does not open as a module, is want of
+/// memory.
+pub fn link_imports<'a>(alloc: Global, modules: &[Module<'a>]) -> Result<LinkImports<'a>, Memory>
+    requires { length modules.now ≤ MODULE_LIMIT }
+    ensures { IfOk result (AreImports modules.now) }
+{
+    let rows = import_rows(alloc, modules)?;
+    let shape = shape(alloc, &rows)?;
+    let offsets = slot_offsets(alloc, modules, &shape.slots)?;
+    Ok(LinkImports {
+        rows,
+        shape,
+        offsets,
+    })
+}
+
+/// A row for each module that is a short import.
+fn import_rows<'a>(alloc: Global, modules: &[Module<'a>]) -> Result<Vec<ImportRow<'a>>, Memory>
+    requires { length modules.now ≤ MODULE_LIMIT }
+    ensures rows { IfOk result (λ rows. rows.items ≡ import_rows modules.now) }
+    ensures limits { IfOk result (λ rows. AreWithinLimits rows.items) }
+{
+    let mut rows = Vec::new(alloc);
+    for module in modules {
+        push_row(&mut rows, module)?;
+    }
+    Ok(rows)
+}
+
+/// Appends the row of a module, where it is a short import.
+fn push_row<'a>(rows: &mut Vec<ImportRow<'a>>, module: &Module<'a>) -> Result<(), Memory>
+    ensures rows { OnOk result (rows.new.items ≡ rows.old.items ++ cons_option (row_by «module».now) []) }
+    ensures short { OnOk result (All IsShort rows.old.items → All IsShort rows.new.items) }
+{
+    let Some(import) = module.import() else {
+        return Ok(());
+    };
+    if import.dll.len() > NAME_LIMIT || name_len(&import.by) > NAME_LIMIT {
+        return Err(Memory);
+    }
+    rows.push(ImportRow {
+        dll: import.dll.again(),
+        by: by_again(&import.by),
+    })?;
+    Ok(())
+}
+
+/// How long the name is by which the loader finds an import, where it goes by one.
+fn name_len(by: &ImportBy<'_>) -> usize
+    ensures { result ≡ name_len by.now }
+{
+    match by {
+        ImportBy::Ordinal(_) => 0,
+        ImportBy::Named { name, .. } => name.len(),
+    }
+}
+
+/// The same way to find an import.
+fn by_again<'a>(by: &ImportBy<'a>) -> ImportBy<'a>
+    ensures { result ≡ by.now }
+{
+    match by {
+        ImportBy::Ordinal(ordinal) => ImportBy::Ordinal(*ordinal),
+        ImportBy::Named { hint, name } => ImportBy::Named {
+            hint: *hint,
+            name: name.again(),
+        },
+    }
+}
+
+/// The offset of the slot of the import that is a module, by the module's position, where there are imports, which have these
+/// slots.
+fn slot_offsets(alloc: Global, modules: &[Module<'_>], slots: &[u32]) -> Result<Vec<u32>, Memory>
+    requires { slots.now ≡ import_slots modules.now }
+    ensures { IfOk result (λ offsets. (position : ℕ) → slice_index_or offsets.items position 0 ≡ slot_offset modules.now position) }
+{
+    let mut offsets = Vec::new(alloc);
+    if slots.is_empty() {
+        return Ok(offsets);
+    }
+    let mut before = 0;
+    for module in modules {
+        offsets.push(slot_at(slots, before))?;
+        before += rows_by(module);
+    }
+    Ok(offsets)
+}
+
+/// How many rows a module has.
+fn rows_by(module: &Module<'_>) -> usize
+    ensures count { result ≡ length (cons_option (row_by «module».now) []) }
+    ensures few { result ≤ 1 }
+{
+    match module.import() {
+        Some(_) => 1,
+        None => 0,
+    }
+}
+
+/// The offset of a slot by its index, or 0.
+fn slot_at(slots: &[u32], index: usize) -> u32
+    ensures { result ≡ slice_index_or slots.now index 0 }
+{
+    match slots.get(index) {
+        Some(offset) => *offset,
+        None => 0,
+    }
+}
