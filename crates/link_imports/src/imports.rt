@@ -10,7 +10,7 @@ ghost use Rattle.link_imports.specs.Steps.{IsShort};
 use import_tables::{ImportRow, ImportShape, shape};
 use link_base::{Memory, NAME_LIMIT};
 use module_view::Module;
-use short_import::ImportBy;
+use short_import::{Import, ImportBy};
 use std::alloc::Global;
 
 /// The imports of a link, in the order of its modules.
@@ -61,13 +61,11 @@ fn push_row<'a>(rows: &mut Vec<ImportRow<'a>>, module: &Module<'a>) -> Result<()
     let Some(import) = module.import() else {
         return Ok(());
     };
-    if import.dll.len() > NAME_LIMIT || name_len(&import.by) > NAME_LIMIT {
+    let Import { dll, by, .. } = import.again();
+    if dll.len() > NAME_LIMIT || name_len(&by) > NAME_LIMIT {
         return Err(Memory);
     }
-    rows.push(ImportRow {
-        dll: import.dll.again(),
-        by: by_again(&import.by),
-    })?;
+    rows.push(ImportRow { dll, by })?;
     Ok(())
 }
 
@@ -78,19 +76,6 @@ fn name_len(by: &ImportBy<'_>) -> usize
     match by {
         ImportBy::Ordinal(_) => 0,
         ImportBy::Named { name, .. } => name.len(),
-    }
-}
-
-/// The same way to find an import.
-fn by_again<'a>(by: &ImportBy<'a>) -> ImportBy<'a>
-    ensures { result ≡ by.now }
-{
-    match by {
-        ImportBy::Ordinal(ordinal) => ImportBy::Ordinal(*ordinal),
-        ImportBy::Named { hint, name } => ImportBy::Named {
-            hint: *hint,
-            name: name.again(),
-        },
     }
 }
 
