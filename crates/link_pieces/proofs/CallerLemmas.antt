@@ -15,11 +15,11 @@ use Rattle.symbol_names.specs.LinkView.{LinkView}
 use Rattle.module_view.specs.SymbolLists.{commons_of}
 use Rattle.link_pieces.specs.Commons.{FIRST_COMMON, is_meant_common, meant_commons, common_piece}
 use Rattle.link_pieces.specs.Pieces.{is_linked, linked_sections, piece_of, pieces_in, module_pieces, link_pieces, IsPieceOf}
-use Rattle.link_pieces.specs.LinkerPieces.{linker_pieces, IsLinkerPiece}
+use Rattle.link_pieces.specs.LinkerPieces.{linker_pieces, is_table, IsImportTable, IsLinkerPiece}
 use Rattle.link_pieces.proofs.LinkerLemmas.{linker_pieces_are}
 use Rattle.link_pieces.specs.PieceIndex.{is_section, is_numbered, is_section_of, is_common_of, holds, piece_index, common_index, linker_index, slot_index}
 use Rattle.std.specs.Option.{option_and_then}
-use Rattle.synthetic_sections.specs.LinkerPieces.{FIRST_LOCAL_SLOT}
+use Rattle.synthetic_sections.specs.LinkerPieces.{FIRST_THUNK, FIRST_LOCAL_SLOT}
 use Rattle.link_pieces.specs.LocalSlots.{slot_names, slot_number}
 use Rattle.link_pieces.proofs.CommonLemmas.{all_kept_of}
 
@@ -59,6 +59,17 @@ pieces_are link =
 
 pub piece_is : (link : LinkView) (k : ℕ) → k < length (link_pieces link) → IsPieceOf link (get_or (link_pieces link) k no_piece)
 piece_is link k lt = pieces_are link k no_piece lt
+
+-- an import table is one of the five, and as long as its bytes will be
+pub table_is : (link : LinkView) (k : ℕ) → k < length (link_pieces link) → is_table (length link.modules) (get_or (link_pieces link) k no_piece) ≡ true → IsImportTable link (get_or (link_pieces link) k no_piece)
+table_is link k lt table =
+    let piece = get_or (link_pieces link) k no_piece in
+    let both = and_parts (eqb piece.«module» (length link.modules)) (ltb piece.number FIRST_THUNK) table in
+    let same = eqb-true piece.«module» (length link.modules) both.0 in
+    elim (piece_is link k lt) [
+      | inl of_module ↦ absurd (omega (arith, of_module.within, same))
+      | inr of_linker ↦ of_linker.table (ltb-true piece.number FIRST_THUNK both.1)
+    ]
 
 -- a piece without its bytes is one of the link
 pub bare_at : (link : LinkView) (pieces : List Piece) (k : ℕ) → map bare pieces ≡ link_pieces link → bare (get_or pieces k no_piece) ≡ get_or (link_pieces link) k no_piece

@@ -42,6 +42,7 @@ linker_pieces_are link =
       of_linker = refl;
       first = omega arith;
       numbered = slot_numbered (length (slot_names link)) k lt;
+      table = λ below. absurd (omega (arith, below));
     })
 
 pub slots_aligned : (position slots : ℕ) → All (λ (piece : Piece). IsAlignment piece.align) (slots_below position slots)

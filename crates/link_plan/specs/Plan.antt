@@ -1,5 +1,5 @@
 -- What a plan says of the modules that it was made for.
-use Rattle.std.specs.Prelude.{◌≡◌, ◌<◌, ◌≤◌, ℕ, ◌^◌, true, List, length, map, slice_index_or, None}
+use Rattle.std.specs.Prelude.{◌≡◌, ◌<◌, ◌≤◌, ℕ, ◌^◌, true, false, List, length, map, slice_index_or, None}
 use Rattle.std.specs.List.{All}
 use Rattle.std.specs.Option.{ForSome}
 use Rattle.section_group.specs.declared.piece.Piece.{Piece}
@@ -10,7 +10,9 @@ use Rattle.section_group.specs.PieceContents.{piece_contents, HasItsBytes}
 use Rattle.symbol_names.specs.LinkView.{LinkView}
 use Rattle.module_view.specs.Opening.{IsOpened}
 use Rattle.link_directives.specs.LinkDirectives.{link_merges}
+use Rattle.link_imports.specs.Imports.{AreImports}
 use Rattle.link_pieces.specs.Pieces.{link_contents}
+use Rattle.link_pieces.specs.LinkerPieces.{is_table}
 use Rattle.link_words.specs.Outcome.{LinkOptions}
 use Rattle.link_plan.specs.declared.entry.EntryPlace.{EntryPlace}
 use Rattle.link_plan.specs.declared.planning.LinkPlan.{LinkPlan}
@@ -36,9 +38,10 @@ pub record IsPlanOf (options : LinkOptions) (link : LinkView) (plan : LinkPlan) 
   pub pieces_are : map bare plan.pieces.items ≡ plan_pieces options link
   pub contents_are : map piece_contents plan.pieces.items ≡ link_contents link
   pub aligned : All (λ piece. IsAlignment piece.align) plan.pieces.items
-  pub bodies : (k : ℕ) → k < length plan.pieces.items → HasItsBytes plan.pieces.items k
+  pub bodies : (k : ℕ) → k < length plan.pieces.items → is_table (length link.modules) (slice_index_or plan.pieces.items k no_piece) ≡ false → HasItsBytes plan.pieces.items k
   pub few : length plan.pieces.items < 2 ^ 31
   pub fields : HaveFields link (length plan.pieces.items) plan.fixes.items
+  pub imports : AreImports link.modules plan.imports
   pub merges_are : plan.merges.items ≡ merges_of options link
   pub entry_is : plan.entry ≡ entry_place link options.entry_name
   pub stands : ForSome plan.entry (StandsNamed plan.pieces.items)

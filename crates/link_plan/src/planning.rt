@@ -20,6 +20,7 @@ use lib_search::{LinkList, complete};
 use link_base::{Name, Refusal, Stop};
 use link_directives::link_merges;
 use link_files::Files;
+use link_imports::{LinkImports, link_imports};
 use link_pieces::{LinkNames, LocalSlots, PieceIndex, check_clash, link_names, pieces_of};
 use link_words::Options;
 use module_view::Module;
@@ -39,6 +40,8 @@ pub struct LinkPlan<'a> {
     pub pieces: Vec<Piece<'a>>,
     /// The fields of each piece.
     pub fixes: Vec<Fixups>,
+    /// The imports among the modules, as rows of import tables.
+    pub imports: LinkImports<'a>,
     /// The merges of sections: those of the options, then those of the directives.
     pub merges: Vec<(Name<'a>, Name<'a>)>,
     /// Where the image begins, where it begins at all.
@@ -102,11 +105,13 @@ fn plan_of<'a>(
     mark_entry(&mut fixes.meant, &entry);
     name_meant(&mut pieces, &fixes.meant);
     let merges = link_merges(alloc, &options.merges, &modules)?;
+    let imports = link_imports(alloc, &modules)?;
     Ok(LinkPlan {
         modules,
         names,
         pieces,
         fixes: fixes.fixups,
+        imports,
         merges,
         entry,
     })

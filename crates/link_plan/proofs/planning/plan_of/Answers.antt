@@ -20,6 +20,7 @@ use Rattle.link_plan.specs.declared.entry.EntryPlace.{EntryPlace}
 use Rattle.link_pieces.specs.ChoiceFaults.{conflict_fault, clash_fault}
 use Rattle.link_plan.proofs.EntryLemmas.{entry_stands}
 use Rattle.link_plan.proofs.StageLemmas.{mismatch_stage, conflict_stage, clash_stage, chosen_well, AreMeant, entry_stage, includes_stage, references_stage, place_stage, fields_stage}
+use Rattle.link_imports.specs.Imports.{AreImports}
 use Rattle.link_pieces.specs.LocalSlots.{with_meant, modules_asked, slot_names}
 use Rattle.link_pieces.specs.LinkerPieces.{numbers_below}
 use Rattle.link_pieces.specs.Rows.{HasSomePlace}
@@ -215,6 +216,11 @@ returns-in_err-merges-clause-refused c =
     let given = err_from_is_err_and c.from_residual-in_err-merges.result c.from_residual-in_err-merges.ensures.1 in
     rw (given.1, given.2) tt
 
+pub returns-in_err-imports-clause-refused : goal.returns-in_err-imports-clause-refused
+returns-in_err-imports-clause-refused c =
+    let given = err_from_is_err_and c.from_residual-in_err-imports.result c.from_residual-in_err-imports.ensures.1 in
+    rw (given.1, given.2) tt
+
 pub returns-clause-planned : goal.returns-clause-planned
 returns-clause-planned c =
     let options = options_said c.args.options.now in
@@ -262,9 +268,10 @@ returns-clause-planned c =
       pieces_are = planned_are;
       contents_are = contents_named old marks now named ∙ c.in_ok-pieces.ensures.contents ∙ ap link_contents names_are;
       aligned = aligned_named old marks now named c.in_ok-pieces.ensures.aligned;
-      bodies = bodies_named old marks now named c.in_ok-pieces.ensures.bodies;
+      bodies = λ k lt table. bodies_named old marks now named c.in_ok-pieces.ensures.bodies k lt;
       few = let count = count_named old marks now named in omega (arith, c.in_ok-pieces.ensures.count, count);
       fields = subst (λ (n : ℕ). HaveFields link n c.in_ok-fixes.fixes.fixups.items) (ap length c.deref-9.ensures.value ∙ sym (count_named old marks now named)) fields;
+      imports = subst (λ (ms : List ModuleView). AreImports ms c.in_ok-imports.imports) c.deref-13.ensures.value c.in_ok-imports.ensures;
       merges_are = c.in_ok-merges.ensures ∙ ap (λ (given : List (List ℕ × List ℕ)). link_merges given c.deref-12.result.now) c.deref-11.ensures.value ∙ ap (link_merges options.merges) c.deref-12.ensures.value;
       entry_is = entry_is;
       stands = rw entry_is (entry_stands options link now planned_are opened);
