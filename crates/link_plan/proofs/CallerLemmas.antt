@@ -1,5 +1,5 @@
 -- What callers may cite of the fields of a plan: the pieces that they mean are named, and each relocation has its number.
-use Rattle.std.proofs.Common.{◌≡◌, ℕ, zero, suc, ◌+◌, ◌<◌, Bool, true, false, cond, ◌||◌, eqb, List, [], ◌∷◌, length, filter, get_or, Option, Some, None, option_map, Result, Ok, Err, refl, ap, ◌∙◌, eq-eqb, arith}
+use Rattle.std.proofs.Common.{◌≡◌, ℕ, zero, suc, ◌+◌, ◌<◌, Bool, true, false, cond, ◌||◌, eqb, ltb, List, [], ◌∷◌, length, filter, get_or, Option, Some, None, option_map, Result, Ok, Err, refl, ap, ◌∙◌, eq-eqb, arith}
 use Rattle.std.specs.List.{All, range_with_len, find}
 use Rattle.std.proofs.lemmas.Bool.{or_right}
 use Rattle.std.proofs.lemmas.List.Elements.{All-nil, All-cons, All-head, All-tail}
@@ -27,10 +27,11 @@ use Rattle.link_pieces.specs.NameMeaning.{name_meaning, takes_part}
 use Rattle.link_pieces.specs.Pieces.{link_pieces}
 use Rattle.link_pieces.specs.PieceIndex.{piece_index, common_index, slot_index, is_section, is_section_of, is_common_of, holds}
 use Rattle.link_pieces.proofs.CallerLemmas.{found_slot}
+use Rattle.synthetic_sections.specs.LinkerPieces.{FIRST_THUNK}
 use Rattle.synthetic_sections.specs.LinkerFields.{slot_field}
 use Rattle.link_words.specs.Outcome.{LinkOptions}
 use Rattle.link_plan.specs.Targets.{target_in, section_target, common_target, own_target, meant_target, has_meaning, local_target, symbol_target, is_record}
-use Rattle.link_plan.specs.Fixes.{fix_of, fixes_from, piece_at, piece_fixes, piece_in, meant_in, is_that, means_piece, mean_piece, is_meant, is_entry, section_fixes, slot_at, linker_fixes, planned_piece, plan_pieces}
+use Rattle.link_plan.specs.Fixes.{fix_of, fixes_from, piece_at, piece_fixes, piece_in, meant_in, is_that, means_piece, mean_piece, is_meant, is_entry, section_fixes, slot_at, slot_fixes, linker_fixes, planned_piece, plan_pieces}
 
 kept_one : {A : Type 0} (P : A → Type 0) (b : Bool) (x : A) (rest : List A) → (b ≡ true → P x) → All P rest → All P (cond b (x ∷ rest) rest)
 kept_one P true x rest here later = All-cons P x rest (here refl) later
@@ -50,16 +51,17 @@ numbered_from link position bytes index (r ∷ rs) zero lt = omega arith
 numbered_from link position bytes index (r ∷ rs) (suc k) lt =
     let more = numbered_from link position bytes (index + 1) rs k (omega arith) in omega (arith, more)
 
+linker_numbered : (link : LinkView) (number : ℕ) (table : Bool) → AreNumbered (cond table [] (slot_fixes link (slot_at link number)))
+linker_numbered link number true i lt = absurd (omega arith)
+linker_numbered link number false zero lt = refl
+linker_numbered link number false (suc i) lt = absurd (omega (arith, lt))
+
 pub fixes_numbered : (link : LinkView) (k : ℕ) → AreNumbered (piece_fixes link k)
 fixes_numbered link k = by_kind (is_section (length link.modules) (piece_at link k)) (eqb (piece_at link k).«module» (length link.modules))
   where
     by_kind : (section linker : Bool) → AreNumbered (cond section (section_fixes link (piece_at link k).«module» (module_at link.modules (piece_at link k).«module»).bytes (piece_at link k).number) (cond linker (linker_fixes link (piece_at link k).number) []))
     by_kind false false i lt = absurd (omega arith)
-    by_kind false true i lt = one i lt
-      where
-        one : (i : ℕ) → i < 1 → (fix_at (linker_fixes link (piece_at link k).number) i).index ≡ i
-        one zero lt = refl
-        one (suc i) lt = absurd (omega (arith, lt))
+    by_kind false true i lt = linker_numbered link (piece_at link k).number (ltb (piece_at link k).number FIRST_THUNK) i lt
     by_kind true linker i lt =
         let at = piece_at link k in
         let held = (module_at link.modules at.«module»).bytes in
@@ -148,6 +150,14 @@ all_within link position bytes index (r ∷ rs) =
     (record_within link position (find (is_record r.symbol) (symbol_entries bytes)))
     (all_within link position bytes (index + 1) rs)
 
+linker_within : (link : LinkView) (number : ℕ) (table : Bool) → All (λ fix. IsWithin link (target_of fix)) (cond table [] (slot_fixes link (slot_at link number)))
+linker_within link number true = All-nil (λ fix. IsWithin link (target_of fix))
+linker_within link number false =
+    let means = meant_target link (name_meaning link (slot_at link number)) in
+    All-cons (λ fix. IsWithin link (target_of fix)) (slot_field means) []
+    (result_within link means (name_within link (name_meaning link (slot_at link number))))
+    (All-nil (λ fix. IsWithin link (target_of fix)))
+
 -- the field of a piece that means another makes it named
 field_stands : (link : LinkView) (k i : ℕ) (d : Fix) → k < length (link_pieces link) → i < length (piece_fixes link k) → has_field (get_or (piece_fixes link k) i d) ≡ true → IsWithin link (target_of (get_or (piece_fixes link k) i d)) → Stands link (target_of (get_or (piece_fixes link k) i d))
 unfolding meant_in
@@ -175,11 +185,7 @@ fields_stand link k within =
   where
     of_piece : (section linker : Bool) → All (λ fix. IsWithin link (target_of fix)) (cond section (section_fixes link (piece_at link k).«module» (module_at link.modules (piece_at link k).«module»).bytes (piece_at link k).number) (cond linker (linker_fixes link (piece_at link k).number) []))
     of_piece false false = All-nil (λ fix. IsWithin link (target_of fix))
-    of_piece false true =
-        let means = meant_target link (name_meaning link (slot_at link (piece_at link k).number)) in
-        All-cons (λ fix. IsWithin link (target_of fix)) (slot_field means) []
-        (result_within link means (name_within link (name_meaning link (slot_at link (piece_at link k).number))))
-        (All-nil (λ fix. IsWithin link (target_of fix)))
+    of_piece false true = linker_within link (piece_at link k).number (ltb (piece_at link k).number FIRST_THUNK)
     of_piece true linker =
         let piece = piece_at link k in
         let bytes = (module_at link.modules piece.«module»).bytes in

@@ -1,6 +1,6 @@
 -- The relocations of the pieces of a link, each with what its symbol means, the first that has a fault, and the pieces that
 -- stand in a section without bytes. Own.
-use Rattle.std.specs.Prelude.{◌≡◌, ℕ, ◌+◌, ◌-◌, ◌<◌, ◌==◌, ◌||◌, Bool, false, if◌then◌else◌, List, [], ◌∷◌, length, map, slice_index_or, Option, Some, None, option_and_then}
+use Rattle.std.specs.Prelude.{◌≡◌, ℕ, ◌+◌, ◌-◌, ◌<◌, ◌==◌, ◌||◌, nat_lt, Bool, false, if◌then◌else◌, List, [], ◌∷◌, length, map, slice_index_or, Option, Some, None, option_and_then}
 use Rattle.std.specs.List.{range_with_len, list_any}
 use Rattle.link_base.specs.Refusals.{first_refusal_below}
 use Rattle.link_base.specs.declared.fault.Fault.{Fault}
@@ -23,7 +23,7 @@ use Rattle.symbol_names.specs.LinkView.{LinkView}
 use Rattle.link_pieces.specs.Pieces.{link_pieces, link_contents}
 use Rattle.link_pieces.specs.PieceIndex.{is_section}
 use Rattle.link_words.specs.Outcome.{LinkOptions}
-use Rattle.synthetic_sections.specs.LinkerPieces.{FIRST_LOCAL_SLOT}
+use Rattle.synthetic_sections.specs.LinkerPieces.{FIRST_THUNK, FIRST_LOCAL_SLOT}
 use Rattle.synthetic_sections.specs.LinkerFields.{slot_field}
 use Rattle.link_pieces.specs.NameMeaning.{name_meaning}
 use Rattle.link_pieces.specs.LocalSlots.{slot_names}
@@ -62,8 +62,9 @@ slot_fixes link name = slot_field (meant_target link (name_meaning link name)) �
 abbrev pub slot_at : LinkView → ℕ → List ℕ
 slot_at link number = slice_index_or (slot_names link) (number - FIRST_LOCAL_SLOT) []
 
+-- an import table has none
 abbrev pub linker_fixes : LinkView → ℕ → List Fix
-linker_fixes link number = slot_fixes link (slot_at link number)
+linker_fixes link number = if nat_lt number FIRST_THUNK then [] else slot_fixes link (slot_at link number)
 
 -- a common has none
 abbrev pub fixes_in : LinkView → Piece → List Fix

@@ -20,6 +20,7 @@ use module_view::Module;
 use relocate::{FieldError, Fix, Fixups, check};
 use section_group::Piece;
 use std::alloc::Global;
+use synthetic_sections::FIRST_THUNK;
 
 /// The fields of all pieces, and which pieces some field means.
 #[derive(Drop)]
@@ -74,7 +75,7 @@ fn keep(fixups: &mut Vec<Fixups>, fields: Fixups) -> Result<(), Memory>
     Ok(())
 }
 
-/// Replaces a list by the relocations of a piece. A common has none, and a local slot its field.
+/// Replaces a list by the relocations of a piece. A common and an import table have none, and a local slot its field.
 fn read_fixes<'a>(
     fixes: &mut Vec<Fix>,
     last: &mut LastTargets,
@@ -92,6 +93,9 @@ fn read_fixes<'a>(
 {
     fixes.clear();
     if piece.module as usize == modules.len() {
+        if piece.number < FIRST_THUNK {
+            return Ok(());
+        }
         return slot_fixes(fixes, names, index, piece.number);
     }
     if piece.number >= FIRST_COMMON {
