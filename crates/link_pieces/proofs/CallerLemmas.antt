@@ -1,10 +1,10 @@
 -- What callers may cite of the pieces of a link: what each is, and the one that a section, a common or a slot is.
-use Rattle.std.proofs.Common.{◌≡◌, ℕ, ◌+◌, ◌<◌, true, eqb, ltb, List, length, map, filter, get_or, Option, Some, None, inl, inr, refl, sym, ap, ◌∙◌, arith}
-use Rattle.std.specs.List.{All, Contains}
-use Rattle.std.proofs.lemmas.Bool.{eqb-true, ltb-true, and_parts}
+use Rattle.std.proofs.Common.{◌≡◌, ℕ, ◌+◌, ◌<◌, Bool, true, false, eqb, ltb, List, [], ◌∷◌, length, map, filter, get_or, Option, Some, None, inl, inr, refl, sym, ap, ◌∙◌, arith}
+use Rattle.std.specs.List.{All, Contains, list_any}
+use Rattle.std.proofs.lemmas.Bool.{false≢true, eqb-true, ltb-true, and_parts}
 use Rattle.std.proofs.lemmas.List.Elements.{All-map, All-weaker, All-append, All-contains_itself}
 use Rattle.std.proofs.Math.ListN.{get_or-map}
-use Rattle.link_base.proofs.CallerLemmas.{first_below-some}
+use Rattle.link_base.proofs.CallerLemmas.{first_below-none, first_below-some}
 use Rattle.link_base.proofs.RangeLemmas.{all_kept, all_joined}
 use Rattle.coff_records.specs.ObjectFile.{section_total}
 use Rattle.section_group.specs.declared.piece.Piece.{Piece}
@@ -16,10 +16,12 @@ use Rattle.module_view.specs.SymbolLists.{commons_of}
 use Rattle.link_pieces.specs.Commons.{FIRST_COMMON, is_meant_common, meant_commons, common_piece}
 use Rattle.link_pieces.specs.Pieces.{is_linked, linked_sections, piece_of, pieces_in, module_pieces, link_pieces, IsPieceOf}
 use Rattle.link_pieces.specs.LinkerPieces.{linker_pieces, is_table, IsImportTable, IsLinkerPiece}
-use Rattle.link_pieces.proofs.LinkerLemmas.{linker_pieces_are}
+use Rattle.link_pieces.proofs.LinkerLemmas.{linker_pieces_are, either_any, later_any, table_made}
 use Rattle.link_pieces.specs.PieceIndex.{is_section, is_numbered, is_section_of, is_common_of, holds, piece_index, common_index, linker_index, slot_index}
 use Rattle.std.specs.Option.{option_and_then}
-use Rattle.synthetic_sections.specs.LinkerPieces.{FIRST_THUNK, FIRST_LOCAL_SLOT}
+use Rattle.synthetic_sections.specs.LinkerPieces.{FIRST_THUNK, FIRST_LOCAL_SLOT, size_at}
+use Rattle.link_imports.specs.Imports.{import_sizes}
+use Rattle.link_imports.specs.ImportPieces.{tables_for, import_pieces}
 use Rattle.link_pieces.specs.LocalSlots.{slot_names, slot_number}
 use Rattle.link_pieces.proofs.CommonLemmas.{all_kept_of}
 
@@ -70,6 +72,20 @@ table_is link k lt table =
       | inl of_module ↦ absurd (omega (arith, of_module.within, same))
       | inr of_linker ↦ of_linker.table (ltb-true piece.number FIRST_THUNK both.1)
     ]
+
+-- one that has bytes is there
+pub table_there : (link : LinkView) (number : ℕ) → number < 5 → 0 < size_at (import_sizes link.modules) number → linker_index link number ≡ None → ⊥
+table_there link number few sized none =
+    let test = is_numbered (length link.modules) number in
+    let pieces = link_pieces link in
+    let none_passes = first_below-none (length pieces) (holds test pieces) none in
+    let there = later_any test (module_pieces link) (linker_pieces link) (either_any test (import_pieces link.modules) _ (either_any test (tables_for link.modules) _ (table_made link.modules number few sized))) in
+    false≢true (sym (no_any test pieces none_passes) ∙ there)
+  where
+    no_any : (test : Piece → Bool) (pieces : List Piece) → ((k : ℕ) → k < length pieces → test (get_or pieces k no_piece) ≡ false) → list_any test pieces ≡ false
+    no_any test [] each = refl
+    no_any test (piece ∷ pieces) each =
+        rw (each 0 (omega arith)) (no_any test pieces (λ k lt. each (k + 1) (omega (arith, lt))))
 
 -- a piece without its bytes is one of the link
 pub bare_at : (link : LinkView) (pieces : List Piece) (k : ℕ) → map bare pieces ≡ link_pieces link → bare (get_or pieces k no_piece) ≡ get_or (link_pieces link) k no_piece

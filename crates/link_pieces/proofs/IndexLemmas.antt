@@ -16,7 +16,8 @@ use Rattle.symbol_names.specs.LinkView.{LinkView}
 use Rattle.link_pieces.specs.Commons.{FIRST_COMMON, HasFewSections}
 use Rattle.link_pieces.specs.Pieces.{link_pieces, IsModulePiece, IsPieceOf}
 use Rattle.link_pieces.specs.LocalSlots.{slot_names}
-use Rattle.link_pieces.specs.LinkerPieces.{numbers_below}
+use Rattle.link_base.specs.Limits.{MODULE_LIMIT}
+use Rattle.link_pieces.specs.LinkerPieces.{numbers_below, IsLinkerNumber}
 use Rattle.link_pieces.proofs.CallerLemmas.{pieces_are}
 use Rattle.std.proofs.lemmas.List.Elements.{All-weaker}
 use Rattle.link_pieces.proofs.CommonLemmas.{common_place}
@@ -300,17 +301,24 @@ module_place link piece few whole = record {
       ];
 }
 
-some_place : (link : LinkView) (places : ℕ) (piece : Piece) → places ≡ numbers_below (length (slot_names link)) → places ≤ FIRST_COMMON → All HasFewSections link.modules → IsPieceOf link piece → HasSomePlace link.modules places piece.«module» piece.number
-some_place link places piece same below few (inl of_module) = inl (module_place link piece few of_module)
-some_place link places piece same below few (inr of_linker) = inr (record {
-  of_linker = of_linker.of_linker;
-  within = omega (arith, of_linker.numbered, same);
-  few = omega (arith, of_linker.numbered, same, below);
-})
+-- a number of the linker's module stays below those of commons
+few_numbers : (modules slots number : ℕ) → modules ≤ MODULE_LIMIT → numbers_below slots ≤ FIRST_COMMON → IsLinkerNumber modules slots number → number < FIRST_COMMON
+few_numbers modules slots number few below (inl made) = omega (arith, made, few)
+few_numbers modules slots number few below (inr slot) = omega (arith, slot.1, below)
 
-pub all_placed : (link : LinkView) (places : ℕ) → places ≡ numbers_below (length (slot_names link)) → places ≤ FIRST_COMMON → All HasFewSections link.modules → All (λ piece. HasSomePlace link.modules places piece.«module» piece.number) (link_pieces link)
-all_placed link places same below few =
-    All-weaker (IsPieceOf link) (λ (piece : Piece). HasSomePlace link.modules places piece.«module» piece.number) (λ piece whole. some_place link places piece same below few whole) (link_pieces link) (pieces_are link)
+some_place : (link : LinkView) (slots : ℕ) (piece : Piece) → slots ≡ length (slot_names link) → length link.modules ≤ MODULE_LIMIT → numbers_below slots ≤ FIRST_COMMON → All HasFewSections link.modules → IsPieceOf link piece → HasSomePlace link.modules slots piece.«module» piece.number
+some_place link slots piece same limit below few (inl of_module) = inl (module_place link piece few of_module)
+some_place link slots piece same limit below few (inr of_linker) =
+    let numbered = subst (λ (n : ℕ). IsLinkerNumber (length link.modules) n piece.number) (sym same) of_linker.numbered in
+    inr (record {
+      of_linker = of_linker.of_linker;
+      within = numbered;
+      few = few_numbers (length link.modules) slots piece.number limit below numbered;
+    })
+
+pub all_placed : (link : LinkView) (slots : ℕ) → slots ≡ length (slot_names link) → length link.modules ≤ MODULE_LIMIT → numbers_below slots ≤ FIRST_COMMON → All HasFewSections link.modules → All (λ piece. HasSomePlace link.modules slots piece.«module» piece.number) (link_pieces link)
+all_placed link slots same limit below few =
+    All-weaker (IsPieceOf link) (λ (piece : Piece). HasSomePlace link.modules slots piece.«module» piece.number) (λ piece whole. some_place link slots piece same limit below few whole) (link_pieces link) (pieces_are link)
 
 -- rows of so many places have it
 pub in_section_rows : (modules : List ModuleView) (rows : RowsView) (position number : ℕ) → HasStarts section_places modules (length modules) rows.starts (length rows.pieces) → HasPlace modules position number → number < FIRST_COMMON → row_start rows position + number < row_start rows (position + 1)
@@ -325,57 +333,12 @@ in_common_rows modules rows position number starts has large =
     let room = has.common large in
     omega (arith, next, room)
 
--- ---- the pieces that the linker makes
-
--- a list with what is noted of the first pieces that it makes
-pub record AreLinkerNoted (modules : List ModuleView) (places : ℕ) (pieces : List Piece) (count : ℕ) (row : List (Option ℕ)) : Type 0 where
-  pub for_each : length row ≡ places
-  pub noted : (n : ℕ) → get_or row n None ≡ first_below count (holds (is_numbered (length modules) n) (map bare pieces))
-
-pub no_linker_noted : (modules : List ModuleView) (places : ℕ) (pieces : List Piece) (row : List (Option ℕ)) → row ≡ replicate places None → AreLinkerNoted modules places pieces 0 row
-unfolding first_below
-no_linker_noted modules places pieces row empty = record {
-  for_each = ap length empty ∙ length-replicate places None;
-  noted = λ n. ap (λ (os : List (Option ℕ)). get_or os n None) empty ∙ each places n;
-}
-  where
-    each : (n k : ℕ) → get_or (replicate n nothing) k None ≡ None
-    each zero k = refl
-    each (suc n) zero = refl
-    each (suc n) (suc k) = each n k
-
--- one more that it makes
-pub linker_more : (modules : List ModuleView) (places : ℕ) (pieces : List Piece) (k : ℕ) (piece : Piece) (row after : List (Option ℕ)) → k < length pieces → piece ≡ get_or pieces k piece → piece.«module» ≡ length modules → piece.number < length row → after ≡ set row piece.number (option_or (get_or row piece.number None) (Some k)) → AreLinkerNoted modules places pieces k row → AreLinkerNoted modules places pieces (k + 1) after
-linker_more modules places pieces k piece row after lt read same room is are = record {
-  for_each = ap length is ∙ length-set row piece.number (option_or (get_or row piece.number None) (Some k)) ∙ are.for_each;
-  noted = λ n.
-      index_more (is_numbered (length modules) n) pieces k piece (eqb piece.number n) (get_or row n None) (get_or after n None) lt read (passes n) (are.noted n)
-      (ap (λ (os : List (Option ℕ)). get_or os n None) is ∙ put_at row piece.number k n room);
-}
-  where
-    passes : (n : ℕ) → eqb piece.number n ≡ is_numbered (length modules) n (bare piece)
-    passes n = rw (eq-eqb piece.«module» (length modules) same) refl
-
--- one that it does not make
-pub linker_same : (modules : List ModuleView) (places : ℕ) (pieces : List Piece) (k : ℕ) (piece : Piece) (row : List (Option ℕ)) → k < length pieces → piece ≡ get_or pieces k piece → (piece.«module» ≡ length modules → ⊥) → AreLinkerNoted modules places pieces k row → AreLinkerNoted modules places pieces (k + 1) row
-linker_same modules places pieces k piece row lt read other are = record {
-  for_each = are.for_each;
-  noted = λ n. index_same (is_numbered (length modules) n) pieces k piece (get_or row n None) lt read (fails n) (are.noted n);
-}
-  where
-    fails : (n : ℕ) → is_numbered (length modules) n (bare piece) ≡ false
-    fails n =
-        elim (eqb_tells piece.«module» (length modules)) [
-          | inl same ↦ absurd (other same.1)
-          | inr apart ↦ rw apart.0 refl
-        ]
-
 -- ---- which place a piece has
 
-pub of_module : (modules : List ModuleView) (places position number : ℕ) → (position ≡ length modules → ⊥) → HasSomePlace modules places position number → HasPlace modules position number
-of_module modules places position number other (inl place) = place
-of_module modules places position number other (inr place) = absurd (other place.of_linker)
+pub of_module : (modules : List ModuleView) (slots position number : ℕ) → (position ≡ length modules → ⊥) → HasSomePlace modules slots position number → HasPlace modules position number
+of_module modules slots position number other (inl place) = place
+of_module modules slots position number other (inr place) = absurd (other place.of_linker)
 
-pub of_linker : (modules : List ModuleView) (places position number : ℕ) → position ≡ length modules → HasSomePlace modules places position number → HasLinkerPlace modules places position number
-of_linker modules places position number same (inl place) = absurd (omega (arith, same, place.within))
-of_linker modules places position number same (inr place) = place
+pub of_linker : (modules : List ModuleView) (slots position number : ℕ) → position ≡ length modules → HasSomePlace modules slots position number → HasLinkerPlace modules slots position number
+of_linker modules slots position number same (inl place) = absurd (omega (arith, same, place.within))
+of_linker modules slots position number same (inr place) = place

@@ -5,3 +5,4 @@ pub mod CallerLemmas
 pub mod IndexLemmas
 mod SlotLemmas
 pub mod LinkerLemmas
+mod LinkerRowLemmas

@@ -1,14 +1,26 @@
--- The pieces that the linker makes: how they grow, what they are, and that they are aligned and filled.
-use Rattle.std.proofs.Common.{◌≡◌, ℕ, ◌+◌, ◌<◌, List, [], ◌∷◌, ◌++◌, length, map, inl, inr, refl, sym, ap, subst, ◌∙◌, append_assoc, arith}
-use Rattle.std.specs.List.{All, range_with_len}
-use Rattle.std.proofs.lemmas.Bool.Decides.{eqb_tells}
+-- The pieces that the linker makes: how they grow, what they are, and that they are aligned.
+use Rattle.std.proofs.Common.{◌≡◌, ℕ, zero, suc, ◌+◌, ◌<◌, Bool, true, false, cond, ◌||◌, eqb, List, [], ◌∷◌, ◌++◌, length, map, inl, inr, refl, sym, ap, subst, ◌∙◌, append_assoc, eq-eqb, arith}
+use Rattle.std.specs.Prelude.{codes}
+use Rattle.std.specs.List.{All, range_with_len, list_any}
+use Rattle.std.proofs.lemmas.Bool.{lt-ltb}
+use Rattle.std.proofs.lemmas.List.Elements.{All-nil, All-cons, All-append}
+use Rattle.std.proofs.lemmas.List.Folds.{list_any-append}
 use Rattle.std.proofs.lemmas.List.FromFn.{length-map-range_with_len, get_or-map-range_with_len, map-range_with_len_more}
+use Rattle.link_base.proofs.RangeLemmas.{all_kept}
 use Rattle.section_group.specs.declared.piece.Piece.{Piece}
 use Rattle.address_layout.specs.Layout.{IsAlignment}
+use Rattle.module_view.specs.Module.{ModuleView}
 use Rattle.symbol_names.specs.LinkView.{LinkView}
-use Rattle.synthetic_sections.specs.LinkerPieces.{FIRST_LOCAL_SLOT, slot_piece}
+use Rattle.synthetic_sections.specs.LinkerPieces.{SLOTS, FIRST_THUNK, FIRST_LOCAL_SLOT, size_at, table_piece, table_if, table_pieces, thunk_piece, slot_piece}
+use Rattle.link_imports.specs.Imports.{import_sizes}
+use Rattle.link_imports.specs.ImportPieces.{has_thunk, code_imports, tables_for, import_pieces}
 use Rattle.link_pieces.specs.LocalSlots.{slot_names}
-use Rattle.link_pieces.specs.LinkerPieces.{slots_below, linker_pieces, numbers_below, IsLinkerPiece}
+use Rattle.link_pieces.specs.LinkerPieces.{slots_below, linker_pieces, is_table, IsLinkerPiece}
+use Rattle.link_pieces.specs.PieceIndex.{is_numbered}
+
+or_true : (b : Bool) → (b || true) ≡ true
+or_true true = refl
+or_true false = refl
 
 -- one item more, made of its number
 pub made_more : {X : Type 0} (f : ℕ → X) (k : ℕ) (old now after : List X) → now ≡ old ++ map f (range_with_len 0 k) → after ≡ now ++ f k ∷ [] → after ≡ old ++ map f (range_with_len 0 (k + 1))
@@ -24,28 +36,119 @@ all_made P f n each k d lt =
     let below : k < n = omega (arith, lt, length-map-range_with_len f 0 n) in
     subst P (sym (get_or-map-range_with_len f 0 n k k d below (omega arith))) (each k below)
 
--- ---- numbers
+-- ---- tables
 
-pub slot_numbered : (slots k : ℕ) → k < slots → FIRST_LOCAL_SLOT + k < numbers_below slots
-slot_numbered slots k lt =
-    elim (eqb_tells slots 0) [
-      | inl none ↦ absurd (omega (arith, lt, none.1))
-      | inr some ↦ rw some.0 (omega (arith, lt))
-    ]
+-- what holds of a piece holds where it is made
+all_if : (P : Piece → Type 0) (none : Bool) (piece : Piece) → P piece → All P (cond none [] (piece ∷ []))
+all_if P true piece holds = All-nil P
+all_if P false piece holds = All-cons P piece [] holds (All-nil P)
+
+-- what holds of the table of each number holds of all
+all_tables : (P : Piece → Type 0) (modules : List ModuleView) → ((number : ℕ) (name : List ℕ) (align : ℕ) → number < 5 → IsAlignment align → P (table_piece (length modules) number name align (size_at (import_sizes modules) number))) → All P (tables_for modules)
+unfolding table_pieces
+all_tables P modules each =
+    let count = length modules in
+    let sizes = import_sizes modules in
+    let one = λ (number : ℕ) (name : List ℕ) (align : ℕ) (few : number < 5) (is : IsAlignment align). all_if P (eqb (size_at sizes number) 0) (table_piece count number name align (size_at sizes number)) (each number name align few is) in
+    All-append P _ _ (one 0 (codes ".idata$2") 4 (omega arith) (record { positive = omega arith; divides = refl }))
+    (All-append P _ _ (one 1 (codes ".idata$4") 8 (omega arith) (record { positive = omega arith; divides = refl }))
+    (All-append P _ _ (one SLOTS (codes ".idata$5") 8 (omega arith) (record { positive = omega arith; divides = refl }))
+    (All-append P _ _ (one 3 (codes ".idata$6") 2 (omega arith) (record { positive = omega arith; divides = refl }))
+    (one 4 (codes ".idata$7") 1 (omega arith) (record { positive = omega arith; divides = refl })))))
 
 -- ---- what each is
 
-pub linker_pieces_are : (link : LinkView) → All (IsLinkerPiece link) (linker_pieces link)
-linker_pieces_are link =
-    all_made (IsLinkerPiece link) (slot_piece (length link.modules)) (length (slot_names link)) (λ k lt.
+tables_are : (link : LinkView) → All (IsLinkerPiece link) (tables_for link.modules)
+tables_are link =
+    all_tables (IsLinkerPiece link) link.modules (λ number name align few aligned.
     record {
       of_linker = refl;
-      first = omega arith;
-      numbered = slot_numbered (length (slot_names link)) k lt;
+      numbered = inl (omega (arith, few));
+      table = λ below. record { few = few; size = refl };
+    })
+
+jumps_are : (link : LinkView) → All (IsLinkerPiece link) (map (thunk_piece (length link.modules)) (code_imports link.modules))
+jumps_are link =
+    all_kept (IsLinkerPiece link) (thunk_piece (length link.modules)) (has_thunk link.modules) 0 (length link.modules) (λ import first last kept.
+    record {
+      of_linker = refl;
+      numbered = inl (omega (arith, last));
       table = λ below. absurd (omega (arith, below));
     })
 
-pub slots_aligned : (position slots : ℕ) → All (λ (piece : Piece). IsAlignment piece.align) (slots_below position slots)
+slots_are : (link : LinkView) → All (IsLinkerPiece link) (slots_below (length link.modules) (length (slot_names link)))
+slots_are link =
+    all_made (IsLinkerPiece link) (slot_piece (length link.modules)) (length (slot_names link)) (λ slot lt.
+    record {
+      of_linker = refl;
+      numbered = inr (omega arith, omega (arith, lt));
+      table = λ below. absurd (omega (arith, below));
+    })
+
+pub linker_pieces_are : (link : LinkView) → All (IsLinkerPiece link) (linker_pieces link)
+linker_pieces_are link =
+    All-append (IsLinkerPiece link) (import_pieces link.modules) (slots_below (length link.modules) (length (slot_names link)))
+    (All-append (IsLinkerPiece link) (tables_for link.modules) (map (thunk_piece (length link.modules)) (code_imports link.modules)) (tables_are link) (jumps_are link)) (slots_are link)
+
+-- ---- alignments
+
+abbrev HasAlignment : Piece → Type 0
+HasAlignment piece = IsAlignment piece.align
+
+imports_aligned : (modules : List ModuleView) → All HasAlignment (import_pieces modules)
+imports_aligned modules =
+    All-append HasAlignment (tables_for modules) (map (thunk_piece (length modules)) (code_imports modules))
+    (all_tables HasAlignment modules (λ number name align few aligned. aligned))
+    (all_kept HasAlignment (thunk_piece (length modules)) (has_thunk modules) 0 (length modules) (λ import first last kept.
+    record { positive = omega arith; divides = refl }))
+
+slots_aligned : (position slots : ℕ) → All HasAlignment (slots_below position slots)
 slots_aligned position slots =
-    all_made (λ (piece : Piece). IsAlignment piece.align) (slot_piece position) slots (λ k lt.
-    record { positive = omega arith; divides = refl })
+    all_made HasAlignment (slot_piece position) slots (λ slot lt. record { positive = omega arith; divides = refl })
+
+pub linker_aligned : (link : LinkView) → All (λ (piece : Piece). IsAlignment piece.align) (linker_pieces link)
+linker_aligned link =
+    All-append HasAlignment (import_pieces link.modules) (slots_below (length link.modules) (length (slot_names link)))
+    (imports_aligned link.modules) (slots_aligned (length link.modules) (length (slot_names link)))
+
+-- ---- tables are told by their numbers
+
+pub tables_told : (modules : List ModuleView) → All (λ (piece : Piece). is_table (length modules) piece ≡ true) (tables_for modules)
+tables_told modules =
+    all_tables (λ (piece : Piece). is_table (length modules) piece ≡ true) modules (λ number name align few aligned.
+    rw (eq-eqb (length modules) (length modules) refl, lt-ltb number FIRST_THUNK (omega (arith, few))) refl)
+
+-- a table that has bytes is among them
+found_in : (test : Piece → Bool) (none : Bool) (piece : Piece) → none ≡ false → test piece ≡ true → list_any test (cond none [] (piece ∷ [])) ≡ true
+found_in test none piece made holds = rw (made, holds) refl
+
+pub either_any : (test : Piece → Bool) (xs ys : List Piece) → list_any test xs ≡ true → list_any test (xs ++ ys) ≡ true
+either_any test xs ys here = list_any-append test xs ys ∙ ap (λ (b : Bool). b || list_any test ys) here
+
+pub later_any : (test : Piece → Bool) (xs ys : List Piece) → list_any test ys ≡ true → list_any test (xs ++ ys) ≡ true
+later_any test xs ys here = list_any-append test xs ys ∙ ap (λ (b : Bool). list_any test xs || b) here ∙ or_true (list_any test xs)
+
+pub table_made : (modules : List ModuleView) (number : ℕ) → number < 5 → 0 < size_at (import_sizes modules) number → list_any (is_numbered (length modules) number) (tables_for modules) ≡ true
+unfolding table_pieces
+table_made modules number few sized = by_number number few sized
+  where
+    at : (number : ℕ) (name : List ℕ) (align : ℕ) → 0 < size_at (import_sizes modules) number → list_any (is_numbered (length modules) number) (table_if (length modules) number name align (size_at (import_sizes modules) number)) ≡ true
+    at number name align sized =
+        found_in (is_numbered (length modules) number) (eqb (size_at (import_sizes modules) number) 0) (table_piece (length modules) number name align (size_at (import_sizes modules) number)) (not_zero (size_at (import_sizes modules) number) sized)
+        (rw (eq-eqb (length modules) (length modules) refl, eq-eqb number number refl) refl)
+      where
+        not_zero : (size : ℕ) → 0 < size → eqb size 0 ≡ false
+        not_zero zero lt = absurd (omega (arith, lt))
+        not_zero (suc size) lt = refl
+
+    by_number : (number : ℕ) → number < 5 → 0 < size_at (import_sizes modules) number → list_any (is_numbered (length modules) number) (tables_for modules) ≡ true
+    by_number 0 few sized = either_any (is_numbered (length modules) 0) _ _ (at 0 (codes ".idata$2") 4 sized)
+    by_number 1 few sized =
+        later_any (is_numbered (length modules) 1) _ _ (either_any (is_numbered (length modules) 1) _ _ (at 1 (codes ".idata$4") 8 sized))
+    by_number 2 few sized =
+        later_any (is_numbered (length modules) 2) _ _ (later_any (is_numbered (length modules) 2) _ _ (either_any (is_numbered (length modules) 2) _ _ (at 2 (codes ".idata$5") 8 sized)))
+    by_number 3 few sized =
+        later_any (is_numbered (length modules) 3) _ _ (later_any (is_numbered (length modules) 3) _ _ (later_any (is_numbered (length modules) 3) _ _ (either_any (is_numbered (length modules) 3) _ _ (at 3 (codes ".idata$6") 2 sized))))
+    by_number 4 few sized =
+        later_any (is_numbered (length modules) 4) _ _ (later_any (is_numbered (length modules) 4) _ _ (later_any (is_numbered (length modules) 4) _ _ (later_any (is_numbered (length modules) 4) _ _ (at 4 (codes ".idata$7") 1 sized))))
+    by_number (suc (suc (suc (suc (suc more))))) few sized = absurd (omega (arith, few))

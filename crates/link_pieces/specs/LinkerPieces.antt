@@ -1,10 +1,12 @@
--- The pieces that the linker makes for a link, in a module of its own behind all others: the local slots. Own.
-use Rattle.std.specs.Prelude.{◌≡◌, ◌<◌, ◌≤◌, ℕ, ◌+◌, Bool, ◌&&◌, ◌==◌, nat_lt, if◌then◌else◌, List, length, map}
+-- The pieces that the linker makes for a link, in a module of its own behind all others: the import tables, a jump for each
+-- import of code, and the local slots. Own.
+use Rattle.std.specs.Prelude.{◌≡◌, ◌<◌, ◌≤◌, ◌⊎◌, ℕ, ◌+◌, Bool, ◌&&◌, ◌==◌, nat_lt, List, ◌++◌, length, map}
 use Rattle.std.specs.List.{range_with_len}
 use Rattle.section_group.specs.declared.piece.Piece.{Piece}
 use Rattle.symbol_names.specs.LinkView.{LinkView}
 use Rattle.synthetic_sections.specs.LinkerPieces.{FIRST_THUNK, FIRST_LOCAL_SLOT, size_at, slot_piece, slot_bytes}
 use Rattle.link_imports.specs.Imports.{import_sizes}
+use Rattle.link_imports.specs.ImportPieces.{import_pieces, import_contents}
 use Rattle.link_pieces.specs.LocalSlots.{slot_names}
 
 -- so many slots, in a module at a position
@@ -12,7 +14,7 @@ abbrev pub slots_below : ℕ → ℕ → List Piece
 slots_below position count = map (slot_piece position) (range_with_len 0 count)
 
 abbrev pub linker_pieces : LinkView → List Piece
-linker_pieces link = slots_below (length link.modules) (length (slot_names link))
+linker_pieces link = import_pieces link.modules ++ slots_below (length link.modules) (length (slot_names link))
 
 -- ---- what they hold
 
@@ -23,13 +25,18 @@ abbrev pub pointers_below : ℕ → List (List ℕ)
 pointers_below count = map pointer (range_with_len 0 count)
 
 abbrev pub linker_contents : LinkView → List (List ℕ)
-linker_contents link = pointers_below (length (slot_names link))
+linker_contents link = import_contents link.modules ++ pointers_below (length (slot_names link))
 
 -- ---- their numbers
 
--- below which number they are, by how many local slots there are
+-- below which number the local slots are, by how many there are
 abbrev pub numbers_below : ℕ → ℕ
-numbers_below slots = if slots == 0 then 0 else FIRST_LOCAL_SLOT + slots
+numbers_below slots = FIRST_LOCAL_SLOT + slots
+
+-- that of a table or of a jump, by how many modules there are, or of a local slot
+abbrev pub IsLinkerNumber : ℕ → ℕ → ℕ → Type 0
+IsLinkerNumber modules slots number =
+    (number < FIRST_THUNK + modules) ⊎ ((FIRST_LOCAL_SLOT ≤ number) × (number < numbers_below slots))
 
 -- ---- what a piece is
 
@@ -45,6 +52,5 @@ pub record IsImportTable (link : LinkView) (piece : Piece) : Type 0 where
 -- it is one of those that the linker makes
 pub record IsLinkerPiece (link : LinkView) (piece : Piece) : Type 0 where
   pub of_linker : piece.«module» ≡ length link.modules
-  pub first : FIRST_LOCAL_SLOT ≤ piece.number
-  pub numbered : piece.number < numbers_below (length (slot_names link))
+  pub numbered : IsLinkerNumber (length link.modules) (length (slot_names link)) piece.number
   pub table : piece.number < FIRST_THUNK → IsImportTable link piece

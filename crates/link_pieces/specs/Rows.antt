@@ -5,14 +5,19 @@ use Rattle.coff_records.specs.ObjectFile.{section_total, record_total}
 use Rattle.module_view.specs.Module.{ModuleView, module_at}
 use Rattle.module_view.specs.SymbolLists.{commons_of}
 use Rattle.link_pieces.specs.Commons.{FIRST_COMMON}
-use Rattle.link_pieces.specs.PieceIndex.{RowsView, IndexView, row_start}
+use Rattle.synthetic_sections.specs.LinkerPieces.{FIRST_THUNK, FIRST_LOCAL_SLOT}
+use Rattle.link_pieces.specs.LinkerPieces.{IsLinkerNumber}
+use Rattle.link_pieces.specs.PieceIndex.{RowsView, LinkerView, IndexView, row_start}
 
 abbrev pub rows_of : List ℕ → List (Option ℕ) → RowsView
 rows_of starts pieces = record { starts = starts; pieces = pieces }
 
-abbrev pub index_of : RowsView → RowsView → List (List ℕ) → List (Option ℕ) → IndexView
-index_of sections commons slots linker =
-    record { sections = sections; commons = commons; slots = slots; linker = linker }
+abbrev pub linker_rows_of : List (Option ℕ) → List (Option ℕ) → LinkerView
+linker_rows_of made slots = record { made = made; slots = slots }
+
+abbrev pub index_of : RowsView → RowsView → List (List ℕ) → LinkerView → List ℕ → IndexView
+index_of sections commons slots linker offsets =
+    record { sections = sections; commons = commons; slots = slots; linker = linker; offsets = offsets }
 
 abbrev pub section_places : List ℕ → ℕ
 section_places bytes = section_total bytes + 1
@@ -42,12 +47,22 @@ pub record HasPlace (modules : List ModuleView) (position number : ℕ) : Type 0
   pub section : number < FIRST_COMMON → number < section_places (module_at modules position).bytes
   pub common : FIRST_COMMON ≤ number → number - FIRST_COMMON < common_places (module_at modules position).bytes
 
--- a piece of the linker's module has one among so many
-pub record HasLinkerPlace (modules : List ModuleView) (places position number : ℕ) : Type 0 where
+-- a piece of the linker's module has one, where there are so many local slots
+pub record HasLinkerPlace (modules : List ModuleView) (slots position number : ℕ) : Type 0 where
   pub of_linker : position ≡ length modules
-  pub within : number < places
+  pub within : IsLinkerNumber (length modules) slots number
   pub few : number < FIRST_COMMON
 
 abbrev pub HasSomePlace : List ModuleView → ℕ → ℕ → ℕ → Type 0
-HasSomePlace modules places position number =
-    HasPlace modules position number ⊎ HasLinkerPlace modules places position number
+HasSomePlace modules slots position number =
+    HasPlace modules position number ⊎ HasLinkerPlace modules slots position number
+
+-- rows for what the linker makes for so many modules and local slots, and nothing in them
+pub record HasLinkerRows (modules slots : ℕ) (rows : LinkerView) : Type 0 where
+  pub made : rows.made ≡ replicate (FIRST_THUNK + modules) None
+  pub slots : rows.slots ≡ replicate slots None
+
+-- a number has a place in them
+pub record HasLinkerRoom (rows : LinkerView) (number : ℕ) : Type 0 where
+  pub made : number < FIRST_LOCAL_SLOT → number < length rows.made
+  pub slots : FIRST_LOCAL_SLOT ≤ number → number - FIRST_LOCAL_SLOT < length rows.slots

@@ -8,6 +8,7 @@
 
 mod commons;
 mod linker;
+mod linker_rows;
 mod named;
 mod names;
 mod piece_index;

@@ -1,6 +1,6 @@
-//! The pieces that the linker makes.
+//! The local slots as pieces.
 
-ghost use Rattle.std.specs.Prelude.{◌≡◌, ◌≤◌, ◌<◌, ◌^◌, ◌++◌, map, OnOk};
+ghost use Rattle.std.specs.Prelude.{◌≡◌, ◌≤◌, ◌++◌, map, OnOk};
 ghost use Rattle.section_group.specs.BarePieces.{bare};
 ghost use Rattle.section_group.specs.PieceContents.{piece_contents};
 ghost use Rattle.link_pieces.specs.Commons.{FIRST_COMMON};
@@ -8,19 +8,7 @@ ghost use Rattle.link_pieces.specs.LinkerPieces.{slots_below, pointers_below, nu
 
 use link_base::Memory;
 use section_group::Piece;
-use synthetic_sections::{FIRST_LOCAL_SLOT, push_slot};
-
-/// Below which number those are that the linker makes, by how many local slots there are.
-pub(crate) fn linker_places(slots: usize) -> u32
-    requires { numbers_below slots ≤ FIRST_COMMON }
-    ensures { result ≡ numbers_below slots }
-{
-    if slots == 0 {
-        0
-    } else {
-        FIRST_LOCAL_SLOT + slots as u32
-    }
-}
+use synthetic_sections::push_slot;
 
 /// Appends so many local slots, as pieces of the module at a position.
 pub(crate) fn push_slots(

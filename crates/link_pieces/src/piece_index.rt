@@ -1,37 +1,41 @@
-//! Which piece a section, a common or a local slot is.
+//! Which piece a section, a common or what the linker makes is.
 
 ghost use Rattle.std.specs.Prelude.{◌≡◌, ◌<◌, ◌^◌, ◌≤◌, ◌+◌, ◌-◌, All, [], length, map, slice_index_or, None, IfOk};
 ghost use Rattle.section_group.specs.BarePieces.{bare};
 ghost use Rattle.link_pieces.specs.Pieces.{link_pieces};
 ghost use Rattle.synthetic_sections.specs.LinkerPieces as slot;
 ghost use Rattle.link_pieces.specs.LocalSlots.{slot_names};
-ghost use Rattle.link_pieces.specs.LinkerPieces.{numbers_below};
 ghost use Rattle.coff_records.specs.ObjectFile.{section_total};
 ghost use Rattle.symbol_names.specs.LinkView.{LinkView};
 ghost use Rattle.link_pieces.specs.Commons.{FIRST_COMMON};
-ghost use Rattle.link_pieces.specs.PieceIndex.{indexed, slot_indexed, IsPieceIndex};
+ghost use Rattle.link_base.specs.Limits.{MODULE_LIMIT};
+ghost use Rattle.link_imports.specs.Imports.{AreImports};
+ghost use Rattle.link_pieces.specs.PieceIndex.{indexed, linker_indexed, slot_indexed, IsPieceIndex};
 ghost use Rattle.link_pieces.specs.Rows.{section_places, common_places, HasRows, HasSomePlace};
 
 use crate::commons::FIRST_COMMON;
-use crate::linker::linker_places;
-use crate::piece_rows::{PieceRows, no_pieces, put_first};
+use crate::linker_rows::LinkerRows;
+use crate::piece_rows::PieceRows;
 use crate::slots::LocalSlots;
 use link_base::{Memory, Name};
+use link_imports::LinkImports;
 use module_view::Module;
 use section_group::Piece;
 use std::alloc::Global;
 use std::marker::Model;
-use synthetic_sections::FIRST_LOCAL_SLOT;
+use synthetic_sections::{FIRST_LOCAL_SLOT, FIRST_THUNK, SLOTS};
 
 /// The piece of each section that comes into the image, by the position of its module and its number, that of each common
-/// that a name means, by the record of its symbol, and that of each local slot, by its name.
+/// that a name means, by the record of its symbol, those that the linker makes for imports, and that of each local slot, by its
+/// name.
 #[derive(Drop)]
 pub struct PieceIndex<'a> {
     sections: PieceRows,
     commons: PieceRows,
     slots: LocalSlots<'a>,
-    /// The pieces that the linker makes, by their numbers.
-    linker: Vec<Option<u32>>,
+    linker: LinkerRows,
+    /// The offset of the slot of the import that is a module, by the module's position.
+    offsets: Vec<u32>,
 }
 
 impl<'a> Model for PieceIndex<'a> {
@@ -41,28 +45,32 @@ impl<'a> Model for PieceIndex<'a> {
 
     ghost use Rattle.link_pieces.specs.Rows.{index_of};
 
-    ghost view = { λ index. index_of index.sections index.commons index.slots index.linker.items };
+    ghost view = { λ index. index_of index.sections index.commons index.slots index.linker index.offsets.items };
 }
 
 impl<'a> PieceIndex<'a> {
-    /// The index of the pieces of these modules, with these local slots. More than 2^32 places are want of memory.
+    /// The index of the pieces of these modules, with these imports and local slots. More than 2^32 places are want of memory.
     pub fn new(
         alloc: Global,
         modules: &[Module<'_>],
+        imports: &LinkImports<'_>,
         slots: LocalSlots<'a>,
         pieces: &[Piece<'_>],
     ) -> Result<PieceIndex<'a>, Memory>
-        requires placed { All (λ piece. HasSomePlace modules.now (numbers_below (length slots)) piece.«module» piece.number) pieces.now }
+        requires few_modules { length modules.now ≤ MODULE_LIMIT }
+        requires imports { AreImports modules.now imports.now }
+        requires placed { All (λ piece. HasSomePlace modules.now (length slots) piece.«module» piece.number) pieces.now }
         requires few { length pieces.now < 2 ^ 31 }
         ensures { IfOk result (λ index. (link : LinkView) → link.modules ≡ modules.now → slot_names link ≡ slots.entry → map bare pieces.now ≡ link_pieces link → IsPieceIndex link index) }
     {
         let mut sections = section_rows(alloc, modules)?;
         let mut commons = common_rows(alloc, modules)?;
-        let mut linker = no_pieces(alloc, linker_places(slots.len()))?;
+        let mut linker = LinkerRows::empty(alloc, modules.len(), slots.len())?;
+        let offsets = imports.offsets.clone()?;
         for index in 0..pieces.len() {
             let piece = &pieces[index];
             if piece.module as usize == modules.len() {
-                put_first(&mut linker, piece.number as usize, index as u32);
+                linker.note(piece.number, index as u32);
             } else if piece.number < FIRST_COMMON {
                 sections.note(piece.module, piece.number, index as u32);
             } else {
@@ -74,6 +82,7 @@ impl<'a> PieceIndex<'a> {
             commons,
             slots,
             linker,
+            offsets,
         })
     }
 
@@ -96,7 +105,31 @@ impl<'a> PieceIndex<'a> {
         ensures { result ≡ slot_indexed self.now name.now }
     {
         let slot = self.slots.number(name)?;
-        *self.linker.get(FIRST_LOCAL_SLOT as usize + slot as usize)?
+        self.linker.at(u64::from(FIRST_LOCAL_SLOT) + u64::from(slot))
+    }
+
+    /// The piece that is the table of the imports' slots, where there is one.
+    pub fn slot_table(&self) -> Option<u32>
+        ensures { result ≡ linker_indexed self.now.linker slot.SLOTS }
+    {
+        self.linker.at(u64::from(SLOTS))
+    }
+
+    /// The offset in it of the slot of the import that is the module at a position.
+    pub fn slot_offset(&self, module: u32) -> u32
+        ensures { result ≡ slice_index_or self.now.offsets «module» 0 }
+    {
+        match self.offsets.get(module as usize) {
+            Some(offset) => *offset,
+            None => 0,
+        }
+    }
+
+    /// The piece that is the jump of the import that is the module at a position, where it has one.
+    pub fn of_thunk(&self, module: u32) -> Option<u32>
+        ensures { result ≡ linker_indexed self.now.linker (slot.FIRST_THUNK + «module») }
+    {
+        self.linker.at(u64::from(FIRST_THUNK) + u64::from(module))
     }
 
     /// The name whose slot has a number among the pieces that the linker makes.

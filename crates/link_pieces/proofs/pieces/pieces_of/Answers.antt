@@ -1,21 +1,24 @@
-use Rattle.std.proofs.Common.{◌≡◌, ◌<◌, ◌≤◌, ◌++◌, ℕ, List, length, map, take, sym, ap, subst, ◌∙◌, arith}
+use Rattle.std.proofs.Common.{◌≡◌, ◌<◌, ◌≤◌, ◌++◌, ℕ, List, length, map, take, get_or, sym, ap, subst, ◌∙◌, arith}
 use Rattle.std.specs.List.{All, range_with_len, flat_map}
 use Rattle.std.proofs.lemmas.List.{get_or_default, take_all}
 use Rattle.std.proofs.lemmas.List.Elements.{All-nil}
 use Rattle.section_group.specs.BarePieces.{bare}
+use Rattle.section_group.specs.SectionOrder.{no_piece}
 use Rattle.section_group.specs.PieceContents.{piece_contents}
 use Rattle.module_view.specs.Module.{ModuleView, no_module, module_at}
 use Rattle.module_view.specs.Opening.{IsOpened}
 use Rattle.symbol_names.specs.LinkView.{LinkView}
 use Rattle.link_directives.specs.Alignments.{AreAsked}
 use Rattle.link_pieces.specs.Commons.{HasFewSections}
-use Rattle.link_pieces.specs.Pieces.{pieces_in, contents_in}
+use Rattle.link_pieces.specs.Pieces.{pieces_in, contents_in, link_pieces, link_contents}
 use Rattle.link_base.proofs.RangeLemmas.{joined_grows}
-use Rattle.link_pieces.proofs.PieceLemmas.{over_bare, aligned, bodies, modules_more}
+use Rattle.link_pieces.proofs.PieceLemmas.{over_bare, aligned, bodies, modules_more, two_parts}
 use Rattle.link_pieces.proofs.IndexLemmas.{all_placed}
 use Rattle.link_pieces.specs.Rows.{HasSomePlace}
 use Rattle.link_pieces.specs.LocalSlots.{slot_names}
-use Rattle.link_pieces.specs.LinkerPieces.{slots_below, pointers_below, linker_pieces, linker_contents, numbers_below}
+use Rattle.link_base.specs.Limits.{MODULE_LIMIT}
+use Rattle.link_imports.specs.ImportPieces.{import_pieces, import_contents}
+use Rattle.link_pieces.specs.LinkerPieces.{slots_below, pointers_below, linker_pieces, linker_contents, is_table}
 use Rattle.section_group.specs.declared.piece.Piece.{Piece}
 use Rattle.link_pieces.proofs.pieces.pieces_of.Goals as goal
 
@@ -58,41 +61,46 @@ pub push_module-requires : goal.push_module-requires
 push_module-requires c =
     subst (λ (ms : List ModuleView). AreAsked ms c.in_ok-alignments.alignments) (sym c.requires.same) c.in_ok-alignments.ensures
 
--- the pieces of all modules, and the slots after them
-with_slots_after : {A : Type 0} (list : ℕ → List ℕ → List A) (k : ℕ) (modules own : List ModuleView) → own ≡ modules → k ≡ length modules → (items after last more : List A) → items ≡ flat_map (λ n. list n (module_at modules n).bytes) (range_with_len 0 k) → after ≡ items ++ last → last ≡ more → after ≡ flat_map (λ n. list n (module_at own n).bytes) (range_with_len 0 (length own)) ++ more
-with_slots_after {A} list k modules own same all items after last more is grown last_is =
-    grown ∙ ap (λ (xs : List A). xs ++ last) (whole_list list k modules own same all items is) ∙ ap (λ (xs : List A). flat_map (λ n. list n (module_at own n).bytes) (range_with_len 0 (length own)) ++ xs) last_is
+-- what all modules give, and what the linker makes after it
+all_and_made : {A : Type 0} (list : ℕ → List ℕ → List A) (k : ℕ) (modules own : List ModuleView) → own ≡ modules → k ≡ length modules → (items one after imports slots made : List A) → items ≡ flat_map (λ n. list n (module_at modules n).bytes) (range_with_len 0 k) → one ≡ items ++ imports → after ≡ one ++ slots → imports ++ slots ≡ made → after ≡ flat_map (λ n. list n (module_at own n).bytes) (range_with_len 0 (length own)) ++ made
+all_and_made {A} list k modules own same all items one after imports slots made is first second made_is =
+    two_parts items one after imports slots first second
+    ∙ ap (λ (xs : List A). xs ++ (imports ++ slots)) (whole_list list k modules own same all items is)
+    ∙ ap (λ (xs : List A). flat_map (λ n. list n (module_at own n).bytes) (range_with_len 0 (length own)) ++ xs) made_is
 
--- so many slots in the module behind these are those of the link
-own_slots : (link : LinkView) (modules : List ModuleView) (position slots : ℕ) → link.modules ≡ modules → position ≡ length modules → slots ≡ length (slot_names link) → slots_below position slots ≡ linker_pieces link
-own_slots link modules position slots same at count =
-    ap (λ (n : ℕ). slots_below n slots) (at ∙ sym (ap length same)) ∙ ap (slots_below (length link.modules)) count
+pieces_whole : (link : LinkView) (modules : List ModuleView) (k position slots : ℕ) (items one after : List Piece) → link.modules ≡ modules → k ≡ length modules → position ≡ length modules → slots ≡ length (slot_names link) → items ≡ flat_map (λ n. pieces_in link n (module_at modules n).bytes) (range_with_len 0 k) → one ≡ items ++ import_pieces modules → after ≡ one ++ slots_below position slots → after ≡ link_pieces link
+pieces_whole link modules k position slots items one after same all at count is first second =
+    all_and_made (pieces_in link) k modules link.modules same all items one after (import_pieces modules) (slots_below position slots) (linker_pieces link) is first second
+    (ap (λ (ms : List ModuleView). import_pieces ms ++ slots_below position slots) (sym same)
+    ∙ ap (λ (n : ℕ). import_pieces link.modules ++ slots_below n slots) (at ∙ sym (ap length same))
+    ∙ ap (λ (n : ℕ). import_pieces link.modules ++ slots_below (length link.modules) n) count)
+
+contents_whole : (link : LinkView) (modules : List ModuleView) (k slots : ℕ) (items one after : List (List ℕ)) → link.modules ≡ modules → k ≡ length modules → slots ≡ length (slot_names link) → items ≡ flat_map (λ n. contents_in link n (module_at modules n).bytes) (range_with_len 0 k) → one ≡ items ++ import_contents modules → after ≡ one ++ pointers_below slots → after ≡ link_contents link
+contents_whole link modules k slots items one after same all count is first second =
+    all_and_made (contents_in link) k modules link.modules same all items one after (import_contents modules) (pointers_below slots) (linker_contents link) is first second
+    (ap (λ (ms : List ModuleView). import_contents ms ++ pointers_below slots) (sym same) ∙ ap (λ (n : ℕ). import_contents link.modules ++ pointers_below n) count)
 
 pub returns-clause-pieces : goal.returns-clause-pieces
 returns-clause-pieces c =
-    with_slots_after (pieces_in c.args.names.now) c.loop-position.position c.args.modules.now c.args.names.now.modules c.requires.same (omega arith) (map bare c.loop-position.pieces.items) (map bare c.push_slots.new.pieces.items) _ (linker_pieces c.args.names.now) c.loop-position.invariant.pieces c.in_ok-push_slots.ensures.pieces
-    (own_slots c.args.names.now c.args.modules.now _ c.args.slots c.requires.same (omega arith) c.requires.slots)
+    pieces_whole c.args.names.now c.args.modules.now c.loop-position.position _ c.args.slots (map bare c.loop-position.pieces.items) (map bare c.push_imports.new.pieces.items) (map bare c.push_slots.new.pieces.items) c.requires.same (omega arith) (omega arith) c.requires.slots c.loop-position.invariant.pieces c.in_ok-push_imports.ensures.pieces c.in_ok-push_slots.ensures.pieces
 
 pub returns-clause-contents : goal.returns-clause-contents
 returns-clause-contents c =
-    with_slots_after (contents_in c.args.names.now) c.loop-position.position c.args.modules.now c.args.names.now.modules c.requires.same (omega arith) (map piece_contents c.loop-position.pieces.items) (map piece_contents c.push_slots.new.pieces.items) _ (linker_contents c.args.names.now) c.loop-position.invariant.contents c.in_ok-push_slots.ensures.contents
-    (ap pointers_below c.requires.slots)
+    contents_whole c.args.names.now c.args.modules.now c.loop-position.position c.args.slots (map piece_contents c.loop-position.pieces.items) (map piece_contents c.push_imports.new.pieces.items) (map piece_contents c.push_slots.new.pieces.items) c.requires.same (omega arith) c.requires.slots c.loop-position.invariant.contents c.in_ok-push_imports.ensures.contents c.in_ok-push_slots.ensures.contents
 
 pub returns-clause-aligned : goal.returns-clause-aligned
 returns-clause-aligned c =
     let same = c.requires.same in
     aligned c.args.names.now c.push_slots.new.pieces.items (all_opened c.loop-position.position c.args.modules.now c.args.names.now same (omega arith) c.loop-position.invariant.opened)
-    (with_slots_after (pieces_in c.args.names.now) c.loop-position.position c.args.modules.now c.args.names.now.modules same (omega arith) (map bare c.loop-position.pieces.items) (map bare c.push_slots.new.pieces.items) _ (linker_pieces c.args.names.now) c.loop-position.invariant.pieces c.in_ok-push_slots.ensures.pieces
-    (own_slots c.args.names.now c.args.modules.now _ c.args.slots same (omega arith) c.requires.slots))
+    (pieces_whole c.args.names.now c.args.modules.now c.loop-position.position _ c.args.slots (map bare c.loop-position.pieces.items) (map bare c.push_imports.new.pieces.items) (map bare c.push_slots.new.pieces.items) same (omega arith) (omega arith) c.requires.slots c.loop-position.invariant.pieces c.in_ok-push_imports.ensures.pieces c.in_ok-push_slots.ensures.pieces)
 
 pub returns-clause-bodies : goal.returns-clause-bodies
-returns-clause-bodies c =
+returns-clause-bodies c = λ k lt other.
     let same = c.requires.same in
     bodies c.args.names.now c.push_slots.new.pieces.items (all_opened c.loop-position.position c.args.modules.now c.args.names.now same (omega arith) c.loop-position.invariant.opened)
-    (with_slots_after (pieces_in c.args.names.now) c.loop-position.position c.args.modules.now c.args.names.now.modules same (omega arith) (map bare c.loop-position.pieces.items) (map bare c.push_slots.new.pieces.items) _ (linker_pieces c.args.names.now) c.loop-position.invariant.pieces c.in_ok-push_slots.ensures.pieces
-    (own_slots c.args.names.now c.args.modules.now _ c.args.slots same (omega arith) c.requires.slots))
-    (with_slots_after (contents_in c.args.names.now) c.loop-position.position c.args.modules.now c.args.names.now.modules same (omega arith) (map piece_contents c.loop-position.pieces.items) (map piece_contents c.push_slots.new.pieces.items) _ (linker_contents c.args.names.now) c.loop-position.invariant.contents c.in_ok-push_slots.ensures.contents
-    (ap pointers_below c.requires.slots))
+    (pieces_whole c.args.names.now c.args.modules.now c.loop-position.position _ c.args.slots (map bare c.loop-position.pieces.items) (map bare c.push_imports.new.pieces.items) (map bare c.push_slots.new.pieces.items) same (omega arith) (omega arith) c.requires.slots c.loop-position.invariant.pieces c.in_ok-push_imports.ensures.pieces c.in_ok-push_slots.ensures.pieces)
+    (contents_whole c.args.names.now c.args.modules.now c.loop-position.position c.args.slots (map piece_contents c.loop-position.pieces.items) (map piece_contents c.push_imports.new.pieces.items) (map piece_contents c.push_slots.new.pieces.items) same (omega arith) c.requires.slots c.loop-position.invariant.contents c.in_ok-push_imports.ensures.contents c.in_ok-push_slots.ensures.contents)
+    k lt (ap (λ (ms : List ModuleView). is_table (length ms) (get_or c.push_slots.new.pieces.items k no_piece)) same ∙ other)
 
 pub returns-clause-opened : goal.returns-clause-opened
 returns-clause-opened c =
@@ -103,13 +111,13 @@ returns-clause-placed c =
     let link = c.args.names.now in
     let modules = c.args.modules.now in
     let same = c.requires.same in
-    let places = numbers_below c.args.slots in
+    let slots = c.args.slots in
     let few = subst (All HasFewSections) (sym same) (subst (All HasFewSections) (take_all c.loop-position.position modules (omega arith)) c.loop-position.invariant.few_sections) in
     let pieces = c.push_slots.new.pieces.items in
     let are =
-    with_slots_after (pieces_in link) c.loop-position.position modules link.modules same (omega arith) (map bare c.loop-position.pieces.items) (map bare pieces) _ (linker_pieces link) c.loop-position.invariant.pieces c.in_ok-push_slots.ensures.pieces
-    (own_slots link modules _ c.args.slots same (omega arith) c.requires.slots) in
-    subst (λ (ms : List ModuleView). All (λ (piece : Piece). HasSomePlace ms places piece.«module» piece.number) pieces) same
-    (over_bare (λ (piece : Piece). HasSomePlace link.modules places piece.«module» piece.number) pieces
-    (subst (All (λ (piece : Piece). HasSomePlace link.modules places piece.«module» piece.number)) (sym are)
-    (all_placed link places (ap numbers_below c.requires.slots) c.requires.few_slots few)))
+    pieces_whole link modules c.loop-position.position _ slots (map bare c.loop-position.pieces.items) (map bare c.push_imports.new.pieces.items) (map bare pieces) same (omega arith) (omega arith) c.requires.slots c.loop-position.invariant.pieces c.in_ok-push_imports.ensures.pieces c.in_ok-push_slots.ensures.pieces in
+    let limit : length link.modules ≤ MODULE_LIMIT = omega (arith, ap length same, c.requires.few) in
+    subst (λ (ms : List ModuleView). All (λ (piece : Piece). HasSomePlace ms slots piece.«module» piece.number) pieces) same
+    (over_bare (λ (piece : Piece). HasSomePlace link.modules slots piece.«module» piece.number) pieces
+    (subst (All (λ (piece : Piece). HasSomePlace link.modules slots piece.«module» piece.number)) (sym are)
+    (all_placed link slots c.requires.slots limit c.requires.few_slots few)))

@@ -1,0 +1,123 @@
+-- The rows of the pieces that the linker makes, one piece more at a time.
+use Rattle.std.proofs.Common.{◌≡◌, ℕ, zero, suc, ◌+◌, ◌-◌, ◌<◌, ◌≤◌, Bool, true, false, cond, ◌&&◌, eqb, ltb, List, length, map, get_or, set, replicate, Option, Some, None, inl, inr, refl, sym, ap, subst, ◌∙◌, eq-eqb, arith}
+use Rattle.std.specs.Option.{option_or}
+use Rattle.std.proofs.lemmas.Bool.{cases_lt, lt-ltb, le-ltb}
+use Rattle.std.proofs.lemmas.Bool.Decides.{eqb_tells}
+use Rattle.std.proofs.lemmas.List.{length-replicate}
+use Rattle.link_base.specs.Bytes.{first_below}
+use Rattle.link_base.specs.Limits.{MODULE_LIMIT}
+use Rattle.link_base.proofs.RefusalLemmas.{or_none}
+use Rattle.section_group.specs.declared.piece.Piece.{Piece}
+use Rattle.section_group.specs.BarePieces.{bare}
+use Rattle.module_view.specs.Module.{ModuleView}
+use Rattle.synthetic_sections.specs.LinkerPieces.{FIRST_THUNK, FIRST_LOCAL_SLOT}
+use Rattle.link_pieces.specs.LinkerPieces.{IsLinkerNumber}
+use Rattle.link_pieces.specs.PieceIndex.{LinkerView, is_numbered, holds, linker_indexed}
+use Rattle.link_pieces.specs.Rows.{linker_rows_of, HasLinkerRows, HasLinkerRoom}
+use Rattle.link_pieces.proofs.IndexLemmas.{put_at, index_more, index_same}
+
+-- ---- one number more
+
+-- two numbers that differ
+apart : (a b : ℕ) → (a ≡ b → ⊥) → eqb a b ≡ false
+apart a b other =
+    elim (eqb_tells a b) [
+      | inl same ↦ absurd (other same.1)
+      | inr told ↦ told.0
+    ]
+
+-- counted from another number
+shifted : (number n first : ℕ) → first ≤ number → first ≤ n → eqb (number - first) (n - first) ≡ eqb number n
+shifted number n first low least =
+    elim (eqb_tells number n) [
+      | inl same ↦ eq-eqb (number - first) (n - first) (omega (arith, same.1)) ∙ sym same.0
+      | inr other ↦ apart (number - first) (n - first) (λ e. other.1 (omega (arith, e, low, least))) ∙ sym other.0
+    ]
+
+unchanged : (o : Option ℕ) (index number n : ℕ) → (number ≡ n → ⊥) → o ≡ option_or o (cond (eqb number n) (Some index) None)
+unchanged o index number n other = rw (apart number n other) (sym (or_none o))
+
+pub made_noted : (made after slots : List (Option ℕ)) (number index n : ℕ) → number < FIRST_LOCAL_SLOT → number < length made → after ≡ set made number (option_or (get_or made number None) (Some index)) → linker_indexed (linker_rows_of after slots) n ≡ option_or (linker_indexed (linker_rows_of made slots) n) (cond (eqb number n) (Some index) None)
+made_noted made after slots number index n small room is =
+    elim (cases_lt n FIRST_LOCAL_SLOT) [
+      | inl low ↦
+          rw (lt-ltb n FIRST_LOCAL_SLOT low) (ap (λ (row : List (Option ℕ)). get_or row n None) is ∙ put_at made number index n room)
+      | inr high ↦
+          rw (le-ltb n FIRST_LOCAL_SLOT high) (unchanged (get_or slots (n - FIRST_LOCAL_SLOT) None) index number n (λ e. absurd (omega (arith, small, high, e))))
+    ]
+
+pub slot_noted : (made slots after : List (Option ℕ)) (number index n : ℕ) → FIRST_LOCAL_SLOT ≤ number → number - FIRST_LOCAL_SLOT < length slots → after ≡ set slots (number - FIRST_LOCAL_SLOT) (option_or (get_or slots (number - FIRST_LOCAL_SLOT) None) (Some index)) → linker_indexed (linker_rows_of made after) n ≡ option_or (linker_indexed (linker_rows_of made slots) n) (cond (eqb number n) (Some index) None)
+slot_noted made slots after number index n large room is =
+    elim (cases_lt n FIRST_LOCAL_SLOT) [
+      | inl low ↦
+          rw (lt-ltb n FIRST_LOCAL_SLOT low) (unchanged (get_or made n None) index number n (λ e. absurd (omega (arith, large, low, e))))
+      | inr high ↦
+          rw (le-ltb n FIRST_LOCAL_SLOT high)
+          (ap (λ (row : List (Option ℕ)). get_or row (n - FIRST_LOCAL_SLOT) None) is
+          ∙ put_at slots (number - FIRST_LOCAL_SLOT) index (n - FIRST_LOCAL_SLOT) room
+          ∙ ap (λ (b : Bool). option_or (get_or slots (n - FIRST_LOCAL_SLOT) None) (cond b (Some index) None)) (shifted number n FIRST_LOCAL_SLOT large high))
+    ]
+
+-- ---- rows with what is noted of the first pieces
+
+pub record AreLinkerNoted (modules : List ModuleView) (slots : ℕ) (pieces : List Piece) (count : ℕ) (rows : LinkerView) : Type 0 where
+  pub made : length rows.made ≡ FIRST_THUNK + length modules
+  pub slots : length rows.slots ≡ slots
+  pub noted : (n : ℕ) → linker_indexed rows n ≡ first_below count (holds (is_numbered (length modules) n) (map bare pieces))
+
+abbrev nothing : Option ℕ
+nothing = None
+
+no_piece_at : (count n : ℕ) → get_or (replicate count nothing) n None ≡ None
+no_piece_at zero n = refl
+no_piece_at (suc count) zero = refl
+no_piece_at (suc count) (suc n) = no_piece_at count n
+
+both_none : (b : Bool) (first second : Option ℕ) → first ≡ None → second ≡ None → cond b first second ≡ None
+both_none true first second e f = e
+both_none false first second e f = f
+
+pub no_linker_noted : (modules : List ModuleView) (count slots : ℕ) (pieces : List Piece) (rows : LinkerView) → count ≡ length modules → HasLinkerRows count slots rows → AreLinkerNoted modules slots pieces 0 rows
+unfolding first_below
+no_linker_noted modules count slots pieces rows all has = record {
+  made = ap length has.made ∙ length-replicate (FIRST_THUNK + count) None ∙ ap (λ (n : ℕ). FIRST_THUNK + n) all;
+  slots = ap length has.slots ∙ length-replicate slots None;
+  noted = λ n.
+      both_none (ltb n FIRST_LOCAL_SLOT) (get_or rows.made n None) (get_or rows.slots (n - FIRST_LOCAL_SLOT) None)
+      (ap (λ (row : List (Option ℕ)). get_or row n None) has.made ∙ no_piece_at (FIRST_THUNK + count) n)
+      (ap (λ (row : List (Option ℕ)). get_or row (n - FIRST_LOCAL_SLOT) None) has.slots ∙ no_piece_at slots (n - FIRST_LOCAL_SLOT));
+}
+
+-- a piece of the linker's has room
+pub has_room : (modules : List ModuleView) (slots number : ℕ) (pieces : List Piece) (count : ℕ) (rows : LinkerView) → length modules ≤ MODULE_LIMIT → IsLinkerNumber (length modules) slots number → AreLinkerNoted modules slots pieces count rows → HasLinkerRoom rows number
+has_room modules slots number pieces count rows few (inl made) are = record {
+  made = λ below. omega (arith, made, are.made);
+  slots = λ above. absurd (omega (arith, above, made, few));
+}
+has_room modules slots number pieces count rows few (inr slot) are = record {
+  made = λ below. absurd (omega (arith, below, slot.0));
+  slots = λ above. omega (arith, above, slot.1, are.slots);
+}
+
+-- one more that it makes
+pub linker_more : (modules : List ModuleView) (slots : ℕ) (pieces : List Piece) (k : ℕ) (piece : Piece) (rows after : LinkerView) → k < length pieces → piece ≡ get_or pieces k piece → piece.«module» ≡ length modules → length after.made ≡ length rows.made → length after.slots ≡ length rows.slots → ((n : ℕ) → linker_indexed after n ≡ option_or (linker_indexed rows n) (cond (eqb piece.number n) (Some k) None)) → AreLinkerNoted modules slots pieces k rows → AreLinkerNoted modules slots pieces (k + 1) after
+linker_more modules slots pieces k piece rows after lt read same made slot noted are = record {
+  made = made ∙ are.made;
+  slots = slot ∙ are.slots;
+  noted = λ n.
+      index_more (is_numbered (length modules) n) pieces k piece (eqb piece.number n) (linker_indexed rows n) (linker_indexed after n) lt read (passes n) (are.noted n) (noted n);
+}
+  where
+    passes : (n : ℕ) → eqb piece.number n ≡ is_numbered (length modules) n (bare piece)
+    passes n = rw (eq-eqb piece.«module» (length modules) same) refl
+
+-- one that it does not make
+pub linker_same : (modules : List ModuleView) (slots : ℕ) (pieces : List Piece) (k : ℕ) (piece : Piece) (rows : LinkerView) → k < length pieces → piece ≡ get_or pieces k piece → (piece.«module» ≡ length modules → ⊥) → AreLinkerNoted modules slots pieces k rows → AreLinkerNoted modules slots pieces (k + 1) rows
+linker_same modules slots pieces k piece rows lt read other are = record {
+  made = are.made;
+  slots = are.slots;
+  noted = λ n. index_same (is_numbered (length modules) n) pieces k piece (linker_indexed rows n) lt read (fails n) (are.noted n);
+}
+  where
+    fails : (n : ℕ) → is_numbered (length modules) n (bare piece) ≡ false
+    fails n = rw (apart piece.«module» (length modules) other) refl
