@@ -1,5 +1,5 @@
 -- What callers may cite of the pieces of a link: what each is, and the one that a section, a common or a slot is.
-use Rattle.std.proofs.Common.{◌≡◌, ℕ, ◌+◌, ◌<◌, Bool, true, false, eqb, ltb, List, [], ◌∷◌, length, map, filter, get_or, Option, Some, None, inl, inr, refl, sym, ap, ◌∙◌, arith}
+use Rattle.std.proofs.Common.{◌≡◌, ℕ, suc, ◌+◌, ◌<◌, Bool, true, false, eqb, ltb, List, [], ◌∷◌, length, map, filter, get_or, Option, Some, None, inl, inr, refl, sym, ap, ◌∙◌, arith}
 use Rattle.std.specs.List.{All, Contains, list_any}
 use Rattle.std.proofs.lemmas.Bool.{false≢true, eqb-true, ltb-true, and_parts}
 use Rattle.std.proofs.lemmas.List.Elements.{All-map, All-weaker, All-append, All-contains_itself}
@@ -85,7 +85,7 @@ table_there link number few sized none =
     no_any : (test : Piece → Bool) (pieces : List Piece) → ((k : ℕ) → k < length pieces → test (get_or pieces k no_piece) ≡ false) → list_any test pieces ≡ false
     no_any test [] each = refl
     no_any test (piece ∷ pieces) each =
-        rw (each 0 (omega arith)) (no_any test pieces (λ k lt. each (k + 1) (omega (arith, lt))))
+        rw (each 0 (omega arith)) (no_any test pieces (λ k lt. each (suc k) (omega (arith, lt))))
 
 -- a piece without its bytes is one of the link
 pub bare_at : (link : LinkView) (pieces : List Piece) (k : ℕ) → map bare pieces ≡ link_pieces link → bare (get_or pieces k no_piece) ≡ get_or (link_pieces link) k no_piece

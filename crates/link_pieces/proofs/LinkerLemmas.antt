@@ -3,6 +3,7 @@ use Rattle.std.proofs.Common.{◌≡◌, ℕ, zero, suc, ◌+◌, ◌<◌, Bool,
 use Rattle.std.specs.Prelude.{codes}
 use Rattle.std.specs.List.{All, range_with_len, list_any}
 use Rattle.std.proofs.lemmas.Bool.{lt-ltb}
+use Rattle.std.proofs.lemmas.Bool.Decides.{eqb_tells}
 use Rattle.std.proofs.lemmas.List.Elements.{All-nil, All-cons, All-append}
 use Rattle.std.proofs.lemmas.List.Folds.{list_any-append}
 use Rattle.std.proofs.lemmas.List.FromFn.{length-map-range_with_len, get_or-map-range_with_len, map-range_with_len_more}
@@ -128,27 +129,50 @@ either_any test xs ys here = list_any-append test xs ys ∙ ap (λ (b : Bool). b
 pub later_any : (test : Piece → Bool) (xs ys : List Piece) → list_any test ys ≡ true → list_any test (xs ++ ys) ≡ true
 later_any test xs ys here = list_any-append test xs ys ∙ ap (λ (b : Bool). list_any test xs || b) here ∙ or_true (list_any test xs)
 
+-- one of five lists, by its number
+abbrev of_five : (a b c d e : List Piece) → ℕ → List Piece
+of_five a b c d e zero = a
+of_five a b c d e (suc zero) = b
+of_five a b c d e (suc (suc zero)) = c
+of_five a b c d e (suc (suc (suc zero))) = d
+of_five a b c d e (suc (suc (suc (suc more)))) = e
+
+any_of_five : (test : Piece → Bool) (a b c d e : List Piece) (number : ℕ) → list_any test (of_five a b c d e number) ≡ true → list_any test (a ++ (b ++ (c ++ (d ++ e)))) ≡ true
+any_of_five test a b c d e zero here = either_any test a (b ++ (c ++ (d ++ e))) here
+any_of_five test a b c d e (suc zero) here = later_any test a (b ++ (c ++ (d ++ e))) (either_any test b (c ++ (d ++ e)) here)
+any_of_five test a b c d e (suc (suc zero)) here =
+    later_any test a (b ++ (c ++ (d ++ e))) (later_any test b (c ++ (d ++ e)) (either_any test c (d ++ e) here))
+any_of_five test a b c d e (suc (suc (suc zero))) here =
+    later_any test a (b ++ (c ++ (d ++ e))) (later_any test b (c ++ (d ++ e)) (later_any test c (d ++ e) (either_any test d e here)))
+any_of_five test a b c d e (suc (suc (suc (suc more)))) here =
+    later_any test a (b ++ (c ++ (d ++ e))) (later_any test b (c ++ (d ++ e)) (later_any test c (d ++ e) (later_any test d e here)))
+
+-- the table of a number, where it has bytes
+abbrev table_of : List ModuleView → ℕ → List ℕ → ℕ → List Piece
+table_of modules number name align = table_if (length modules) number name align (size_at (import_sizes modules) number)
+
+table_found : (modules : List ModuleView) (number : ℕ) (name : List ℕ) (align : ℕ) → 0 < size_at (import_sizes modules) number → list_any (is_numbered (length modules) number) (table_of modules number name align) ≡ true
+table_found modules number name align sized =
+    found_in (is_numbered (length modules) number) (eqb (size_at (import_sizes modules) number) 0) (table_piece (length modules) number name align (size_at (import_sizes modules) number)) not_zero
+    (rw (eq-eqb (length modules) (length modules) refl, eq-eqb number number refl) refl)
+  where
+    not_zero : eqb (size_at (import_sizes modules) number) 0 ≡ false
+    not_zero =
+        elim (eqb_tells (size_at (import_sizes modules) number) 0) [
+          | inl same ↦ absurd (omega (arith, sized, same.1))
+          | inr other ↦ other.0
+        ]
+
+table_of_number : (modules : List ModuleView) (number : ℕ) → number < 5 → 0 < size_at (import_sizes modules) number → list_any (is_numbered (length modules) number) (of_five (table_of modules 0 (codes ".idata$2") 4) (table_of modules 1 (codes ".idata$4") 8) (table_of modules SLOTS (codes ".idata$5") 8) (table_of modules 3 (codes ".idata$6") 2) (table_of modules 4 (codes ".idata$7") 1) number) ≡ true
+table_of_number modules zero few sized = table_found modules 0 (codes ".idata$2") 4 sized
+table_of_number modules (suc zero) few sized = table_found modules 1 (codes ".idata$4") 8 sized
+table_of_number modules (suc (suc zero)) few sized = table_found modules 2 (codes ".idata$5") 8 sized
+table_of_number modules (suc (suc (suc zero))) few sized = table_found modules 3 (codes ".idata$6") 2 sized
+table_of_number modules (suc (suc (suc (suc zero)))) few sized = table_found modules 4 (codes ".idata$7") 1 sized
+table_of_number modules (suc (suc (suc (suc (suc more))))) few sized = absurd (omega (arith, few))
+
 pub table_made : (modules : List ModuleView) (number : ℕ) → number < 5 → 0 < size_at (import_sizes modules) number → list_any (is_numbered (length modules) number) (tables_for modules) ≡ true
 unfolding table_pieces
-table_made modules number few sized = by_number number few sized
-  where
-    at : (number : ℕ) (name : List ℕ) (align : ℕ) → 0 < size_at (import_sizes modules) number → list_any (is_numbered (length modules) number) (table_if (length modules) number name align (size_at (import_sizes modules) number)) ≡ true
-    at number name align sized =
-        found_in (is_numbered (length modules) number) (eqb (size_at (import_sizes modules) number) 0) (table_piece (length modules) number name align (size_at (import_sizes modules) number)) (not_zero (size_at (import_sizes modules) number) sized)
-        (rw (eq-eqb (length modules) (length modules) refl, eq-eqb number number refl) refl)
-      where
-        not_zero : (size : ℕ) → 0 < size → eqb size 0 ≡ false
-        not_zero zero lt = absurd (omega (arith, lt))
-        not_zero (suc size) lt = refl
-
-    by_number : (number : ℕ) → number < 5 → 0 < size_at (import_sizes modules) number → list_any (is_numbered (length modules) number) (tables_for modules) ≡ true
-    by_number 0 few sized = either_any (is_numbered (length modules) 0) _ _ (at 0 (codes ".idata$2") 4 sized)
-    by_number 1 few sized =
-        later_any (is_numbered (length modules) 1) _ _ (either_any (is_numbered (length modules) 1) _ _ (at 1 (codes ".idata$4") 8 sized))
-    by_number 2 few sized =
-        later_any (is_numbered (length modules) 2) _ _ (later_any (is_numbered (length modules) 2) _ _ (either_any (is_numbered (length modules) 2) _ _ (at 2 (codes ".idata$5") 8 sized)))
-    by_number 3 few sized =
-        later_any (is_numbered (length modules) 3) _ _ (later_any (is_numbered (length modules) 3) _ _ (later_any (is_numbered (length modules) 3) _ _ (either_any (is_numbered (length modules) 3) _ _ (at 3 (codes ".idata$6") 2 sized))))
-    by_number 4 few sized =
-        later_any (is_numbered (length modules) 4) _ _ (later_any (is_numbered (length modules) 4) _ _ (later_any (is_numbered (length modules) 4) _ _ (later_any (is_numbered (length modules) 4) _ _ (at 4 (codes ".idata$7") 1 sized))))
-    by_number (suc (suc (suc (suc (suc more))))) few sized = absurd (omega (arith, few))
+table_made modules number few sized =
+    any_of_five (is_numbered (length modules) number) (table_of modules 0 (codes ".idata$2") 4) (table_of modules 1 (codes ".idata$4") 8) (table_of modules SLOTS (codes ".idata$5") 8) (table_of modules 3 (codes ".idata$6") 2) (table_of modules 4 (codes ".idata$7") 1) number
+    (table_of_number modules number few sized)

@@ -60,9 +60,9 @@ slot_noted made slots after number index n large room is =
 
 -- ---- rows with what is noted of the first pieces
 
-pub record AreLinkerNoted (modules : List ModuleView) (slots : ℕ) (pieces : List Piece) (count : ℕ) (rows : LinkerView) : Type 0 where
+pub record AreLinkerNoted (modules : List ModuleView) (places : ℕ) (pieces : List Piece) (count : ℕ) (rows : LinkerView) : Type 0 where
   pub made : length rows.made ≡ FIRST_THUNK + length modules
-  pub slots : length rows.slots ≡ slots
+  pub slots : length rows.slots ≡ places
   pub noted : (n : ℕ) → linker_indexed rows n ≡ first_below count (holds (is_numbered (length modules) n) (map bare pieces))
 
 abbrev nothing : Option ℕ
@@ -77,11 +77,11 @@ both_none : (b : Bool) (first second : Option ℕ) → first ≡ None → second
 both_none true first second e f = e
 both_none false first second e f = f
 
-pub no_linker_noted : (modules : List ModuleView) (count slots : ℕ) (pieces : List Piece) (rows : LinkerView) → count ≡ length modules → HasLinkerRows count slots rows → AreLinkerNoted modules slots pieces 0 rows
+pub no_linker_noted : (modules : List ModuleView) {count slots : ℕ} (places : ℕ) (pieces : List Piece) (rows : LinkerView) → HasLinkerRows count slots rows → count ≡ length modules → slots ≡ places → AreLinkerNoted modules places pieces 0 rows
 unfolding first_below
-no_linker_noted modules count slots pieces rows all has = record {
+no_linker_noted modules {count} {slots} places pieces rows has all same = record {
   made = ap length has.made ∙ length-replicate (FIRST_THUNK + count) None ∙ ap (λ (n : ℕ). FIRST_THUNK + n) all;
-  slots = ap length has.slots ∙ length-replicate slots None;
+  slots = ap length has.slots ∙ length-replicate slots None ∙ same;
   noted = λ n.
       both_none (ltb n FIRST_LOCAL_SLOT) (get_or rows.made n None) (get_or rows.slots (n - FIRST_LOCAL_SLOT) None)
       (ap (λ (row : List (Option ℕ)). get_or row n None) has.made ∙ no_piece_at (FIRST_THUNK + count) n)

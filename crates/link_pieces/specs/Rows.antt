@@ -58,9 +58,9 @@ HasSomePlace modules slots position number =
     HasPlace modules position number ⊎ HasLinkerPlace modules slots position number
 
 -- rows for what the linker makes for so many modules and local slots, and nothing in them
-pub record HasLinkerRows (modules slots : ℕ) (rows : LinkerView) : Type 0 where
+pub record HasLinkerRows (modules count : ℕ) (rows : LinkerView) : Type 0 where
   pub made : rows.made ≡ replicate (FIRST_THUNK + modules) None
-  pub slots : rows.slots ≡ replicate slots None
+  pub slots : rows.slots ≡ replicate count None
 
 -- a number has a place in them
 pub record HasLinkerRoom (rows : LinkerView) (number : ℕ) : Type 0 where

@@ -66,7 +66,7 @@ impl<'a> PieceIndex<'a> {
         let mut sections = section_rows(alloc, modules)?;
         let mut commons = common_rows(alloc, modules)?;
         let mut linker = LinkerRows::empty(alloc, modules.len(), slots.len())?;
-        let offsets = imports.offsets.clone()?;
+        let offsets = again(&imports.offsets)?;
         for index in 0..pieces.len() {
             let piece = &pieces[index];
             if piece.module as usize == modules.len() {
@@ -139,6 +139,13 @@ impl<'a> PieceIndex<'a> {
     {
         self.slots.name(number - FIRST_LOCAL_SLOT)
     }
+}
+
+/// The same numbers once more.
+fn again(numbers: &Vec<u32>) -> Result<Vec<u32>, Memory>
+    ensures { IfOk result (λ copy. copy.items ≡ numbers.now.items) }
+{
+    Ok(numbers.clone()?)
 }
 
 /// A row for each module, with nothing for each section and for the number 0.

@@ -5,10 +5,12 @@ use Rattle.section_group.specs.declared.piece.Piece.{Piece}
 use Rattle.section_group.specs.BarePieces.{bare}
 use Rattle.link_base.specs.Bytes.{first_below}
 use Rattle.module_view.specs.Module.{ModuleView}
+use Rattle.symbol_names.specs.LinkView.{LinkView}
 use Rattle.link_pieces.specs.Commons.{FIRST_COMMON}
 use Rattle.link_pieces.specs.PieceIndex.{holds, is_numbered, is_section_of, is_common_of, linker_indexed, linker_index}
 use Rattle.std.specs.Option.{option_and_then}
 use Rattle.synthetic_sections.specs.LinkerPieces.{FIRST_LOCAL_SLOT}
+use Rattle.link_imports.specs.Imports.{slot_offset}
 use Rattle.link_pieces.specs.LocalSlots.{slot_names, slot_number}
 use Rattle.link_pieces.specs.Pieces.{link_pieces}
 use Rattle.link_pieces.specs.Rows.{section_places, common_places, HasPlace, HasSomePlace, HasLinkerRows}
@@ -21,23 +23,25 @@ pub loop-index-init : goal.loop-index-init
 loop-index-init c = record {
   sections = none_noted section_places c.args.modules.now (is_section_of (length c.args.modules.now)) c.args.pieces.now c.in_ok-sections.sections c.in_ok-sections.ensures;
   commons = none_noted common_places c.args.modules.now is_common_of c.args.pieces.now c.in_ok-commons.commons c.in_ok-commons.ensures;
-  linker = no_linker_noted c.args.modules.now _ (length c.args.slots) c.args.pieces.now c.in_ok-linker.linker (omega arith) (subst (λ (n : ℕ). HasLinkerRows _ n c.in_ok-linker.linker) c.len.ensures.len c.in_ok-linker.ensures);
+  linker = no_linker_noted c.args.modules.now (length c.args.slots) c.args.pieces.now c.in_ok-linker.linker c.in_ok-linker.ensures (omega arith) c.len.ensures.len;
 }
 
-here : (modules : List ModuleView) (places : ℕ) (pieces : List Piece) (k : ℕ) (piece : Piece) → k < length pieces → piece ≡ get_or pieces k piece → All (λ (p : Piece). HasSomePlace modules places p.«module» p.number) pieces → HasSomePlace modules places piece.«module» piece.number
-here modules places pieces k piece lt read placed =
-    subst (λ (p : Piece). HasSomePlace modules places p.«module» p.number) (sym read) (placed k piece lt)
+here : (modules : List ModuleView) (slots : ℕ) (pieces : List Piece) (k : ℕ) (piece : Piece) → k < length pieces → piece ≡ get_or pieces k piece → All (λ (p : Piece). HasSomePlace modules slots p.«module» p.number) pieces → HasSomePlace modules slots piece.«module» piece.number
+here modules slots pieces k piece lt read placed =
+    subst (λ (p : Piece). HasSomePlace modules slots p.«module» p.number) (sym read) (placed k piece lt)
 
-pub note-requires-clause-rows : goal.note-requires-clause-rows
-note-requires-clause-rows c =
+pub note-requires-then-piece-lt-FIRST_COMMON-clause-rows :
+    goal.note-requires-then-piece-lt-FIRST_COMMON-clause-rows
+note-requires-then-piece-lt-FIRST_COMMON-clause-rows c =
     rows_are section_places c.args.modules.now c.loop-index.sections c.loop-index.invariant.sections.starts
 
-own_place : (modules : List ModuleView) (places : ℕ) (pieces : List Piece) (k : ℕ) (piece : Piece) → k < length pieces → piece ≡ get_or pieces k piece → All (λ (p : Piece). HasSomePlace modules places p.«module» p.number) pieces → (piece.«module» ≡ length modules → ⊥) → HasPlace modules piece.«module» piece.number
-own_place modules places pieces k piece lt read placed other =
-    of_module modules places piece.«module» piece.number other (here modules slots pieces k piece lt read placed)
+own_place : (modules : List ModuleView) (slots : ℕ) (pieces : List Piece) (k : ℕ) (piece : Piece) → k < length pieces → piece ≡ get_or pieces k piece → All (λ (p : Piece). HasSomePlace modules slots p.«module» p.number) pieces → (piece.«module» ≡ length modules → ⊥) → HasPlace modules piece.«module» piece.number
+own_place modules slots pieces k piece lt read placed other =
+    of_module modules slots piece.«module» piece.number other (here modules slots pieces k piece lt read placed)
 
-pub note-requires-clause-place : goal.note-requires-clause-place
-note-requires-clause-place c =
+pub note-requires-then-piece-lt-FIRST_COMMON-clause-place :
+    goal.note-requires-then-piece-lt-FIRST_COMMON-clause-place
+note-requires-then-piece-lt-FIRST_COMMON-clause-place c =
     in_section_rows c.args.modules.now c.loop-index.sections c.index-pieces-index.result.«module» c.index-pieces-index.result.number c.loop-index.invariant.sections.starts (own_place c.args.modules.now (length c.args.slots) c.args.pieces.now c.loop-index.index c.index-pieces-index.result (omega arith) c.index-pieces-index.is c.requires.placed (λ same. omega (arith, same, c.if-piece-modules.false))) (omega arith)
 
 pub note-requires-else-piece-lt-FIRST_COMMON-clause-rows :
@@ -76,11 +80,11 @@ loop-index-preserved c =
           }
       | else-piece-modules+then-piece-lt-FIRST_COMMON w ↦
           let other : piece.«module» ≡ length modules → ⊥ = λ same. omega (arith, same, w.if-piece-modules.false) in
-          let place = own_place modules places pieces k piece (omega arith) read c.requires.placed other in
+          let place = own_place modules slots pieces k piece (omega arith) read c.requires.placed other in
           record {
             sections =
                 subst (AreNoted section_places modules (is_section_of (length modules)) pieces (k + 1)) (sym w.sections-is)
-                (noted_more section_places modules (is_section_of (length modules)) pieces k piece piece.number c.loop-index.sections w.note.new.self (omega arith) read (λ m s. of_section (length modules) m s (bare piece) place.within w.if-piece-lt-FIRST_COMMON.true) w.note.ensures.starts w.note.ensures.len w.note.ensures.noted was.sections);
+                (noted_more section_places modules (is_section_of (length modules)) pieces k piece piece.number c.loop-index.sections w.note-then-piece-lt-FIRST_COMMON.new.self (omega arith) read (λ m s. of_section (length modules) m s (bare piece) place.within w.if-piece-lt-FIRST_COMMON.true) w.note-then-piece-lt-FIRST_COMMON.ensures.starts w.note-then-piece-lt-FIRST_COMMON.ensures.len w.note-then-piece-lt-FIRST_COMMON.ensures.noted was.sections);
             commons =
                 subst (AreNoted common_places modules is_common_of pieces (k + 1)) (sym w.commons-is)
                 (noted_same common_places modules is_common_of pieces k piece c.loop-index.commons (omega arith) read (λ m j. no_common m j (bare piece) w.if-piece-lt-FIRST_COMMON.true) was.commons);
@@ -117,7 +121,8 @@ returns c =
           ∙ ap (λ (n : ℕ). first_below n (holds (is_common_of m j) (map bare pieces))) all
           ∙ ap (λ (ps : List Piece). first_below (length ps) (holds (is_common_of m j) ps)) are;
       linker = linker_is link same are;
-      offsets = λ position. c.in_ok-offsets.ensures_at position;
+      offsets = λ position.
+          ap (λ (offsets : List ℕ). get_or offsets position 0) c.in_ok-offsets.ensures ∙ c.requires.imports.offsets position ∙ ap (λ (ms : List ModuleView). slot_offset ms position) (sym same);
       names = sym names;
       slots = λ name.
           ap (λ (number : Option ℕ). option_and_then (λ slot. linker_indexed c.loop-index.linker (FIRST_LOCAL_SLOT + slot)) number) (ap (λ (slots : List (List ℕ)). slot_number slots name) (sym names))
