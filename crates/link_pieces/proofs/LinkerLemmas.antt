@@ -65,7 +65,7 @@ tables_are link =
     record {
       of_linker = refl;
       numbered = inl (omega (arith, few));
-      table = λ below. record { few = few; size = refl };
+      table = λ below. record { few = few; init = refl; size = refl };
     })
 
 jumps_are : (link : LinkView) → All (IsLinkerPiece link) (map (thunk_piece (length link.modules)) (code_imports link.modules))

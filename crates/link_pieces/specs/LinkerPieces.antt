@@ -1,6 +1,6 @@
 -- The pieces that the linker makes for a link, in a module of its own behind all others: the import tables, a jump for each
 -- import of code, and the local slots. Own.
-use Rattle.std.specs.Prelude.{◌≡◌, ◌<◌, ◌≤◌, ◌⊎◌, ℕ, ◌+◌, Bool, ◌&&◌, ◌==◌, nat_lt, List, ◌++◌, length, map}
+use Rattle.std.specs.Prelude.{◌≡◌, ◌<◌, ◌≤◌, ◌⊎◌, ℕ, ◌+◌, Bool, true, ◌&&◌, ◌==◌, nat_lt, List, ◌++◌, length, map}
 use Rattle.std.specs.List.{range_with_len}
 use Rattle.section_group.specs.declared.piece.Piece.{Piece}
 use Rattle.symbol_names.specs.LinkView.{LinkView}
@@ -44,9 +44,10 @@ IsLinkerNumber modules slots number =
 abbrev pub is_table : ℕ → Piece → Bool
 is_table count piece = (piece.«module» == count) && nat_lt piece.number FIRST_THUNK
 
--- one of the five, and as long as its bytes will be
+-- one of the five, initialised and as long as its bytes will be
 pub record IsImportTable (link : LinkView) (piece : Piece) : Type 0 where
   pub few : piece.number < 5
+  pub init : piece.init ≡ true
   pub size : piece.size ≡ size_at (import_sizes link.modules) piece.number
 
 -- it is one of those that the linker makes

@@ -1,5 +1,5 @@
 -- What callers may cite of the fields of a plan: the pieces that they mean are named, and each relocation has its number.
-use Rattle.std.proofs.Common.{◌≡◌, ℕ, zero, suc, ◌+◌, ◌<◌, Bool, true, false, cond, ◌||◌, eqb, ltb, List, [], ◌∷◌, length, filter, get_or, Option, Some, None, option_map, Result, Ok, Err, refl, ap, ◌∙◌, eq-eqb, arith}
+use Rattle.std.proofs.Common.{◌≡◌, ℕ, zero, suc, ◌+◌, ◌-◌, ◌<◌, Bool, true, false, cond, ◌||◌, eqb, ltb, List, [], ◌∷◌, length, filter, get_or, Option, Some, None, option_map, Result, Ok, Err, refl, sym, ap, subst, ◌∙◌, eq-eqb, arith}
 use Rattle.std.specs.List.{All, range_with_len, find}
 use Rattle.std.proofs.lemmas.Bool.{or_right}
 use Rattle.std.proofs.lemmas.List.Elements.{All-nil, All-cons, All-head, All-tail}
@@ -25,13 +25,14 @@ use Rattle.symbol_table.specs.declared.meaning.Meaning.TheVariants as meaning
 use Rattle.symbol_table.specs.declared.meaning.NoMeaning.{NoMeaning}
 use Rattle.link_pieces.specs.NameMeaning.{name_meaning, takes_part}
 use Rattle.link_pieces.specs.Pieces.{link_pieces}
-use Rattle.link_pieces.specs.PieceIndex.{piece_index, common_index, slot_index, is_section, is_section_of, is_common_of, holds}
-use Rattle.link_pieces.proofs.CallerLemmas.{found_slot}
-use Rattle.synthetic_sections.specs.LinkerPieces.{FIRST_THUNK}
-use Rattle.synthetic_sections.specs.LinkerFields.{slot_field}
+use Rattle.link_pieces.specs.PieceIndex.{piece_index, common_index, linker_index, slot_index, is_section, is_section_of, is_common_of, holds}
+use Rattle.link_pieces.proofs.CallerLemmas.{found_linker, found_slot}
+use Rattle.synthetic_sections.specs.LinkerPieces.{SLOTS, FIRST_THUNK, FIRST_LOCAL_SLOT}
+use Rattle.synthetic_sections.specs.LinkerFields.{thunk_field, slot_field}
+use Rattle.link_imports.specs.Imports.{slot_offset}
 use Rattle.link_words.specs.Outcome.{LinkOptions}
-use Rattle.link_plan.specs.Targets.{target_in, section_target, common_target, own_target, meant_target, has_meaning, local_target, symbol_target, is_record}
-use Rattle.link_plan.specs.Fixes.{fix_of, fixes_from, piece_at, piece_fixes, piece_in, meant_in, is_that, means_piece, mean_piece, is_meant, is_entry, section_fixes, slot_at, slot_fixes, linker_fixes, planned_piece, plan_pieces}
+use Rattle.link_plan.specs.Targets.{target_in, section_target, common_target, import_target, own_target, meant_target, has_meaning, local_target, symbol_target, is_record}
+use Rattle.link_plan.specs.Fixes.{fix_of, fixes_from, piece_at, piece_fixes, piece_in, meant_in, is_that, means_piece, mean_piece, is_meant, is_entry, section_fixes, slot_at, slot_fixes, jump_fixes, linker_fixes, planned_piece, plan_pieces}
 
 kept_one : {A : Type 0} (P : A → Type 0) (b : Bool) (x : A) (rest : List A) → (b ≡ true → P x) → All P rest → All P (cond b (x ∷ rest) rest)
 kept_one P true x rest here later = All-cons P x rest (here refl) later
@@ -51,17 +52,22 @@ numbered_from link position bytes index (r ∷ rs) zero lt = omega arith
 numbered_from link position bytes index (r ∷ rs) (suc k) lt =
     let more = numbered_from link position bytes (index + 1) rs k (omega arith) in omega (arith, more)
 
-linker_numbered : (link : LinkView) (number : ℕ) (table : Bool) → AreNumbered (cond table [] (slot_fixes link (slot_at link number)))
-linker_numbered link number true i lt = absurd (omega arith)
-linker_numbered link number false zero lt = refl
-linker_numbered link number false (suc i) lt = absurd (omega (arith, lt))
+one_numbered : (fix : Fix) → fix.index ≡ 0 → AreNumbered (fix ∷ [])
+one_numbered fix first zero lt = first
+one_numbered fix first (suc i) lt = absurd (omega (arith, lt))
+
+linker_numbered : (link : LinkView) (number : ℕ) (table jump : Bool) → AreNumbered (cond table [] (cond jump (jump_fixes link (number - FIRST_THUNK)) (slot_fixes link (slot_at link number))))
+linker_numbered link number true jump i lt = absurd (omega arith)
+linker_numbered link number false true i lt = one_numbered (thunk_field (import_target link (number - FIRST_THUNK))) refl i lt
+linker_numbered link number false false i lt =
+    one_numbered (slot_field (meant_target link (name_meaning link (slot_at link number)))) refl i lt
 
 pub fixes_numbered : (link : LinkView) (k : ℕ) → AreNumbered (piece_fixes link k)
 fixes_numbered link k = by_kind (is_section (length link.modules) (piece_at link k)) (eqb (piece_at link k).«module» (length link.modules))
   where
     by_kind : (section linker : Bool) → AreNumbered (cond section (section_fixes link (piece_at link k).«module» (module_at link.modules (piece_at link k).«module»).bytes (piece_at link k).number) (cond linker (linker_fixes link (piece_at link k).number) []))
     by_kind false false i lt = absurd (omega arith)
-    by_kind false true i lt = linker_numbered link (piece_at link k).number (ltb (piece_at link k).number FIRST_THUNK) i lt
+    by_kind false true i lt = linker_numbered link (piece_at link k).number (ltb (piece_at link k).number FIRST_THUNK) (ltb (piece_at link k).number FIRST_LOCAL_SLOT) i lt
     by_kind true linker i lt =
         let at = piece_at link k in
         let held = (module_at link.modules at.«module»).bytes in
@@ -100,11 +106,20 @@ slot_found : (link : LinkView) (found : Option ℕ) (name : List ℕ) → slot_i
 slot_found link None name e = tt
 slot_found link (Some piece) name e = found_slot link name piece e
 
+linker_within : (link : LinkView) (number value : ℕ) (found : Option ℕ) → linker_index link number ≡ found → OkWithin link (target_in value found)
+linker_within link number value None e = tt
+linker_within link number value (Some piece) e = found_linker link number piece e
+
+import_within : (link : LinkView) (position : ℕ) → OkWithin link (import_target link position)
+import_within link position =
+    linker_within link SLOTS (slot_offset link.modules position) (linker_index link SLOTS) refl
+
 name_within : (link : LinkView) (r : Result Meaning NoMeaning) → OkWithin link (meant_target link r)
 name_within link (Ok (meaning.Section position section value)) = section_within link position section value
 name_within link (Ok (meaning.Common position symbol)) = common_within link position symbol
-name_within link (Ok (meaning.Slot position)) = tt
-name_within link (Ok (meaning.Thunk position)) = tt
+name_within link (Ok (meaning.Slot position)) = import_within link position
+name_within link (Ok (meaning.Thunk position)) =
+    linker_within link (FIRST_THUNK + position) 0 (linker_index link (FIRST_THUNK + position)) refl
 name_within link (Ok (meaning.LocalSlot name)) = slot_found link (slot_index link name) name refl
 name_within link (Ok (meaning.Absolute value)) = tt
 name_within link (Ok meaning.ImageBase) = tt
@@ -150,13 +165,20 @@ all_within link position bytes index (r ∷ rs) =
     (record_within link position (find (is_record r.symbol) (symbol_entries bytes)))
     (all_within link position bytes (index + 1) rs)
 
-linker_within : (link : LinkView) (number : ℕ) (table : Bool) → All (λ fix. IsWithin link (target_of fix)) (cond table [] (slot_fixes link (slot_at link number)))
-linker_within link number true = All-nil (λ fix. IsWithin link (target_of fix))
-linker_within link number false =
+one_within : (link : LinkView) (fix : Fix) (means : Result Target TargetFault) → fix.target ≡ Some means → OkWithin link means → All (λ fix. IsWithin link (target_of fix)) (fix ∷ [])
+one_within link fix means is within =
+    All-cons (λ (f : Fix). IsWithin link (target_of f)) fix []
+    (subst (λ (told : Option (Result Target TargetFault)). IsWithin link (meant told)) (sym is) (result_within link means within))
+    (All-nil (λ (f : Fix). IsWithin link (target_of f)))
+
+made_within : (link : LinkView) (number : ℕ) (table jump : Bool) → All (λ fix. IsWithin link (target_of fix)) (cond table [] (cond jump (jump_fixes link (number - FIRST_THUNK)) (slot_fixes link (slot_at link number))))
+made_within link number true jump = All-nil (λ fix. IsWithin link (target_of fix))
+made_within link number false true =
+    let means = import_target link (number - FIRST_THUNK) in
+    one_within link (thunk_field means) means refl (import_within link (number - FIRST_THUNK))
+made_within link number false false =
     let means = meant_target link (name_meaning link (slot_at link number)) in
-    All-cons (λ fix. IsWithin link (target_of fix)) (slot_field means) []
-    (result_within link means (name_within link (name_meaning link (slot_at link number))))
-    (All-nil (λ fix. IsWithin link (target_of fix)))
+    one_within link (slot_field means) means refl (name_within link (name_meaning link (slot_at link number)))
 
 -- the field of a piece that means another makes it named
 field_stands : (link : LinkView) (k i : ℕ) (d : Fix) → k < length (link_pieces link) → i < length (piece_fixes link k) → has_field (get_or (piece_fixes link k) i d) ≡ true → IsWithin link (target_of (get_or (piece_fixes link k) i d)) → Stands link (target_of (get_or (piece_fixes link k) i d))
@@ -185,7 +207,7 @@ fields_stand link k within =
   where
     of_piece : (section linker : Bool) → All (λ fix. IsWithin link (target_of fix)) (cond section (section_fixes link (piece_at link k).«module» (module_at link.modules (piece_at link k).«module»).bytes (piece_at link k).number) (cond linker (linker_fixes link (piece_at link k).number) []))
     of_piece false false = All-nil (λ fix. IsWithin link (target_of fix))
-    of_piece false true = linker_within link (piece_at link k).number (ltb (piece_at link k).number FIRST_THUNK)
+    of_piece false true = made_within link (piece_at link k).number (ltb (piece_at link k).number FIRST_THUNK) (ltb (piece_at link k).number FIRST_LOCAL_SLOT)
     of_piece true linker =
         let piece = piece_at link k in
         let bytes = (module_at link.modules piece.«module»).bytes in

@@ -1,5 +1,5 @@
 -- An entry that has a place stands in a piece that is named, and inside it.
-use Rattle.std.proofs.Common.{◌≡◌, ℕ, ◌<◌, ◌≤◌, Bool, true, ◌||◌, List, length, map, get_or, Option, Some, None, Result, Ok, Err, inl, inr, refl, sym, ap, ◌∙◌, subst, eq-eqb, arith}
+use Rattle.std.proofs.Common.{◌≡◌, ℕ, ◌+◌, ◌<◌, ◌≤◌, Bool, true, ◌||◌, List, length, map, get_or, Option, Some, None, Result, Ok, Err, inl, inr, refl, sym, ap, ◌∙◌, subst, eq-eqb, arith}
 use Rattle.std.specs.Prelude.{nat_le}
 use Rattle.std.specs.List.{All}
 use Rattle.std.specs.Option.{ForSome}
@@ -21,12 +21,13 @@ use Rattle.module_view.proofs.CallerLemmas.{IsPlaceIn, module_definitions_stand}
 use Rattle.symbol_table.specs.declared.meaning.Meaning.{Meaning}
 use Rattle.symbol_table.specs.declared.meaning.Meaning.TheVariants as meaning
 use Rattle.symbol_table.specs.declared.meaning.NoMeaning.{NoMeaning}
+use Rattle.synthetic_sections.specs.LinkerPieces.{FIRST_THUNK}
 use Rattle.symbol_table.proofs.CallerLemmas.{MeansPlace, meaning_stands, module_opens}
 use Rattle.comdat.specs.Selection.{chosen_sections}
 use Rattle.link_pieces.specs.NameMeaning.{name_meaning}
 use Rattle.link_pieces.specs.Pieces.{link_pieces}
-use Rattle.link_pieces.specs.PieceIndex.{piece_index, common_index}
-use Rattle.link_pieces.proofs.CallerLemmas.{found_piece, found_common}
+use Rattle.link_pieces.specs.PieceIndex.{piece_index, common_index, linker_index}
+use Rattle.link_pieces.proofs.CallerLemmas.{found_piece, found_common, found_linker}
 use Rattle.link_words.specs.Outcome.{LinkOptions}
 use Rattle.link_plan.specs.declared.entry.EntryPlace.{EntryPlace}
 use Rattle.link_plan.specs.Entry.{meant, place_in, meant_place, entry_place, piece_of_place}
@@ -66,6 +67,10 @@ common_inside : (link : LinkView) (position symbol piece : ℕ) → common_index
 common_inside link position symbol piece found =
     record { within = found_common link position symbol piece found; inside = omega arith }
 
+jump_inside : (link : LinkView) (position piece : ℕ) → linker_index link (FIRST_THUNK + position) ≡ Some piece → IsInside link (record { piece = piece; value = 0 })
+jump_inside link position piece found =
+    record { within = found_linker link (FIRST_THUNK + position) piece found; inside = omega arith }
+
 by_piece : (link : LinkView) (value : ℕ) (place : EntryPlace) (found : Option ℕ) → ((piece : ℕ) → found ≡ Some piece → IsInside link (record { piece = piece; value = value })) → place_in value found ≡ Some place → IsInside link place
 by_piece link value place None each e = absurd cc
 by_piece link value place (Some piece) each e =
@@ -79,7 +84,8 @@ by_meaning link name place (Ok (meaning.Section position section value)) opened 
 by_meaning link name place (Ok (meaning.Common position symbol)) opened is e =
     by_piece link 0 place (common_index link position symbol) (λ piece found. common_inside link position symbol piece found) e
 by_meaning link name place (Ok (meaning.Slot position)) opened is e = absurd cc
-by_meaning link name place (Ok (meaning.Thunk position)) opened is e = absurd cc
+by_meaning link name place (Ok (meaning.Thunk position)) opened is e =
+    by_piece link 0 place (linker_index link (FIRST_THUNK + position)) (λ piece found. jump_inside link position piece found) e
 by_meaning link name place (Ok (meaning.LocalSlot pointed)) opened is e = absurd cc
 by_meaning link name place (Ok (meaning.Absolute value)) opened is e = absurd cc
 by_meaning link name place (Ok meaning.ImageBase) opened is e = absurd cc

@@ -1,11 +1,12 @@
 -- The stages of a plan, one after the other, and the piece of the entry.
-use Rattle.std.proofs.Common.{◌≡◌, Some, None, refl}
+use Rattle.std.proofs.Common.{◌≡◌, ℕ, List, Some, None, refl, sym, ap, ◌∙◌}
 use Rattle.std.specs.Option.{option_or}
 use Rattle.link_base.specs.Refusals.{RefusesFor}
 use Rattle.link_base.specs.declared.stop.Refusal.{Refusal}
 use Rattle.link_base.specs.declared.stop.Refusal.TheVariants as refusal
 use Rattle.link_base.proofs.RefusalLemmas.{neither_stands, refuses_first, refuses_later}
 use Rattle.link_base.specs.declared.fault.Fault.{Fault}
+use Rattle.module_view.specs.Module.{ModuleView}
 use Rattle.symbol_names.specs.LinkView.{LinkView}
 use Rattle.link_words.specs.Outcome.{LinkOptions}
 use Rattle.link_plan.specs.References.{includes_fault, references_fault}
@@ -73,3 +74,18 @@ pub fields_stage : (options : LinkOptions) (link : LinkView) → AreMeant option
 unfolding plan_fault
 fields_stage options link meant all_meant placed =
     rw (meant.well.agreed, meant.well.chosen, meant.entry, meant.included, all_meant, placed) refl
+
+-- ---- as the code has them
+
+pub chosen_so : (link names : LinkView) (first second : List ModuleView) → names ≡ link → first ≡ link.modules → mismatch_fault first ≡ None → second ≡ link.modules → conflict_fault second ≡ None → clash_fault names.modules ≡ None → AreChosen link
+chosen_so link names first second names_are first_is agreed second_is apart one =
+    chosen_well link (ap mismatch_fault (sym first_is) ∙ agreed) (ap conflict_fault (sym second_is) ∙ apart)
+    (ap (λ (l : LinkView). clash_fault l.modules) (sym names_are) ∙ one)
+
+pub meant_so : (options : LinkOptions) (link names : LinkView) (first second : List ModuleView) (includes : List (List ℕ)) → names ≡ link → first ≡ link.modules → mismatch_fault first ≡ None → second ≡ link.modules → conflict_fault second ≡ None → clash_fault names.modules ≡ None → entry_meaning_fault names options.entry_name ≡ None → includes ≡ options.includes → includes_fault names None includes ≡ None → AreMeant options link
+meant_so options link names first second includes names_are first_is agreed second_is apart one entry same included = record {
+  well = chosen_so link names first second names_are first_is agreed second_is apart one;
+  entry = ap (λ (l : LinkView). entry_meaning_fault l options.entry_name) (sym names_are) ∙ entry;
+  included =
+      ap (includes_fault link None) (sym same) ∙ ap (λ (l : LinkView). includes_fault l None includes) (sym names_are) ∙ included;
+}

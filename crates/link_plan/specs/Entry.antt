@@ -1,16 +1,17 @@
 -- The entry of an image: what its name means, and where that stands (MSVC linker reference, "/ENTRY"; the refusals are
 -- own).
-use Rattle.std.specs.Prelude.{ℕ, List, Option, Some, None, option_map, Result, Ok, Err}
+use Rattle.std.specs.Prelude.{ℕ, ◌+◌, List, Option, Some, None, option_map, Result, Ok, Err}
 use Rattle.link_base.specs.declared.fault.Fault.{Fault}
 use Rattle.link_base.specs.declared.fault.Fault.TheVariants as faults
 use Rattle.link_base.specs.declared.kinds.target.TargetFault.{TargetFault}
 use Rattle.link_base.specs.declared.kinds.target.TargetFault.TheVariants.{Unplaced, NoSection}
 use Rattle.symbol_names.specs.LinkView.{LinkView}
 use Rattle.symbol_table.specs.declared.meaning.Meaning.{Meaning}
-use Rattle.symbol_table.specs.declared.meaning.Meaning.TheVariants.{Section, Common, ImageBase}
+use Rattle.symbol_table.specs.declared.meaning.Meaning.TheVariants.{Section, Common, Thunk, ImageBase}
 use Rattle.symbol_table.specs.declared.meaning.NoMeaning.{NoMeaning}
 use Rattle.link_pieces.specs.NameMeaning.{name_meaning}
-use Rattle.link_pieces.specs.PieceIndex.{piece_index, common_index}
+use Rattle.synthetic_sections.specs.LinkerPieces.{FIRST_THUNK}
+use Rattle.link_pieces.specs.PieceIndex.{piece_index, common_index, linker_index}
 use Rattle.link_plan.specs.declared.entry.EntryPlace.{EntryPlace}
 use Rattle.link_plan.specs.References.{name_fault}
 
@@ -36,10 +37,11 @@ abbrev pub place_in : ℕ → Option ℕ → Option EntryPlace
 place_in value None = None
 place_in value (Some piece) = Some (record { piece = piece; value = value })
 
--- the place of a meaning: an offset in the piece of its section, or the start of that of a common
+-- the place of a meaning: an offset in the piece of its section, or the start of that of a common or of an import's jump
 abbrev pub meant_place : LinkView → Option Meaning → Option EntryPlace
 meant_place link (Some (Section position section value)) = place_in value (piece_index link position section)
 meant_place link (Some (Common position symbol)) = place_in 0 (common_index link position symbol)
+meant_place link (Some (Thunk position)) = place_in 0 (linker_index link (FIRST_THUNK + position))
 meant_place link other = None
 
 -- before all modules: no section and no relocation is named
@@ -57,6 +59,7 @@ meant_fault link None = None
 meant_fault link (Some ImageBase) = None
 meant_fault link (Some (Section position section value)) = unplaced_fault (piece_index link position section)
 meant_fault link (Some (Common position symbol)) = unplaced_fault (common_index link position symbol)
+meant_fault link (Some (Thunk position)) = unplaced_fault (linker_index link (FIRST_THUNK + position))
 meant_fault link (Some other) = Some (bad_entry NoSection)
 
 -- where the entry stands

@@ -24,10 +24,10 @@ use Rattle.link_pieces.specs.Pieces.{link_pieces, link_contents}
 use Rattle.link_pieces.specs.PieceIndex.{is_section}
 use Rattle.link_words.specs.Outcome.{LinkOptions}
 use Rattle.synthetic_sections.specs.LinkerPieces.{FIRST_THUNK, FIRST_LOCAL_SLOT}
-use Rattle.synthetic_sections.specs.LinkerFields.{slot_field}
+use Rattle.synthetic_sections.specs.LinkerFields.{thunk_field, slot_field}
 use Rattle.link_pieces.specs.NameMeaning.{name_meaning}
 use Rattle.link_pieces.specs.LocalSlots.{slot_names}
-use Rattle.link_plan.specs.Targets.{record_target, meant_target}
+use Rattle.link_plan.specs.Targets.{record_target, import_target, meant_target}
 use Rattle.link_plan.specs.Entry.{entry_place, piece_of_place}
 
 -- ---- the relocations of a section of the module at a position
@@ -62,9 +62,15 @@ slot_fixes link name = slot_field (meant_target link (name_meaning link name)) �
 abbrev pub slot_at : LinkView → ℕ → List ℕ
 slot_at link number = slice_index_or (slot_names link) (number - FIRST_LOCAL_SLOT) []
 
--- an import table has none
+-- and so has a jump: the slot that it goes through
+abbrev pub jump_fixes : LinkView → ℕ → List Fix
+jump_fixes link position = thunk_field (import_target link position) ∷ []
+
+-- of a piece that the linker makes, by its number: an import table has none
 abbrev pub linker_fixes : LinkView → ℕ → List Fix
-linker_fixes link number = if nat_lt number FIRST_THUNK then [] else slot_fixes link (slot_at link number)
+linker_fixes link number =
+    if nat_lt number FIRST_THUNK then []
+    else (if nat_lt number FIRST_LOCAL_SLOT then jump_fixes link (number - FIRST_THUNK) else slot_fixes link (slot_at link number))
 
 -- a common has none
 abbrev pub fixes_in : LinkView → Piece → List Fix

@@ -1,6 +1,6 @@
 -- What the symbols of an object mean to its relocations (PE Format, "COFF Symbol Table", "Section Number Values" and
 -- "Storage Class"; the refusals are own).
-use Rattle.std.specs.Prelude.{◌≡◌, ℕ, Bool, ◌&&◌, ◌||◌, not, ◌==◌, if◌then◌else◌, List, slice_index_or, Option, Some, None, option_map, Result, Ok, Err}
+use Rattle.std.specs.Prelude.{◌≡◌, ℕ, ◌+◌, Bool, ◌&&◌, ◌||◌, not, ◌==◌, if◌then◌else◌, List, slice_index_or, Option, Some, None, option_map, Result, Ok, Err}
 use Rattle.std.specs.Int.Signed.{lt_z}
 use Rattle.std.specs.List.{find}
 use Rattle.std.specs.Ordering.{int_eq}
@@ -16,7 +16,9 @@ use Rattle.symbol_table.specs.declared.meaning.Meaning.{Meaning}
 use Rattle.symbol_table.specs.declared.meaning.Meaning.TheVariants as meaning
 use Rattle.symbol_table.specs.declared.meaning.NoMeaning.{NoMeaning}
 use Rattle.link_pieces.specs.NameMeaning.{name_meaning, takes_part}
-use Rattle.link_pieces.specs.PieceIndex.{piece_index, common_index, slot_index}
+use Rattle.synthetic_sections.specs.LinkerPieces.{SLOTS, FIRST_THUNK}
+use Rattle.link_imports.specs.Imports.{slot_offset}
+use Rattle.link_pieces.specs.PieceIndex.{piece_index, common_index, linker_index, slot_index}
 
 -- ---- a place
 
@@ -36,6 +38,14 @@ common_target link position symbol = target_in 0 (common_index link position sym
 abbrev pub slot_target : LinkView → List ℕ → Result Target TargetFault
 slot_target link name = target_in 0 (slot_index link name)
 
+-- the slot of the import that is the module at a position, in the table of the slots
+abbrev pub import_target : LinkView → ℕ → Result Target TargetFault
+import_target link position = target_in (slot_offset link.modules position) (linker_index link SLOTS)
+
+-- the jump of the import that is the module at a position
+abbrev pub thunk_target : LinkView → ℕ → Result Target TargetFault
+thunk_target link position = target_in 0 (linker_index link (FIRST_THUNK + position))
+
 -- an offset in a section, of a symbol that only its module can name: a section that takes no part in the link has been discarded
 abbrev pub own_target : LinkView → ℕ → ℕ → ℕ → Result Target TargetFault
 own_target link position section value =
@@ -49,8 +59,10 @@ meant_target link (Ok (meaning.Section position section value)) = section_target
 meant_target link (Ok (meaning.Common position symbol)) = common_target link position symbol
 meant_target link (Ok (meaning.Absolute value)) = Ok (target.Absolute value)
 meant_target link (Ok meaning.ImageBase) = Ok target.ImageBase
+meant_target link (Ok (meaning.Slot position)) = import_target link position
+meant_target link (Ok (meaning.Thunk position)) = thunk_target link position
 meant_target link (Ok (meaning.LocalSlot name)) = slot_target link name
-meant_target link other = Err fault.NoSection
+meant_target link (Err none) = Err fault.NoSection
 
 -- ---- a symbol
 

@@ -81,6 +81,10 @@ pub(crate) fn entry_place<'a>(
             Some(piece) => Ok(Some(EntryPlace { piece, value: 0 })),
             None => Err(bad_entry(TargetFault::Unplaced)),
         },
+        Some(Meaning::Thunk { module }) => match index.of_thunk(*module) {
+            Some(piece) => Ok(Some(EntryPlace { piece, value: 0 })),
+            None => Err(bad_entry(TargetFault::Unplaced)),
+        },
         Some(Meaning::ImageBase) => Ok(None),
         Some(_) => Err(bad_entry(TargetFault::NoSection)),
     }

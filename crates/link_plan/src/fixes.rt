@@ -6,16 +6,15 @@ ghost use Rattle.module_view.specs.Module.{module_at};
 ghost use Rattle.symbol_names.specs.LinkView.{LinkView};
 ghost use Rattle.link_pieces.specs.PieceIndex.{IsPieceIndex};
 ghost use Rattle.link_plan.specs.Targets.{AreTargets};
-ghost use Rattle.synthetic_sections.specs.LinkerPieces.{FIRST_LOCAL_SLOT};
 ghost use Rattle.link_plan.specs.Fixes.{section_fixes, linker_fixes};
 ghost use Rattle.link_plan.specs.Steps.{HoldsTargets};
 
-use crate::targets::{RecordTarget, meant_target, read_targets};
+use crate::targets::{RecordTarget, import_target, meant_target, read_targets};
 use coff_object::Object;
 use link_base::Memory;
 use link_pieces::{LinkNames, PieceIndex};
 use relocate::Fix;
-use synthetic_sections::slot_field;
+use synthetic_sections::{FIRST_LOCAL_SLOT, FIRST_THUNK, slot_field, thunk_field};
 
 /// What the symbols of one module mean, by its position: the module whose relocations were read last.
 #[derive(Drop)]
@@ -50,8 +49,9 @@ pub(crate) fn section_fixes<'a>(
     put_fixes(fixes, object, section, &last.targets)
 }
 
-/// Puts the field of a local slot into an empty list, by the number of its piece: the address of what its name means.
-pub(crate) fn slot_fixes<'a>(
+/// Puts the field of a piece that the linker makes into an empty list, by the number of the piece: of a jump the slot that it
+/// goes through, of a local slot the address of what its name means. An import table has none.
+pub(crate) fn linker_fixes<'a>(
     fixes: &mut Vec<Fix>,
     names: &LinkNames<'a>,
     index: &PieceIndex<'a>,
@@ -59,9 +59,15 @@ pub(crate) fn slot_fixes<'a>(
 ) -> Result<(), Memory>
     requires empty { fixes.old.items ≡ [] }
     requires indexed { IsPieceIndex names.now index.now }
-    requires number { FIRST_LOCAL_SLOT ≤ number }
     ensures { OnOk result (fixes.new.items ≡ linker_fixes names.now number) }
 {
+    if number < FIRST_THUNK {
+        return Ok(());
+    }
+    if number < FIRST_LOCAL_SLOT {
+        fixes.push(thunk_field(import_target(index, number - FIRST_THUNK)))?;
+        return Ok(());
+    }
     let meaning = names.resolve(index.slot_name(number));
     fixes.push(slot_field(meant_target(index, meaning)))?;
     Ok(())

@@ -12,7 +12,7 @@ ghost use Rattle.link_pieces.specs.PieceIndex.{IsPieceIndex};
 ghost use Rattle.link_plan.specs.Fixes.{judged_fault, refused_at, fixes_in, fixes_fault, is_meant, len_if, HaveFields};
 ghost use Rattle.link_plan.specs.Steps.{HoldsTargets};
 
-use crate::fixes::{LastTargets, section_fixes, slot_fixes};
+use crate::fixes::{LastTargets, linker_fixes, section_fixes};
 use crate::meant::mark_meant;
 use link_base::{Fault, Memory, Refusal};
 use link_pieces::{FIRST_COMMON, LinkNames, PieceIndex};
@@ -20,7 +20,6 @@ use module_view::Module;
 use relocate::{FieldError, Fix, Fixups, check};
 use section_group::Piece;
 use std::alloc::Global;
-use synthetic_sections::FIRST_THUNK;
 
 /// The fields of all pieces, and which pieces some field means.
 #[derive(Drop)]
@@ -75,7 +74,7 @@ fn keep(fixups: &mut Vec<Fixups>, fields: Fixups) -> Result<(), Memory>
     Ok(())
 }
 
-/// Replaces a list by the relocations of a piece. A common and an import table have none, and a local slot its field.
+/// Replaces a list by the relocations of a piece. A common has none.
 fn read_fixes<'a>(
     fixes: &mut Vec<Fix>,
     last: &mut LastTargets,
@@ -93,10 +92,7 @@ fn read_fixes<'a>(
 {
     fixes.clear();
     if piece.module as usize == modules.len() {
-        if piece.number < FIRST_THUNK {
-            return Ok(());
-        }
-        return slot_fixes(fixes, names, index, piece.number);
+        return linker_fixes(fixes, names, index, piece.number);
     }
     if piece.number >= FIRST_COMMON {
         return Ok(());

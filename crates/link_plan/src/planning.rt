@@ -36,7 +36,8 @@ pub struct LinkPlan<'a> {
     pub modules: Vec<Module<'a>>,
     /// What the names of the modules mean.
     pub names: LinkNames<'a>,
-    /// The pieces of the image: module by module, and in each its sections before its commons; then the local slots.
+    /// The pieces of the image: module by module, and in each its sections before its commons; then those that the
+    /// linker makes, of which import tables hold nothing yet.
     pub pieces: Vec<Piece<'a>>,
     /// The fields of each piece.
     pub fixes: Vec<Fixups>,
@@ -98,14 +99,14 @@ fn plan_of<'a>(
     check_includes(&names, &options.includes, &mut slots)?;
     check_references(&names, &modules, &mut slots)?;
     let slots = LocalSlots::of(alloc, &slots)?;
-    let mut pieces = pieces_of(alloc, &names, &modules, slots.len())?;
-    let index = PieceIndex::new(alloc, &modules, slots, &pieces)?;
+    let imports = link_imports(alloc, &modules)?;
+    let mut pieces = pieces_of(alloc, &names, &modules, &imports, slots.len())?;
+    let index = PieceIndex::new(alloc, &modules, &imports, slots, &pieces)?;
     let entry = entry_place(&index, &meaning)?;
     let mut fixes = judge_pieces(alloc, &names, &index, &modules, &pieces, options.large)?;
     mark_entry(&mut fixes.meant, &entry);
     name_meant(&mut pieces, &fixes.meant);
     let merges = link_merges(alloc, &options.merges, &modules)?;
-    let imports = link_imports(alloc, &modules)?;
     Ok(LinkPlan {
         modules,
         names,

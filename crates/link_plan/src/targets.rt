@@ -6,7 +6,7 @@ ghost use Rattle.coff_records.specs.ObjectFile.{symbol_at};
 ghost use Rattle.module_view.specs.Module.{module_at};
 ghost use Rattle.symbol_names.specs.LinkView.{LinkView};
 ghost use Rattle.link_pieces.specs.PieceIndex.{IsPieceIndex};
-ghost use Rattle.link_plan.specs.Targets.{section_target, common_target, slot_target, own_target, meant_target, has_meaning, local_target, symbol_target, AreTargets};
+ghost use Rattle.link_plan.specs.Targets.{section_target, common_target, import_target, thunk_target, slot_target, own_target, meant_target, has_meaning, local_target, symbol_target, AreTargets};
 
 use coff_object::{Object, SymbolRecord};
 use link_base::pe_format::{
@@ -109,8 +109,10 @@ pub(crate) fn meant_target<'a>(
         Ok(Meaning::Common { module, symbol }) => common_target(index, module, symbol),
         Ok(Meaning::Absolute(value)) => Ok(Target::Absolute(value)),
         Ok(Meaning::ImageBase) => Ok(Target::ImageBase),
+        Ok(Meaning::Slot { module }) => import_target(index, module),
+        Ok(Meaning::Thunk { module }) => thunk_target(index, module),
         Ok(Meaning::LocalSlot(name)) => slot_target(index, &name),
-        _ => Err(TargetFault::NoSection),
+        Err(_) => Err(TargetFault::NoSection),
     }
 }
 
@@ -182,6 +184,29 @@ fn slot_target<'a>(index: &PieceIndex<'a>, name: &Name<'a>) -> Result<Target, Ta
     ensures { (link : LinkView) → IsPieceIndex link index.now → result ≡ slot_target link name.now }
 {
     match index.of_slot(name) {
+        Some(piece) => Ok(Target::Piece { piece, value: 0 }),
+        None => Err(TargetFault::Unplaced),
+    }
+}
+
+/// The slot of the import that is the module at a position, in the table of the slots.
+pub(crate) fn import_target(index: &PieceIndex<'_>, position: u32) -> Result<Target, TargetFault>
+    ensures { (link : LinkView) → IsPieceIndex link index.now → result ≡ import_target link position }
+{
+    match index.slot_table() {
+        Some(piece) => Ok(Target::Piece {
+            piece,
+            value: index.slot_offset(position),
+        }),
+        None => Err(TargetFault::Unplaced),
+    }
+}
+
+/// The jump of the import that is the module at a position.
+fn thunk_target(index: &PieceIndex<'_>, position: u32) -> Result<Target, TargetFault>
+    ensures { (link : LinkView) → IsPieceIndex link index.now → result ≡ thunk_target link position }
+{
+    match index.of_thunk(position) {
         Some(piece) => Ok(Target::Piece { piece, value: 0 }),
         None => Err(TargetFault::Unplaced),
     }

@@ -19,12 +19,13 @@ use Rattle.link_plan.specs.PlanFaults.{mismatch_fault}
 use Rattle.link_plan.specs.declared.entry.EntryPlace.{EntryPlace}
 use Rattle.link_pieces.specs.ChoiceFaults.{conflict_fault, clash_fault}
 use Rattle.link_plan.proofs.EntryLemmas.{entry_stands}
-use Rattle.link_plan.proofs.StageLemmas.{mismatch_stage, conflict_stage, clash_stage, chosen_well, AreMeant, entry_stage, includes_stage, references_stage, place_stage, fields_stage}
+use Rattle.link_plan.proofs.StageLemmas.{mismatch_stage, conflict_stage, clash_stage, chosen_so, meant_so, entry_stage, includes_stage, references_stage, place_stage, fields_stage}
 use Rattle.link_imports.specs.Imports.{AreImports}
 use Rattle.link_pieces.specs.LocalSlots.{with_meant, modules_asked, slot_names}
-use Rattle.link_pieces.specs.LinkerPieces.{numbers_below}
+use Rattle.section_group.specs.SectionOrder.{no_piece}
+use Rattle.link_pieces.specs.LinkerPieces.{is_table}
 use Rattle.link_pieces.specs.Rows.{HasSomePlace}
-use Rattle.link_plan.proofs.SlotLemmas.{slots_noted}
+use Rattle.link_plan.proofs.SlotLemmas.{slots_so}
 use Rattle.link_plan.proofs.MeantLemmas.{planned}
 use Rattle.link_plan.proofs.NamedLemmas.{count_named, contents_named, aligned_named, bodies_named}
 use Rattle.link_plan.proofs.planning.plan_of.Goals as goal
@@ -66,10 +67,8 @@ returns-in_err-meaning-clause-refused c =
     let options = options_said c.args.options.now in
     let link = link_of options c.args.list.modules.items in
     let names_are = c.in_ok-names.ensures.names ∙ c.requires.names in
-    let well = chosen_well link
-    (ap mismatch_fault (sym c.deref.ensures.value) ∙ c.in_ok-check_mismatch.ensures.accepted)
-    (ap conflict_fault (sym c.deref-2.ensures.value) ∙ c.in_ok-names.ensures.accepted)
-    (ap (λ (l : LinkView). clash_fault l.modules) (sym names_are) ∙ c.in_ok-check_clash.ensures.accepted) in
+    let well =
+    chosen_so link c.in_ok-names.names c.deref.result.now c.deref-2.result.now names_are c.deref.ensures.value c.in_ok-check_mismatch.ensures.accepted c.deref-2.ensures.value c.in_ok-names.ensures.accepted c.in_ok-check_clash.ensures.accepted in
     let given = err_from_is_err_and c.from_residual-in_err-meaning.result c.from_residual-in_err-meaning.ensures.1 in
     rw (given.1, given.2)
     (entry_stage options link c.in_err-meaning.field-0.0 well
@@ -81,10 +80,8 @@ returns-in_err-check_includes-clause-refused c =
     let options = options_said c.args.options.now in
     let link = link_of options c.args.list.modules.items in
     let names_are = c.in_ok-names.ensures.names ∙ c.requires.names in
-    let well = chosen_well link
-    (ap mismatch_fault (sym c.deref.ensures.value) ∙ c.in_ok-check_mismatch.ensures.accepted)
-    (ap conflict_fault (sym c.deref-2.ensures.value) ∙ c.in_ok-names.ensures.accepted)
-    (ap (λ (l : LinkView). clash_fault l.modules) (sym names_are) ∙ c.in_ok-check_clash.ensures.accepted) in
+    let well =
+    chosen_so link c.in_ok-names.names c.deref.result.now c.deref-2.result.now names_are c.deref.ensures.value c.in_ok-check_mismatch.ensures.accepted c.deref-2.ensures.value c.in_ok-names.ensures.accepted c.in_ok-check_clash.ensures.accepted in
     let given = err_from_is_err_and c.from_residual-in_err-check_includes.result c.from_residual-in_err-check_includes.ensures.1 in
     rw (given.1, given.2)
     (includes_stage options link c.in_err-check_includes.field-0.0 well
@@ -99,14 +96,8 @@ returns-in_err-check_references-clause-refused c =
     let options = options_said c.args.options.now in
     let link = link_of options c.args.list.modules.items in
     let names_are = c.in_ok-names.ensures.names ∙ c.requires.names in
-    let meant : AreMeant options link = record {
-      well = chosen_well link
-          (ap mismatch_fault (sym c.deref.ensures.value) ∙ c.in_ok-check_mismatch.ensures.accepted)
-          (ap conflict_fault (sym c.deref-2.ensures.value) ∙ c.in_ok-names.ensures.accepted)
-          (ap (λ (l : LinkView). clash_fault l.modules) (sym names_are) ∙ c.in_ok-check_clash.ensures.accepted);
-      entry = ap (λ (l : LinkView). entry_meaning_fault l options.entry_name) (sym names_are) ∙ c.in_ok-meaning.ensures.accepted;
-      included = ap (includes_fault link None) (sym c.deref-3.ensures.value) ∙ ap (λ (l : LinkView). includes_fault l None c.deref-3.result.now) (sym names_are) ∙ c.in_ok-check_includes.ensures.accepted;
-    } in
+    let meant =
+    meant_so options link c.in_ok-names.names c.deref.result.now c.deref-2.result.now c.deref-3.result.now names_are c.deref.ensures.value c.in_ok-check_mismatch.ensures.accepted c.deref-2.ensures.value c.in_ok-names.ensures.accepted c.in_ok-check_clash.ensures.accepted c.in_ok-meaning.ensures.accepted c.deref-3.ensures.value c.in_ok-check_includes.ensures.accepted in
     let given = err_from_is_err_and c.from_residual-in_err-check_references.result c.from_residual-in_err-check_references.ensures.1 in
     rw (given.1, given.2)
     (references_stage options link c.in_err-check_references.field-0.0 meant
@@ -115,52 +106,44 @@ returns-in_err-check_references-clause-refused c =
 pub pieces_of-requires-clause-same : goal.pieces_of-requires-clause-same
 pieces_of-requires-clause-same c =
     let names_are = c.in_ok-names.ensures.names ∙ c.requires.names in
-    ap (λ (l : LinkView). l.modules) names_are ∙ sym c.deref-5.ensures.value
+    ap (λ (l : LinkView). l.modules) names_are ∙ sym c.deref-6.ensures.value
 
 pub pieces_of-requires-clause-slots : goal.pieces_of-requires-clause-slots
 pieces_of-requires-clause-slots c =
     let options = options_said c.args.options.now in
     let link = link_of options c.args.list.modules.items in
     let names_are = c.in_ok-names.ensures.names ∙ c.requires.names in
-    let noted = c.in_ok-meaning.ensures.meant ∙ ap (λ (l : LinkView). entry_meant l options.entry_name) names_are in
-    let slots_are : c.in_ok-slots.slots ≡ slot_names link =
-    c.in_ok-slots.ensures
-    ∙ slots_noted link options.entry_name options.includes c.new-slots.result.keys c.note_entry_slot.new.slots.keys c.check_includes.new.slots.keys c.check_references.new.slots.keys refl c.new-slots.ensures.empty
-    (c.in_ok-note_entry_slot.ensures link options.entry_name noted)
-    (c.in_ok-check_includes.ensures.slots ∙ ap (with_meant c.in_ok-names.names c.note_entry_slot.new.slots.keys) c.deref-3.ensures.value ∙ ap (λ (l : LinkView). with_meant l c.note_entry_slot.new.slots.keys options.includes) names_are)
-    (c.in_ok-check_references.ensures.slots ∙ ap (λ (l : LinkView). with_meant l c.check_includes.new.slots.keys (modules_asked l)) names_are) in
+    let slots_are =
+    slots_so options link c.in_ok-names.names c.in_ok-meaning.meaning c.deref-3.result.now c.new-slots.result.keys c.note_entry_slot.new.slots.keys c.check_includes.new.slots.keys c.check_references.new.slots.keys c.in_ok-slots.slots refl names_are c.in_ok-slots.ensures c.new-slots.ensures.empty c.in_ok-meaning.ensures.meant c.in_ok-note_entry_slot.ensures c.deref-3.ensures.value c.in_ok-check_includes.ensures.slots c.in_ok-check_references.ensures.slots in
     c.len.ensures.len ∙ ap (λ (slots : List (List ℕ)). length slots) (slots_are ∙ ap slot_names (sym names_are))
+
+pub pieces_of-requires-clause-imports : goal.pieces_of-requires-clause-imports
+pieces_of-requires-clause-imports c =
+    subst (λ (ms : List ModuleView). AreImports ms c.in_ok-imports.imports) (c.deref-5.ensures.value ∙ sym c.deref-6.ensures.value) c.in_ok-imports.ensures
+
+pub new-requires-clause-imports : goal.new-requires-clause-imports
+new-requires-clause-imports c =
+    subst (λ (ms : List ModuleView). AreImports ms c.in_ok-imports.imports) (c.deref-5.ensures.value ∙ sym c.deref-7.ensures.value) c.in_ok-imports.ensures
 
 pub new-requires-clause-placed : goal.new-requires-clause-placed
 new-requires-clause-placed c =
     let pieces = c.in_ok-pieces.pieces.items in
-    subst (λ (ps : List Piece). All (λ (piece : Piece). HasSomePlace c.deref-6.result.now (numbers_below (length c.in_ok-slots.slots)) piece.«module» piece.number) ps) (sym c.deref-7.ensures.value)
-    (subst (λ (n : ℕ). All (λ (piece : Piece). HasSomePlace c.deref-6.result.now (numbers_below n) piece.«module» piece.number) pieces) c.len.ensures.len
-    (subst (λ (ms : List ModuleView). All (λ (piece : Piece). HasSomePlace ms (numbers_below c.len.result) piece.«module» piece.number) pieces) (c.deref-5.ensures.value ∙ sym c.deref-6.ensures.value) c.in_ok-pieces.ensures.placed))
+    subst (λ (ps : List Piece). All (λ (piece : Piece). HasSomePlace c.deref-7.result.now (length c.in_ok-slots.slots) piece.«module» piece.number) ps) (sym c.deref-8.ensures.value)
+    (subst (λ (n : ℕ). All (λ (piece : Piece). HasSomePlace c.deref-7.result.now n piece.«module» piece.number) pieces) c.len.ensures.len
+    (subst (λ (ms : List ModuleView). All (λ (piece : Piece). HasSomePlace ms c.len.result piece.«module» piece.number) pieces) (c.deref-6.ensures.value ∙ sym c.deref-7.ensures.value) c.in_ok-pieces.ensures.placed))
 
 pub returns-in_err-entry-clause-refused : goal.returns-in_err-entry-clause-refused
 returns-in_err-entry-clause-refused c =
     let options = options_said c.args.options.now in
     let link = link_of options c.args.list.modules.items in
     let names_are = c.in_ok-names.ensures.names ∙ c.requires.names in
-    let meant : AreMeant options link = record {
-      well = chosen_well link
-          (ap mismatch_fault (sym c.deref.ensures.value) ∙ c.in_ok-check_mismatch.ensures.accepted)
-          (ap conflict_fault (sym c.deref-2.ensures.value) ∙ c.in_ok-names.ensures.accepted)
-          (ap (λ (l : LinkView). clash_fault l.modules) (sym names_are) ∙ c.in_ok-check_clash.ensures.accepted);
-      entry = ap (λ (l : LinkView). entry_meaning_fault l options.entry_name) (sym names_are) ∙ c.in_ok-meaning.ensures.accepted;
-      included = ap (includes_fault link None) (sym c.deref-3.ensures.value) ∙ ap (λ (l : LinkView). includes_fault l None c.deref-3.result.now) (sym names_are) ∙ c.in_ok-check_includes.ensures.accepted;
-    } in
+    let meant =
+    meant_so options link c.in_ok-names.names c.deref.result.now c.deref-2.result.now c.deref-3.result.now names_are c.deref.ensures.value c.in_ok-check_mismatch.ensures.accepted c.deref-2.ensures.value c.in_ok-names.ensures.accepted c.in_ok-check_clash.ensures.accepted c.in_ok-meaning.ensures.accepted c.deref-3.ensures.value c.in_ok-check_includes.ensures.accepted in
     let given = err_from_is_err_and c.from_residual-in_err-entry.result c.from_residual-in_err-entry.ensures.1 in
-    let pieces_are : map bare c.deref-7.result.now ≡ link_pieces link = ap (map bare) c.deref-7.ensures.value ∙ c.in_ok-pieces.ensures.pieces ∙ ap link_pieces names_are in
-    let noted = c.in_ok-meaning.ensures.meant ∙ ap (λ (l : LinkView). entry_meant l options.entry_name) names_are in
-    let slots_are : c.in_ok-slots.slots ≡ slot_names link =
-    c.in_ok-slots.ensures
-    ∙ slots_noted link options.entry_name options.includes c.new-slots.result.keys c.note_entry_slot.new.slots.keys c.check_includes.new.slots.keys c.check_references.new.slots.keys refl c.new-slots.ensures.empty
-    (c.in_ok-note_entry_slot.ensures link options.entry_name noted)
-    (c.in_ok-check_includes.ensures.slots ∙ ap (with_meant c.in_ok-names.names c.note_entry_slot.new.slots.keys) c.deref-3.ensures.value ∙ ap (λ (l : LinkView). with_meant l c.note_entry_slot.new.slots.keys options.includes) names_are)
-    (c.in_ok-check_references.ensures.slots ∙ ap (λ (l : LinkView). with_meant l c.check_includes.new.slots.keys (modules_asked l)) names_are) in
-    let refused = c.in_err-entry.ensures.refused link (c.in_ok-index.ensures link (sym c.deref-6.ensures.value) (sym slots_are) pieces_are) in
+    let pieces_are : map bare c.deref-8.result.now ≡ link_pieces link = ap (map bare) c.deref-8.ensures.value ∙ c.in_ok-pieces.ensures.pieces ∙ ap link_pieces names_are in
+    let slots_are =
+    slots_so options link c.in_ok-names.names c.in_ok-meaning.meaning c.deref-3.result.now c.new-slots.result.keys c.note_entry_slot.new.slots.keys c.check_includes.new.slots.keys c.check_references.new.slots.keys c.in_ok-slots.slots refl names_are c.in_ok-slots.ensures c.new-slots.ensures.empty c.in_ok-meaning.ensures.meant c.in_ok-note_entry_slot.ensures c.deref-3.ensures.value c.in_ok-check_includes.ensures.slots c.in_ok-check_references.ensures.slots in
+    let refused = c.in_err-entry.ensures.refused link (c.in_ok-index.ensures link (sym c.deref-7.ensures.value) (sym slots_are) pieces_are) in
     let is = c.in_ok-meaning.ensures.meant ∙ ap (λ (l : LinkView). entry_meant l options.entry_name) names_are in
     rw (given.1, given.2)
     (place_stage options link c.in_err-entry.field-0.0 meant
@@ -172,38 +155,22 @@ judge_pieces-requires-clause-indexed c =
     let options = options_said c.args.options.now in
     let link = link_of options c.args.list.modules.items in
     let names_are = c.in_ok-names.ensures.names ∙ c.requires.names in
-    let noted = c.in_ok-meaning.ensures.meant ∙ ap (λ (l : LinkView). entry_meant l options.entry_name) names_are in
-    let slots_are : c.in_ok-slots.slots ≡ slot_names link =
-    c.in_ok-slots.ensures
-    ∙ slots_noted link options.entry_name options.includes c.new-slots.result.keys c.note_entry_slot.new.slots.keys c.check_includes.new.slots.keys c.check_references.new.slots.keys refl c.new-slots.ensures.empty
-    (c.in_ok-note_entry_slot.ensures link options.entry_name noted)
-    (c.in_ok-check_includes.ensures.slots ∙ ap (with_meant c.in_ok-names.names c.note_entry_slot.new.slots.keys) c.deref-3.ensures.value ∙ ap (λ (l : LinkView). with_meant l c.note_entry_slot.new.slots.keys options.includes) names_are)
-    (c.in_ok-check_references.ensures.slots ∙ ap (λ (l : LinkView). with_meant l c.check_includes.new.slots.keys (modules_asked l)) names_are) in
-    c.in_ok-index.ensures c.in_ok-names.names (ap (λ (l : LinkView). l.modules) names_are ∙ sym c.deref-6.ensures.value) (ap slot_names names_are ∙ sym slots_are) (ap (map bare) c.deref-7.ensures.value ∙ c.in_ok-pieces.ensures.pieces)
+    let slots_are =
+    slots_so options link c.in_ok-names.names c.in_ok-meaning.meaning c.deref-3.result.now c.new-slots.result.keys c.note_entry_slot.new.slots.keys c.check_includes.new.slots.keys c.check_references.new.slots.keys c.in_ok-slots.slots refl names_are c.in_ok-slots.ensures c.new-slots.ensures.empty c.in_ok-meaning.ensures.meant c.in_ok-note_entry_slot.ensures c.deref-3.ensures.value c.in_ok-check_includes.ensures.slots c.in_ok-check_references.ensures.slots in
+    c.in_ok-index.ensures c.in_ok-names.names (ap (λ (l : LinkView). l.modules) names_are ∙ sym c.deref-7.ensures.value) (ap slot_names names_are ∙ sym slots_are) (ap (map bare) c.deref-8.ensures.value ∙ c.in_ok-pieces.ensures.pieces)
 
 pub returns-in_err-fixes-clause-refused : goal.returns-in_err-fixes-clause-refused
 returns-in_err-fixes-clause-refused c =
     let options = options_said c.args.options.now in
     let link = link_of options c.args.list.modules.items in
     let names_are = c.in_ok-names.ensures.names ∙ c.requires.names in
-    let meant : AreMeant options link = record {
-      well = chosen_well link
-          (ap mismatch_fault (sym c.deref.ensures.value) ∙ c.in_ok-check_mismatch.ensures.accepted)
-          (ap conflict_fault (sym c.deref-2.ensures.value) ∙ c.in_ok-names.ensures.accepted)
-          (ap (λ (l : LinkView). clash_fault l.modules) (sym names_are) ∙ c.in_ok-check_clash.ensures.accepted);
-      entry = ap (λ (l : LinkView). entry_meaning_fault l options.entry_name) (sym names_are) ∙ c.in_ok-meaning.ensures.accepted;
-      included = ap (includes_fault link None) (sym c.deref-3.ensures.value) ∙ ap (λ (l : LinkView). includes_fault l None c.deref-3.result.now) (sym names_are) ∙ c.in_ok-check_includes.ensures.accepted;
-    } in
+    let meant =
+    meant_so options link c.in_ok-names.names c.deref.result.now c.deref-2.result.now c.deref-3.result.now names_are c.deref.ensures.value c.in_ok-check_mismatch.ensures.accepted c.deref-2.ensures.value c.in_ok-names.ensures.accepted c.in_ok-check_clash.ensures.accepted c.in_ok-meaning.ensures.accepted c.deref-3.ensures.value c.in_ok-check_includes.ensures.accepted in
     let given = err_from_is_err_and c.from_residual-in_err-fixes.result c.from_residual-in_err-fixes.ensures.1 in
-    let pieces_are : map bare c.deref-7.result.now ≡ link_pieces link = ap (map bare) c.deref-7.ensures.value ∙ c.in_ok-pieces.ensures.pieces ∙ ap link_pieces names_are in
-    let noted = c.in_ok-meaning.ensures.meant ∙ ap (λ (l : LinkView). entry_meant l options.entry_name) names_are in
-    let slots_are : c.in_ok-slots.slots ≡ slot_names link =
-    c.in_ok-slots.ensures
-    ∙ slots_noted link options.entry_name options.includes c.new-slots.result.keys c.note_entry_slot.new.slots.keys c.check_includes.new.slots.keys c.check_references.new.slots.keys refl c.new-slots.ensures.empty
-    (c.in_ok-note_entry_slot.ensures link options.entry_name noted)
-    (c.in_ok-check_includes.ensures.slots ∙ ap (with_meant c.in_ok-names.names c.note_entry_slot.new.slots.keys) c.deref-3.ensures.value ∙ ap (λ (l : LinkView). with_meant l c.note_entry_slot.new.slots.keys options.includes) names_are)
-    (c.in_ok-check_references.ensures.slots ∙ ap (λ (l : LinkView). with_meant l c.check_includes.new.slots.keys (modules_asked l)) names_are) in
-    let accepted = c.in_ok-entry.ensures.accepted link (c.in_ok-index.ensures link (sym c.deref-6.ensures.value) (sym slots_are) pieces_are) in
+    let pieces_are : map bare c.deref-8.result.now ≡ link_pieces link = ap (map bare) c.deref-8.ensures.value ∙ c.in_ok-pieces.ensures.pieces ∙ ap link_pieces names_are in
+    let slots_are =
+    slots_so options link c.in_ok-names.names c.in_ok-meaning.meaning c.deref-3.result.now c.new-slots.result.keys c.note_entry_slot.new.slots.keys c.check_includes.new.slots.keys c.check_references.new.slots.keys c.in_ok-slots.slots refl names_are c.in_ok-slots.ensures c.new-slots.ensures.empty c.in_ok-meaning.ensures.meant c.in_ok-note_entry_slot.ensures c.deref-3.ensures.value c.in_ok-check_includes.ensures.slots c.in_ok-check_references.ensures.slots in
+    let accepted = c.in_ok-entry.ensures.accepted link (c.in_ok-index.ensures link (sym c.deref-7.ensures.value) (sym slots_are) pieces_are) in
     let is = c.in_ok-meaning.ensures.meant ∙ ap (λ (l : LinkView). entry_meant l options.entry_name) names_are in
     let fault = fields_stage options link meant
     (ap references_fault (sym names_are) ∙ c.in_ok-check_references.ensures.accepted)
@@ -226,40 +193,29 @@ returns-clause-planned c =
     let options = options_said c.args.options.now in
     let link = link_of options c.args.list.modules.items in
     let names_are = c.in_ok-names.ensures.names ∙ c.requires.names in
-    let meant_well : AreMeant options link = record {
-      well = chosen_well link
-          (ap mismatch_fault (sym c.deref.ensures.value) ∙ c.in_ok-check_mismatch.ensures.accepted)
-          (ap conflict_fault (sym c.deref-2.ensures.value) ∙ c.in_ok-names.ensures.accepted)
-          (ap (λ (l : LinkView). clash_fault l.modules) (sym names_are) ∙ c.in_ok-check_clash.ensures.accepted);
-      entry = ap (λ (l : LinkView). entry_meaning_fault l options.entry_name) (sym names_are) ∙ c.in_ok-meaning.ensures.accepted;
-      included = ap (includes_fault link None) (sym c.deref-3.ensures.value) ∙ ap (λ (l : LinkView). includes_fault l None c.deref-3.result.now) (sym names_are) ∙ c.in_ok-check_includes.ensures.accepted;
-    } in
-    let pieces_there : map bare c.deref-7.result.now ≡ link_pieces link = ap (map bare) c.deref-7.ensures.value ∙ c.in_ok-pieces.ensures.pieces ∙ ap link_pieces names_are in
-    let noted = c.in_ok-meaning.ensures.meant ∙ ap (λ (l : LinkView). entry_meant l options.entry_name) names_are in
-    let slots_are : c.in_ok-slots.slots ≡ slot_names link =
-    c.in_ok-slots.ensures
-    ∙ slots_noted link options.entry_name options.includes c.new-slots.result.keys c.note_entry_slot.new.slots.keys c.check_includes.new.slots.keys c.check_references.new.slots.keys refl c.new-slots.ensures.empty
-    (c.in_ok-note_entry_slot.ensures link options.entry_name noted)
-    (c.in_ok-check_includes.ensures.slots ∙ ap (with_meant c.in_ok-names.names c.note_entry_slot.new.slots.keys) c.deref-3.ensures.value ∙ ap (λ (l : LinkView). with_meant l c.note_entry_slot.new.slots.keys options.includes) names_are)
-    (c.in_ok-check_references.ensures.slots ∙ ap (λ (l : LinkView). with_meant l c.check_includes.new.slots.keys (modules_asked l)) names_are) in
-    let indexed = c.in_ok-index.ensures link (sym c.deref-6.ensures.value) (sym slots_are) pieces_there in
+    let meant_well =
+    meant_so options link c.in_ok-names.names c.deref.result.now c.deref-2.result.now c.deref-3.result.now names_are c.deref.ensures.value c.in_ok-check_mismatch.ensures.accepted c.deref-2.ensures.value c.in_ok-names.ensures.accepted c.in_ok-check_clash.ensures.accepted c.in_ok-meaning.ensures.accepted c.deref-3.ensures.value c.in_ok-check_includes.ensures.accepted in
+    let pieces_there : map bare c.deref-8.result.now ≡ link_pieces link = ap (map bare) c.deref-8.ensures.value ∙ c.in_ok-pieces.ensures.pieces ∙ ap link_pieces names_are in
+    let slots_are =
+    slots_so options link c.in_ok-names.names c.in_ok-meaning.meaning c.deref-3.result.now c.new-slots.result.keys c.note_entry_slot.new.slots.keys c.check_includes.new.slots.keys c.check_references.new.slots.keys c.in_ok-slots.slots refl names_are c.in_ok-slots.ensures c.new-slots.ensures.empty c.in_ok-meaning.ensures.meant c.in_ok-note_entry_slot.ensures c.deref-3.ensures.value c.in_ok-check_includes.ensures.slots c.in_ok-check_references.ensures.slots in
+    let indexed = c.in_ok-index.ensures link (sym c.deref-7.ensures.value) (sym slots_are) pieces_there in
     let meant = c.in_ok-meaning.ensures.meant ∙ ap (λ (l : LinkView). entry_meant l options.entry_name) names_are in
     let placed = c.in_ok-entry.ensures.placed link indexed in
     let accepted = c.in_ok-entry.ensures.accepted link indexed in
     let old = c.in_ok-pieces.pieces.items in
-    let marks = c.deref-10.result.now in
+    let marks = c.deref-11.result.now in
     let now = c.name_meant.new.pieces.items in
     let named = c.name_meant.ensures in
     let pieces_are = c.in_ok-pieces.ensures.pieces ∙ ap link_pieces names_are in
-    let opened = subst (All IsOpened) c.deref-5.ensures.value c.in_ok-pieces.ensures.opened in
+    let opened = subst (All IsOpened) c.deref-6.ensures.value c.in_ok-pieces.ensures.opened in
     let entry_is = placed ∙ ap (meant_place link) meant in
     let entry = c.in_ok-entry.entry in
     let marked = λ (k : ℕ) (lt : k < length old).
-    ap (λ (ms : List Bool). get_or ms k false) c.deref-10.ensures.value
-    ∙ c.mark_entry.ensures.marked k (omega (arith, lt, ap length c.deref-9.ensures.value, c.in_ok-fixes.ensures.len))
-    ∙ ap (λ (b : Bool). b || is_that k (piece_of_place entry)) (c.in_ok-fixes.ensures.meant k (omega (arith, lt, ap length c.deref-9.ensures.value)) ∙ ap (λ (l : LinkView). is_meant l k) names_are)
+    ap (λ (ms : List Bool). get_or ms k false) c.deref-11.ensures.value
+    ∙ c.mark_entry.ensures.marked k (omega (arith, lt, ap length c.deref-10.ensures.value, c.in_ok-fixes.ensures.len))
+    ∙ ap (λ (b : Bool). b || is_that k (piece_of_place entry)) (c.in_ok-fixes.ensures.meant k (omega (arith, lt, ap length c.deref-10.ensures.value)) ∙ ap (λ (l : LinkView). is_meant l k) names_are)
     ∙ ap (λ (place : Option EntryPlace). is_meant link k || is_that k (piece_of_place place)) entry_is in
-    let fields = subst (λ (l : LinkView). HaveFields l (length c.deref-9.result.now) c.in_ok-fixes.fixes.fixups.items) names_are c.in_ok-fixes.ensures.fields in
+    let fields = subst (λ (l : LinkView). HaveFields l (length c.deref-10.result.now) c.in_ok-fixes.fixes.fixups.items) names_are c.in_ok-fixes.ensures.fields in
     let planned_are = planned options link old marks now pieces_are marked named in
     record {
       opened = opened;
@@ -268,11 +224,11 @@ returns-clause-planned c =
       pieces_are = planned_are;
       contents_are = contents_named old marks now named ∙ c.in_ok-pieces.ensures.contents ∙ ap link_contents names_are;
       aligned = aligned_named old marks now named c.in_ok-pieces.ensures.aligned;
-      bodies = λ k lt table. bodies_named old marks now named c.in_ok-pieces.ensures.bodies k lt;
+      bodies = bodies_named (length link.modules) old marks now named (λ k lt other. c.in_ok-pieces.ensures.bodies k lt (ap (λ (ms : List ModuleView). is_table (length ms) (get_or old k no_piece)) c.deref-6.ensures.value ∙ other));
       few = let count = count_named old marks now named in omega (arith, c.in_ok-pieces.ensures.count, count);
-      fields = subst (λ (n : ℕ). HaveFields link n c.in_ok-fixes.fixes.fixups.items) (ap length c.deref-9.ensures.value ∙ sym (count_named old marks now named)) fields;
-      imports = subst (λ (ms : List ModuleView). AreImports ms c.in_ok-imports.imports) c.deref-13.ensures.value c.in_ok-imports.ensures;
-      merges_are = c.in_ok-merges.ensures ∙ ap (λ (given : List (List ℕ × List ℕ)). link_merges given c.deref-12.result.now) c.deref-11.ensures.value ∙ ap (link_merges options.merges) c.deref-12.ensures.value;
+      fields = subst (λ (n : ℕ). HaveFields link n c.in_ok-fixes.fixes.fixups.items) (ap length c.deref-10.ensures.value ∙ sym (count_named old marks now named)) fields;
+      imports = subst (λ (ms : List ModuleView). AreImports ms c.in_ok-imports.imports) c.deref-5.ensures.value c.in_ok-imports.ensures;
+      merges_are = c.in_ok-merges.ensures ∙ ap (λ (given : List (List ℕ × List ℕ)). link_merges given c.deref-13.result.now) c.deref-12.ensures.value ∙ ap (link_merges options.merges) c.deref-13.ensures.value;
       entry_is = entry_is;
       stands = rw entry_is (entry_stands options link now planned_are opened);
       no_fault =
