@@ -4,7 +4,7 @@ use Rattle.std.specs.Option.{option_or}
 use Rattle.std.specs.List.{All}
 use Rattle.std.proofs.lemmas.Bool.{cases_lt, eq-eqb, lt-ltb, le-ltb}
 use Rattle.std.proofs.lemmas.Bool.Decides.{eqb_tells}
-use Rattle.std.proofs.lemmas.List.{get_or-set_same, get_or-set_other, get_or_default, get_or_past, get_or_push, get_or_append_left, length-append, length-replicate, length-set}
+use Rattle.std.proofs.lemmas.List.{get_or-set_same, get_or-set_other, get_or_default, get_or_past, get_or_push, get_or_append_left, length-append, length-replicate}
 use Rattle.std.proofs.Math.ListN.{get_or-map as get_or-map_same}
 use Rattle.link_base.specs.Bytes.{first_below}
 use Rattle.section_group.specs.declared.piece.Piece.{Piece}
@@ -21,7 +21,7 @@ use Rattle.link_pieces.specs.LinkerPieces.{numbers_below, IsLinkerNumber}
 use Rattle.link_pieces.proofs.CallerLemmas.{pieces_are}
 use Rattle.std.proofs.lemmas.List.Elements.{All-weaker}
 use Rattle.link_pieces.proofs.CommonLemmas.{common_place}
-use Rattle.link_pieces.specs.PieceIndex.{RowsView, row_start, is_numbered, is_section_of, is_common_of, holds, indexed}
+use Rattle.link_pieces.specs.PieceIndex.{RowsView, row_start, is_section_of, is_common_of, holds, indexed}
 use Rattle.link_pieces.specs.Rows.{rows_of, section_places, common_places, AreRows, HasStarts, HasRows, HasPlace, HasLinkerPlace, HasSomePlace}
 use Rattle.link_base.proofs.RefusalLemmas.{or_none}
 

@@ -2,7 +2,7 @@
 use Rattle.std.proofs.Common.{◌≡◌, ℕ, zero, suc, ◌+◌, ◌<◌, Bool, true, false, cond, ◌||◌, eqb, List, [], ◌∷◌, ◌++◌, length, map, inl, inr, refl, sym, ap, subst, ◌∙◌, append_assoc, eq-eqb, arith}
 use Rattle.std.specs.Prelude.{codes}
 use Rattle.std.specs.List.{All, range_with_len, list_any}
-use Rattle.std.proofs.lemmas.Bool.{lt-ltb}
+use Rattle.std.proofs.lemmas.Bool.{false≢true, lt-ltb}
 use Rattle.std.proofs.lemmas.Bool.Decides.{eqb_tells}
 use Rattle.std.proofs.lemmas.List.Elements.{All-nil, All-cons, All-append}
 use Rattle.std.proofs.lemmas.List.Folds.{list_any-append}
@@ -12,7 +12,7 @@ use Rattle.section_group.specs.declared.piece.Piece.{Piece}
 use Rattle.address_layout.specs.Layout.{IsAlignment}
 use Rattle.module_view.specs.Module.{ModuleView}
 use Rattle.symbol_names.specs.LinkView.{LinkView}
-use Rattle.synthetic_sections.specs.LinkerPieces.{SLOTS, FIRST_THUNK, FIRST_LOCAL_SLOT, size_at, table_piece, table_if, table_pieces, thunk_piece, slot_piece}
+use Rattle.synthetic_sections.specs.LinkerPieces.{SLOTS, FIRST_THUNK, size_at, table_piece, table_if, table_pieces, thunk_piece, slot_piece}
 use Rattle.link_imports.specs.Imports.{import_sizes}
 use Rattle.link_imports.specs.ImportPieces.{has_thunk, code_imports, tables_for, import_pieces}
 use Rattle.link_pieces.specs.LocalSlots.{slot_names}
@@ -40,17 +40,28 @@ all_made P f n each k d lt =
 -- ---- tables
 
 -- what holds of a piece holds where it is made
-all_if : (P : Piece → Type 0) (none : Bool) (piece : Piece) → P piece → All P (cond none [] (piece ∷ []))
+all_if : (P : Piece → Type 0) (none : Bool) (piece : Piece) → (none ≡ false → P piece) → All P (cond none [] (piece ∷ []))
 all_if P true piece holds = All-nil P
-all_if P false piece holds = All-cons P piece [] holds (All-nil P)
+all_if P false piece holds = All-cons P piece [] (holds refl) (All-nil P)
+
+some_bytes : (size : ℕ) → eqb size 0 ≡ false → 0 < size
+some_bytes size made =
+    elim (eqb_tells size 0) [
+      | inl same ↦ absurd (false≢true (sym made ∙ same.0))
+      | inr other ↦ above size other.1
+    ]
+  where
+    above : (size : ℕ) → (size ≡ 0 → ⊥) → 0 < size
+    above zero other = absurd (other refl)
+    above (suc size) other = omega arith
 
 -- what holds of the table of each number holds of all
-all_tables : (P : Piece → Type 0) (modules : List ModuleView) → ((number : ℕ) (name : List ℕ) (align : ℕ) → number < 5 → IsAlignment align → P (table_piece (length modules) number name align (size_at (import_sizes modules) number))) → All P (tables_for modules)
+all_tables : (P : Piece → Type 0) (modules : List ModuleView) → ((number : ℕ) (name : List ℕ) (align : ℕ) → number < 5 → IsAlignment align → 0 < size_at (import_sizes modules) number → P (table_piece (length modules) number name align (size_at (import_sizes modules) number))) → All P (tables_for modules)
 unfolding table_pieces
 all_tables P modules each =
     let count = length modules in
     let sizes = import_sizes modules in
-    let one = λ (number : ℕ) (name : List ℕ) (align : ℕ) (few : number < 5) (is : IsAlignment align). all_if P (eqb (size_at sizes number) 0) (table_piece count number name align (size_at sizes number)) (each number name align few is) in
+    let one = λ (number : ℕ) (name : List ℕ) (align : ℕ) (few : number < 5) (is : IsAlignment align). all_if P (eqb (size_at sizes number) 0) (table_piece count number name align (size_at sizes number)) (λ made. each number name align few is (some_bytes (size_at sizes number) made)) in
     All-append P _ _ (one 0 (codes ".idata$2") 4 (omega arith) (record { positive = omega arith; divides = refl }))
     (All-append P _ _ (one 1 (codes ".idata$4") 8 (omega arith) (record { positive = omega arith; divides = refl }))
     (All-append P _ _ (one SLOTS (codes ".idata$5") 8 (omega arith) (record { positive = omega arith; divides = refl }))
@@ -61,11 +72,11 @@ all_tables P modules each =
 
 tables_are : (link : LinkView) → All (IsLinkerPiece link) (tables_for link.modules)
 tables_are link =
-    all_tables (IsLinkerPiece link) link.modules (λ number name align few aligned.
+    all_tables (IsLinkerPiece link) link.modules (λ number name align few aligned some.
     record {
       of_linker = refl;
       numbered = inl (omega (arith, few));
-      table = λ below. record { few = few; init = refl; size = refl };
+      table = λ below. record { few = few; init = refl; some = some; size = refl };
     })
 
 jumps_are : (link : LinkView) → All (IsLinkerPiece link) (map (thunk_piece (length link.modules)) (code_imports link.modules))
@@ -99,7 +110,7 @@ HasAlignment piece = IsAlignment piece.align
 imports_aligned : (modules : List ModuleView) → All HasAlignment (import_pieces modules)
 imports_aligned modules =
     All-append HasAlignment (tables_for modules) (map (thunk_piece (length modules)) (code_imports modules))
-    (all_tables HasAlignment modules (λ number name align few aligned. aligned))
+    (all_tables HasAlignment modules (λ number name align few aligned some. aligned))
     (all_kept HasAlignment (thunk_piece (length modules)) (has_thunk modules) 0 (length modules) (λ import first last kept.
     record { positive = omega arith; divides = refl }))
 
@@ -116,7 +127,7 @@ linker_aligned link =
 
 pub tables_told : (modules : List ModuleView) → All (λ (piece : Piece). is_table (length modules) piece ≡ true) (tables_for modules)
 tables_told modules =
-    all_tables (λ (piece : Piece). is_table (length modules) piece ≡ true) modules (λ number name align few aligned.
+    all_tables (λ (piece : Piece). is_table (length modules) piece ≡ true) modules (λ number name align few aligned some.
     rw (eq-eqb (length modules) (length modules) refl, lt-ltb number FIRST_THUNK (omega (arith, few))) refl)
 
 -- a table that has bytes is among them

@@ -44,10 +44,11 @@ IsLinkerNumber modules slots number =
 abbrev pub is_table : ℕ → Piece → Bool
 is_table count piece = (piece.«module» == count) && nat_lt piece.number FIRST_THUNK
 
--- one of the five, initialised and as long as its bytes will be
+-- one of the five, initialised, with bytes, and as long as these will be
 pub record IsImportTable (link : LinkView) (piece : Piece) : Type 0 where
   pub few : piece.number < 5
   pub init : piece.init ≡ true
+  pub some : 0 < piece.size
   pub size : piece.size ≡ size_at (import_sizes link.modules) piece.number
 
 -- it is one of those that the linker makes

@@ -105,7 +105,8 @@ impl<'a> PieceIndex<'a> {
         ensures { result ≡ slot_indexed self.now name.now }
     {
         let slot = self.slots.number(name)?;
-        self.linker.at(u64::from(FIRST_LOCAL_SLOT) + u64::from(slot))
+        self.linker
+            .at(u64::from(FIRST_LOCAL_SLOT) + u64::from(slot))
     }
 
     /// The piece that is the table of the imports' slots, where there is one.

@@ -178,6 +178,11 @@ returns-in_err-fixes-clause-refused c =
     rw (given.1, given.2)
     (subst (λ o. RefusesFor o c.in_err-fixes.field-0.0) (ap (λ (l : LinkView). fixes_fault l options.large) names_are ∙ sym fault) c.in_err-fixes.ensures.refused)
 
+pub returns-in_err-pieces-clause-refused : goal.returns-in_err-pieces-clause-refused
+returns-in_err-pieces-clause-refused c =
+    let given = err_from_is_err_and c.from_residual-in_err-pieces.result c.from_residual-in_err-pieces.ensures.1 in
+    rw (given.1, given.2) tt
+
 pub returns-in_err-merges-clause-refused : goal.returns-in_err-merges-clause-refused
 returns-in_err-merges-clause-refused c =
     let given = err_from_is_err_and c.from_residual-in_err-merges.result c.from_residual-in_err-merges.ensures.1 in

@@ -1,4 +1,4 @@
-use Rattle.std.proofs.Common.{◌≡◌, ◌≤◌, ◌<◌, ◌+◌, ◌-◌, ℕ, List, length, map, get_or, replicate, Option, None, Some, refl, sym, ap, subst, ◌∙◌, arith}
+use Rattle.std.proofs.Common.{◌≡◌, ◌≤◌, ◌<◌, ◌+◌, ◌-◌, ℕ, List, length, map, get_or, Option, None, Some, refl, sym, ap, subst, ◌∙◌, arith}
 use Rattle.std.specs.List.{All}
 use Rattle.std.proofs.lemmas.List.{length-map}
 use Rattle.section_group.specs.declared.piece.Piece.{Piece}
@@ -13,9 +13,9 @@ use Rattle.synthetic_sections.specs.LinkerPieces.{FIRST_LOCAL_SLOT}
 use Rattle.link_imports.specs.Imports.{slot_offset}
 use Rattle.link_pieces.specs.LocalSlots.{slot_names, slot_number}
 use Rattle.link_pieces.specs.Pieces.{link_pieces}
-use Rattle.link_pieces.specs.Rows.{section_places, common_places, HasPlace, HasSomePlace, HasLinkerRows}
+use Rattle.link_pieces.specs.Rows.{section_places, common_places, HasPlace, HasSomePlace}
 use Rattle.link_pieces.proofs.IndexLemmas.{AreNoted, none_noted, noted_more, noted_same, of_section, no_section, of_common, no_common, rows_are, in_section_rows, in_common_rows, not_of_modules, of_module, of_linker}
-use Rattle.link_pieces.proofs.LinkerRowLemmas.{AreLinkerNoted, no_linker_noted, has_room, linker_more, linker_same}
+use Rattle.link_pieces.proofs.LinkerRowLemmas.{AreLinkerNoted, no_linker_noted, linker_more, linker_same}
 use Rattle.link_pieces.proofs.piece_index.PieceIndex.new.Goals as goal
 use Rattle.link_pieces.proofs.piece_index.PieceIndex.new.Goals.{then-piece-modules, else-piece-modules+then-piece-lt-FIRST_COMMON, else-piece-modules+else-piece-lt-FIRST_COMMON}
 
