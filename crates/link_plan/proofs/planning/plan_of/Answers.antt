@@ -21,7 +21,7 @@ use Rattle.link_pieces.specs.ChoiceFaults.{conflict_fault, clash_fault}
 use Rattle.link_plan.proofs.EntryLemmas.{entry_stands}
 use Rattle.link_plan.proofs.StageLemmas.{mismatch_stage, conflict_stage, clash_stage, chosen_so, meant_so, entry_stage, includes_stage, references_stage, place_stage, fields_stage}
 use Rattle.link_imports.specs.Imports.{AreImports}
-use Rattle.link_pieces.specs.LocalSlots.{with_meant, modules_asked, slot_names}
+use Rattle.link_pieces.specs.LocalSlots.{slot_names}
 use Rattle.section_group.specs.SectionOrder.{no_piece}
 use Rattle.link_pieces.specs.LinkerPieces.{is_table}
 use Rattle.link_pieces.specs.Rows.{HasSomePlace}
