@@ -2,15 +2,12 @@
 use Rattle.std.specs.Prelude.{ℕ, nat_le, if◌then◌else◌, List, Option, Some, None, option_map}
 use Rattle.std.specs.Option.{option_or}
 use Rattle.link_base.specs.Limits.{MODULE_LIMIT}
-use Rattle.link_base.specs.Refusals.{shown}
-use Rattle.link_base.specs.declared.kinds.form.Kind.TheVariants as form
 use Rattle.link_base.specs.declared.fault.Fault.{Fault}
 use Rattle.link_base.specs.declared.fault.Fault.TheVariants.{InputLimit, BadObject, BadImport, BadLibrary, BadDirective, Unsupported}
 use Rattle.lib_reader.specs.declared.error.LibError.{LibError}
 use Rattle.lib_reader.specs.LibraryWalk.{library_fault}
 use Rattle.module_view.specs.declared.error.ModuleError.{ModuleError}
 use Rattle.module_view.specs.declared.error.ModuleError.TheVariants as bad
-use Rattle.module_view.specs.ImportModule.{is_short_import}
 use Rattle.module_view.specs.Opening.{file_error}
 use Rattle.file_search.specs.FoundFiles.{FoundFile}
 
@@ -29,15 +26,9 @@ module_fault file member None = None
 abbrev pub count_fault : ℕ → Option Fault
 count_fault position = if nat_le MODULE_LIMIT position then Some (InputLimit 65535) else None
 
--- a short import is not linked yet
-abbrev pub unbuilt_import : List ℕ → Option (List ℕ) → List ℕ → Option Fault
-unbuilt_import file member bytes = shown (is_short_import bytes) (Unsupported file member form.NotBuilt)
-
 -- why a file, or a member of one, does not join as the module at a position
 abbrev pub joining_fault : List ℕ → Option (List ℕ) → List ℕ → ℕ → Option Fault
-joining_fault file member bytes position =
-    option_or (module_fault file member (file_error bytes))
-    (option_or (unbuilt_import file member bytes) (count_fault position))
+joining_fault file member bytes position = option_or (module_fault file member (file_error bytes)) (count_fault position)
 
 -- ---- a library
 

@@ -6,12 +6,11 @@ ghost use Rattle.link_base.specs.Refusals.{RefusesFor};
 ghost use Rattle.module_view.specs.ModuleParts.{view_of};
 ghost use Rattle.lib_search.specs.Joining.{module_fault, joining_fault};
 
-use link_base::{Fault, Kind, MODULE_LIMIT, Name, Refusal};
+use link_base::{Fault, MODULE_LIMIT, Name, Refusal};
 use module_view::{Module, ModuleError, Origin, open_module};
 use std::alloc::Global;
 
-/// Opens a file or a member as the module at a position, from 0. One that does not open is refused, a short import, and one too
-/// many.
+/// Opens a file or a member as the module at a position, from 0. One that does not open is refused, and one too many.
 pub(crate) fn join<'a>(
     alloc: Global,
     origin: Origin<'a>,
@@ -28,13 +27,6 @@ pub(crate) fn join<'a>(
     let member = again(&origin.member);
     match open_module(alloc, origin, bytes) {
         Ok(module) => {
-            if module.import().is_some() {
-                return Err(Refusal::Fault(Fault::Unsupported {
-                    file,
-                    member,
-                    kind: Kind::NotBuilt,
-                }));
-            }
             if position >= MODULE_LIMIT {
                 return Err(Refusal::Fault(Fault::InputLimit {
                     sum: MODULE_LIMIT as u64 + 1,

@@ -87,7 +87,20 @@ fn some_files(alloc: Global) -> Result<MemFiles, Fail>
     files.add("q.lib", library(alloc, b"q", &has_q)?.as_slice())?;
     files.add("r.lib", library(alloc, b"r", &has_r)?.as_slice())?;
     files.add("v.lib", library(alloc, b"v", &has_v)?.as_slice())?;
+    let of_code = import(alloc, b"\0\0")?;
+    let of_data = import(alloc, b"\x01\0")?;
+    files.add("code.imp", &of_code)?;
+    files.add("data.imp", &of_data)?;
+    files.add("code.lib", library(alloc, b"x", &of_code)?.as_slice())?;
     Ok(files)
+}
+
+/// A short import of the name `x` of `k` by ordinal 7, whose last two bytes are its type: code is 0, data 1.
+fn import(alloc: Global, kind: &[u8]) -> Result<Vec<u8>, Fail> {
+    let mut bytes = Vec::from_slice(alloc, b"\0\0\xff\xff\0\0\x64\x86\0\0\0\0\x04\0\0\0\x07\0")?;
+    bytes.extend_from_slice(kind)?;
+    bytes.extend_from_slice(b"x\0k\0")?;
+    Ok(bytes)
 }
 
 /// The files of the modules that join, or the fault.
@@ -140,6 +153,31 @@ fn members_join_for_what_is_open(rt: HostRuntime) -> Result<(), Fail> {
             "a.obj y.lib ",
         ),
         (&["link", "a.obj", "/entry:e", "/defaultlib:z"], "no z.lib"),
+    ];
+    for (words, want) in rows {
+        let words = owned(rt.alloc(), words)?;
+        let arena = Bump::new(rt.alloc());
+        let line = joins(rt.alloc(), &arena, &words)?;
+        assert_eq!(rt; line.as_str(), want);
+    }
+    Ok(())
+}
+
+#[test]
+fn imports_join_and_define_what_is_asked_for(rt: HostRuntime) -> Result<(), Fail> {
+    let rows: [(&[&str], &str); 3] = [
+        (
+            &["link", "a.obj", "code.lib", "x.lib", "/entry:e"],
+            "a.obj code.lib ",
+        ),
+        (
+            &["link", "a.obj", "code.imp", "x.lib", "/entry:e"],
+            "a.obj code.imp ",
+        ),
+        (
+            &["link", "a.obj", "data.imp", "x.lib", "/entry:e"],
+            "a.obj data.imp x.lib ",
+        ),
     ];
     for (words, want) in rows {
         let words = owned(rt.alloc(), words)?;
