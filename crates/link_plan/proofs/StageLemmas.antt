@@ -11,7 +11,7 @@ use Rattle.symbol_names.specs.LinkView.{LinkView}
 use Rattle.link_words.specs.Outcome.{LinkOptions}
 use Rattle.link_plan.specs.References.{includes_fault, references_fault}
 use Rattle.link_plan.specs.Entry.{entry_meant, entry_meaning_fault, meant_fault}
-use Rattle.link_plan.specs.Fixes.{fixes_fault}
+use Rattle.link_plan.specs.Fixes.{slots_fault, fixes_fault}
 use Rattle.link_pieces.specs.ChoiceFaults.{conflict_fault, clash_fault}
 use Rattle.link_plan.specs.PlanFaults.{mismatch_fault, choice_fault, meaning_fault, fields_fault, plan_fault}
 
@@ -70,10 +70,15 @@ unfolding plan_fault
 place_stage options link fault meant all_meant is =
     rw (meant.well.agreed, meant.well.chosen, meant.entry, meant.included, all_meant, is) refl
 
-pub fields_stage : (options : LinkOptions) (link : LinkView) → AreMeant options link → references_fault link ≡ None → meant_fault link (entry_meant link options.entry_name) ≡ None → plan_fault options link ≡ fixes_fault link options.large
+pub slots_stage : (options : LinkOptions) (link : LinkView) (fault : Fault) → AreMeant options link → references_fault link ≡ None → meant_fault link (entry_meant link options.entry_name) ≡ None → slots_fault link ≡ Some fault → plan_fault options link ≡ Some fault
 unfolding plan_fault
-fields_stage options link meant all_meant placed =
-    rw (meant.well.agreed, meant.well.chosen, meant.entry, meant.included, all_meant, placed) refl
+slots_stage options link fault meant all_meant placed is =
+    rw (meant.well.agreed, meant.well.chosen, meant.entry, meant.included, all_meant, placed, is) refl
+
+pub fields_stage : (options : LinkOptions) (link : LinkView) → AreMeant options link → references_fault link ≡ None → meant_fault link (entry_meant link options.entry_name) ≡ None → slots_fault link ≡ None → plan_fault options link ≡ fixes_fault link options.large
+unfolding plan_fault
+fields_stage options link meant all_meant placed pointed =
+    rw (meant.well.agreed, meant.well.chosen, meant.entry, meant.included, all_meant, placed, pointed) refl
 
 -- ---- as the code has them
 

@@ -1,10 +1,11 @@
 -- The relocations of the pieces of a link, each with what its symbol means, the first that has a fault, and the pieces that
 -- stand in a section without bytes. Own.
-use Rattle.std.specs.Prelude.{◌≡◌, ℕ, ◌+◌, ◌-◌, ◌<◌, ◌==◌, ◌||◌, nat_lt, Bool, false, if◌then◌else◌, List, [], ◌∷◌, length, map, slice_index_or, Option, Some, None, option_and_then}
+use Rattle.std.specs.Prelude.{◌≡◌, ℕ, ◌+◌, ◌-◌, ◌<◌, ◌==◌, ◌||◌, nat_lt, Bool, false, if◌then◌else◌, List, [], ◌∷◌, length, map, slice_index_or, Option, Some, None, option_and_then, Result, Ok, Err}
 use Rattle.std.specs.List.{range_with_len, list_any}
 use Rattle.link_base.specs.Refusals.{first_refusal_below}
 use Rattle.link_base.specs.declared.fault.Fault.{Fault}
 use Rattle.link_base.specs.declared.fault.Fault.TheVariants as faults
+use Rattle.link_base.specs.declared.kinds.target.TargetFault.{TargetFault}
 use Rattle.coff_records.specs.declared.relocation.Relocation.{Relocation}
 use Rattle.coff_records.specs.ObjectFile.{relocations_of}
 use Rattle.section_group.specs.declared.piece.Piece.{Piece}
@@ -28,7 +29,7 @@ use Rattle.synthetic_sections.specs.LinkerFields.{thunk_field, slot_field}
 use Rattle.link_pieces.specs.NameMeaning.{name_meaning}
 use Rattle.link_pieces.specs.LocalSlots.{slot_names}
 use Rattle.link_plan.specs.Targets.{record_target, import_target, meant_target}
-use Rattle.link_plan.specs.Entry.{entry_place, piece_of_place}
+use Rattle.link_plan.specs.Entry.{bad_entry, entry_place, piece_of_place}
 
 -- ---- the relocations of a section of the module at a position
 
@@ -83,6 +84,18 @@ abbrev pub piece_fixes : LinkView → ℕ → List Fix
 piece_fixes link k = fixes_in link (piece_at link k)
 
 -- ---- faults
+
+-- what a local slot points to does not come into the image: before all modules, so that no section and no relocation is named
+abbrev pub pointer_fault : Result Target TargetFault → Option Fault
+pointer_fault (Ok target) = None
+pointer_fault (Err kind) = Some (bad_entry kind)
+
+abbrev pub slot_fault : LinkView → ℕ → Option Fault
+slot_fault link slot = pointer_fault (meant_target link (name_meaning link (slice_index_or (slot_names link) slot [])))
+
+-- that of all local slots, in the order of their names
+abbrev pub slots_fault : LinkView → Option Fault
+slots_fault link = first_refusal_below (length (slot_names link)) (slot_fault link)
 
 -- a relocation of a piece is refused; want of memory is no fault
 abbrev pub refused_at : Piece → FieldError → Option Fault

@@ -12,7 +12,7 @@ use Rattle.link_pieces.specs.ChoiceFaults.{conflict_fault, clash_fault}
 use Rattle.link_words.specs.Outcome.{LinkOptions}
 use Rattle.link_plan.specs.References.{includes_fault, references_fault}
 use Rattle.link_plan.specs.Entry.{entry_meant, entry_meaning_fault, meant_fault}
-use Rattle.link_plan.specs.Fixes.{fixes_fault}
+use Rattle.link_plan.specs.Fixes.{slots_fault, fixes_fault}
 
 -- mismatch: a directive gives a key another value than an earlier one
 abbrev pub mismatched : Mismatch → Fault
@@ -31,10 +31,11 @@ meaning_fault options link =
     option_or (entry_meaning_fault link options.entry_name)
     (option_or (includes_fault link None options.includes) (references_fault link))
 
--- fields: the entry has no place in the image, or a relocation of a piece has a fault
+-- fields: the entry has no place in the image, or what a local slot points to has none, or a relocation of a piece has a fault
 abbrev pub fields_fault : LinkOptions → LinkView → Option Fault
 fields_fault options link =
-    option_or (meant_fault link (entry_meant link options.entry_name)) (fixes_fault link options.large)
+    option_or (meant_fault link (entry_meant link options.entry_name))
+    (option_or (slots_fault link) (fixes_fault link options.large))
 
 -- the first of the stages that has a fault
 unfoldable pub plan_fault : LinkOptions → LinkView → Option Fault

@@ -90,8 +90,8 @@ pub(crate) fn entry_place<'a>(
     }
 }
 
-/// The fault of an entry whose target has no address that it can use.
-fn bad_entry<'a>(kind: TargetFault) -> Fault<'a>
+/// The fault of an entry or a local slot whose target has no address that it can use.
+pub(crate) fn bad_entry<'a>(kind: TargetFault) -> Fault<'a>
     ensures { result ≡ Fault.BadTarget kind None 0 0 }
 {
     Fault::BadTarget {

@@ -12,6 +12,7 @@ mod meant;
 mod mismatch;
 mod planning;
 mod references;
+mod slots;
 mod targets;
 
 pub use entry::EntryPlace;

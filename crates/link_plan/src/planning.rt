@@ -15,6 +15,7 @@ use crate::judge::judge_pieces;
 use crate::meant::{mark_entry, name_meant};
 use crate::mismatch::check_mismatch;
 use crate::references::{check_includes, check_references};
+use crate::slots::check_slots;
 use input_arena::Inputs;
 use lib_search::{LinkList, complete};
 use link_base::{Name, Refusal, Stop};
@@ -53,7 +54,7 @@ pub struct LinkPlan<'a> {
 /// for; what ends that ends the link. Then the input is refused for the first of: directives that give one key different values
 /// (`Mismatch`), COMDAT sections that conflict (`ComdatConflict`), two definitions of one name (`Duplicate`), an entry or
 /// another name that nothing defines (`Undefined`) or whose default or alternate leads back to it (`WeakCycle`), an entry that
-/// has no place in the image (`BadTarget`), and a relocation that is malformed or whose target cannot be used (`BadReloc`,
+/// has no place in the image or a local slot that points to what has none (`BadTarget`), and a relocation that is malformed or whose target cannot be used (`BadReloc`,
 /// `BadTarget`).
 pub fn plan<'a, F: Files>(
     alloc: Global,
@@ -99,10 +100,12 @@ fn plan_of<'a>(
     check_includes(&names, &options.includes, &mut slots)?;
     check_references(&names, &modules, &mut slots)?;
     let slots = LocalSlots::of(alloc, &slots)?;
+    let count = slots.len();
     let imports = link_imports(alloc, &modules)?;
-    let mut pieces = pieces_of(alloc, &names, &modules, &imports, slots.len())?;
+    let mut pieces = pieces_of(alloc, &names, &modules, &imports, count)?;
     let index = PieceIndex::new(alloc, &modules, &imports, slots, &pieces)?;
     let entry = entry_place(&index, &meaning)?;
+    check_slots(&names, &index, count)?;
     let mut fixes = judge_pieces(alloc, &names, &index, &modules, &pieces, options.large)?;
     mark_entry(&mut fixes.meant, &entry);
     name_meant(&mut pieces, &fixes.meant);

@@ -13,13 +13,13 @@ use Rattle.link_pieces.specs.Pieces.{link_pieces, link_contents}
 use Rattle.link_words.specs.Outcome.{options_said}
 use Rattle.link_plan.specs.References.{includes_fault, references_fault}
 use Rattle.link_plan.specs.Entry.{entry_meant, entry_meaning_fault, meant_fault, meant_place, piece_of_place}
-use Rattle.link_plan.specs.Fixes.{HaveFields, is_meant, is_that, fixes_fault}
+use Rattle.link_plan.specs.Fixes.{HaveFields, is_meant, is_that, slots_fault, fixes_fault}
 use Rattle.lib_search.specs.LinkOf.{link_of}
 use Rattle.link_plan.specs.PlanFaults.{mismatch_fault}
 use Rattle.link_plan.specs.declared.entry.EntryPlace.{EntryPlace}
 use Rattle.link_pieces.specs.ChoiceFaults.{conflict_fault, clash_fault}
 use Rattle.link_plan.proofs.EntryLemmas.{entry_stands}
-use Rattle.link_plan.proofs.StageLemmas.{mismatch_stage, conflict_stage, clash_stage, chosen_so, meant_so, entry_stage, includes_stage, references_stage, place_stage, fields_stage}
+use Rattle.link_plan.proofs.StageLemmas.{mismatch_stage, conflict_stage, clash_stage, chosen_so, meant_so, entry_stage, includes_stage, references_stage, place_stage, slots_stage, fields_stage}
 use Rattle.link_imports.specs.Imports.{AreImports}
 use Rattle.link_pieces.specs.LocalSlots.{slot_names}
 use Rattle.section_group.specs.SectionOrder.{no_piece}
@@ -115,7 +115,7 @@ pieces_of-requires-clause-slots c =
     let names_are = c.in_ok-names.ensures.names ∙ c.requires.names in
     let slots_are =
     slots_so options link c.in_ok-names.names c.in_ok-meaning.meaning c.deref-3.result.now c.new-slots.result.keys c.note_entry_slot.new.slots.keys c.check_includes.new.slots.keys c.check_references.new.slots.keys c.in_ok-slots.slots refl names_are c.in_ok-slots.ensures c.new-slots.ensures.empty c.in_ok-meaning.ensures.meant c.in_ok-note_entry_slot.ensures c.deref-3.ensures.value c.in_ok-check_includes.ensures.slots c.in_ok-check_references.ensures.slots in
-    c.len.ensures.len ∙ ap (λ (slots : List (List ℕ)). length slots) (slots_are ∙ ap slot_names (sym names_are))
+    c.len-count.ensures.len ∙ ap (λ (slots : List (List ℕ)). length slots) (slots_are ∙ ap slot_names (sym names_are))
 
 pub pieces_of-requires-clause-imports : goal.pieces_of-requires-clause-imports
 pieces_of-requires-clause-imports c =
@@ -129,8 +129,8 @@ pub new-requires-clause-placed : goal.new-requires-clause-placed
 new-requires-clause-placed c =
     let pieces = c.in_ok-pieces.pieces.items in
     subst (λ (ps : List Piece). All (λ (piece : Piece). HasSomePlace c.deref-7.result.now (length c.in_ok-slots.slots) piece.«module» piece.number) ps) (sym c.deref-8.ensures.value)
-    (subst (λ (n : ℕ). All (λ (piece : Piece). HasSomePlace c.deref-7.result.now n piece.«module» piece.number) pieces) c.len.ensures.len
-    (subst (λ (ms : List ModuleView). All (λ (piece : Piece). HasSomePlace ms c.len.result piece.«module» piece.number) pieces) (c.deref-6.ensures.value ∙ sym c.deref-7.ensures.value) c.in_ok-pieces.ensures.placed))
+    (subst (λ (n : ℕ). All (λ (piece : Piece). HasSomePlace c.deref-7.result.now n piece.«module» piece.number) pieces) c.len-count.ensures.len
+    (subst (λ (ms : List ModuleView). All (λ (piece : Piece). HasSomePlace ms c.len-count.result piece.«module» piece.number) pieces) (c.deref-6.ensures.value ∙ sym c.deref-7.ensures.value) c.in_ok-pieces.ensures.placed))
 
 pub returns-in_err-entry-clause-refused : goal.returns-in_err-entry-clause-refused
 returns-in_err-entry-clause-refused c =
@@ -149,6 +149,43 @@ returns-in_err-entry-clause-refused c =
     (place_stage options link c.in_err-entry.field-0.0 meant
     (ap references_fault (sym names_are) ∙ c.in_ok-check_references.ensures.accepted)
     (ap (meant_fault link) (sym is) ∙ refused))
+
+pub check_slots-requires-clause-indexed : goal.check_slots-requires-clause-indexed
+check_slots-requires-clause-indexed c =
+    let options = options_said c.args.options.now in
+    let link = link_of options c.args.list.modules.items in
+    let names_are = c.in_ok-names.ensures.names ∙ c.requires.names in
+    let slots_are =
+    slots_so options link c.in_ok-names.names c.in_ok-meaning.meaning c.deref-3.result.now c.new-slots.result.keys c.note_entry_slot.new.slots.keys c.check_includes.new.slots.keys c.check_references.new.slots.keys c.in_ok-slots.slots refl names_are c.in_ok-slots.ensures c.new-slots.ensures.empty c.in_ok-meaning.ensures.meant c.in_ok-note_entry_slot.ensures c.deref-3.ensures.value c.in_ok-check_includes.ensures.slots c.in_ok-check_references.ensures.slots in
+    c.in_ok-index.ensures c.in_ok-names.names (ap (λ (l : LinkView). l.modules) names_are ∙ sym c.deref-7.ensures.value) (ap slot_names names_are ∙ sym slots_are) (ap (map bare) c.deref-8.ensures.value ∙ c.in_ok-pieces.ensures.pieces)
+
+pub check_slots-requires-clause-count : goal.check_slots-requires-clause-count
+check_slots-requires-clause-count c =
+    let options = options_said c.args.options.now in
+    let link = link_of options c.args.list.modules.items in
+    let names_are = c.in_ok-names.ensures.names ∙ c.requires.names in
+    let slots_are =
+    slots_so options link c.in_ok-names.names c.in_ok-meaning.meaning c.deref-3.result.now c.new-slots.result.keys c.note_entry_slot.new.slots.keys c.check_includes.new.slots.keys c.check_references.new.slots.keys c.in_ok-slots.slots refl names_are c.in_ok-slots.ensures c.new-slots.ensures.empty c.in_ok-meaning.ensures.meant c.in_ok-note_entry_slot.ensures c.deref-3.ensures.value c.in_ok-check_includes.ensures.slots c.in_ok-check_references.ensures.slots in
+    c.len-count.ensures.len ∙ ap (λ (slots : List (List ℕ)). length slots) (slots_are ∙ ap slot_names (sym names_are))
+
+pub returns-in_err-check_slots-clause-refused : goal.returns-in_err-check_slots-clause-refused
+returns-in_err-check_slots-clause-refused c =
+    let options = options_said c.args.options.now in
+    let link = link_of options c.args.list.modules.items in
+    let names_are = c.in_ok-names.ensures.names ∙ c.requires.names in
+    let meant =
+    meant_so options link c.in_ok-names.names c.deref.result.now c.deref-2.result.now c.deref-3.result.now names_are c.deref.ensures.value c.in_ok-check_mismatch.ensures.accepted c.deref-2.ensures.value c.in_ok-names.ensures.accepted c.in_ok-check_clash.ensures.accepted c.in_ok-meaning.ensures.accepted c.deref-3.ensures.value c.in_ok-check_includes.ensures.accepted in
+    let given = err_from_is_err_and c.from_residual-in_err-check_slots.result c.from_residual-in_err-check_slots.ensures.1 in
+    let pieces_are : map bare c.deref-8.result.now ≡ link_pieces link = ap (map bare) c.deref-8.ensures.value ∙ c.in_ok-pieces.ensures.pieces ∙ ap link_pieces names_are in
+    let slots_are =
+    slots_so options link c.in_ok-names.names c.in_ok-meaning.meaning c.deref-3.result.now c.new-slots.result.keys c.note_entry_slot.new.slots.keys c.check_includes.new.slots.keys c.check_references.new.slots.keys c.in_ok-slots.slots refl names_are c.in_ok-slots.ensures c.new-slots.ensures.empty c.in_ok-meaning.ensures.meant c.in_ok-note_entry_slot.ensures c.deref-3.ensures.value c.in_ok-check_includes.ensures.slots c.in_ok-check_references.ensures.slots in
+    let accepted = c.in_ok-entry.ensures.accepted link (c.in_ok-index.ensures link (sym c.deref-7.ensures.value) (sym slots_are) pieces_are) in
+    let is = c.in_ok-meaning.ensures.meant ∙ ap (λ (l : LinkView). entry_meant l options.entry_name) names_are in
+    rw (given.1, given.2)
+    (slots_stage options link c.in_err-check_slots.field-0.0 meant
+    (ap references_fault (sym names_are) ∙ c.in_ok-check_references.ensures.accepted)
+    (ap (meant_fault link) (sym is) ∙ accepted)
+    (ap slots_fault (sym names_are) ∙ c.in_err-check_slots.ensures.refused))
 
 pub judge_pieces-requires-clause-indexed : goal.judge_pieces-requires-clause-indexed
 judge_pieces-requires-clause-indexed c =
@@ -174,7 +211,8 @@ returns-in_err-fixes-clause-refused c =
     let is = c.in_ok-meaning.ensures.meant ∙ ap (λ (l : LinkView). entry_meant l options.entry_name) names_are in
     let fault = fields_stage options link meant
     (ap references_fault (sym names_are) ∙ c.in_ok-check_references.ensures.accepted)
-    (ap (meant_fault link) (sym is) ∙ accepted) in
+    (ap (meant_fault link) (sym is) ∙ accepted)
+    (ap slots_fault (sym names_are) ∙ c.in_ok-check_slots.ensures.accepted) in
     rw (given.1, given.2)
     (subst (λ o. RefusesFor o c.in_err-fixes.field-0.0) (ap (λ (l : LinkView). fixes_fault l options.large) names_are ∙ sym fault) c.in_err-fixes.ensures.refused)
 
@@ -240,6 +278,7 @@ returns-clause-planned c =
           fields_stage options link meant_well
           (ap references_fault (sym names_are) ∙ c.in_ok-check_references.ensures.accepted)
           (ap (meant_fault link) (sym meant) ∙ accepted)
+          (ap slots_fault (sym names_are) ∙ c.in_ok-check_slots.ensures.accepted)
           ∙ ap (λ (l : LinkView). fixes_fault l options.large) (sym names_are)
           ∙ c.in_ok-fixes.ensures.accepted;
     }
