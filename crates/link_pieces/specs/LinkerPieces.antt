@@ -1,5 +1,5 @@
 -- The pieces that the linker makes for a link, in a module of its own behind all others: the local slots. Own.
-use Rattle.std.specs.Prelude.{◌≡◌, ◌<◌, ◌≤◌, ℕ, ◌+◌, Bool, ◌&&◌, ◌==◌, nat_lt, if◌then◌else◌, List, length, map}
+use Rattle.std.specs.Prelude.{◌≡◌, ◌<◌, ◌≤◌, ℕ, ◌+◌, Bool, true, ◌&&◌, ◌==◌, nat_lt, if◌then◌else◌, List, length, map}
 use Rattle.std.specs.List.{range_with_len}
 use Rattle.section_group.specs.declared.piece.Piece.{Piece}
 use Rattle.symbol_names.specs.LinkView.{LinkView}
@@ -37,9 +37,11 @@ numbers_below slots = if slots == 0 then 0 else FIRST_LOCAL_SLOT + slots
 abbrev pub is_table : ℕ → Piece → Bool
 is_table count piece = (piece.«module» == count) && nat_lt piece.number FIRST_THUNK
 
--- one of the five, and as long as its bytes will be
+-- one of the five, initialised and as long as its bytes will be, of which there are some
 pub record IsImportTable (link : LinkView) (piece : Piece) : Type 0 where
   pub few : piece.number < 5
+  pub init : piece.init ≡ true
+  pub some : 0 < piece.size
   pub size : piece.size ≡ size_at (import_sizes link.modules) piece.number
 
 -- it is one of those that the linker makes
