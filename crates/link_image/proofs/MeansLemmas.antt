@@ -1,5 +1,5 @@
 -- The file of a plan that is placed and patched loads as planned at every permitted base.
-use Rattle.std.proofs.Common.{◌≡◌, ℕ, ◌+◌, ◌-◌, ◌%◌, ◌^◌, ◌<◌, ◌≤◌, Bool, true, false, cond, ◌&&◌, ◌||◌, not, eqb, leb, List, [], ◌∷◌, ◌++◌, length, get_or, replicate, slice_set, slice_get, Option, Some, None, refl, sym, ap, ◌∙◌, subst, length-append, arith}
+use Rattle.std.proofs.Common.{◌≡◌, ℕ, ◌+◌, ◌-◌, ◌%◌, ◌^◌, ◌<◌, ◌≤◌, Bool, true, false, cond, ◌&&◌, ◌||◌, not, eqb, leb, List, [], ◌∷◌, ◌++◌, length, get_or, slice_get, Option, Some, None, refl, sym, ap, ◌∙◌, subst, length-append, arith}
 use Rattle.std.specs.List.{flat_map}
 use Rattle.std.proofs.Math.Seq.{get_or-append_seam}
 use Rattle.std.proofs.lemmas.Bool.{and_parts, leb-true, eqb-true}
@@ -37,9 +37,9 @@ use Rattle.link_plan.proofs.CallerLemmas.{plan_count}
 use Rattle.link_image.specs.declared.make.Built.{Built}
 use Rattle.link_image.specs.declared.placement.Placement.{Placement}
 use Rattle.link_image.specs.BaseFields.{holds_address, is_relocated, base_field, IsBaseField, AreBaseFields}
-use Rattle.link_image.specs.ImageHeaders.{headers_of}
+use Rattle.link_image.specs.ImageHeaders.{directory_list, headers_of}
 use Rattle.link_image.specs.LinkedBytes.{linked_contents, image_contents, fields_range_fault}
-use Rattle.link_image.specs.LinkedImage.{base_rule, entry_rva, table_row, table_directory, HasTable, IsWhole, IsBuilt}
+use Rattle.link_image.specs.LinkedImage.{base_rule, entry_rva, table_row, directories_of, HasTable, IsWhole, IsBuilt}
 use Rattle.link_image.specs.Steps.{tables_of, file_of, IsPlaced, IsReady}
 use Rattle.link_image.proofs.FieldLemmas.{total_is}
 use Rattle.link_image.proofs.MoveLemmas.{one_length, contents_room, contents_stay, contents_moved}
@@ -119,7 +119,7 @@ module _ (options : LinkOptions) (plan : LinkPlan) (placement : Placement) (owne
   tables = tables_of placement.table
 
   abbrev headers : Headers
-  headers = headers_of options (entry_rva placement.layout.pieces.items plan.entry) (table_directory placement.layout (tables_of placement.table))
+  headers = headers_of options (entry_rva placement.layout.pieces.items plan.entry) (directories_of plan.names placement.layout (tables_of placement.table))
 
   abbrev contents : ℕ → List (List ℕ)
   contents base = image_contents plan.names (rows_of placement.sections.items) placement.layout (tables_of placement.table) base
@@ -140,7 +140,7 @@ module _ (options : LinkOptions) (plan : LinkPlan) (placement : Placement) (owne
   -- without a table
   stays : is_relocated options plan.names ≡ false → tables ≡ [] → Stay headers sections layout contents
   stays alone none = record {
-    directory = ap (λ (ts : List (List ℕ)). slice_get (slice_set (replicate 16 (0, 0)) 5 (table_directory layout ts)) 5) none;
+    directory = ap (λ (ts : List (List ℕ)). slice_get (directory_list (directories_of plan.names placement.layout ts)) 5) none;
     same = λ base allowed. by options.fixed refl base (sym (permits_are base) ∙ allowed);
   }
     where
@@ -161,7 +161,7 @@ module _ (options : LinkOptions) (plan : LinkPlan) (placement : Placement) (owne
     there = omega (arith, ap length table.rows_are, length-append piece_rows (table_row k ∷ []), length-map placement.sections.items row_of);
     below = subst (λ (ks : List ℕ). 0 < length ks) (sym row) (omega arith);
     table = ap (λ (i : ℕ). get_or (contents options.base) i []) index ∙ last_contents;
-    directory = ap (λ (ts : List (List ℕ)). slice_get (slice_set (replicate 16 (0, 0)) 5 (table_directory layout ts)) 5) table.tables_are ∙ ap (λ (i : ℕ). Some (get_or layout.pieces.items i 0, length (blocks_of table.fields))) (ends ∙ sym index);
+    directory = ap (λ (ts : List (List ℕ)). slice_get (directory_list (directories_of plan.names placement.layout ts)) 5) table.tables_are ∙ ap (λ (i : ℕ). Some (get_or layout.pieces.items i 0, length (blocks_of table.fields))) (ends ∙ sym index);
     inside = omega (arith, ap (λ (i : ℕ). get_or layout.pieces.items i 0) index, last_rva, table.added.size, table.added.image.above, grown (length (blocks_of table.fields)));
   }
     where
@@ -226,7 +226,7 @@ module _ (options : LinkOptions) (plan : LinkPlan) (placement : Placement) (owne
           placement = placed.means;
           permitted = permitted;
           in_range = in_range;
-          is = ap (λ (place : Option EntryPlace). layout_plan (headers_of options (entry_rva placement.layout.pieces.items place) (table_directory placement.layout (tables_of placement.table))) placement.sections.items placement.layout contents) planned.entry_is;
+          is = ap (λ (place : Option EntryPlace). layout_plan (headers_of options (entry_rva placement.layout.pieces.items place) (directories_of plan.names placement.layout (tables_of placement.table))) placement.sections.items placement.layout contents) planned.entry_is;
         };
         file = file;
         means = subst (MeansPlan image) (sym file) (means permitted);

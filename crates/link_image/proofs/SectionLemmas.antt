@@ -44,6 +44,7 @@ use Rattle.link_image.specs.LinkedBytes.{owners_in, fields_range_fault}
 use Rattle.link_image.specs.Steps.{tables_of, EndsWithTable, IsPlaced, IsReady, IsWritten}
 use Rattle.link_image.specs.LinkedImage.{link_input, base_rule, table_row, AreGrouped, ArePlaced, IsWhole, IsPlacement}
 use Rattle.link_image.specs.BuildFaults.{IsBuildFault}
+use Rattle.link_image.proofs.HeldLemmas.{held_at}
 
 -- ---- pieces without their bytes
 
@@ -140,6 +141,12 @@ entry_fits options link pieces sections reloc layout place grouped placed stand 
     let needs : needs_place input piece ≡ true = or_right _ _ stand.named in
     name_fits pieces sections reloc layout piece place.value placed.layout_of.standing placed.within (stands input sections piece grouped.grouping used needs) fits stand.inside
 
+-- so does the end of a piece with bytes
+pub end_fits : (options : LinkOptions) (link : LinkView) (pieces : List Piece) (sections : List OutSection) (reloc : Bool) (layout : Layout) (k : ℕ) → AreGrouped options link pieces sections → ArePlaced pieces sections reloc layout → k < length pieces → 0 < (get_or pieces k no_piece).size → get_or layout.pieces.items k 0 < 2 ^ 32 → get_or layout.pieces.items k 0 + (get_or pieces k no_piece).size < 2 ^ 32
+end_fits options link pieces sections reloc layout k grouped placed lt some fits =
+    let input = link_input options link pieces in
+    name_fits pieces sections reloc layout k (get_or pieces k no_piece).size placed.layout_of.standing placed.within (stands input sections k grouped.grouping (used_there options link pieces k lt) (needs_there input k (inl some))) fits (omega arith)
+
 -- ---- the base
 
 -- the one refusal of a base is that it is not permitted
@@ -196,6 +203,7 @@ placed_alone options plan placement planned grouped placed alone none =
       stands = λ k lt needs. stands input sections k grouped.grouping (used_there options link pieces k lt) (needs_there input k needs);
       room = omega (arith, placed.layout_of.standing.rva_for_each);
       fits = λ place stand small. entry_fits options link pieces sections false layout place grouped placed stand small;
+      ends = λ k lt some fits. end_fits options link pieces sections false layout k grouped placed lt some fits;
       few = omega (arith, placed.few);
       small = subst (λ (ts : List (List ℕ)). All (λ table. length table < 2 ^ 32) ts) (sym none) (All-nil (λ (table : List ℕ). length table < 2 ^ 32));
     }
@@ -246,6 +254,11 @@ placed_with_table options plan sections before fields placement planned grouped 
           ap (λ (rvas : List ℕ). get_or rvas place.piece 0) added.pieces ∙ get_or_append_left before.pieces.items (added.placed.rva ∷ []) 0 place.piece (omega (arith, stand.within, count)) in
           let here = entry_fits options link pieces sections true before place grouped placed stand (omega (arith, same, fits)) in
           omega (arith, same, here);
+      ends = λ k lt some fits.
+          let same : get_or layout.pieces.items k 0 ≡ get_or before.pieces.items k 0 =
+          ap (λ (rvas : List ℕ). get_or rvas k 0) added.pieces ∙ get_or_append_left before.pieces.items (added.placed.rva ∷ []) 0 k (omega (arith, lt, count)) in
+          let here = end_fits options link pieces sections true before k grouped placed lt some (omega (arith, same, fits)) in
+          omega (arith, same, here);
       few = omega (arith, placed.few, ap length ends.is, length-append sections (section ∷ []));
       small = subst (λ (ts : List (List ℕ)). All (λ table. length table < 2 ^ 32) ts) (sym tables) (All-cons (λ (table : List ℕ). length table < 2 ^ 32) (blocks_of fields) [] small (All-nil (λ (table : List ℕ). length table < 2 ^ 32)));
     }
@@ -253,12 +266,11 @@ placed_with_table options plan sections before fields placement planned grouped 
 -- ---- what is ready
 
 -- the pieces of a plan with their fields, where they stand
-pub ready : (options : LinkOptions) (plan : LinkPlan) (placement : Placement) (headers : Headers) (image owner : List ℕ) → IsPlanOf options plan.names plan → IsPlaced options plan placement → IsWritten headers placement plan.pieces.items image → owner ≡ owners_in (rows_of placement.sections.items) placement.layout → IsReady plan.names plan.pieces.items plan.fixes.items placement.sections.items placement.layout owner (tables_of placement.table)
+pub ready : (options : LinkOptions) (plan : LinkPlan) (placement : Placement) (headers : Headers) (image owner : List ℕ) → IsPlanOf options plan.names plan → IsPlaced options plan placement → IsWritten headers placement plan.names image → owner ≡ owners_in (rows_of placement.sections.items) placement.layout → IsReady plan.names plan.pieces.items plan.fixes.items placement.sections.items placement.layout owner (tables_of placement.table)
 ready options plan placement headers image owner planned placed written is = record {
   options = options;
   pieces_are = planned.pieces_are;
-  contents_are = planned.contents_are;
-  bodies = planned.bodies;
+  held = held_at options plan planned placement.layout;
   fields = planned.fields;
   rest = written.rest;
   holds = written.holds;

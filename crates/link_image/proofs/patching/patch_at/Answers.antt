@@ -18,7 +18,7 @@ returns-then-is_empty-clause-in_range c =
     let k = c.args.k in
     let has = fields_here c.args.plan.now.names c.args.plan.now.pieces.items c.args.plan.now.fixes.items c.args.placement.now.sections.items c.args.placement.now.layout c.args.owner.now (tables_of c.args.placement.now.table) c.requires.ready c.args.headers.now c.requires.directories c.args.k c.index-fixups.result.now c.requires.piece c.index-fixups.ensures in
     no_range_here c.args.plan.now.names c.args.plan.now.pieces.items c.args.plan.now.fixes.items c.args.placement.now.sections.items c.args.placement.now.layout c.args.owner.now (tables_of c.args.placement.now.table) c.requires.ready c.args.headers.now.base k c.index-fixups.result.now c.requires.piece has.fields
-    (no_field c.args.plan.now.names c.args.plan.now.pieces.items c.args.plan.now.fixes.items c.args.placement.now.sections.items c.args.placement.now.layout c.args.owner.now (tables_of c.args.placement.now.table) c.requires.ready c.args.headers.now.base (get_or c.args.placement.now.layout.pieces.items k 0) (contents_at c.args.plan.now.names k) c.index-fixups.result.now (eqb-true (length c.index-fixups.result.now) 0 (sym c.is_empty.ensures ∙ c.if-is_empty.true)))
+    (no_field c.args.plan.now.names c.args.plan.now.pieces.items c.args.plan.now.fixes.items c.args.placement.now.sections.items c.args.placement.now.layout c.args.owner.now (tables_of c.args.placement.now.table) c.requires.ready c.args.headers.now.base (get_or c.args.placement.now.layout.pieces.items k 0) (contents_at c.args.plan.now.names c.args.placement.now.layout k) c.index-fixups.result.now (eqb-true (length c.index-fixups.result.now) 0 (sym c.is_empty.ensures ∙ c.if-is_empty.true)))
 
 pub file_place-place-requires-clause-piece : goal.file_place-place-requires-clause-piece
 file_place-place-requires-clause-piece c = rva_here c.args.plan.now.names c.args.plan.now.pieces.items c.args.plan.now.fixes.items c.args.placement.now.sections.items c.args.placement.now.layout c.args.owner.now (tables_of c.args.placement.now.table) c.requires.ready c.args.k c.requires.piece
