@@ -1,5 +1,5 @@
 -- What is written of the pieces of a plan and of the tables.
-use Rattle.std.proofs.Common.{◌≡◌, ℕ, zero, suc, ◌+◌, ◌-◌, ◌<◌, ◌≤◌, Bool, true, false, cond, IsTrue, List, [], ◌∷◌, ◌++◌, length, map, take, get_or, refl, sym, ap, ◌∙◌, subst, arith}
+use Rattle.std.proofs.Common.{◌≡◌, ℕ, zero, suc, ◌+◌, ◌<◌, ◌≤◌, Bool, true, false, cond, List, [], ◌∷◌, ◌++◌, length, map, take, get_or, refl, sym, ap, ◌∙◌, subst, arith}
 use Rattle.std.specs.List.{All}
 use Rattle.std.proofs.Math.ListN.{get_or-map}
 use Rattle.std.proofs.lemmas.List.{length-map, ext_get_or}
@@ -24,7 +24,7 @@ use Rattle.link_plan.specs.Fixes.{piece_at}
 use Rattle.link_plan.specs.Plan.{IsPlanOf}
 use Rattle.link_image.specs.declared.placement.Placement.{Placement}
 use Rattle.link_image.specs.LinkedBytes.{import_tables_at, contents_at, placed_contents}
-use Rattle.link_image.specs.Steps.{HoldTables, CanBeGiven, AreWhole, IsHeld, IsPlaced, IsWritten, given_contents, tables_of}
+use Rattle.link_image.specs.Steps.{HoldTables, CanBeGiven, AreWhole, IsPlaced, IsWritten, given_contents, tables_of}
 use Rattle.link_image.proofs.HeldLemmas.{piece_count, planned_is, same_test, held_at, other_is, table_contents, all_held, length-placed, placed_read, placed_held}
 
 -- ---- what holds a table of base relocations
@@ -93,6 +93,12 @@ laid_same pieces others sections layout same is = record {
 }
 
 -- ---- the pieces of a plan with the bytes of their tables
+
+pub whole_by : (position count : ℕ) (imports others tables : List (List ℕ)) (given pieces whole : List Piece) → position ≡ count → imports ≡ others → given ≡ pieces → AreWhole position imports tables given whole → AreWhole count others tables pieces whole
+whole_by position count imports others tables given pieces whole at same is are =
+    subst (λ (n : ℕ). AreWhole n others tables pieces whole) at
+    (subst (λ (is : List (List ℕ)). AreWhole position is tables pieces whole) same
+    (subst (λ (ps : List Piece). AreWhole position imports tables ps whole) is are))
 
 module _ (options : LinkOptions) (plan : LinkPlan) (planned : IsPlanOf options plan.names plan) where
   abbrev count : ℕ

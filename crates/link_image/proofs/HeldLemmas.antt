@@ -1,5 +1,5 @@
 -- What pieces hold at their places: an import table its bytes, and any other piece what it has.
-use Rattle.std.proofs.Common.{◌≡◌, ℕ, ◌+◌, ◌-◌, ◌<◌, ◌≤◌, ◌&&◌, Bool, true, false, cond, eqb, ltb, IsTrue, List, [], ◌∷◌, ◌++◌, length, map, get_or, refl, sym, ap, ◌∙◌, subst, inl, inr, arith}
+use Rattle.std.proofs.Common.{◌≡◌, ℕ, ◌-◌, ◌<◌, ◌≤◌, Bool, true, false, cond, eqb, ltb, IsTrue, List, [], ◌∷◌, ◌++◌, length, get_or, refl, sym, ap, ◌∙◌, subst, inl, inr, arith}
 use Rattle.std.specs.List.{All, filter}
 use Rattle.std.proofs.Math.ListN.{get_or-map}
 use Rattle.std.proofs.lemmas.Bool.{cases_lt, and_parts, eqb-true, false≢true}
@@ -15,7 +15,7 @@ use Rattle.section_group.specs.PieceContents.{piece_contents}
 use Rattle.address_layout.specs.declared.layout.Layout.{Layout}
 use Rattle.address_layout.specs.Layout.{all_pieces}
 use Rattle.relocate.specs.declared.fix.Fix.{Fix}
-use Rattle.relocate.specs.Field.{has_field, field_end}
+use Rattle.relocate.specs.Field.{has_field}
 use Rattle.relocate.specs.Judged.{IsPatchable, ArePatchable}
 use Rattle.import_tables.specs.ImportShape.{sizes_of}
 use Rattle.import_tables.specs.ImportTables.{tables_of as import_tables_of}

@@ -1,5 +1,5 @@
 -- The bytes of a piece in the memory that a layout means, and the directories in its file.
-use Rattle.std.proofs.Common.{◌≡◌, ℕ, zero, suc, ◌+◌, ◌*◌, ◌^◌, ◌<◌, ◌≤◌, nat_lt, cond, List, [], ◌∷◌, length, get_or, slice_index, slice_get, Some, refl, sym, ap, ◌∙◌, subst, le-ltb, arith}
+use Rattle.std.proofs.Common.{◌≡◌, ℕ, zero, suc, ◌+◌, ◌*◌, ◌^◌, ◌<◌, ◌≤◌, nat_lt, false, List, [], ◌∷◌, length, get_or, slice_index, slice_get, Some, refl, sym, ap, ◌∙◌, subst, le-ltb, arith}
 use Rattle.std.proofs.lemmas.Bool.{cond-false}
 use Rattle.std.proofs.lemmas.List.{length-map}
 use Rattle.std.proofs.lemmas.List.FromFn.{get_or-map-range_with_len, length-map-range_with_len}
@@ -13,7 +13,7 @@ use Rattle.address_layout.specs.Layout.{placed_at}
 use Rattle.address_layout.specs.Places.{row_at}
 use Rattle.pe_loader.specs.LoadedImage.{directory_rva}
 use Rattle.image_writer.specs.declared.headers.Headers.{Headers}
-use Rattle.image_writer.specs.ExpectedImage.{ImagePlan, PlacedBytes, piece_byte, plan_bytes, plan_headers, expected_byte, expected_image, image_file}
+use Rattle.image_writer.specs.ExpectedImage.{ImagePlan, PlacedBytes, piece_byte, expected_byte, expected_image, image_file}
 use Rattle.image_writer.specs.HeaderTable.{size_of_headers, directory_fields}
 use Rattle.image_writer.specs.PieceInFile.{piece_at}
 use Rattle.image_writer.specs.RawData.{all_bytes}
@@ -24,7 +24,7 @@ use Rattle.image_writer.proofs.HeaderParts.{length-directory_fields, parts_stand
 use Rattle.image_writer.proofs.LaidOutLemmas.{laid_out_written}
 use Rattle.image_writer.proofs.PatchLemmas.{bytes_are}
 use Rattle.image_writer.proofs.PieceInFileLemmas.{pieces_link}
-use Rattle.image_writer.proofs.PieceLemmas.{pieces_of, LiesIn, lies_in, low_in, owner}
+use Rattle.image_writer.proofs.PieceLemmas.{lies_in, low_in, owner}
 use Rattle.image_writer.proofs.PlanBytes.{written_bytes}
 use Rattle.image_writer.proofs.StandsAt.{StandsAt, part_at, reads}
 use Rattle.image_writer.proofs.TableLemmas.{length-section_rows}

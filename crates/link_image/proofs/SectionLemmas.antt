@@ -20,8 +20,9 @@ use Rattle.address_layout.specs.declared.layout.Layout.{Layout}
 use Rattle.address_layout.specs.declared.layout.LayoutError.{LayoutError}
 use Rattle.address_layout.specs.declared.layout.LayoutError.TheVariants as bad
 use Rattle.address_layout.specs.Layout.{all_pieces, IsLayout, IsPlaceRefusal, StandOnce}
+use Rattle.address_layout.specs.Places.{row_at, piece_in}
 use Rattle.address_layout.specs.PermittedBase.{is_permitted, IsBaseRefusal}
-use Rattle.address_layout.proofs.CallerLemmas.{stand_once, stands, layout_bare, size_bare, name_fits}
+use Rattle.address_layout.proofs.CallerLemmas.{stand_once, stands, stands_at, piece_end_inside, all_ends_inside, layout_bare, size_bare, name_fits}
 use Rattle.image_writer.specs.declared.headers.Headers.{Headers}
 use Rattle.link_base.specs.declared.fault.Fault.{Fault}
 use Rattle.section_group.specs.PieceContents.{piece_contents}
@@ -141,11 +142,17 @@ entry_fits options link pieces sections reloc layout place grouped placed stand 
     let needs : needs_place input piece ≡ true = or_right _ _ stand.named in
     name_fits pieces sections reloc layout piece place.value placed.layout_of.standing placed.within (stands input sections piece grouped.grouping used needs) fits stand.inside
 
--- so does the end of a piece with bytes
-pub end_fits : (options : LinkOptions) (link : LinkView) (pieces : List Piece) (sections : List OutSection) (reloc : Bool) (layout : Layout) (k : ℕ) → AreGrouped options link pieces sections → ArePlaced pieces sections reloc layout → k < length pieces → 0 < (get_or pieces k no_piece).size → get_or layout.pieces.items k 0 < 2 ^ 32 → get_or layout.pieces.items k 0 + (get_or pieces k no_piece).size < 2 ^ 32
-end_fits options link pieces sections reloc layout k grouped placed lt some fits =
+-- a piece with bytes ends inside the image
+pub end_fits : (options : LinkOptions) (link : LinkView) (pieces : List Piece) (sections : List OutSection) (reloc : Bool) (layout : Layout) (k : ℕ) → AreGrouped options link pieces sections → ArePlaced pieces sections reloc layout → k < length pieces → 0 < (get_or pieces k no_piece).size → get_or layout.pieces.items k 0 + (get_or pieces k no_piece).size ≤ IMAGE_LIMIT
+end_fits options link pieces sections reloc layout k grouped placed lt some =
     let input = link_input options link pieces in
-    name_fits pieces sections reloc layout k (get_or pieces k no_piece).size placed.layout_of.standing placed.within (stands input sections k grouped.grouping (used_there options link pieces k lt) (needs_there input k (inl some))) fits (omega arith)
+    let standing = placed.layout_of.standing in
+    let at = stands_at sections k (stands input sections k grouped.grouping (used_there options link pieces k lt) (needs_there input k (inl some))) in
+    let size : (piece_in pieces (row_at sections at.section) at.number).size ≡ (get_or pieces k no_piece).size = ap (λ (n : ℕ). (get_or pieces n no_piece).size) at.is in
+    let place : get_or layout.pieces.items k 0 ≡ standing.place at.section at.number = ap (λ (n : ℕ). get_or layout.pieces.items n 0) (sym at.is) ∙ standing.written at.section at.number at.there at.within in
+    let inside = piece_end_inside (standing.arranged.each at.section at.there) at.number at.within (omega (arith, some, size)) in
+    let within = all_ends_inside pieces sections reloc layout at.section standing at.there in
+    omega (arith, size, place, inside, within, placed.within)
 
 -- ---- the base
 
@@ -203,7 +210,7 @@ placed_alone options plan placement planned grouped placed alone none =
       stands = λ k lt needs. stands input sections k grouped.grouping (used_there options link pieces k lt) (needs_there input k needs);
       room = omega (arith, placed.layout_of.standing.rva_for_each);
       fits = λ place stand small. entry_fits options link pieces sections false layout place grouped placed stand small;
-      ends = λ k lt some fits. end_fits options link pieces sections false layout k grouped placed lt some fits;
+      ends = λ k lt some. end_fits options link pieces sections false layout k grouped placed lt some;
       few = omega (arith, placed.few);
       small = subst (λ (ts : List (List ℕ)). All (λ table. length table < 2 ^ 32) ts) (sym none) (All-nil (λ (table : List ℕ). length table < 2 ^ 32));
     }
@@ -254,10 +261,10 @@ placed_with_table options plan sections before fields placement planned grouped 
           ap (λ (rvas : List ℕ). get_or rvas place.piece 0) added.pieces ∙ get_or_append_left before.pieces.items (added.placed.rva ∷ []) 0 place.piece (omega (arith, stand.within, count)) in
           let here = entry_fits options link pieces sections true before place grouped placed stand (omega (arith, same, fits)) in
           omega (arith, same, here);
-      ends = λ k lt some fits.
+      ends = λ k lt some.
           let same : get_or layout.pieces.items k 0 ≡ get_or before.pieces.items k 0 =
           ap (λ (rvas : List ℕ). get_or rvas k 0) added.pieces ∙ get_or_append_left before.pieces.items (added.placed.rva ∷ []) 0 k (omega (arith, lt, count)) in
-          let here = end_fits options link pieces sections true before k grouped placed lt some (omega (arith, same, fits)) in
+          let here = end_fits options link pieces sections true before k grouped placed lt some in
           omega (arith, same, here);
       few = omega (arith, placed.few, ap length ends.is, length-append sections (section ∷ []));
       small = subst (λ (ts : List (List ℕ)). All (λ table. length table < 2 ^ 32) ts) (sym tables) (All-cons (λ (table : List ℕ). length table < 2 ^ 32) (blocks_of fields) [] small (All-nil (λ (table : List ℕ). length table < 2 ^ 32)));

@@ -1,11 +1,10 @@
 -- The pieces of the import tables, where they stand, and that they end below 4 GiB.
-use Rattle.std.proofs.Common.{◌≡◌, ℕ, zero, suc, ◌+◌, ◌^◌, ◌<◌, ◌≤◌, ◌&&◌, Bool, true, false, cond, eqb, ltb, List, [], ◌∷◌, length, map, get_or, slice_index, Option, Some, None, IfSome, refl, sym, ap, ◌∙◌, subst, lt-ltb, eq-eqb, arith}
+use Rattle.std.proofs.Common.{◌≡◌, ℕ, zero, suc, ◌+◌, ◌^◌, ◌<◌, ◌≤◌, Bool, true, cond, eqb, ltb, List, length, map, get_or, slice_index, Option, Some, None, IfSome, refl, sym, ap, ◌∙◌, subst, lt-ltb, arith}
 use Rattle.std.specs.List.{All, range_with_len}
 use Rattle.std.specs.Option.{option_or}
 use Rattle.std.proofs.Math.Path.{fun_ext}
 use Rattle.std.proofs.lemmas.Bool.{and_parts, and_from, eqb-true}
 use Rattle.std.proofs.lemmas.List.{ext_get_or, get_or_default}
-use Rattle.std.proofs.lemmas.List.Elements.{All-map}
 use Rattle.std.proofs.lemmas.List.FromFn.{get_or-map-range_with_len, length-map-range_with_len}
 use Rattle.link_base.specs.Bytes.{first_below}
 use Rattle.link_base.proofs.CallerLemmas.{first_below-some}
@@ -124,21 +123,22 @@ module _ (options : LinkOptions) (plan : LinkPlan) (planned : IsPlanOf options p
   -- ---- each ends below 4 GiB
 
   module _ (placement : Placement) (placed : IsPlaced options plan placement) where
-    table_ends : (number : ℕ) → number < 5 → table_rva plan.names placement.layout number < 2 ^ 32 → size_at (import_sizes plan.names.modules) number < 2 ^ 32 → table_rva plan.names placement.layout number + size_at (import_sizes plan.names.modules) number < 2 ^ 32
-    table_ends number few = by (linker_index plan.names number) refl
+    table_ends : (number : ℕ) → number < 5 → size_at (import_sizes plan.names.modules) number < 2 ^ 32 → table_rva plan.names placement.layout number + size_at (import_sizes plan.names.modules) number < 2 ^ 32
+    table_ends number few small = by (linker_index plan.names number) refl
       where
-        by : (place : Option ℕ) → linker_index plan.names number ≡ place → rva_of placement.layout.pieces.items place < 2 ^ 32 → size_at (import_sizes plan.names.modules) number < 2 ^ 32 → rva_of placement.layout.pieces.items place + size_at (import_sizes plan.names.modules) number < 2 ^ 32
-        by None none low small = omega (arith, small)
-        by (Some k) found low small =
+        by : (place : Option ℕ) → linker_index plan.names number ≡ place → rva_of placement.layout.pieces.items place + size_at (import_sizes plan.names.modules) number < 2 ^ 32
+        by None none = omega (arith, small)
+        by (Some k) found =
             let at = found_table plan.names number k (omega (arith, few)) found in
             let lt : k < length plan.pieces.items = omega (arith, at.there, piece_count options plan planned) in
             let same = same_size options plan planned k lt in
             let size : (piece_at plan.names k).size ≡ size_at (import_sizes plan.names.modules) number = at.is.size ∙ ap (size_at (import_sizes plan.names.modules)) at.number_is in
-            let end = placed.ends k lt (omega (arith, same, at.is.some)) low in
+            let end = placed.ends k lt (omega (arith, same, at.is.some)) in
             omega (arith, end, same, size)
 
-    pub tables_end : (rvas sizes : List ℕ) → rvas ≡ table_rvas plan.names placement.layout → sizes ≡ import_sizes plan.names.modules → ((n : ℕ) → slice_index rvas n < 2 ^ 32) → ((n : ℕ) → slice_index sizes n < 2 ^ 32) → EndBelow4G rvas sizes
-    tables_end rvas sizes are same low small = record {
+    pub tables_end : (rvas sizes : List ℕ) → rvas ≡ table_rvas plan.names placement.layout → sizes ≡ import_sizes plan.names.modules → ((n : ℕ) → n < 5 → slice_index sizes n < 2 ^ 32) → EndBelow4G rvas sizes
+    unfolding table_rvas
+    tables_end rvas sizes are same small = record {
       directory = at 0 (omega arith);
       lookups = at 1 (omega arith);
       slots = at 2 (omega arith);
@@ -147,14 +147,12 @@ module _ (options : LinkOptions) (plan : LinkPlan) (planned : IsPlanOf options p
     }
       where
         rva_is : (n : ℕ) → n < 5 → slice_index rvas n ≡ table_rva plan.names placement.layout n
-        unfolding table_rvas
         rva_is n lt = ap (λ (xs : List ℕ). get_or xs n 0) are ∙ get_or-map-range_with_len (table_rva plan.names placement.layout) 0 5 n n 0 lt (omega arith)
 
         at : (n : ℕ) → n < 5 → slice_index rvas n + slice_index sizes n < 2 ^ 32
         at n lt =
             let rva = rva_is n lt in
             let size : slice_index sizes n ≡ size_at (import_sizes plan.names.modules) n = ap (λ (xs : List ℕ). get_or xs n 0) same in
-            let fits = low n in
-            let holds_size = small n in
-            let end = table_ends n lt (omega (arith, rva, fits)) (omega (arith, size, holds_size)) in
+            let fits = small n lt in
+            let end = table_ends n lt (omega (arith, size, fits)) in
             omega (arith, rva, size, end)

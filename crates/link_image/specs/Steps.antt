@@ -26,7 +26,7 @@ use Rattle.link_pieces.specs.LinkerPieces.{is_table}
 use Rattle.link_pieces.specs.PieceIndex.{is_numbered, holds}
 use Rattle.link_pieces.specs.Pieces.{link_pieces}
 use Rattle.link_plan.specs.Fixes.{HaveFields, plan_pieces}
-use Rattle.link_base.specs.Limits.{SECTION_LIMIT}
+use Rattle.link_base.specs.Limits.{SECTION_LIMIT, IMAGE_LIMIT}
 use Rattle.link_words.specs.Outcome.{LinkOptions}
 use Rattle.link_plan.specs.declared.planning.LinkPlan.{LinkPlan}
 use Rattle.link_plan.specs.declared.entry.EntryPlace.{EntryPlace}
@@ -91,7 +91,7 @@ pub record IsPlaced (options : LinkOptions) (plan : LinkPlan) (placement : Place
   pub stands : (k : ℕ) → k < length plan.pieces.items → ((0 < (slice_index_or plan.pieces.items k no_piece).size) ⊎ ((slice_index_or plan.pieces.items k no_piece).named ≡ true)) → Contains (all_pieces placement.sections.items) k
   pub room : length plan.pieces.items ≤ length placement.layout.pieces.items
   pub fits : (place : EntryPlace) → StandsNamed plan.pieces.items place → slice_index placement.layout.pieces.items place.piece < 2 ^ 32 → slice_index placement.layout.pieces.items place.piece + place.value < 2 ^ 32
-  pub ends : (k : ℕ) → k < length plan.pieces.items → 0 < (slice_index_or plan.pieces.items k no_piece).size → slice_index placement.layout.pieces.items k < 2 ^ 32 → slice_index placement.layout.pieces.items k + (slice_index_or plan.pieces.items k no_piece).size < 2 ^ 32
+  pub ends : (k : ℕ) → k < length plan.pieces.items → 0 < (slice_index_or plan.pieces.items k no_piece).size → slice_index placement.layout.pieces.items k + (slice_index_or plan.pieces.items k no_piece).size ≤ IMAGE_LIMIT
   pub few : length placement.sections.items ≤ SECTION_LIMIT
   pub small : All (λ table. length table < 2 ^ 32) (tables_of placement.table)
 

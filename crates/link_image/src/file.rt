@@ -1,6 +1,6 @@
 //! The file of the image, before its fields are patched.
 
-ghost use Rattle.std.specs.Prelude.{◌≡◌, ◌<◌, ◌^◌, ◌∷◌, [], true, length, map, IfOk};
+ghost use Rattle.std.specs.Prelude.{◌≡◌, ◌<◌, ◌^◌, ◌∷◌, [], true, false, Some, length, map, slice_index_or, option_copied, IfOk};
 ghost use Rattle.std.specs.List.{All};
 ghost use Rattle.section_group.specs.BarePieces.{bare};
 ghost use Rattle.section_group.specs.PieceContents.{piece_contents};
@@ -69,25 +69,10 @@ fn whole_pieces<'b, 'a: 'b>(
 }
 
 /// The piece once more, with its bytes where it is an import table.
-fn with_table<'b, 'a: 'b>(
-    position: usize,
-    piece: &Piece<'a>,
-    tables: &'b [Vec<u8>; 5],
-) -> Piece<'b>
+fn with_table<'b, 'a: 'b>(position: usize, piece: &Piece<'a>, tables: &'b [Vec<u8>; 5]) -> Piece<'b>
     requires { is_table position piece.now ≡ true → CanBeGiven piece.now }
     ensures same { bare result ≡ bare piece.now }
     ensures contents { piece_contents result ≡ given_contents position (map (λ table. table.items) tables.now) piece.now }
-{
-    let mut whole = again(piece);
-    if piece.module as usize == position && piece.number < FIRST_THUNK {
-        whole.body = Some(&tables[piece.number as usize]);
-    }
-    whole
-}
-
-/// The piece once more.
-fn again<'b, 'a: 'b>(piece: &Piece<'a>) -> Piece<'b>
-    ensures { result ≡ piece.now }
 {
     Piece {
         module: piece.module,
@@ -96,10 +81,26 @@ fn again<'b, 'a: 'b>(piece: &Piece<'a>) -> Piece<'b>
         flags: piece.flags,
         size: piece.size,
         align: piece.align,
-        body: piece.body,
+        body: given_body(position, piece, tables),
         init: piece.init,
         named: piece.named,
     }
+}
+
+/// The bytes of an import table, or those that another piece has.
+fn given_body<'b, 'a: 'b>(
+    position: usize,
+    piece: &Piece<'a>,
+    tables: &'b [Vec<u8>; 5],
+) -> Option<&'b [u8]>
+    requires { is_table position piece.now ≡ true → CanBeGiven piece.now }
+    ensures table { is_table position piece.now ≡ true → option_copied result ≡ Some (slice_index_or (map (λ table. table.items) tables.now) piece.now.number []) }
+    ensures other { is_table position piece.now ≡ false → result ≡ piece.now.body }
+{
+    if piece.module as usize == position && piece.number < FIRST_THUNK {
+        return Some(&tables[piece.number as usize]);
+    }
+    piece.body
 }
 
 /// The piece that holds the table of base relocations.

@@ -42,7 +42,8 @@ pub fn build<'a>(
     let count = placement.sections.len() as u32;
     check_own_base(plan, options, &placement)?;
     let entry = entry_rva(plan, options, &placement);
-    let places = table_places(plan.modules.len(), &plan.pieces);
+    let position = plan.modules.len();
+    let places = table_places(position, &plan.pieces);
     let tables = import_tables(alloc, plan, options, &placement, &places)?;
     let directories = directories_of(plan, options, &placement, &places);
     let headers = headers_of(options, entry, directories);

@@ -1,6 +1,6 @@
 //! The import tables, once their pieces have places.
 
-ghost use Rattle.std.specs.Prelude.{◌≡◌, ◌<◌, ℕ, Some, None, length, map, slice_index_or, if◌then◌else◌, All, IfSome, IfOk};
+ghost use Rattle.std.specs.Prelude.{◌≡◌, ◌<◌, ◌^◌, ℕ, Some, None, length, map, slice_index, slice_index_or, if◌then◌else◌, All, IfSome, IfOk};
 ghost use Rattle.std.specs.Option.{option_or};
 ghost use Rattle.link_pieces.specs.PieceIndex.{is_numbered};
 ghost use Rattle.link_words.specs.Outcome.{options_said};
@@ -62,8 +62,14 @@ pub(crate) fn import_tables<'a>(
     ensures { IfOk result (λ tables. map (λ table. table.items) tables ≡ import_tables_at plan.now.names placement.now.layout) }
 {
     let rvas = table_rvas(&placement.layout.pieces, places);
+    are_words(&plan.imports.shape.lengths);
     fill(alloc, &plan.imports.rows, &plan.imports.shape, rvas)
 }
+
+/// What the type of the sizes says: each is a number of 32 bits.
+fn are_words(sizes: &[u32])
+    ensures { (number : ℕ) → slice_index sizes.now number < 2 ^ 32 }
+{}
 
 /// The directories of the image, in which the import tables are these pieces.
 pub(crate) fn directories_of<'a>(
