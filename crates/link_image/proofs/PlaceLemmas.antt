@@ -1,5 +1,5 @@
 -- What layouts say of the fields of a link: the places of pieces and of sections decide it.
-use Rattle.std.proofs.Common.{◌≡◌, ℕ, cond, List, [], length, map, get_or, Option, option_map, ap, ◌∙◌}
+use Rattle.std.proofs.Common.{◌≡◌, ℕ, ◌-◌, cond, List, [], ◌∷◌, length, map, get_or, Option, option_map, ap, ◌∙◌}
 use Rattle.std.specs.List.{range_with_len}
 use Rattle.std.proofs.Math.Path.{fun_ext}
 use Rattle.link_base.specs.Refusals.{first_refusal_below}
@@ -16,6 +16,8 @@ use Rattle.link_pieces.specs.LinkerPieces.{is_table}
 use Rattle.link_pieces.specs.PieceIndex.{linker_index}
 use Rattle.link_pieces.specs.Pieces.{link_pieces, link_contents}
 use Rattle.link_plan.specs.Fixes.{piece_at, piece_fixes}
+use Rattle.link_image.specs.declared.headers.Directories.{Directories}
+use Rattle.link_image.specs.LinkedImage.{extent_of, directories_of}
 use Rattle.link_image.specs.LinkedBytes.{owners, owners_in, rva_of, table_rvas, import_tables_at, contents_at, linked_bytes, linked_contents, out_of_range, piece_range_fault, fields_range_fault}
 
 module _ (layout other : Layout) (pieces : layout.pieces.items ≡ other.pieces.items) (sections : layout.sections.items ≡ other.sections.items) where
@@ -46,3 +48,17 @@ pub range_by_places : (link : LinkView) (rows : List SectionRow) (layout other :
 unfolding fields_range_fault
 range_by_places link rows layout other base pieces sections =
     ap (λ (f : ℕ → Option Fault). first_refusal_below (length (link_pieces link)) f) (fun_ext (λ k. fault_same layout other pieces sections link rows base k))
+
+-- the directories, by the RVAs of the pieces and the one of the base relocations
+directories : LinkView → ℕ × ℕ → List ℕ → Directories
+directories link relocations rvas = record {
+  imports = extent_of (link_pieces link) rvas (linker_index link 0);
+  slots = extent_of (link_pieces link) rvas (linker_index link 2);
+  relocations = relocations;
+}
+
+pub directories_by_places : (link : LinkView) (layout other : Layout) (tables : List (List ℕ)) → layout.pieces.items ≡ other.pieces.items → directories_of link layout tables ≡ directories_of link other tables
+unfolding directories
+directories_by_places link layout other [] pieces = ap (directories link (0, 0)) pieces
+directories_by_places link layout other (table ∷ tables) pieces =
+    ap (λ (rvas : List ℕ). directories link (get_or rvas (length rvas - 1) 0, length table) rvas) pieces
