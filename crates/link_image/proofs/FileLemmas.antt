@@ -24,7 +24,7 @@ use Rattle.link_plan.specs.Fixes.{piece_at}
 use Rattle.link_plan.specs.Plan.{IsPlanOf}
 use Rattle.link_image.specs.declared.placement.Placement.{Placement}
 use Rattle.link_image.specs.LinkedBytes.{import_tables_at, contents_at, placed_contents}
-use Rattle.link_image.specs.Steps.{HoldTables, CanBeGiven, AreWhole, IsPlaced, IsWritten, given_contents, tables_of}
+use Rattle.link_image.specs.Steps.{HoldTables, CanBeGiven, AreWhole, IsPlaced, IsWritten, given_contents, reloc_tables}
 use Rattle.link_image.proofs.HeldLemmas.{piece_count, planned_is, same_test, held_at, other_is, table_contents, all_held, length-placed, placed_read, placed_held}
 
 -- ---- what holds a table of base relocations
@@ -158,12 +158,12 @@ module _ (options : LinkOptions) (plan : LinkPlan) (planned : IsPlanOf options p
       ∙ given_is layout k within
       ∙ sym (placed_read plan.names layout k (omega (arith, within, same))))
 
-  module _ (placement : Placement) (placed : IsPlaced options plan placement) (whole : List Piece) (are : AreWhole (length plan.names.modules) (import_tables_at plan.names placement.layout) (tables_of placement.table) plan.pieces.items whole) where
+  module _ (placement : Placement) (placed : IsPlaced options plan placement) (whole : List Piece) (are : AreWhole (length plan.names.modules) (import_tables_at plan.names placement.layout) (reloc_tables placement.table) plan.pieces.items whole) where
     abbrev contents : List (List ℕ)
     contents = placed_contents plan.names placement.layout
 
-    held_are : map piece_contents whole ≡ placed_contents plan.names placement.layout ++ tables_of placement.table
-    held_are = are.contents ∙ ap (λ (cs : List (List ℕ)). cs ++ tables_of placement.table) (all_given placement.layout)
+    held_are : map piece_contents whole ≡ placed_contents plan.names placement.layout ++ reloc_tables placement.table
+    held_are = are.contents ∙ ap (λ (cs : List (List ℕ)). cs ++ reloc_tables placement.table) (all_given placement.layout)
 
     pub whole_laid : IsLaidOut whole placement.sections.items placement.layout
     whole_laid = laid_same (plan.pieces.items ++ are.rest) whole placement.sections.items placement.layout are.same (placed.laid are.rest are.holds)
@@ -173,7 +173,7 @@ module _ (options : LinkOptions) (plan : LinkPlan) (planned : IsPlanOf options p
         let n = same_count (plan.pieces.items ++ are.rest) whole are.same in
         let same = bare_same (plan.pieces.items ++ are.rest) whole are.same k in
         let total = piece_count options plan planned in
-        let held = all_held plan.pieces.items are.rest (placed_contents plan.names placement.layout) (tables_of placement.table) (length-placed plan.names placement.layout ∙ sym total) (placed_held plan.names placement.layout plan.pieces.items total (held_at options plan planned placement.layout)) are.holds k (omega (arith, lt, n)) in
+        let held = all_held plan.pieces.items are.rest (placed_contents plan.names placement.layout) (reloc_tables placement.table) (length-placed plan.names placement.layout ∙ sym total) (placed_held plan.names placement.layout plan.pieces.items total (held_at options plan planned placement.layout)) are.holds k (omega (arith, lt, n)) in
         sym (ap length (get_or-map piece_contents whole k no_piece))
         ∙ ap (λ (cs : List (List ℕ)). length (get_or cs k [])) held_are
         ∙ held.filled (sym (ap (λ (p : Piece). p.init) same) ∙ init)

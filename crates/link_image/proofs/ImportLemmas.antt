@@ -37,7 +37,7 @@ use Rattle.link_image.specs.declared.placement.Placement.{Placement}
 use Rattle.link_image.specs.ImageHeaders.{headers_of}
 use Rattle.link_image.specs.LinkedBytes.{section_of, owners_in, rva_of, table_rva, table_rvas, import_tables_at, contents_at, image_contents}
 use Rattle.link_image.specs.LinkedImage.{extent_of, import_extent, directories_of, AreMade, HoldsImports}
-use Rattle.link_image.specs.Steps.{tables_of, IsPlaced, IsReady}
+use Rattle.link_image.specs.Steps.{reloc_tables, IsPlaced, IsReady}
 use Rattle.link_image.proofs.HeldLemmas.{piece_count, same_size, table_contents, table_fixes, length-table}
 use Rattle.link_image.proofs.MemoryLemmas.{directory_reads, above_headers, in_memory}
 use Rattle.link_image.proofs.MoveLemmas.{contents_room}
@@ -126,7 +126,7 @@ extent_rva pieces rvas (Some k) = refl
 -- ---- the image of a plan
 
 module _ (options : LinkOptions) (plan : LinkPlan) (placement : Placement) (owner : List ℕ) (planned : IsPlanOf options plan.names plan) (placed : IsPlaced options plan placement)
-    (ready : IsReady plan.names plan.pieces.items plan.fixes.items placement.sections.items placement.layout owner (tables_of placement.table))
+    (ready : IsReady plan.names plan.pieces.items plan.fixes.items placement.sections.items placement.layout owner (reloc_tables placement.table))
     (headers : Headers) where
   abbrev link : LinkView
   link = plan.names
@@ -138,7 +138,7 @@ module _ (options : LinkOptions) (plan : LinkPlan) (placement : Placement) (owne
   sections = placement.sections.items
 
   abbrev contents : ℕ → List (List ℕ)
-  contents base = image_contents plan.names (rows_of placement.sections.items) placement.layout (tables_of placement.table) base
+  contents base = image_contents plan.names (rows_of placement.sections.items) placement.layout (reloc_tables placement.table) base
 
   abbrev image : ImagePlan
   image = layout_plan headers placement.sections.items placement.layout contents
@@ -160,7 +160,7 @@ module _ (options : LinkOptions) (plan : LinkPlan) (placement : Placement) (owne
   table_linked base number k at =
       let rva = get_or placement.layout.pieces.items k 0 in
       let owners = owners_in (rows_of placement.sections.items) placement.layout in
-      piece_read plan.names (rows_of placement.sections.items) placement.layout base (tables_of placement.table) k at.there
+      piece_read plan.names (rows_of placement.sections.items) placement.layout base (reloc_tables placement.table) k at.there
       ∙ ap (λ (fixes : List Fix). patched_bytes base rva placement.layout owners fixes (contents_at plan.names placement.layout k)) (table_fixes plan.names k at.table)
       ∙ nothing_patched base rva placement.layout owners (contents_at plan.names placement.layout k)
       ∙ table_contents plan.names placement.layout k at.table
@@ -177,7 +177,7 @@ module _ (options : LinkOptions) (plan : LinkPlan) (placement : Placement) (owne
       let some : 0 < (get_or plan.pieces.items k no_piece).size = omega (arith, same, at.is.some) in
       let own : OwnerAt placement.sections.items k = owner_at placement.sections.items k (ready.stands k lt (inl some)) in
       let i = section_of (rows_of placement.sections.items) k in
-      let room = contents_room plan.names plan.pieces.items plan.fixes.items placement.sections.items placement.layout owner (tables_of placement.table) ready base in
+      let room = contents_room plan.names plan.pieces.items plan.fixes.items placement.sections.items placement.layout owner (reloc_tables placement.table) ready base in
       let linked = table_linked base number k at in
       let len : length (get_or (contents base) k []) ≡ size number = ap length linked ∙ length-table plan.names placement.layout number in
       let there = in_memory headers (plan.pieces.items ++ ready.rest) placement.sections.items placement.layout contents base ready.laid room i own.number own.there own.within in
@@ -254,7 +254,7 @@ module _ (options : LinkOptions) (plan : LinkPlan) (placement : Placement) (owne
         ]
 
     -- the directory that the headers name
-    directory_is : (entry : ℕ) → headers ≡ headers_of options entry (directories_of plan.names placement.layout (tables_of placement.table)) → directory_rva (image_file image) 1 ≡ table_rva plan.names placement.layout 0
+    directory_is : (entry : ℕ) → headers ≡ headers_of options entry (directories_of plan.names placement.layout (reloc_tables placement.table)) → directory_rva (image_file image) 1 ≡ table_rva plan.names placement.layout 0
     unfolding written_plan
     directory_is entry is =
         let rva = extent_rva (link_pieces plan.names) placement.layout.pieces.items (linker_index plan.names 0) in
@@ -262,7 +262,7 @@ module _ (options : LinkOptions) (plan : LinkPlan) (placement : Placement) (owne
         directory_reads image 1 (import_extent plan.names placement.layout 0) (ap (λ (h : Headers). slice_get h.directories 1) is) (omega (arith, rva, end))
         ∙ rva
 
-    pub imports_there : (entry : ℕ) (file : List ℕ) → headers ≡ headers_of options entry (directories_of plan.names placement.layout (tables_of placement.table)) → file ≡ image_file image → MeansPlan image file → AreReadable (import_rows plan.names.modules) → HoldsImports plan.names placement.layout file
+    pub imports_there : (entry : ℕ) (file : List ℕ) → headers ≡ headers_of options entry (directories_of plan.names placement.layout (reloc_tables placement.table)) → file ≡ image_file image → MeansPlan image file → AreReadable (import_rows plan.names.modules) → HoldsImports plan.names placement.layout file
     imports_there entry file is written means readable base memory loads =
         ap (λ (m : List ℕ). imports_of m (directory_rva file 1)) (loaded_is image file means base memory loads)
         ∙ ap (imports_of (expected_image image base)) (ap (λ (bytes : List ℕ). directory_rva bytes 1) written ∙ directory_is entry is)

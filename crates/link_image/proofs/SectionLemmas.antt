@@ -42,7 +42,7 @@ use Rattle.link_base.specs.Limits.{IMAGE_LIMIT}
 use Rattle.link_image.specs.declared.placement.Placement.{Placement}
 use Rattle.link_image.specs.BaseFields.{is_relocated, AreBaseFields}
 use Rattle.link_image.specs.LinkedBytes.{owners_in, fields_range_fault}
-use Rattle.link_image.specs.Steps.{tables_of, EndsWithTable, IsPlaced, IsReady, IsWritten}
+use Rattle.link_image.specs.Steps.{reloc_tables, EndsWithTable, IsPlaced, IsReady, IsWritten}
 use Rattle.link_image.specs.LinkedImage.{link_input, base_rule, table_row, AreGrouped, ArePlaced, IsWhole, IsPlacement}
 use Rattle.link_image.specs.BuildFaults.{IsBuildFault}
 use Rattle.link_image.proofs.HeldLemmas.{held_at}
@@ -189,7 +189,7 @@ no_pieces f [] e = refl
 no_pieces f (x ∷ xs) e = absurd cc
 
 -- without a table of base relocations
-pub placed_alone : (options : LinkOptions) (plan : LinkPlan) (placement : Placement) → IsPlanOf options plan.names plan → AreGrouped options plan.names plan.pieces.items placement.sections.items → ArePlaced plan.pieces.items placement.sections.items false placement.layout → is_relocated options plan.names ≡ false → tables_of placement.table ≡ [] → IsPlaced options plan placement
+pub placed_alone : (options : LinkOptions) (plan : LinkPlan) (placement : Placement) → IsPlanOf options plan.names plan → AreGrouped options plan.names plan.pieces.items placement.sections.items → ArePlaced plan.pieces.items placement.sections.items false placement.layout → is_relocated options plan.names ≡ false → reloc_tables placement.table ≡ [] → IsPlaced options plan placement
 placed_alone options plan placement planned grouped placed alone none =
     let link = plan.names in
     let pieces = plan.pieces.items in
@@ -202,7 +202,7 @@ placed_alone options plan placement planned grouped placed alone none =
         grouped = grouped_modules options link pieces sections planned.pieces_are grouped;
         before = layout;
         placed = subst (λ (r : Bool). ArePlaced (plan_pieces options link) sections r layout) (sym alone) (placed_modules options link pieces sections false layout planned.pieces_are placed);
-        whole = subst (λ (r : Bool). IsWhole r link (rows_of sections) layout (rows_of sections) layout (tables_of placement.table)) (sym alone) (refl, refl, none);
+        whole = subst (λ (r : Bool). IsWhole r link (rows_of sections) layout (rows_of sections) layout (reloc_tables placement.table)) (sym alone) (refl, refl, none);
       };
       laid = λ rest holds.
           let empty : rest ≡ [] = no_pieces piece_contents rest (holds.contents ∙ none) in
@@ -224,7 +224,7 @@ sections_more : (sections : List OutSection) (section : OutSection) → all_piec
 sections_more sections section = flat_map-append (λ (s : OutSection). s.pieces.items) sections (section ∷ [])
 
 -- with a table after all other sections
-pub placed_with_table : (options : LinkOptions) (plan : LinkPlan) (sections : List OutSection) (before : Layout) (fields : List BaseField) (placement : Placement) → IsPlanOf options plan.names plan → AreGrouped options plan.names plan.pieces.items sections → ArePlaced plan.pieces.items sections true before → is_relocated options plan.names ≡ true → AreBaseFields plan.names before.pieces.items fields → EndsWithTable sections placement.sections.items (length plan.pieces.items) → Appends before placement.layout (length (blocks_of fields)) → placement.layout.image ≤ IMAGE_LIMIT → tables_of placement.table ≡ blocks_of fields ∷ [] → length (blocks_of fields) < 2 ^ 32 → IsPlaced options plan placement
+pub placed_with_table : (options : LinkOptions) (plan : LinkPlan) (sections : List OutSection) (before : Layout) (fields : List BaseField) (placement : Placement) → IsPlanOf options plan.names plan → AreGrouped options plan.names plan.pieces.items sections → ArePlaced plan.pieces.items sections true before → is_relocated options plan.names ≡ true → AreBaseFields plan.names before.pieces.items fields → EndsWithTable sections placement.sections.items (length plan.pieces.items) → Appends before placement.layout (length (blocks_of fields)) → placement.layout.image ≤ IMAGE_LIMIT → reloc_tables placement.table ≡ blocks_of fields ∷ [] → length (blocks_of fields) < 2 ^ 32 → IsPlaced options plan placement
 placed_with_table options plan sections before fields placement planned grouped placed relocated based ends added within tables small =
     let link = plan.names in
     let pieces = plan.pieces.items in
@@ -241,7 +241,7 @@ placed_with_table options plan sections before fields placement planned grouped 
         grouped = grouped_modules options link pieces sections planned.pieces_are grouped;
         before = before;
         placed = subst (λ (r : Bool). ArePlaced (plan_pieces options link) sections r before) (sym relocated) (placed_modules options link pieces sections true before planned.pieces_are placed);
-        whole = subst (λ (r : Bool). IsWhole r link (rows_of sections) before (rows_of placement.sections.items) layout (tables_of placement.table)) (sym relocated)
+        whole = subst (λ (r : Bool). IsWhole r link (rows_of sections) before (rows_of placement.sections.items) layout (reloc_tables placement.table)) (sym relocated)
             (record { fields = fields; based = based; added = added; within = within; rows_are = rows; tables_are = tables });
       };
       laid = λ rest holds.
@@ -273,7 +273,7 @@ placed_with_table options plan sections before fields placement planned grouped 
 -- ---- what is ready
 
 -- the pieces of a plan with their fields, where they stand
-pub ready : (options : LinkOptions) (plan : LinkPlan) (placement : Placement) (headers : Headers) (image owner : List ℕ) → IsPlanOf options plan.names plan → IsPlaced options plan placement → IsWritten headers placement plan.names image → owner ≡ owners_in (rows_of placement.sections.items) placement.layout → IsReady plan.names plan.pieces.items plan.fixes.items placement.sections.items placement.layout owner (tables_of placement.table)
+pub ready : (options : LinkOptions) (plan : LinkPlan) (placement : Placement) (headers : Headers) (image owner : List ℕ) → IsPlanOf options plan.names plan → IsPlaced options plan placement → IsWritten headers placement plan.names image → owner ≡ owners_in (rows_of placement.sections.items) placement.layout → IsReady plan.names plan.pieces.items plan.fixes.items placement.sections.items placement.layout owner (reloc_tables placement.table)
 ready options plan placement headers image owner planned placed written is = record {
   options = options;
   pieces_are = planned.pieces_are;

@@ -62,10 +62,10 @@ Fits rvas fixups k = All (λ fix. slice_index rvas k + fix.at < 2 ^ 32) (slice_i
 
 -- ---- where everything stands
 
--- the tables that the linker makes: that of base relocations, where there is one
-abbrev pub tables_of : {A : Type 0} → Option (Vec ℕ A) → List (List ℕ)
-tables_of None = []
-tables_of (Some table) = table.items ∷ []
+-- the table of base relocations, where there is one
+abbrev pub reloc_tables : {A : Type 0} → Option (Vec ℕ A) → List (List ℕ)
+reloc_tables None = []
+reloc_tables (Some table) = table.items ∷ []
 
 -- pieces that hold the tables, each as long as its table
 pub record HoldTables (tables : List (List ℕ)) (rest : List Piece) : Type 0 where
@@ -86,14 +86,14 @@ pub record EndsWithTable (old new : List OutSection) (k : ℕ) : Type 0 where
 
 -- the placement of a plan: what it means, that it can be written, and that pieces that need a place stand in a section
 pub record IsPlaced (options : LinkOptions) (plan : LinkPlan) (placement : Placement) : Type 0 where
-  pub means : IsPlacement options plan.names (rows_of placement.sections.items) placement.layout (tables_of placement.table)
-  pub laid : (rest : List Piece) → HoldTables (tables_of placement.table) rest → IsLaidOut (plan.pieces.items ++ rest) placement.sections.items placement.layout
+  pub means : IsPlacement options plan.names (rows_of placement.sections.items) placement.layout (reloc_tables placement.table)
+  pub laid : (rest : List Piece) → HoldTables (reloc_tables placement.table) rest → IsLaidOut (plan.pieces.items ++ rest) placement.sections.items placement.layout
   pub stands : (k : ℕ) → k < length plan.pieces.items → ((0 < (slice_index_or plan.pieces.items k no_piece).size) ⊎ ((slice_index_or plan.pieces.items k no_piece).named ≡ true)) → Contains (all_pieces placement.sections.items) k
   pub room : length plan.pieces.items ≤ length placement.layout.pieces.items
   pub fits : (place : EntryPlace) → StandsNamed plan.pieces.items place → slice_index placement.layout.pieces.items place.piece < 2 ^ 32 → slice_index placement.layout.pieces.items place.piece + place.value < 2 ^ 32
   pub ends : (k : ℕ) → k < length plan.pieces.items → 0 < (slice_index_or plan.pieces.items k no_piece).size → slice_index placement.layout.pieces.items k + (slice_index_or plan.pieces.items k no_piece).size ≤ IMAGE_LIMIT
   pub few : length placement.sections.items ≤ SECTION_LIMIT
-  pub small : All (λ table. length table < 2 ^ 32) (tables_of placement.table)
+  pub small : All (λ table. length table < 2 ^ 32) (reloc_tables placement.table)
 
 -- ---- the import tables
 
@@ -163,5 +163,5 @@ mixed_file link headers sections layout tables count =
 -- what was written of pieces and tables
 pub record IsWritten (headers : Headers) (placement : Placement) (link : LinkView) (image : List ℕ) : Type 0 where
   pub rest : List Piece
-  pub holds : HoldTables (tables_of placement.table) rest
-  pub file : image ≡ file_of headers placement.sections.items placement.layout (placed_contents link placement.layout) (tables_of placement.table)
+  pub holds : HoldTables (reloc_tables placement.table) rest
+  pub file : image ≡ file_of headers placement.sections.items placement.layout (placed_contents link placement.layout) (reloc_tables placement.table)

@@ -8,7 +8,7 @@ ghost use Rattle.link_pieces.specs.LinkerPieces.{is_table};
 ghost use Rattle.link_words.specs.Outcome.{options_said};
 ghost use Rattle.link_plan.specs.Plan.{IsPlanOf};
 ghost use Rattle.link_image.specs.LinkedBytes.{import_tables_at};
-ghost use Rattle.link_image.specs.Steps.{AreWhole, CanBeGiven, HoldTables, IsPlaced, IsWritten, given_contents, tables_of};
+ghost use Rattle.link_image.specs.Steps.{AreWhole, CanBeGiven, HoldTables, IsPlaced, IsWritten, given_contents, reloc_tables};
 
 use crate::placement::{Placement, TABLE_FLAGS};
 use image_writer::{Headers, image};
@@ -54,8 +54,8 @@ fn whole_pieces<'b, 'a: 'b>(
     table: &'b Option<Vec<u8>>,
 ) -> Result<Vec<Piece<'b>>, Memory>
     requires given { All (λ piece. is_table position piece ≡ true → CanBeGiven piece) pieces.now }
-    requires small { All (λ table. length table < 2 ^ 32) (tables_of table.now) }
-    ensures { IfOk result (λ whole. AreWhole position (map (λ table. table.items) tables.now) (tables_of table.now) pieces.now whole.items) }
+    requires small { All (λ table. length table < 2 ^ 32) (reloc_tables table.now) }
+    ensures { IfOk result (λ whole. AreWhole position (map (λ table. table.items) tables.now) (reloc_tables table.now) pieces.now whole.items) }
 {
     let mut whole = Vec::with_capacity(alloc, pieces.len() + 1)?;
     for piece in pieces {

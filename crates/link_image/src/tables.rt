@@ -7,7 +7,7 @@ ghost use Rattle.link_words.specs.Outcome.{options_said};
 ghost use Rattle.link_plan.specs.Plan.{IsPlanOf};
 ghost use Rattle.link_image.specs.LinkedBytes.{rva_of, import_tables_at};
 ghost use Rattle.link_image.specs.LinkedImage.{extent_of, directories_of};
-ghost use Rattle.link_image.specs.Steps.{numbered_indexes, tables_of, IsPlaced};
+ghost use Rattle.link_image.specs.Steps.{numbered_indexes, reloc_tables, IsPlaced};
 
 use crate::headers::Directories;
 use crate::placement::{Placement, table_directory};
@@ -81,7 +81,7 @@ pub(crate) fn directories_of<'a>(
     requires plan { IsPlanOf (options_said options.now) plan.now.names plan.now }
     requires placed { IsPlaced (options_said options.now) plan.now placement.now }
     requires places { places.now ≡ numbered_indexes (length plan.now.modules.items) plan.now.pieces.items }
-    ensures { result ≡ directories_of plan.now.names placement.now.layout (tables_of placement.now.table) }
+    ensures { result ≡ directories_of plan.now.names placement.now.layout (reloc_tables placement.now.table) }
 {
     let rvas = &placement.layout.pieces;
     Directories {

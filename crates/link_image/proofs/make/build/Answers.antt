@@ -12,7 +12,7 @@ use Rattle.link_image.specs.declared.placement.Placement.{Placement}
 use Rattle.link_image.specs.ImageHeaders.{headers_of}
 use Rattle.link_image.specs.LinkedBytes.{owners, owners_in, linked_contents, fields_range_fault}
 use Rattle.link_image.specs.LinkedImage.{entry_rva, directories_of}
-use Rattle.link_image.specs.Steps.{tables_of, file_of, IsPlaced, IsWritten}
+use Rattle.link_image.specs.Steps.{reloc_tables, file_of, IsPlaced, IsWritten}
 use Rattle.link_image.proofs.SectionLemmas.{ready, bad_range}
 use Rattle.link_image.proofs.MeansLemmas.{built}
 use Rattle.link_image.proofs.make.build.Goals as goal
@@ -56,14 +56,14 @@ returns-in_err-patch_pieces-clause-refused c =
     let plan : LinkPlan = c.args.plan.now in
     let placement : Placement = c.in_ok-placement.placement in
     let placed : IsPlaced options plan placement = c.in_ok-placement.ensures.placed in
-    let begins : c.headers_of-headers.result ≡ headers_of options (entry_rva placement.layout.pieces.items plan.entry) (directories_of plan.names placement.layout (tables_of placement.table)) =
+    let begins : c.headers_of-headers.result ≡ headers_of options (entry_rva placement.layout.pieces.items plan.entry) (directories_of plan.names placement.layout (reloc_tables placement.table)) =
     c.headers_of-headers.ensures ∙ ap (λ (e : ℕ). headers_of options e c.directories_of-directories.result) c.entry_rva-entry.ensures ∙ ap (headers_of options (entry_rva placement.layout.pieces.items plan.entry)) c.directories_of-directories.ensures in
     let own : c.headers_of-headers.result.base ≡ options.base = ap (λ (h : Headers). h.base) begins in
     let given = err_from_is_err_and c.from_residual-in_err-patch_pieces.result c.from_residual-in_err-patch_pieces.ensures.1 in
     let fault : Fault = c.in_err-patch_pieces.field-0.0 in
     let refused : fields_range_fault plan.names (rows_of placement.sections.items) placement.layout options.base ≡ Some fault =
     ap (fields_range_fault plan.names (rows_of placement.sections.items) placement.layout) (sym own) ∙ c.in_err-patch_pieces.ensures.refused in
-    rw (given.1, given.2) (bad_range options plan.names (rows_of placement.sections.items) placement.layout (tables_of placement.table) fault placed.means c.in_ok-check_own_base.ensures.permitted refused)
+    rw (given.1, given.2) (bad_range options plan.names (rows_of placement.sections.items) placement.layout (reloc_tables placement.table) fault placed.means c.in_ok-check_own_base.ensures.permitted refused)
 
 pub returns-clause-built : goal.returns-clause-built
 returns-clause-built c =
@@ -75,15 +75,15 @@ returns-clause-built c =
     let count : c.len.result ≡ length placement.layout.pieces.items = c.len.ensures ∙ placement.layout.pieces.ok.0 in
     let owner_is : c.in_ok-owner.owner.items ≡ owners_in (rows_of placement.sections.items) placement.layout =
     c.in_ok-owner.ensures ∙ ap (λ (ss : List OutSection). owners (rows_of ss) c.len.result) c.deref-2.ensures.value ∙ ap (owners (rows_of placement.sections.items)) count in
-    let begins : c.headers_of-headers.result ≡ headers_of options (entry_rva placement.layout.pieces.items plan.entry) (directories_of plan.names placement.layout (tables_of placement.table)) =
+    let begins : c.headers_of-headers.result ≡ headers_of options (entry_rva placement.layout.pieces.items plan.entry) (directories_of plan.names placement.layout (reloc_tables placement.table)) =
     c.headers_of-headers.ensures ∙ ap (λ (e : ℕ). headers_of options e c.directories_of-directories.result) c.entry_rva-entry.ensures ∙ ap (headers_of options (entry_rva placement.layout.pieces.items plan.entry)) c.directories_of-directories.ensures in
     let own : c.headers_of-headers.result.base ≡ options.base = ap (λ (h : Headers). h.base) begins in
     let all = ready options plan placement c.headers_of-headers.result c.in_ok-image.image.items c.in_ok-owner.owner.items c.requires placed written owner_is in
     let in_range : fields_range_fault plan.names (rows_of placement.sections.items) placement.layout options.base ≡ None =
     ap (fields_range_fault plan.names (rows_of placement.sections.items) placement.layout) (sym own) ∙ c.in_ok-patch_pieces.ensures.in_range in
-    let file : c.patch_pieces.new.image.items ≡ file_of (headers_of options (entry_rva placement.layout.pieces.items plan.entry) (directories_of plan.names placement.layout (tables_of placement.table))) placement.sections.items placement.layout (linked_contents plan.names (rows_of placement.sections.items) placement.layout options.base) (tables_of placement.table) =
+    let file : c.patch_pieces.new.image.items ≡ file_of (headers_of options (entry_rva placement.layout.pieces.items plan.entry) (directories_of plan.names placement.layout (reloc_tables placement.table))) placement.sections.items placement.layout (linked_contents plan.names (rows_of placement.sections.items) placement.layout options.base) (reloc_tables placement.table) =
     c.in_ok-patch_pieces.ensures.patched
-    ∙ ap (λ (h : Headers). file_of h placement.sections.items placement.layout (linked_contents plan.names (rows_of placement.sections.items) placement.layout h.base) (tables_of placement.table)) begins in
+    ∙ ap (λ (h : Headers). file_of h placement.sections.items placement.layout (linked_contents plan.names (rows_of placement.sections.items) placement.layout h.base) (reloc_tables placement.table)) begins in
     built options plan placement c.in_ok-owner.owner.items c.requires placed all (record { image = c.patch_pieces.new.image; sections = c.len-count.result }) c.in_ok-check_own_base.ensures.permitted in_range file (c.len-count.ensures ∙ placement.sections.ok.0)
 
 pub overflow_cast-count : goal.overflow_cast-count
