@@ -22,6 +22,7 @@ use Rattle.link_plan.specs.Fixes.{HaveFields, piece_fixes}
 use Rattle.link_image.specs.BaseFields.{base_field, IsBaseField, AreBaseFields}
 use Rattle.link_image.specs.LinkedBytes.{contents_at}
 use Rattle.link_image.specs.Steps.{Fits, fields_of, fields_at, section_fields, all_fields}
+use Rattle.link_image.proofs.HeldLemmas.{patchable_at}
 use Rattle.link_image.proofs.AscendLemmas.{Climb, climb_higher, climb_lower, climb_ascending, climb_apart, piece_climbs, section_climbs, all_climb, FieldsInside}
 
 -- ---- lists
@@ -78,7 +79,7 @@ has_its_field fix based =
 module _ (link : LinkView) (pieces : List Piece) (fixups : List (List Fix)) (sections : List OutSection) (reloc : Bool) (layout : Layout)
     (count : length pieces ≡ length (link_pieces link))
     (fields : HaveFields link (length pieces) fixups)
-    (sizes : (k : ℕ) → k < length pieces → length (contents_at link k) ≤ (get_or pieces k no_piece).size)
+    (sizes : (k : ℕ) → k < length pieces → length (contents_at link layout k) ≤ (get_or pieces k no_piece).size)
     (standing : HoldsArrangement pieces sections reloc layout)
     (once : StandOnce pieces sections)
     (stands : (k : ℕ) → k < length pieces → 0 < (get_or pieces k no_piece).size → Contains (all_pieces sections) k)
@@ -88,21 +89,21 @@ module _ (link : LinkView) (pieces : List Piece) (fixups : List (List Fix)) (sec
   -- each field ends inside its piece
   end_inside : (k i : ℕ) → k < length pieces → i < length (get_or fixups k []) → field_end (fix_at (get_or fixups k []) i) ≤ (get_or pieces k no_piece).size
   end_inside k i lt within =
-      let end = ends_within (length (contents_at link k)) (get_or fixups k []) i (fields.patchable k lt) within in
+      let end = ends_within (length (contents_at link layout k)) (get_or fixups k []) i (patchable_at link layout fixups (length pieces) fields k lt) within in
       omega (arith, end, sizes k lt)
 
   -- a piece that has a field has a byte
   size_positive : (k i : ℕ) → k < length pieces → i < length (get_or fixups k []) → 0 < (get_or pieces k no_piece).size
   size_positive k i lt within =
-      let some = ((fields.patchable k lt).each i no_fix within).some in
+      let some = ((patchable_at link layout fixups (length pieces) fields k lt).each i no_fix within).some in
       omega (arith, end_inside k i lt within, some)
 
   -- the fields of a piece lie in it, one after the other
   fields_inside : (k : ℕ) → k < length pieces → FieldsInside pieces layout.pieces.items fixups k
   fields_inside k lt =
       let rva = get_or layout.pieces.items k 0 in
-      let len = length (contents_at link k) in
-      let up = piece_climbs rva len 0 (get_or fixups k []) (fields.patchable k lt) (omega arith) (λ i d within. omega arith) in
+      let len = length (contents_at link layout k) in
+      let up = piece_climbs rva len 0 (get_or fixups k []) (patchable_at link layout fixups (length pieces) fields k lt) (omega arith) (λ i d within. omega arith) in
       climb_lower rva (rva + 0) (fields_at layout.pieces.items fixups k) (rva + (get_or pieces k no_piece).size) (omega arith)
       (climb_higher (rva + 0) (fields_at layout.pieces.items fixups k) (rva + len) (rva + (get_or pieces k no_piece).size) (omega (arith, sizes k lt)) up)
 

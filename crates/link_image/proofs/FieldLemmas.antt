@@ -1,8 +1,8 @@
 -- The fields of a piece, patched in the file of the image.
-use Rattle.std.proofs.Common.{◌≡◌, ℕ, zero, suc, eqb, ◌+◌, ◌-◌, ◌<◌, ◌≤◌, Bool, true, false, List, [], ◌∷◌, ◌++◌, length, get_or, Some, None, option_map, refl, sym, ap, subst, ◌∙◌, inl, inr, arith}
+use Rattle.std.proofs.Common.{◌≡◌, ℕ, zero, suc, eqb, ◌+◌, ◌<◌, ◌≤◌, Bool, true, false, List, [], ◌∷◌, ◌++◌, length, get_or, Some, None, option_map, refl, sym, ap, subst, ◌∙◌, inl, arith}
 use Rattle.std.specs.List.{All}
-use Rattle.std.proofs.lemmas.Bool.{cases_lt, false≢true}
-use Rattle.std.proofs.lemmas.List.{get_or_default, get_or_past, get_or_append_left, get_or-append_right}
+use Rattle.std.proofs.lemmas.Bool.{false≢true}
+use Rattle.std.proofs.lemmas.List.{get_or_default}
 use Rattle.std.proofs.Math.ListN.{get_or-map}
 use Rattle.link_base.specs.Bytes.{bytes_at}
 use Rattle.link_base.specs.declared.fault.Fault.{Fault}
@@ -10,14 +10,13 @@ use Rattle.section_group.specs.declared.piece.Piece.{Piece}
 use Rattle.section_group.specs.declared.piece.OutSection.{OutSection}
 use Rattle.section_group.specs.BarePieces.{bare}
 use Rattle.section_group.specs.SectionOrder.{no_piece}
-use Rattle.section_group.specs.PieceContents.{piece_contents, HasItsBytes}
 use Rattle.section_group.specs.Uniqueness.{rows_of}
 use Rattle.address_layout.specs.declared.layout.Layout.{Layout}
-use Rattle.address_layout.specs.Layout.{all_pieces, placed_at}
+use Rattle.address_layout.specs.Layout.{placed_at}
 use Rattle.image_writer.specs.declared.headers.Headers.{Headers}
-use Rattle.image_writer.specs.WrittenImage.{at_each_base, HaveRoom, HasContents}
+use Rattle.image_writer.specs.WrittenImage.{at_each_base, HaveRoom}
 use Rattle.image_writer.specs.PieceInFile.{piece_place, patched, DiffersAt}
-use Rattle.image_writer.proofs.CallerLemmas.{have_room, IsInFile, piece_inside, piece_stands, patched_file}
+use Rattle.image_writer.proofs.CallerLemmas.{IsInFile, piece_inside, piece_stands, patched_file}
 use Rattle.relocate.specs.declared.fix.Fix.{Fix}
 use Rattle.relocate.specs.declared.range.RelocRange.{RelocRange}
 use Rattle.relocate.specs.Judged.{AreTheFields, ArePatchable}
@@ -31,9 +30,10 @@ use Rattle.link_pieces.specs.Pieces.{link_pieces}
 use Rattle.link_plan.specs.Fixes.{piece_fixes}
 use Rattle.link_plan.specs.Fixes.{piece_at as link_piece_at, planned_piece}
 use Rattle.link_plan.proofs.CallerLemmas.{fixes_numbered, planned_at}
-use Rattle.link_image.specs.LinkedBytes.{section_of, contents_at, linked_bytes, out_of_range, piece_range_fault}
-use Rattle.link_image.specs.Steps.{IsReady, RefusesRange, mixed_contents, file_of, mixed_file}
-use Rattle.link_image.proofs.MixedLemmas.{mixed_front, patched_at, unpatched_at, tables_differ, mixed_same, mixed_room}
+use Rattle.link_image.specs.LinkedBytes.{section_of, contents_at, placed_contents, linked_bytes, out_of_range, piece_range_fault}
+use Rattle.link_image.specs.Steps.{IsHeld, IsReady, RefusesRange, mixed_contents, file_of, mixed_file}
+use Rattle.link_image.proofs.HeldLemmas.{patchable_at, have_room_for, length-placed, placed_held}
+use Rattle.link_image.proofs.MixedLemmas.{mixed_front, patched_at, unpatched_at, tables_differ, mixed_same, length_mixed_at}
 use Rattle.link_image.proofs.StandsLemmas.{OwnerAt, owner_at, pieces_count, rva_there, owner_at_piece, length_owner}
 
 pub above_zero : (n : ℕ) → eqb n 0 ≡ false → 0 < n
@@ -43,11 +43,8 @@ above_zero (suc n) some = omega arith
 module _ (link : LinkView) (pieces : List Piece) (fixups : List (List Fix)) (sections : List OutSection) (layout : Layout) (owner : List ℕ) (tables : List (List ℕ)) (ready : IsReady link pieces fixups sections layout owner tables) where
   -- ---- a piece
 
-  pub contents_here : (k : ℕ) → contents_at link k ≡ piece_contents (get_or pieces k no_piece)
-  contents_here k = ap (λ (cs : List (List ℕ)). get_or cs k []) (sym ready.contents_are) ∙ get_or-map piece_contents pieces k no_piece
-
-  pub size_here : (k : ℕ) → k < length pieces → (get_or pieces k no_piece).init ≡ true → length (contents_at link k) ≡ (get_or pieces k no_piece).size
-  size_here k lt init = ap length (contents_here k) ∙ ready.bodies k lt init
+  pub size_here : (k : ℕ) → k < length pieces → (get_or pieces k no_piece).init ≡ true → length (contents_at link layout k) ≡ (get_or pieces k no_piece).size
+  size_here k lt init = (ready.held k lt).filled init
 
   pub total_is : length pieces ≡ length (link_pieces link)
   total_is = pieces_count link pieces fixups sections layout owner tables ready
@@ -67,36 +64,13 @@ module _ (link : LinkView) (pieces : List Piece) (fixups : List (List Fix)) (sec
 
   -- ---- its bytes in the file
 
-  -- the pieces and what holds the tables
-  abbrev whole : List Piece
-  whole = pieces ++ ready.rest
-
-  -- each of them has its bytes
-  whole_bodies : (k : ℕ) → HasItsBytes (pieces ++ ready.rest) k
-  whole_bodies k =
-      elim (cases_lt k (length pieces)) [
-        | inl here ↦ subst (λ (p : Piece). p.init ≡ true → length (piece_contents p) ≡ p.size) (sym (get_or_append_left pieces ready.rest no_piece k here)) (ready.bodies k here)
-        | inr past ↦
-            subst (λ (p : Piece). p.init ≡ true → length (piece_contents p) ≡ p.size) (sym (get_or-append_right pieces ready.rest (length pieces) k no_piece refl past)) (rest_bodies (k - length pieces))
-      ]
-    where
-      rest_bodies : (j : ℕ) → HasItsBytes ready.rest j
-      rest_bodies j =
-          elim (cases_lt j (length ready.rest)) [
-            | inl there ↦ λ init. sym (ready.holds.sizes j there ∙ ap (λ (cs : List (List ℕ)). length (get_or cs j [])) (sym ready.holds.contents) ∙ ap length (get_or-map piece_contents ready.rest j no_piece))
-            | inr none ↦ λ init. absurd (false≢true (sym (ap (λ (p : Piece). p.init) (get_or_past ready.rest j no_piece none)) ∙ init))
-          ]
-
-  filled : HasContents (pieces ++ ready.rest) sections
-  filled = λ i d lt. whole_bodies (get_or (all_pieces sections) i d)
-
   module _ (headers : Headers) (directories : length headers.directories ≡ 16) where
     room : (count : ℕ) → HaveRoom (pieces ++ ready.rest) sections (mixed_contents link (rows_of sections) layout headers.base count ++ tables)
     room count =
-        subst (λ (ts : List (List ℕ)). HaveRoom (pieces ++ ready.rest) sections (mixed_contents link (rows_of sections) layout headers.base count ++ ts)) ready.holds.contents
-        (mixed_room link (rows_of sections) layout headers.base pieces ready.rest sections count ready.contents_are total_is (have_room (pieces ++ ready.rest) sections filled))
+        have_room_for pieces ready.rest sections (placed_contents link layout) tables (mixed_contents link (rows_of sections) layout headers.base count ++ tables) (length-placed link layout ∙ sym total_is) (placed_held link layout pieces total_is ready.held) ready.holds ready.laid.within
+        (length_mixed_at link (rows_of sections) layout headers.base tables count)
 
-    read_here : (k : ℕ) → k < length pieces → get_or (mixed_contents link (rows_of sections) layout headers.base k ++ tables) k [] ≡ contents_at link k
+    read_here : (k : ℕ) → k < length pieces → get_or (mixed_contents link (rows_of sections) layout headers.base k ++ tables) k [] ≡ contents_at link layout k
     read_here k lt =
         mixed_front link (rows_of sections) layout headers.base tables k k (omega (arith, lt, total_is)) ∙ unpatched_at link (rows_of sections) layout headers.base k k (omega arith)
 
@@ -114,7 +88,7 @@ module _ (link : LinkView) (pieces : List Piece) (fixups : List (List Fix)) (sec
         subst (IsInFile headers sections layout contents i) at.is
         (piece_inside headers (pieces ++ ready.rest) sections layout contents i at.number ready.laid (room k) directories at.there at.within (subst (λ (n : ℕ). 0 < length (get_or (contents headers.base) n [])) (sym at.is) there))
 
-    pub bytes_here : (k : ℕ) → k < length pieces → 0 < (get_or pieces k no_piece).size → bytes_at (mixed_file link headers sections layout tables k) (piece_place layout (section_of (rows_of sections) k) k) (length (contents_at link k)) ≡ contents_at link k
+    pub bytes_here : (k : ℕ) → k < length pieces → 0 < (get_or pieces k no_piece).size → bytes_at (mixed_file link headers sections layout tables k) (piece_place layout (section_of (rows_of sections) k) k) (length (contents_at link layout k)) ≡ contents_at link layout k
     bytes_here k lt some =
         let at = owned k lt some in
         let i = section_of (rows_of sections) k in
@@ -136,10 +110,10 @@ module _ (link : LinkView) (pieces : List Piece) (fixups : List (List Fix)) (sec
 
   -- ---- its fields, in the order of their places
 
-  pub same_bytes : (base k : ℕ) (fields : List Fix) → k < length pieces → AreTheFields (piece_fixes link k) fields → ArePatchable (length (contents_at link k)) fields → patched_bytes base (get_or layout.pieces.items k 0) layout owner fields (contents_at link k) ≡ linked_bytes link (rows_of sections) layout base k
+  pub same_bytes : (base k : ℕ) (fields : List Fix) → k < length pieces → AreTheFields (piece_fixes link k) fields → ArePatchable (length (contents_at link layout k)) fields → patched_bytes base (get_or layout.pieces.items k 0) layout owner fields (contents_at link layout k) ≡ linked_bytes link (rows_of sections) layout base k
   same_bytes base k fields lt are patchable =
-      bytes_in_any_order base (get_or layout.pieces.items k 0) layout owner (piece_fixes link k) fields (contents_at link k) (length (contents_at link k)) are patchable
-      ∙ ap (λ (os : List ℕ). patched_bytes base (get_or layout.pieces.items k 0) layout os (piece_fixes link k) (contents_at link k)) ready.owner_is
+      bytes_in_any_order base (get_or layout.pieces.items k 0) layout owner (piece_fixes link k) fields (contents_at link layout k) (length (contents_at link layout k)) are patchable
+      ∙ ap (λ (os : List ℕ). patched_bytes base (get_or layout.pieces.items k 0) layout os (piece_fixes link k) (contents_at link layout k)) ready.owner_is
 
   same_place : (k : ℕ) (range : RelocRange) → k < length pieces → out_of_range (get_or pieces k no_piece) range ≡ out_of_range (link_piece_at link k) range
   same_place k range lt =
@@ -148,24 +122,24 @@ module _ (link : LinkView) (pieces : List Piece) (fixups : List (List Fix)) (sec
       sym (get_or-map bare pieces k no_piece) ∙ ap (λ (ps : List Piece). get_or ps k no_piece) ready.pieces_are ∙ planned_at ready.options link k within in
       ap (λ (p : Piece). out_of_range p range) is
 
-  pub range_here : (base k : ℕ) (fields : List Fix) (fault : Fault) → k < length pieces → AreTheFields (piece_fixes link k) fields → RefusesRange base (get_or layout.pieces.items k 0) layout owner fields (contents_at link k) (get_or pieces k no_piece) fault → piece_range_fault link (rows_of sections) layout base k ≡ Some fault
+  pub range_here : (base k : ℕ) (fields : List Fix) (fault : Fault) → k < length pieces → AreTheFields (piece_fixes link k) fields → RefusesRange base (get_or layout.pieces.items k 0) layout owner fields (contents_at link layout k) (get_or pieces k no_piece) fault → piece_range_fault link (rows_of sections) layout base k ≡ Some fault
   range_here base k fields fault lt are refuses =
       let rva = get_or layout.pieces.items k 0 in
-      let range = range_in_any_order base rva layout owner (piece_fixes link k) fields (contents_at link k) refuses.range are (fixes_numbered link k) refuses.least in
-      ap (option_map (out_of_range (link_piece_at link k))) (ap (λ (os : List ℕ). range_fault base rva layout os (piece_fixes link k) (contents_at link k)) (sym ready.owner_is) ∙ range)
+      let range = range_in_any_order base rva layout owner (piece_fixes link k) fields (contents_at link layout k) refuses.range are (fixes_numbered link k) refuses.least in
+      ap (option_map (out_of_range (link_piece_at link k))) (ap (λ (os : List ℕ). range_fault base rva layout os (piece_fixes link k) (contents_at link layout k)) (sym ready.owner_is) ∙ range)
       ∙ ap (λ (f : Fault). Some f) (sym (same_place k refuses.range lt) ∙ sym refuses.is)
 
-  pub no_range_here : (base k : ℕ) (fields : List Fix) → k < length pieces → AreTheFields (piece_fixes link k) fields → All (λ fix. fits base (get_or layout.pieces.items k 0) layout owner (contents_at link k) fix ≡ true) fields → piece_range_fault link (rows_of sections) layout base k ≡ None
+  pub no_range_here : (base k : ℕ) (fields : List Fix) → k < length pieces → AreTheFields (piece_fixes link k) fields → All (λ fix. fits base (get_or layout.pieces.items k 0) layout owner (contents_at link layout k) fix ≡ true) fields → piece_range_fault link (rows_of sections) layout base k ≡ None
   no_range_here base k fields lt are all =
       let rva = get_or layout.pieces.items k 0 in
-      ap (option_map (out_of_range (link_piece_at link k))) (ap (λ (os : List ℕ). range_fault base rva layout os (piece_fixes link k) (contents_at link k)) (sym ready.owner_is) ∙ no_range_in_any_order base rva layout owner (piece_fixes link k) fields (contents_at link k) are all)
+      ap (option_map (out_of_range (link_piece_at link k))) (ap (λ (os : List ℕ). range_fault base rva layout os (piece_fixes link k) (contents_at link layout k)) (sym ready.owner_is) ∙ no_range_in_any_order base rva layout owner (piece_fixes link k) fields (contents_at link layout k) are all)
 
   -- a piece without fields has the bytes of its section, at each base
-  pub nothing_linked : (base k : ℕ) (fields : List Fix) → k < length pieces → AreTheFields (piece_fixes link k) fields → ArePatchable (length (contents_at link k)) fields → length fields ≡ 0 → linked_bytes link (rows_of sections) layout base k ≡ contents_at link k
+  pub nothing_linked : (base k : ℕ) (fields : List Fix) → k < length pieces → AreTheFields (piece_fixes link k) fields → ArePatchable (length (contents_at link layout k)) fields → length fields ≡ 0 → linked_bytes link (rows_of sections) layout base k ≡ contents_at link layout k
   nothing_linked base k fields lt are patchable none =
       sym (same_bytes base k fields lt are patchable)
-      ∙ ap (λ (fs : List Fix). patched_bytes base (get_or layout.pieces.items k 0) layout owner fs (contents_at link k)) (empty_is fields none)
-      ∙ nothing_patched base (get_or layout.pieces.items k 0) layout owner (contents_at link k)
+      ∙ ap (λ (fs : List Fix). patched_bytes base (get_or layout.pieces.items k 0) layout owner fs (contents_at link layout k)) (empty_is fields none)
+      ∙ nothing_patched base (get_or layout.pieces.items k 0) layout owner (contents_at link layout k)
     where
       empty_is : {X : Type 0} (xs : List X) → length xs ≡ 0 → xs ≡ []
       empty_is [] e = refl
@@ -176,29 +150,26 @@ module _ (link : LinkView) (pieces : List Piece) (fixups : List (List Fix)) (sec
   no_field base rva bytes fields none = λ i d lt. absurd (omega (arith, lt, none))
 
   -- one with a field has bytes
-  pub some_bytes : (k : ℕ) (fields : List Fix) → ArePatchable (length (contents_at link k)) fields → 0 < length fields → 0 < length (contents_at link k)
+  pub some_bytes : (k : ℕ) (fields : List Fix) → ArePatchable (length (contents_at link layout k)) fields → 0 < length fields → 0 < length (contents_at link layout k)
   some_bytes k fields patchable some =
       let each = patchable.each 0 (get_or fields 0 no_fix) some in
-      let inside = within_at (length (contents_at link k)) (get_or fields 0 (get_or fields 0 no_fix)) each in
+      let inside = within_at (length (contents_at link layout k)) (get_or fields 0 (get_or fields 0 no_fix)) each in
       let wide = each.some in
       omega (arith, inside, wide)
 
-  pub initialised : (k : ℕ) → k < length pieces → 0 < length (contents_at link k) → ((get_or pieces k no_piece).init ≡ true) × (0 < (get_or pieces k no_piece).size)
-  initialised k lt some = by_init (get_or pieces k no_piece) (ready.bodies k lt) (subst (λ (bytes : List ℕ). 0 < length bytes) (contents_here k) some)
+  pub initialised : (k : ℕ) → k < length pieces → 0 < length (contents_at link layout k) → ((get_or pieces k no_piece).init ≡ true) × (0 < (get_or pieces k no_piece).size)
+  initialised k lt some = by (get_or pieces k no_piece) (ready.held k lt)
     where
-      by_init : (piece : Piece) → (piece.init ≡ true → length (piece_contents piece) ≡ piece.size) → 0 < length (piece_contents piece) → (piece.init ≡ true) × (0 < piece.size)
-      by_init piece fills some = go piece.init refl
+      by : (piece : Piece) → IsHeld piece (contents_at link layout k) → (piece.init ≡ true) × (0 < piece.size)
+      by piece held = go piece.init refl
         where
-          nothing : piece.init ≡ false → piece_contents piece ≡ []
-          nothing off = rw off refl
-
           go : (b : Bool) → piece.init ≡ b → (piece.init ≡ true) × (0 < piece.size)
-          go true on = (on, omega (arith, some, fills on))
-          go false off = absurd (omega (arith, some, ap length (nothing off)))
+          go true on = (on, omega (arith, some, held.filled on))
+          go false off = absurd (omega (arith, some, held.empty off))
 
   module _ (headers : Headers) (directories : length headers.directories ≡ 16) where
     -- the file stays where a piece has no fields
-    pub file_same : (k : ℕ) (fields : List Fix) → k < length pieces → AreTheFields (piece_fixes link k) fields → ArePatchable (length (contents_at link k)) fields → length fields ≡ 0 → mixed_file link headers sections layout tables k ≡ mixed_file link headers sections layout tables (k + 1)
+    pub file_same : (k : ℕ) (fields : List Fix) → k < length pieces → AreTheFields (piece_fixes link k) fields → ArePatchable (length (contents_at link layout k)) fields → length fields ≡ 0 → mixed_file link headers sections layout tables k ≡ mixed_file link headers sections layout tables (k + 1)
     file_same k fields lt are patchable none =
         sym (ap (λ (contents : List (List ℕ)). file_of headers sections layout contents tables) (mixed_same link (rows_of sections) layout headers.base k (nothing_linked headers.base k fields lt are patchable none)))
 
@@ -206,9 +177,9 @@ module _ (link : LinkView) (pieces : List Piece) (fixups : List (List Fix)) (sec
     pub record IsHere (k : ℕ) (piece : Piece) : Type 0 where
       pub section : get_or owner k 0 < length layout.sections.items
       pub above : (placed_at layout.sections.items (get_or owner k 0)).rva ≤ get_or layout.pieces.items k 0
-      pub size : length (contents_at link k) ≡ piece.size
+      pub size : length (contents_at link layout k) ≡ piece.size
       pub inside : piece_place layout (get_or owner k 0) k + piece.size ≤ length (mixed_file link headers sections layout tables k)
-      pub bytes : bytes_at (mixed_file link headers sections layout tables k) (piece_place layout (get_or owner k 0) k) piece.size ≡ contents_at link k
+      pub bytes : bytes_at (mixed_file link headers sections layout tables k) (piece_place layout (get_or owner k 0) k) piece.size ≡ contents_at link layout k
       pub after : patched (piece_place layout (get_or owner k 0) k) (linked_bytes link (rows_of sections) layout headers.base k) (mixed_file link headers sections layout tables k) ≡ mixed_file link headers sections layout tables (k + 1)
       pub is : piece ≡ get_or pieces k no_piece
 
@@ -229,7 +200,7 @@ module _ (link : LinkView) (pieces : List Piece) (fixups : List (List Fix)) (sec
           above = subst (λ (s : ℕ). (placed_at layout.sections.items s).rva ≤ get_or layout.pieces.items k 0) (sym own) file.lies.above;
           size = len ∙ size;
           inside = subst (λ (s : ℕ). piece_place layout s k + piece.size ≤ length (mixed_file link headers sections layout tables k)) (sym own) (subst (λ (n : ℕ). piece_place layout i k + n ≤ length (mixed_file link headers sections layout tables k)) held file.inside);
-          bytes = subst (λ (s : ℕ). bytes_at (mixed_file link headers sections layout tables k) (piece_place layout s k) piece.size ≡ contents_at link k) (sym own) (subst (λ (n : ℕ). bytes_at (mixed_file link headers sections layout tables k) (piece_place layout i k) n ≡ contents_at link k) (len ∙ size) (bytes_here headers directories k lt above_zero));
+          bytes = subst (λ (s : ℕ). bytes_at (mixed_file link headers sections layout tables k) (piece_place layout s k) piece.size ≡ contents_at link layout k) (sym own) (subst (λ (n : ℕ). bytes_at (mixed_file link headers sections layout tables k) (piece_place layout i k) n ≡ contents_at link layout k) (len ∙ size) (bytes_here headers directories k lt above_zero));
           after = subst (λ (s : ℕ). patched (piece_place layout s k) (linked_bytes link (rows_of sections) layout headers.base k) (mixed_file link headers sections layout tables k) ≡ mixed_file link headers sections layout tables (k + 1)) (sym own) (file_after headers directories k lt above_zero);
           is = is;
         }
@@ -237,14 +208,14 @@ module _ (link : LinkView) (pieces : List Piece) (fixups : List (List Fix)) (sec
     -- its fields, as they were read
     pub record HasFields (k : ℕ) (list : List Fix) : Type 0 where
       pub fields : AreTheFields (piece_fixes link k) list
-      pub patchable : ArePatchable (length (contents_at link k)) list
+      pub patchable : ArePatchable (length (contents_at link layout k)) list
 
     pub fields_here : (k : ℕ) (fields : List Fix) → k < length pieces → fields ≡ get_or fixups k fields → HasFields k fields
     fields_here k fields lt read =
         let is : fields ≡ get_or fixups k [] = read ∙ get_or_default fixups k fields [] (omega (arith, lt, ready.fields.for_each)) in
         record {
           fields = subst (AreTheFields (piece_fixes link k)) (sym is) (ready.fields.fields k lt);
-          patchable = subst (ArePatchable (length (contents_at link k))) (sym is) (ready.fields.patchable k lt);
+          patchable = subst (ArePatchable (length (contents_at link layout k))) (sym is) (patchable_at link layout fixups (length pieces) ready.fields k lt);
         }
 
     -- a piece with fields, as it was read
@@ -262,12 +233,12 @@ module _ (link : LinkView) (pieces : List Piece) (fixups : List (List Fix)) (sec
         ∙ ap (λ (xs : List ℕ). patched place (patched_bytes base rva layout owner fields (bytes_at xs place piece.size)) xs) was
         ∙ ap (λ (p : ℕ). patched p (patched_bytes base rva layout owner fields (bytes_at (mixed_file link headers sections layout tables k) p piece.size)) (mixed_file link headers sections layout tables k)) at
         ∙ ap (λ (bytes : List ℕ). patched (piece_place layout (get_or owner k 0) k) (patched_bytes base rva layout owner fields bytes) (mixed_file link headers sections layout tables k)) here.bytes
-        ∙ ap (λ (r : ℕ). patched (piece_place layout (get_or owner k 0) k) (patched_bytes base r layout owner fields (contents_at link k)) (mixed_file link headers sections layout tables k)) here_rva
-        ∙ ap (λ (b : ℕ). patched (piece_place layout (get_or owner k 0) k) (patched_bytes b (get_or layout.pieces.items k 0) layout owner fields (contents_at link k)) (mixed_file link headers sections layout tables k)) own
+        ∙ ap (λ (r : ℕ). patched (piece_place layout (get_or owner k 0) k) (patched_bytes base r layout owner fields (contents_at link layout k)) (mixed_file link headers sections layout tables k)) here_rva
+        ∙ ap (λ (b : ℕ). patched (piece_place layout (get_or owner k 0) k) (patched_bytes b (get_or layout.pieces.items k 0) layout owner fields (contents_at link layout k)) (mixed_file link headers sections layout tables k)) own
         ∙ ap (λ (bytes : List ℕ). patched (piece_place layout (get_or owner k 0) k) bytes (mixed_file link headers sections layout tables k)) (same_bytes headers.base k fields lt has.fields has.patchable)
         ∙ here.after
 
-    bytes_read : (k place : ℕ) (piece : Piece) (before : List ℕ) → IsHere k piece → before ≡ mixed_file link headers sections layout tables k → place ≡ piece_place layout (get_or owner k 0) k → bytes_at before place piece.size ≡ contents_at link k
+    bytes_read : (k place : ℕ) (piece : Piece) (before : List ℕ) → IsHere k piece → before ≡ mixed_file link headers sections layout tables k → place ≡ piece_place layout (get_or owner k 0) k → bytes_at before place piece.size ≡ contents_at link layout k
     bytes_read k place piece before here was at =
         ap (λ (xs : List ℕ). bytes_at xs place piece.size) was
         ∙ ap (λ (p : ℕ). bytes_at (mixed_file link headers sections layout tables k) p piece.size) at
@@ -278,15 +249,15 @@ module _ (link : LinkView) (pieces : List Piece) (fixups : List (List Fix)) (sec
         → RefusesRange base rva layout owner fields (bytes_at before place piece.size) piece fault → piece_range_fault link (rows_of sections) layout headers.base k ≡ Some fault
     range_refused k place rva base piece fields before fault lt here has was at here_rva own refused =
         range_here headers.base k fields fault lt has.fields
-        (subst (λ (b : ℕ). RefusesRange b (get_or layout.pieces.items k 0) layout owner fields (contents_at link k) (get_or pieces k no_piece) fault) own
-        (subst (λ (r : ℕ). RefusesRange base r layout owner fields (contents_at link k) (get_or pieces k no_piece) fault) here_rva
-        (subst (λ (p : Piece). RefusesRange base rva layout owner fields (contents_at link k) p fault) here.is
+        (subst (λ (b : ℕ). RefusesRange b (get_or layout.pieces.items k 0) layout owner fields (contents_at link layout k) (get_or pieces k no_piece) fault) own
+        (subst (λ (r : ℕ). RefusesRange base r layout owner fields (contents_at link layout k) (get_or pieces k no_piece) fault) here_rva
+        (subst (λ (p : Piece). RefusesRange base rva layout owner fields (contents_at link layout k) p fault) here.is
         (subst (λ (bytes : List ℕ). RefusesRange base rva layout owner fields bytes piece fault) (bytes_read k place piece before here was at) refused))))
 
     pub range_accepted : (k place rva base : ℕ) (piece : Piece) (fields : List Fix) (before : List ℕ) → k < length pieces → IsHere k piece → HasFields k fields → before ≡ mixed_file link headers sections layout tables k → place ≡ piece_place layout (get_or owner k 0) k → rva ≡ get_or layout.pieces.items k 0 → base ≡ headers.base
         → All (λ fix. fits base rva layout owner (bytes_at before place piece.size) fix ≡ true) fields → piece_range_fault link (rows_of sections) layout headers.base k ≡ None
     range_accepted k place rva base piece fields before lt here has was at here_rva own all =
         no_range_here headers.base k fields lt has.fields
-        (subst (λ (b : ℕ). All (λ fix. fits b (get_or layout.pieces.items k 0) layout owner (contents_at link k) fix ≡ true) fields) own
-        (subst (λ (r : ℕ). All (λ fix. fits base r layout owner (contents_at link k) fix ≡ true) fields) here_rva
+        (subst (λ (b : ℕ). All (λ fix. fits b (get_or layout.pieces.items k 0) layout owner (contents_at link layout k) fix ≡ true) fields) own
+        (subst (λ (r : ℕ). All (λ fix. fits base r layout owner (contents_at link layout k) fix ≡ true) fields) here_rva
         (subst (λ (bytes : List ℕ). All (λ fix. fits base rva layout owner bytes fix ≡ true) fields) (bytes_read k place piece before here was at) all)))

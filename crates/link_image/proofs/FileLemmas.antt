@@ -1,18 +1,33 @@
--- What is written of pieces and of the table after them.
-use Rattle.std.proofs.Common.{◌≡◌, ℕ, ◌-◌, ◌<◌, true, List, [], ◌∷◌, ◌++◌, length, map, get_or, refl, sym, ap, ◌∙◌, subst, inl, inr, arith}
-use Rattle.std.proofs.lemmas.Bool.{cases_lt, false≢true}
-use Rattle.std.proofs.lemmas.List.{map-append, get_or_past, get_or_append_left, get_or-append_right}
+-- What is written of the pieces of a plan and of the tables.
+use Rattle.std.proofs.Common.{◌≡◌, ℕ, zero, suc, ◌+◌, ◌<◌, ◌≤◌, Bool, true, false, cond, List, [], ◌∷◌, ◌++◌, length, map, take, get_or, refl, sym, ap, ◌∙◌, subst, arith}
+use Rattle.std.specs.List.{All}
 use Rattle.std.proofs.Math.ListN.{get_or-map}
+use Rattle.std.proofs.lemmas.List.{length-map, ext_get_or}
+use Rattle.std.proofs.lemmas.List as lists
 use Rattle.section_group.specs.declared.piece.Piece.{Piece}
 use Rattle.section_group.specs.declared.piece.OutSection.{OutSection}
+use Rattle.section_group.specs.BarePieces.{bare}
 use Rattle.section_group.specs.SectionOrder.{no_piece}
 use Rattle.section_group.specs.PieceContents.{piece_contents, HasItsBytes}
+use Rattle.address_layout.specs.declared.layout.Layout.{Layout}
+use Rattle.address_layout.specs.declared.layout.Placed.{Placed}
 use Rattle.address_layout.specs.Layout.{all_pieces}
+use Rattle.address_layout.specs.Places.{row_at, piece_in, piece_floor}
 use Rattle.image_writer.specs.declared.headers.Headers.{Headers}
 use Rattle.image_writer.specs.ExpectedImage.{image_file}
-use Rattle.image_writer.specs.WrittenImage.{layout_plan, at_each_base, HasContents}
+use Rattle.image_writer.specs.WrittenImage.{layout_plan, at_each_base, place_in, IsSectionLaidOut, IsLaidOut, HasContents}
+use Rattle.link_pieces.specs.LinkerPieces.{is_table}
+use Rattle.link_pieces.proofs.CallerLemmas.{table_is}
+use Rattle.link_words.specs.Outcome.{LinkOptions}
+use Rattle.link_plan.specs.declared.planning.LinkPlan.{LinkPlan}
+use Rattle.link_plan.specs.Fixes.{piece_at}
+use Rattle.link_plan.specs.Plan.{IsPlanOf}
 use Rattle.link_image.specs.declared.placement.Placement.{Placement}
-use Rattle.link_image.specs.Steps.{HoldTables, IsWritten, tables_of}
+use Rattle.link_image.specs.LinkedBytes.{import_tables_at, contents_at, placed_contents}
+use Rattle.link_image.specs.Steps.{HoldTables, CanBeGiven, AreWhole, IsPlaced, IsWritten, given_contents, reloc_tables}
+use Rattle.link_image.proofs.HeldLemmas.{piece_count, planned_is, same_test, held_at, other_is, table_contents, all_held, length-placed, placed_read, placed_held}
+
+-- ---- what holds a table of base relocations
 
 -- no table, and one
 pub no_tables : HoldTables [] []
@@ -27,29 +42,150 @@ one_table piece table contents size = record {
     by : (j : ℕ) → j ≡ 0 → (get_or (piece ∷ []) j no_piece).size ≡ length (get_or (table ∷ []) j [])
     by j none = subst (λ (i : ℕ). (get_or (piece ∷ []) i no_piece).size ≡ length (get_or (table ∷ []) i [])) (sym none) size
 
--- each piece has its bytes
-pub bodies_with : (pieces rest : List Piece) (tables : List (List ℕ)) → ((k : ℕ) → k < length pieces → HasItsBytes pieces k) → HoldTables tables rest → (k : ℕ) → HasItsBytes (pieces ++ rest) k
-bodies_with pieces rest tables bodies holds k =
-    elim (cases_lt k (length pieces)) [
-      | inl here ↦ subst (λ (p : Piece). p.init ≡ true → length (piece_contents p) ≡ p.size) (sym (get_or_append_left pieces rest no_piece k here)) (bodies k here)
-      | inr past ↦
-          subst (λ (p : Piece). p.init ≡ true → length (piece_contents p) ≡ p.size) (sym (get_or-append_right pieces rest (length pieces) k no_piece refl past)) (rest_bodies (k - length pieces))
-    ]
-  where
-    rest_bodies : (j : ℕ) → HasItsBytes rest j
-    rest_bodies j =
-        elim (cases_lt j (length rest)) [
-          | inl there ↦ λ init. sym (holds.sizes j there ∙ ap (λ (cs : List (List ℕ)). length (get_or cs j [])) (sym holds.contents) ∙ ap length (get_or-map piece_contents rest j no_piece))
-          | inr none ↦ λ init. absurd (false≢true (sym (ap (λ (p : Piece). p.init) (get_or_past rest j no_piece none)) ∙ init))
-        ]
+-- one piece more
+pub mapped_more : {Y : Type 0} (f g : Piece → Y) (pieces whole after : List Piece) (i : ℕ) (piece given : Piece) → i < length pieces → piece ≡ get_or pieces i piece → after ≡ whole ++ given ∷ [] → f given ≡ g piece → map f whole ≡ map g (take i pieces) → map f after ≡ map g (take (i + 1) pieces)
+mapped_more f g pieces whole after i piece given lt read is same before =
+    ap (map f) is
+    ∙ lists.map-append f whole (given ∷ [])
+    ∙ ap (λ (ys : List _). ys ++ f given ∷ []) before
+    ∙ ap (λ (y : _). map g (take i pieces) ++ y ∷ []) (same ∙ ap g read)
+    ∙ sym (lists.map_more g pieces i piece lt)
 
-pub contents_with : (pieces rest : List Piece) (sections : List OutSection) (tables : List (List ℕ)) → ((k : ℕ) → k < length pieces → HasItsBytes pieces k) → HoldTables tables rest → HasContents (pieces ++ rest) sections
-contents_with pieces rest sections tables bodies holds = λ i d lt. bodies_with pieces rest tables bodies holds (get_or (all_pieces sections) i d)
+-- ---- pieces with other bytes are laid out as they were
 
--- the file
-pub written_with : (headers : Headers) (placement : Placement) (pieces rest : List Piece) (image : List ℕ) → HoldTables (tables_of placement.table) rest → image ≡ image_file (layout_plan headers placement.sections.items placement.layout (at_each_base (map piece_contents (pieces ++ rest)))) → IsWritten headers placement pieces image
-written_with headers placement pieces rest image holds is = record {
-  rest = rest;
-  holds = holds;
-  file = is ∙ ap (λ (cs : List (List ℕ)). image_file (layout_plan headers placement.sections.items placement.layout (at_each_base cs))) (map-append piece_contents pieces rest ∙ ap (λ (cs : List (List ℕ)). map piece_contents pieces ++ cs) holds.contents);
+bare_same : (pieces others : List Piece) → map bare others ≡ map bare pieces → (k : ℕ) → bare (get_or others k no_piece) ≡ bare (get_or pieces k no_piece)
+bare_same pieces others same k = sym (get_or-map bare others k no_piece) ∙ ap (λ (ps : List Piece). get_or ps k no_piece) same ∙ get_or-map bare pieces k no_piece
+
+section_same : (pieces others : List Piece) (rvas : List ℕ) (row : List ℕ × List ℕ) (before file : ℕ) (placed : Placed) → map bare others ≡ map bare pieces → IsSectionLaidOut pieces rvas row before file placed → IsSectionLaidOut others rvas row before file placed
+section_same pieces others rvas row before file placed same is = record {
+  aligned = is.aligned;
+  above = is.above;
+  ascending = ascending;
+  in_raw = λ j lt init. omega (arith, is.in_raw j lt (sym (ap (λ (p : Piece). p.init) (at j)) ∙ init), size j);
+  in_size = λ j lt some. omega (arith, is.in_size j lt (omega (arith, some, size j)), size j);
+  file = is.file;
 }
+  where
+    at : (j : ℕ) → bare (piece_in others row j) ≡ bare (piece_in pieces row j)
+    at j = bare_same pieces others same (get_or row.1 j 0)
+
+    size : (j : ℕ) → (piece_in others row j).size ≡ (piece_in pieces row j).size
+    size j = ap (λ (p : Piece). p.size) (at j)
+
+    ascending : (j : ℕ) → j < length row.1 → piece_floor others row placed.rva (place_in rvas row) j ≤ place_in rvas row j
+    ascending zero lt = is.ascending 0 lt
+    ascending (suc j) lt = omega (arith, is.ascending (suc j) lt, size j)
+
+same_count : (pieces others : List Piece) → map bare others ≡ map bare pieces → length others ≡ length pieces
+same_count pieces others same = sym (length-map others bare) ∙ ap (λ (ps : List Piece). length ps) same ∙ length-map pieces bare
+
+pub laid_same : (pieces others : List Piece) (sections : List OutSection) (layout : Layout) → map bare others ≡ map bare pieces → IsLaidOut pieces sections layout → IsLaidOut others sections layout
+laid_same pieces others sections layout same is = record {
+  headers = is.headers;
+  few = is.few;
+  section_for_each = is.section_for_each;
+  rva_for_each = is.rva_for_each ∙ sym (same_count pieces others same);
+  within = subst (λ (n : ℕ). All (λ k. k < n) (all_pieces sections)) (sym (same_count pieces others same)) is.within;
+  each = λ i lt. section_same pieces others layout.pieces.items (row_at sections i) _ _ _ same (is.each i lt);
+  inside = is.inside;
+  small = is.small;
+  file = is.file;
+}
+
+-- ---- the pieces of a plan with the bytes of their tables
+
+pub whole_by : (position count : ℕ) (imports others tables : List (List ℕ)) (given pieces whole : List Piece) → position ≡ count → imports ≡ others → given ≡ pieces → AreWhole position imports tables given whole → AreWhole count others tables pieces whole
+whole_by position count imports others tables given pieces whole at same is are =
+    subst (λ (n : ℕ). AreWhole n others tables pieces whole) at
+    (subst (λ (is : List (List ℕ)). AreWhole position is tables pieces whole) same
+    (subst (λ (ps : List Piece). AreWhole position imports tables ps whole) is are))
+
+module _ (options : LinkOptions) (plan : LinkPlan) (planned : IsPlanOf options plan.names plan) where
+  abbrev count : ℕ
+  count = length plan.names.modules
+
+  abbrev pieces : List Piece
+  pieces = plan.pieces.items
+
+  -- an import table has a place among the bytes of all
+  pub can_be_given : (position : ℕ) → position ≡ length plan.names.modules → All (λ piece. is_table position piece ≡ true → CanBeGiven piece) plan.pieces.items
+  can_be_given position same k d lt table = by (get_or plan.pieces.items k d) (lists.get_or_default plan.pieces.items k d no_piece lt)
+    where
+      here : is_table (length plan.names.modules) (get_or plan.pieces.items k no_piece) ≡ true
+      here =
+          ap (λ (n : ℕ). is_table n (get_or plan.pieces.items k no_piece)) (sym same)
+          ∙ ap (is_table position) (sym (lists.get_or_default plan.pieces.items k d no_piece lt))
+          ∙ table
+
+      by : (piece : Piece) → piece ≡ get_or plan.pieces.items k no_piece → CanBeGiven piece
+      by piece is =
+          let test = sym (same_test options plan planned k lt) ∙ here in
+          let table = table_is plan.names k (omega (arith, lt, piece_count options plan planned)) test in
+          let at = planned_is options plan planned k lt in
+          record {
+            few = omega (arith, ap (λ (p : Piece). p.number) is, ap (λ (p : Piece). p.number) at, table.few);
+            init = ap (λ (p : Piece). p.init) is ∙ ap (λ (p : Piece). p.init) at ∙ table.init;
+          }
+
+  -- what the pieces are given is what they hold
+  given_is : (layout : Layout) (k : ℕ) → k < length plan.pieces.items → given_contents (length plan.names.modules) (import_tables_at plan.names layout) (get_or plan.pieces.items k no_piece) ≡ contents_at plan.names layout k
+  given_is layout k lt = by (is_table (length plan.names.modules) (piece_at plan.names k)) refl
+    where
+      test : is_table (length plan.names.modules) (get_or plan.pieces.items k no_piece) ≡ is_table (length plan.names.modules) (piece_at plan.names k)
+      test = same_test options plan planned k lt
+
+      number : (get_or plan.pieces.items k no_piece).number ≡ (piece_at plan.names k).number
+      number = ap (λ (p : Piece). p.number) (planned_is options plan planned k lt)
+
+      by : (b : Bool) → is_table (length plan.names.modules) (piece_at plan.names k) ≡ b → given_contents (length plan.names.modules) (import_tables_at plan.names layout) (get_or plan.pieces.items k no_piece) ≡ contents_at plan.names layout k
+      by true table =
+          ap (λ (b : Bool). cond b (get_or (import_tables_at plan.names layout) (get_or plan.pieces.items k no_piece).number []) (piece_contents (get_or plan.pieces.items k no_piece))) (test ∙ table)
+          ∙ ap (λ (n : ℕ). get_or (import_tables_at plan.names layout) n []) number
+          ∙ sym (table_contents plan.names layout k table)
+      by false other =
+          ap (λ (b : Bool). cond b (get_or (import_tables_at plan.names layout) (get_or plan.pieces.items k no_piece).number []) (piece_contents (get_or plan.pieces.items k no_piece))) (test ∙ other)
+          ∙ sym (other_is options plan planned layout k other)
+
+  all_given : (layout : Layout) → map (given_contents (length plan.names.modules) (import_tables_at plan.names layout)) plan.pieces.items ≡ placed_contents plan.names layout
+  all_given layout =
+      let given = given_contents (length plan.names.modules) (import_tables_at plan.names layout) in
+      let same = piece_count options plan planned in
+      let placed = length-placed plan.names layout in
+      let mapped = length-map plan.pieces.items given in
+      ext_get_or [] (map given plan.pieces.items) (placed_contents plan.names layout) (mapped ∙ same ∙ sym placed) (λ k lt.
+      let within : k < length plan.pieces.items = omega (arith, lt, mapped) in
+      lists.get_or-map given plan.pieces.items k no_piece [] within
+      ∙ given_is layout k within
+      ∙ sym (placed_read plan.names layout k (omega (arith, within, same))))
+
+  module _ (placement : Placement) (placed : IsPlaced options plan placement) (whole : List Piece) (are : AreWhole (length plan.names.modules) (import_tables_at plan.names placement.layout) (reloc_tables placement.table) plan.pieces.items whole) where
+    abbrev contents : List (List ℕ)
+    contents = placed_contents plan.names placement.layout
+
+    held_are : map piece_contents whole ≡ placed_contents plan.names placement.layout ++ reloc_tables placement.table
+    held_are = are.contents ∙ ap (λ (cs : List (List ℕ)). cs ++ reloc_tables placement.table) (all_given placement.layout)
+
+    pub whole_laid : IsLaidOut whole placement.sections.items placement.layout
+    whole_laid = laid_same (plan.pieces.items ++ are.rest) whole placement.sections.items placement.layout are.same (placed.laid are.rest are.holds)
+
+    whole_bodies : (k : ℕ) → k < length whole → HasItsBytes whole k
+    whole_bodies k lt init =
+        let n = same_count (plan.pieces.items ++ are.rest) whole are.same in
+        let same = bare_same (plan.pieces.items ++ are.rest) whole are.same k in
+        let total = piece_count options plan planned in
+        let held = all_held plan.pieces.items are.rest (placed_contents plan.names placement.layout) (reloc_tables placement.table) (length-placed plan.names placement.layout ∙ sym total) (placed_held plan.names placement.layout plan.pieces.items total (held_at options plan planned placement.layout)) are.holds k (omega (arith, lt, n)) in
+        sym (ap length (get_or-map piece_contents whole k no_piece))
+        ∙ ap (λ (cs : List (List ℕ)). length (get_or cs k [])) held_are
+        ∙ held.filled (sym (ap (λ (p : Piece). p.init) same) ∙ init)
+        ∙ sym (ap (λ (p : Piece). p.size) same)
+
+    pub whole_contents : HasContents whole placement.sections.items
+    whole_contents = λ i d lt. whole_bodies (get_or (all_pieces placement.sections.items) i d) (whole_laid.within i d lt)
+
+    -- the file
+    pub written_with : (headers : Headers) (image : List ℕ) → image ≡ image_file (layout_plan headers placement.sections.items placement.layout (at_each_base (map piece_contents whole))) → IsWritten headers placement plan.names image
+    written_with headers image is = record {
+      rest = are.rest;
+      holds = are.holds;
+      file = is ∙ ap (λ (cs : List (List ℕ)). image_file (layout_plan headers placement.sections.items placement.layout (at_each_base cs))) held_are;
+    }

@@ -1,3 +1,4 @@
+pub mod HeldLemmas
 pub mod SectionLemmas
 pub mod OwnerLemmas
 pub mod MixedLemmas
@@ -10,7 +11,11 @@ pub mod BaseFieldLemmas
 pub mod PieceMoves
 pub mod MoveLemmas
 pub mod ListedLemmas
+pub mod TableLemmas
 pub mod FileLemmas
+pub mod ReadableLemmas
+pub mod ImportLemmas
 pub mod MeansLemmas
+pub mod MemoryLemmas
 pub mod PlanLemmas
 pub mod OnePlacement

@@ -1,5 +1,5 @@
 -- The file of a plan that is placed and patched loads as planned at every permitted base.
-use Rattle.std.proofs.Common.{◌≡◌, ℕ, ◌+◌, ◌-◌, ◌%◌, ◌^◌, ◌<◌, ◌≤◌, Bool, true, false, cond, ◌&&◌, ◌||◌, not, eqb, leb, List, [], ◌∷◌, ◌++◌, length, get_or, replicate, slice_set, slice_get, Option, Some, None, refl, sym, ap, ◌∙◌, subst, length-append, arith}
+use Rattle.std.proofs.Common.{◌≡◌, ℕ, ◌+◌, ◌-◌, ◌%◌, ◌^◌, ◌<◌, ◌≤◌, Bool, true, false, cond, ◌&&◌, ◌||◌, not, eqb, leb, List, [], ◌∷◌, ◌++◌, length, get_or, slice_get, Option, Some, None, refl, sym, ap, ◌∙◌, subst, length-append, arith}
 use Rattle.std.specs.List.{flat_map}
 use Rattle.std.proofs.Math.Seq.{get_or-append_seam}
 use Rattle.std.proofs.lemmas.Bool.{and_parts, leb-true, eqb-true}
@@ -37,11 +37,12 @@ use Rattle.link_plan.proofs.CallerLemmas.{plan_count}
 use Rattle.link_image.specs.declared.make.Built.{Built}
 use Rattle.link_image.specs.declared.placement.Placement.{Placement}
 use Rattle.link_image.specs.BaseFields.{holds_address, is_relocated, base_field, IsBaseField, AreBaseFields}
-use Rattle.link_image.specs.ImageHeaders.{headers_of}
+use Rattle.link_image.specs.ImageHeaders.{directory_list, headers_of}
 use Rattle.link_image.specs.LinkedBytes.{linked_contents, image_contents, fields_range_fault}
-use Rattle.link_image.specs.LinkedImage.{base_rule, entry_rva, table_row, table_directory, HasTable, IsWhole, IsBuilt}
-use Rattle.link_image.specs.Steps.{tables_of, file_of, IsPlaced, IsReady}
+use Rattle.link_image.specs.LinkedImage.{base_rule, entry_rva, table_row, directories_of, HasTable, IsWhole, IsBuilt}
+use Rattle.link_image.specs.Steps.{reloc_tables, file_of, IsPlaced, IsReady}
 use Rattle.link_image.proofs.FieldLemmas.{total_is}
+use Rattle.link_image.proofs.ImportLemmas.{imports_there}
 use Rattle.link_image.proofs.MoveLemmas.{one_length, contents_room, contents_stay, contents_moved}
 use Rattle.link_image.proofs.PieceMoves.{length_linked}
 
@@ -105,7 +106,7 @@ fields_agree link rvas other fields same are = record {
 -- ---- the image of a plan
 
 module _ (options : LinkOptions) (plan : LinkPlan) (placement : Placement) (owner : List ℕ) (planned : IsPlanOf options plan.names plan) (placed : IsPlaced options plan placement)
-    (ready : IsReady plan.names plan.pieces.items plan.fixes.items placement.sections.items placement.layout owner (tables_of placement.table)) where
+    (ready : IsReady plan.names plan.pieces.items plan.fixes.items placement.sections.items placement.layout owner (reloc_tables placement.table)) where
   abbrev link : LinkView
   link = plan.names
 
@@ -116,13 +117,13 @@ module _ (options : LinkOptions) (plan : LinkPlan) (placement : Placement) (owne
   layout = placement.layout
 
   abbrev tables : List (List ℕ)
-  tables = tables_of placement.table
+  tables = reloc_tables placement.table
 
   abbrev headers : Headers
-  headers = headers_of options (entry_rva placement.layout.pieces.items plan.entry) (table_directory placement.layout (tables_of placement.table))
+  headers = headers_of options (entry_rva placement.layout.pieces.items plan.entry) (directories_of plan.names placement.layout (reloc_tables placement.table))
 
   abbrev contents : ℕ → List (List ℕ)
-  contents base = image_contents plan.names (rows_of placement.sections.items) placement.layout (tables_of placement.table) base
+  contents base = image_contents plan.names (rows_of placement.sections.items) placement.layout (reloc_tables placement.table) base
 
   abbrev image : ImagePlan
   image = layout_plan headers placement.sections.items placement.layout contents
@@ -135,33 +136,33 @@ module _ (options : LinkOptions) (plan : LinkPlan) (placement : Placement) (owne
   whole = plan.pieces.items ++ ready.rest
 
   total : length plan.pieces.items ≡ length (link_pieces plan.names)
-  total = total_is plan.names plan.pieces.items plan.fixes.items placement.sections.items placement.layout owner (tables_of placement.table) ready
+  total = total_is plan.names plan.pieces.items plan.fixes.items placement.sections.items placement.layout owner (reloc_tables placement.table) ready
 
   -- without a table
   stays : is_relocated options plan.names ≡ false → tables ≡ [] → Stay headers sections layout contents
   stays alone none = record {
-    directory = ap (λ (ts : List (List ℕ)). slice_get (slice_set (replicate 16 (0, 0)) 5 (table_directory layout ts)) 5) none;
+    directory = ap (λ (ts : List (List ℕ)). slice_get (directory_list (directories_of plan.names placement.layout ts)) 5) none;
     same = λ base allowed. by options.fixed refl base (sym (permits_are base) ∙ allowed);
   }
     where
       by : (b : Bool) → options.fixed ≡ b → (base : ℕ) → is_permitted (base_rule options) placement.layout.image base ≡ true → contents base ≡ contents options.base
       by true fixed base allowed = ap contents (own_base (base_rule options) placement.layout.image base fixed allowed)
       by false moves base allowed =
-          contents_stay plan.names plan.pieces.items plan.fixes.items placement.sections.items placement.layout owner (tables_of placement.table) ready
+          contents_stay plan.names plan.pieces.items plan.fixes.items placement.sections.items placement.layout owner (reloc_tables placement.table) ready
           (sym (ap (λ (b : Bool). not b && holds_address plan.names) moves) ∙ alone) base options.base
 
   -- with one
-  moves : (piece_rows : List OutRow) (before : Layout) → length before.pieces.items ≡ length plan.pieces.items → is_permitted (base_rule options) placement.layout.image options.base ≡ true → (table : HasTable plan.names piece_rows before (rows_of placement.sections.items) placement.layout (tables_of placement.table)) → Move headers sections layout contents table.fields
+  moves : (piece_rows : List OutRow) (before : Layout) → length before.pieces.items ≡ length plan.pieces.items → is_permitted (base_rule options) placement.layout.image options.base ≡ true → (table : HasTable plan.names piece_rows before (rows_of placement.sections.items) placement.layout (reloc_tables placement.table)) → Move headers sections layout contents table.fields
   moves piece_rows before count permitted table = record {
     ascending = table.based.ascending;
     apart = table.based.apart;
-    moved = λ base allowed. contents_moved plan.names plan.pieces.items plan.fixes.items placement.sections.items placement.layout owner (tables_of placement.table) ready options.base base table.fields (low_base (base_rule options) placement.layout.image options.base permitted) based;
+    moved = λ base allowed. contents_moved plan.names plan.pieces.items plan.fixes.items placement.sections.items placement.layout owner (reloc_tables placement.table) ready options.base base table.fields (low_base (base_rule options) placement.layout.image options.base permitted) based;
     section = length piece_rows;
     number = 0;
     there = omega (arith, ap length table.rows_are, length-append piece_rows (table_row k ∷ []), length-map placement.sections.items row_of);
     below = subst (λ (ks : List ℕ). 0 < length ks) (sym row) (omega arith);
     table = ap (λ (i : ℕ). get_or (contents options.base) i []) index ∙ last_contents;
-    directory = ap (λ (ts : List (List ℕ)). slice_get (slice_set (replicate 16 (0, 0)) 5 (table_directory layout ts)) 5) table.tables_are ∙ ap (λ (i : ℕ). Some (get_or layout.pieces.items i 0, length (blocks_of table.fields))) (ends ∙ sym index);
+    directory = ap (λ (ts : List (List ℕ)). slice_get (directory_list (directories_of plan.names placement.layout ts)) 5) table.tables_are ∙ ap (λ (i : ℕ). Some (get_or layout.pieces.items i 0, length (blocks_of table.fields))) (ends ∙ sym index);
     inside = omega (arith, ap (λ (i : ℕ). get_or layout.pieces.items i 0) index, last_rva, table.added.size, table.added.image.above, grown (length (blocks_of table.fields)));
   }
     where
@@ -180,8 +181,8 @@ module _ (options : LinkOptions) (plan : LinkPlan) (placement : Placement) (owne
       last_contents : get_or (contents options.base) (length before.pieces.items) [] ≡ blocks_of table.fields
       last_contents =
           let len = length_linked plan.names (rows_of placement.sections.items) placement.layout options.base in
-          get_or-append_right (linked_contents plan.names (rows_of placement.sections.items) placement.layout options.base) (tables_of placement.table) (length before.pieces.items) (length before.pieces.items) [] (omega (arith, len, count, total)) (omega arith)
-          ∙ ap (λ (i : ℕ). get_or (tables_of placement.table) i []) (nothing (length before.pieces.items))
+          get_or-append_right (linked_contents plan.names (rows_of placement.sections.items) placement.layout options.base) (reloc_tables placement.table) (length before.pieces.items) (length before.pieces.items) [] (omega (arith, len, count, total)) (omega arith)
+          ∙ ap (λ (i : ℕ). get_or (reloc_tables placement.table) i []) (nothing (length before.pieces.items))
           ∙ ap (λ (ts : List (List ℕ)). get_or ts 0 []) table.tables_are
         where
           nothing : (n : ℕ) → n - n ≡ 0
@@ -203,17 +204,17 @@ module _ (options : LinkOptions) (plan : LinkPlan) (placement : Placement) (owne
       before_count : length placed.means.before.pieces.items ≡ length plan.pieces.items
       before_count = placed.means.placed.layout_of.standing.rva_for_each ∙ plan_count options plan.names ∙ sym total
 
-      by : (b : Bool) → is_relocated options plan.names ≡ b → IsWhole b plan.names (rows_of placed.means.sections) placed.means.before (rows_of placement.sections.items) placement.layout (tables_of placement.table) → MeansPlan image (image_file image)
+      by : (b : Bool) → is_relocated options plan.names ≡ b → IsWhole b plan.names (rows_of placed.means.sections) placed.means.before (rows_of placement.sections.items) placement.layout (reloc_tables placement.table) → MeansPlan image (image_file image)
       by true relocated table =
-          moves_means headers (plan.pieces.items ++ ready.rest) placement.sections.items placement.layout contents table.fields ready.laid (contents_room plan.names plan.pieces.items plan.fixes.items placement.sections.items placement.layout owner (tables_of placement.table) ready) (one_length plan.names plan.pieces.items plan.fixes.items placement.sections.items placement.layout owner (tables_of placement.table) ready) refl (permits_are options.base ∙ permitted)
+          moves_means headers (plan.pieces.items ++ ready.rest) placement.sections.items placement.layout contents table.fields ready.laid (contents_room plan.names plan.pieces.items plan.fixes.items placement.sections.items placement.layout owner (reloc_tables placement.table) ready) (one_length plan.names plan.pieces.items plan.fixes.items placement.sections.items placement.layout owner (reloc_tables placement.table) ready) refl (permits_are options.base ∙ permitted)
           (moves (rows_of placed.means.sections) placed.means.before before_count permitted table)
       by false alone same =
-          stays_means headers (plan.pieces.items ++ ready.rest) placement.sections.items placement.layout contents ready.laid (contents_room plan.names plan.pieces.items plan.fixes.items placement.sections.items placement.layout owner (tables_of placement.table) ready options.base) (one_length plan.names plan.pieces.items plan.fixes.items placement.sections.items placement.layout owner (tables_of placement.table) ready) refl (permits_are options.base ∙ permitted)
+          stays_means headers (plan.pieces.items ++ ready.rest) placement.sections.items placement.layout contents ready.laid (contents_room plan.names plan.pieces.items plan.fixes.items placement.sections.items placement.layout owner (reloc_tables placement.table) ready options.base) (one_length plan.names plan.pieces.items plan.fixes.items placement.sections.items placement.layout owner (reloc_tables placement.table) ready) refl (permits_are options.base ∙ permitted)
           (stays alone same.2)
 
   -- what is written of the plan means it
   pub built : (made : Built) → is_permitted (base_rule options) placement.layout.image options.base ≡ true → fields_range_fault plan.names (rows_of placement.sections.items) placement.layout options.base ≡ None
-      → made.image.items ≡ file_of headers placement.sections.items placement.layout (linked_contents plan.names (rows_of placement.sections.items) placement.layout options.base) (tables_of placement.table) → made.sections ≡ length placement.sections.items → IsBuilt options plan.names made
+      → made.image.items ≡ file_of headers placement.sections.items placement.layout (linked_contents plan.names (rows_of placement.sections.items) placement.layout options.base) (reloc_tables placement.table) → made.sections ≡ length placement.sections.items → IsBuilt options plan.names made
   unfolding written_plan
   built made permitted in_range is count =
       let file : made.image.items ≡ image_file image = is ∙ same_file headers placement.sections.items placement.layout (at_each_base (contents options.base)) contents refl in
@@ -222,13 +223,15 @@ module _ (options : LinkOptions) (plan : LinkPlan) (placement : Placement) (owne
         is_image = record {
           rows = rows_of placement.sections.items;
           layout = placement.layout;
-          tables = tables_of placement.table;
+          tables = reloc_tables placement.table;
           placement = placed.means;
           permitted = permitted;
           in_range = in_range;
-          is = ap (λ (place : Option EntryPlace). layout_plan (headers_of options (entry_rva placement.layout.pieces.items place) (table_directory placement.layout (tables_of placement.table))) placement.sections.items placement.layout contents) planned.entry_is;
+          is = ap (λ (place : Option EntryPlace). layout_plan (headers_of options (entry_rva placement.layout.pieces.items place) (directories_of plan.names placement.layout (reloc_tables placement.table))) placement.sections.items placement.layout contents) planned.entry_is;
         };
         file = file;
         means = subst (MeansPlan image) (sym file) (means permitted);
+        imports = λ are_made readable.
+            imports_there options plan placement owner planned placed ready headers are_made (entry_rva placement.layout.pieces.items plan.entry) made.image.items refl file (subst (MeansPlan image) (sym file) (means permitted)) readable;
         count = count ∙ sym (length-section_rows (plan.pieces.items ++ ready.rest) placement.sections.items placement.layout ready.laid);
       }

@@ -2,22 +2,18 @@
 use Rattle.std.proofs.Common.{◌≡◌, ◌≢◌, ℕ, ◌+◌, ◌<◌, ◌≤◌, ◌-◌, List, [], ◌++◌, length, map, get_or, lt-ltb, le-ltb, inl, inr, refl, sym, ap, ◌∙◌, arith}
 use Rattle.std.specs.List.{range_with_len}
 use Rattle.std.proofs.lemmas.Bool.{cases_lt, cases_eq}
-use Rattle.std.proofs.lemmas.List.{ext_get_or, get_or_append_left, get_or-append_right, length-map, map-append}
+use Rattle.std.proofs.lemmas.List.{ext_get_or, get_or_append_left, get_or-append_right}
 use Rattle.std.proofs.lemmas.List.FromFn.{get_or-map-range_with_len, length-map-range_with_len}
-use Rattle.section_group.specs.declared.piece.Piece.{Piece}
-use Rattle.section_group.specs.declared.piece.OutSection.{OutSection}
-use Rattle.section_group.specs.PieceContents.{piece_contents}
 use Rattle.section_group.specs.Uniqueness.{SectionRow}
 use Rattle.address_layout.specs.declared.layout.Layout.{Layout}
-use Rattle.address_layout.specs.Layout.{all_pieces}
 use Rattle.relocate.proofs.CallerLemmas.{length_patched}
-use Rattle.image_writer.specs.WrittenImage.{HaveRoom}
 use Rattle.image_writer.specs.PieceInFile.{DiffersAt}
 use Rattle.symbol_names.specs.LinkView.{LinkView}
-use Rattle.link_pieces.specs.Pieces.{link_pieces, link_contents}
+use Rattle.link_pieces.specs.Pieces.{link_pieces}
 use Rattle.link_plan.specs.Fixes.{piece_fixes}
-use Rattle.link_image.specs.LinkedBytes.{owners_in, contents_at, linked_bytes, linked_contents}
+use Rattle.link_image.specs.LinkedBytes.{owners_in, contents_at, placed_contents, linked_bytes, linked_contents}
 use Rattle.link_image.specs.Steps.{mixed_at, mixed_contents}
+use Rattle.link_image.proofs.HeldLemmas.{length-placed, placed_read}
 
 module _ (link : LinkView) (rows : List SectionRow) (layout : Layout) (base : ℕ) where
   abbrev total : ℕ
@@ -41,13 +37,13 @@ module _ (link : LinkView) (rows : List SectionRow) (layout : Layout) (base : �
   pub patched_at : (count k : ℕ) → k < count → at count k ≡ linked_bytes link rows layout base k
   patched_at count k lt = rw (lt-ltb k count lt) refl
 
-  pub unpatched_at : (count k : ℕ) → count ≤ k → at count k ≡ contents_at link k
+  pub unpatched_at : (count k : ℕ) → count ≤ k → at count k ≡ contents_at link layout k
   unpatched_at count k le = rw (le-ltb k count le) refl
 
-  length_linked : (k : ℕ) → length (linked_bytes link rows layout base k) ≡ length (contents_at link k)
-  length_linked k = length_patched base (get_or layout.pieces.items k 0) layout (owners_in rows layout) (piece_fixes link k) (contents_at link k)
+  length_linked : (k : ℕ) → length (linked_bytes link rows layout base k) ≡ length (contents_at link layout k)
+  length_linked k = length_patched base (get_or layout.pieces.items k 0) layout (owners_in rows layout) (piece_fixes link k) (contents_at link layout k)
 
-  pub length_at : (count k : ℕ) → length (at count k) ≡ length (contents_at link k)
+  pub length_at : (count k : ℕ) → length (at count k) ≡ length (contents_at link layout k)
   length_at count k =
       elim (cases_lt k count) [
         | inl lt ↦ ap length (patched_at count k lt) ∙ length_linked k
@@ -55,10 +51,12 @@ module _ (link : LinkView) (rows : List SectionRow) (layout : Layout) (base : �
       ]
 
   -- at first none is patched
-  pub mixed_none : length (link_contents link) ≡ total → mixed 0 ≡ link_contents link
-  mixed_none same =
-      ext_get_or [] (mixed 0) (link_contents link) (length-mixed 0 ∙ sym same) (λ k lt.
-      mixed_read 0 k (let n = length-mixed 0 in omega (arith, n)) ∙ unpatched_at 0 k (omega arith))
+  pub mixed_none : mixed 0 ≡ placed_contents link layout
+  mixed_none =
+      let count = length-placed link layout in
+      ext_get_or [] (mixed 0) (placed_contents link layout) (length-mixed 0 ∙ sym count) (λ k lt.
+      let within : k < total = let n = length-mixed 0 in omega (arith, n) in
+      mixed_read 0 k within ∙ unpatched_at 0 k (omega arith) ∙ sym (placed_read link layout k within))
 
   -- in the end all are
   pub mixed_all : (count : ℕ) → total ≤ count → mixed count ≡ linked_contents link rows layout base
@@ -84,7 +82,7 @@ module _ (link : LinkView) (rows : List SectionRow) (layout : Layout) (base : �
           ]
 
   -- a piece whose bytes are not changed is as it was
-  pub mixed_same : (count : ℕ) → linked_bytes link rows layout base count ≡ contents_at link count → mixed (count + 1) ≡ mixed count
+  pub mixed_same : (count : ℕ) → linked_bytes link rows layout base count ≡ contents_at link layout count → mixed (count + 1) ≡ mixed count
   mixed_same count same =
       ext_get_or [] (mixed (count + 1)) (mixed count) (length-mixed (count + 1) ∙ sym (length-mixed count)) (λ k lt.
       let within : k < total = let n = length-mixed (count + 1) in omega (arith, n) in
@@ -94,7 +92,7 @@ module _ (link : LinkView) (rows : List SectionRow) (layout : Layout) (base : �
             patched_at (count + 1) k (omega (arith, here))
             ∙ ap (linked_bytes link rows layout base) here
             ∙ same
-            ∙ sym (ap (contents_at link) here)
+            ∙ sym (ap (contents_at link layout) here)
             ∙ sym (unpatched_at count k (omega (arith, here)))
         | inr apart ↦ beside count k apart
       ]
@@ -118,28 +116,17 @@ module _ (link : LinkView) (rows : List SectionRow) (layout : Layout) (base : �
       behind : (n other : ℕ) → total ≤ other → get_or (mixed n ++ tables) other [] ≡ get_or tables (other - total) []
       behind n other past = get_or-append_right (mixed n) tables total other [] (length-mixed n) past
 
-  -- room stays
-  pub mixed_room : (pieces rest : List Piece) (sections : List OutSection) (count : ℕ) → map piece_contents pieces ≡ link_contents link → length pieces ≡ total → HaveRoom (pieces ++ rest) sections (map piece_contents (pieces ++ rest)) → HaveRoom (pieces ++ rest) sections (mixed count ++ map piece_contents rest)
-  mixed_room pieces rest sections count are same room = λ i d lt.
-      let k = get_or (all_pieces sections) i d in
-      let old = room i d lt in
-      let len : length (get_or (mixed count ++ map piece_contents rest) k []) ≡ length (get_or (map piece_contents (pieces ++ rest)) k []) = lengths k in
-      (let fits = old.0 in omega (arith, fits, len), λ some. old.1 (omega (arith, some, len)))
-    where
-      many : length (map piece_contents pieces) ≡ total
-      many = length-map pieces piece_contents ∙ same
-
-      lengths : (k : ℕ) → length (get_or (mixed count ++ map piece_contents rest) k []) ≡ length (get_or (map piece_contents (pieces ++ rest)) k [])
-      lengths k =
-          elim (cases_lt k total) [
-            | inl below ↦
-                ap length (mixed_front (map piece_contents rest) count k below)
-                ∙ length_at count k
-                ∙ ap (λ (cs : List (List ℕ)). length (get_or cs k [])) (sym are)
-                ∙ ap length (sym (get_or_append_left (map piece_contents pieces) (map piece_contents rest) [] k (omega (arith, below, many))))
-                ∙ ap (λ (cs : List (List ℕ)). length (get_or cs k [])) (sym (map-append piece_contents pieces rest))
-            | inr past ↦
-                ap length (get_or-append_right (mixed count) (map piece_contents rest) total k [] (length-mixed count) past)
-                ∙ ap length (sym (get_or-append_right (map piece_contents pieces) (map piece_contents rest) total k [] many past))
-                ∙ ap (λ (cs : List (List ℕ)). length (get_or cs k [])) (sym (map-append piece_contents pieces rest))
-          ]
+  -- lengths stay
+  pub length_mixed_at : (tables : List (List ℕ)) (count k : ℕ) → length (get_or (mixed count ++ tables) k []) ≡ length (get_or (placed_contents link layout ++ tables) k [])
+  length_mixed_at tables count k =
+      let placed = length-placed link layout in
+      elim (cases_lt k total) [
+        | inl below ↦
+            ap length (mixed_front tables count k below)
+            ∙ length_at count k
+            ∙ sym (ap length (placed_read link layout k below))
+            ∙ sym (ap length (get_or_append_left (placed_contents link layout) tables [] k (omega (arith, below, placed))))
+        | inr past ↦
+            ap length (get_or-append_right (mixed count) tables total k [] (length-mixed count) past)
+            ∙ sym (ap length (get_or-append_right (placed_contents link layout) tables total k [] placed past))
+      ]

@@ -1,20 +1,17 @@
 -- The contents of the pieces of a link at two bases: the fields that hold addresses move with the base, and no other byte
 -- depends on it.
-use Rattle.std.proofs.Common.{◌≡◌, ℕ, ◌+◌, ◌-◌, ◌*◌, ◌%◌, ◌^◌, ◌<◌, ◌≤◌, Bool, true, false, cond, List, [], ◌++◌, length, map, get_or, slice_index, eqb, inl, inr, refl, sym, ap, ◌∙◌, subst, IsTrue, unwrap_or, option_copied, arith}
+use Rattle.std.proofs.Common.{◌≡◌, ℕ, ◌+◌, ◌*◌, ◌%◌, ◌^◌, ◌<◌, ◌≤◌, Bool, true, false, cond, List, [], ◌++◌, length, get_or, slice_index, eqb, inl, inr, refl, sym, ap, ◌∙◌, subst, arith}
 use Rattle.std.specs.List.{All}
-use Rattle.std.proofs.Math.ListN.{get_or-map}
 use Rattle.std.proofs.lemmas.Bool.{cases_lt}
-use Rattle.std.proofs.lemmas.List.{length-map, length-append, map-append, get_or_append_left, get_or-append_right}
+use Rattle.std.proofs.lemmas.List.{length-map, get_or_append_left, get_or-append_right}
 use Rattle.std.proofs.lemmas.List.Elements.{All-from_get_or}
 use Rattle.link_base.specs.Bytes.{number_at, number_bytes}
 use Rattle.section_group.specs.declared.piece.Piece.{Piece}
 use Rattle.section_group.specs.declared.piece.OutSection.{OutSection}
 use Rattle.section_group.specs.BarePieces.{bare}
 use Rattle.section_group.specs.SectionOrder.{no_piece}
-use Rattle.section_group.specs.PieceContents.{piece_contents, HasItsBytes}
 use Rattle.section_group.specs.Uniqueness.{SectionRow, rows_of}
 use Rattle.address_layout.specs.declared.layout.Layout.{Layout}
-use Rattle.address_layout.specs.Layout.{all_pieces}
 use Rattle.base_reloc.specs.declared.field.BaseField.{BaseField}
 use Rattle.base_reloc.specs.Blocks.{width_of}
 use Rattle.base_reloc.specs.Raising.{IsOutside, IsOutsideAll}
@@ -26,46 +23,19 @@ use Rattle.relocate.specs.Value.{IsOutside as IsOutsideFix}
 use Rattle.relocate.specs.PatchedBytes.{is_based}
 use Rattle.relocate.proofs.OrderLemmas.{IsAmong}
 use Rattle.relocate.proofs.CallerLemmas.{bytes_moved, byte_stays, ends_within, based_width, field_among, among_fields}
-use Rattle.image_writer.specs.WrittenImage.{HaveRoom, HasContents}
+use Rattle.image_writer.specs.WrittenImage.{HaveRoom}
 use Rattle.image_writer.specs.MovedContents.{HaveOneLength, IsMoved, AreMoved}
 use Rattle.image_writer.specs.PieceInFile.{piece_at}
-use Rattle.image_writer.proofs.CallerLemmas.{have_room}
 use Rattle.symbol_names.specs.LinkView.{LinkView}
-use Rattle.link_pieces.specs.Pieces.{link_pieces, link_contents}
+use Rattle.link_pieces.specs.Pieces.{link_pieces}
 use Rattle.link_plan.specs.Fixes.{piece_fixes, HaveFields}
 use Rattle.link_plan.proofs.CallerLemmas.{plan_count}
 use Rattle.link_image.specs.BaseFields.{holds_address, base_field, IsBaseField, AreBaseFields}
-use Rattle.link_image.specs.LinkedBytes.{section_of, owners_in, contents_at, linked_bytes, image_contents}
-use Rattle.link_image.specs.Steps.{HoldTables, IsReady}
+use Rattle.link_image.specs.LinkedBytes.{section_of, owners_in, contents_at, placed_contents, linked_bytes, image_contents}
+use Rattle.link_image.specs.Steps.{IsHeld, IsReady}
+use Rattle.link_image.proofs.HeldLemmas.{patchable_at, have_room_for, length-placed, placed_read, placed_held}
 use Rattle.link_image.proofs.StandsLemmas.{OwnerAt, owner_at}
 use Rattle.link_image.proofs.PieceMoves.{piece_read, table_read, length_piece, based_some, based_has_field, image_stays}
-
--- ---- room depends on lengths alone
-
-pub room_by_length : (pieces : List Piece) (sections : List OutSection) (old new : List (List ℕ)) → All (λ k. length (get_or new k []) ≡ length (get_or old k [])) (all_pieces sections) → HaveRoom pieces sections old → HaveRoom pieces sections new
-room_by_length pieces sections old new same room = λ i d lt.
-    let k = get_or (all_pieces sections) i d in
-    let len : length (get_or new k []) ≡ length (get_or old k []) = same i d lt in
-    let was = room i d lt in
-    (let fits = was.0 in omega (arith, fits, len), λ some. was.1 (omega (arith, some, len)))
-
--- ---- pieces that have their bytes, with tables after them
-
-module _ (tables : List (List ℕ)) (rest : List Piece) (holds : HoldTables tables rest) where
-  table_has_bytes : (j : ℕ) → j < length rest → HasItsBytes rest j
-  table_has_bytes j lt init =
-      sym (ap length (get_or-map piece_contents rest j no_piece))
-      ∙ ap (λ (cs : List (List ℕ)). length (get_or cs j [])) holds.contents
-      ∙ sym (holds.sizes j lt)
-
-  both_have_bytes : (pieces : List Piece) → ((k : ℕ) → k < length pieces → HasItsBytes pieces k) → (k : ℕ) → k < length (pieces ++ rest) → HasItsBytes (pieces ++ rest) k
-  both_have_bytes pieces bodies k within =
-      elim (cases_lt k (length pieces)) [
-        | inl lt ↦ subst (λ (piece : Piece). IsTrue piece.init → length (piece_contents piece) ≡ piece.size) (sym (get_or_append_left pieces rest no_piece k lt)) (bodies k lt)
-        | inr le ↦
-            let n = length-append pieces rest in
-            subst (λ (piece : Piece). IsTrue piece.init → length (piece_contents piece) ≡ piece.size) (sym (get_or-append_right pieces rest (length pieces) k no_piece refl le)) (table_has_bytes (k - length pieces) (omega (arith, within, n, le)))
-      ]
 
 -- ---- a field that holds an address
 
@@ -108,7 +78,7 @@ module _ (link : LinkView) (pieces : List Piece) (fixups : List (List Fix)) (sec
   count_is : length pieces ≡ count
   count_is = sym (length-map pieces bare) ∙ ap (λ (ps : List Piece). length ps) ready.pieces_are ∙ plan_count ready.options link
 
-  length_at : (base k : ℕ) → k < count → length (get_or (contents base) k []) ≡ length (contents_at link k)
+  length_at : (base k : ℕ) → k < count → length (get_or (contents base) k []) ≡ length (contents_at link layout k)
   length_at base k lt = ap length (piece_read link rows layout base tables k lt) ∙ length_piece link rows layout base k
 
   -- each piece and each table has one length
@@ -121,30 +91,23 @@ module _ (link : LinkView) (pieces : List Piece) (fixups : List (List Fix)) (sec
 
   -- ---- room
 
-  held_are : map piece_contents (pieces ++ ready.rest) ≡ link_contents link ++ tables
-  held_are =
-      map-append piece_contents pieces ready.rest
-      ∙ ap (λ (cs : List (List ℕ)). cs ++ map piece_contents ready.rest) ready.contents_are
-      ∙ ap (λ (cs : List (List ℕ)). link_contents link ++ cs) ready.holds.contents
-
-  contents_count : length (link_contents link) ≡ count
-  contents_count = sym (ap (λ (cs : List (List ℕ)). length cs) ready.contents_are) ∙ length-map pieces piece_contents ∙ count_is
-
-  length_held : (base k : ℕ) → length (get_or (contents base) k []) ≡ length (get_or (map piece_contents (pieces ++ ready.rest)) k [])
+  length_held : (base k : ℕ) → length (get_or (contents base) k []) ≡ length (get_or (placed_contents link layout ++ tables) k [])
   length_held base k =
+      let placed = length-placed link layout in
       elim (cases_lt k count) [
-        | inl lt ↦ length_at base k lt ∙ sym (ap length (get_or_append_left (link_contents link) tables [] k (omega (arith, lt, contents_count))))
-        | inr le ↦ ap length (table_read link rows layout base tables k le) ∙ sym (ap length (get_or-append_right (link_contents link) tables count k [] contents_count le))
+        | inl lt ↦
+            length_at base k lt
+            ∙ sym (ap length (placed_read link layout k lt))
+            ∙ sym (ap length (get_or_append_left (placed_contents link layout) tables [] k (omega (arith, lt, placed))))
+        | inr le ↦
+            ap length (table_read link rows layout base tables k le)
+            ∙ sym (ap length (get_or-append_right (placed_contents link layout) tables count k [] placed le))
       ]
-      ∙ ap (λ (cs : List (List ℕ)). length (get_or cs k [])) (sym held_are)
-
-  have_contents : HasContents (pieces ++ ready.rest) sections
-  have_contents = λ i d lt. both_have_bytes tables ready.rest ready.holds pieces ready.bodies (get_or (all_pieces sections) i d) (ready.laid.within i d lt)
 
   -- the contents have their room at each base
   pub contents_room : (base : ℕ) → HaveRoom (pieces ++ ready.rest) sections (contents base)
   contents_room base =
-      room_by_length (pieces ++ ready.rest) sections (map piece_contents (pieces ++ ready.rest)) (contents base) (λ i d lt. length_held base (get_or (all_pieces sections) i d)) (have_room (pieces ++ ready.rest) sections have_contents)
+      have_room_for pieces ready.rest sections (placed_contents link layout) tables (contents base) (length-placed link layout ∙ sym count_is) (placed_held link layout pieces count_is ready.held) ready.holds ready.laid.within (length_held base)
 
   -- ---- fields
 
@@ -154,8 +117,8 @@ module _ (link : LinkView) (pieces : List Piece) (fixups : List (List Fix)) (sec
   are_fields : (k : ℕ) → k < count → AreTheFields (piece_fixes link k) (get_or fixups k [])
   are_fields k lt = have.fields k lt
 
-  are_patchable : (k : ℕ) → k < count → ArePatchable (length (contents_at link k)) (get_or fixups k [])
-  are_patchable k lt = have.patchable k lt
+  are_patchable : (k : ℕ) → k < count → ArePatchable (length (contents_at link layout k)) (get_or fixups k [])
+  are_patchable k lt = patchable_at link layout fixups count have k lt
 
   -- so the contents are the same at each base
   pub contents_stay : holds_address link ≡ false → (base other : ℕ) → contents base ≡ contents other
@@ -167,20 +130,17 @@ module _ (link : LinkView) (pieces : List Piece) (fixups : List (List Fix)) (sec
   read_at base k place is lt = ap (λ (j : ℕ). get_or (contents base) j []) is ∙ piece_read link rows layout base tables k lt
 
   -- a piece with a field has bytes, so it stands in a section
-  stands_at : (k : ℕ) → k < count → 0 < length (contents_at link k) → OwnerAt sections k
+  stands_at : (k : ℕ) → k < count → 0 < length (contents_at link layout k) → OwnerAt sections k
   stands_at k lt some =
       let within : k < length pieces = omega (arith, lt, count_is) in
-      owner_at sections k (ready.stands k within (inl (sized (get_or pieces k no_piece) (held k) (ready.bodies k within))))
+      owner_at sections k (ready.stands k within (inl (sized (get_or pieces k no_piece) (ready.held k within))))
     where
-      held : (k : ℕ) → piece_contents (get_or pieces k no_piece) ≡ contents_at link k
-      held k = sym (get_or-map piece_contents pieces k no_piece) ∙ ap (λ (cs : List (List ℕ)). get_or cs k []) ready.contents_are
-
-      sized : (piece : Piece) → piece_contents piece ≡ contents_at link k → (IsTrue piece.init → length (piece_contents piece) ≡ piece.size) → 0 < piece.size
-      sized piece is has = by piece.init refl
+      sized : (piece : Piece) → IsHeld piece (contents_at link layout k) → 0 < piece.size
+      sized piece held = by piece.init refl
         where
           by : (b : Bool) → piece.init ≡ b → 0 < piece.size
-          by true init = let n = has init in let m = ap (λ (bs : List ℕ). length bs) is in omega (arith, n, m, some)
-          by false none = absurd (let m = ap (λ (bs : List ℕ). length bs) (sym (ap (λ (b : Bool). cond b (unwrap_or (option_copied piece.body) []) []) none) ∙ is) in omega (arith, m, some))
+          by true on = omega (arith, some, held.filled on)
+          by false off = absurd (omega (arith, some, held.empty off))
 
   module _ (own base : ℕ) (low : own < 2 ^ 64) where
     abbrev delta : ℕ
@@ -190,8 +150,8 @@ module _ (link : LinkView) (pieces : List Piece) (fixups : List (List Fix)) (sec
     judged_raised : (k : ℕ) → k < count → All (RaisesFix (bytes_of own k) (bytes_of base k) delta) (get_or fixups k [])
     judged_raised k lt =
         All-from_get_or (RaisesFix (bytes_of own k) (bytes_of base k) delta) (get_or fixups k []) no_fix (λ i within based. (
-          let end = ends_within (length (contents_at link k)) (get_or fixups k []) i (are_patchable k lt) within in omega (arith, end, length_piece link rows layout own k),
-          bytes_moved own base (get_or layout.pieces.items k 0) layout (owners_in rows layout) (piece_fixes link k) (get_or fixups k []) (contents_at link k) (are_fields k lt) (are_patchable k lt) low i within based,
+          let end = ends_within (length (contents_at link layout k)) (get_or fixups k []) i (are_patchable k lt) within in omega (arith, end, length_piece link rows layout own k),
+          bytes_moved own base (get_or layout.pieces.items k 0) layout (owners_in rows layout) (piece_fixes link k) (get_or fixups k []) (contents_at link layout k) (are_fields k lt) (are_patchable k lt) low i within based,
         ))
 
     fix_raised : (k i : ℕ) → k < count → i < length (piece_fixes link k) → RaisesFix (bytes_of own k) (bytes_of base k) delta (fix_at (piece_fixes link k) i)
@@ -247,7 +207,7 @@ module _ (link : LinkView) (pieces : List Piece) (fixups : List (List Fix)) (sec
           elim (cases_lt k count) [
             | inl lt ↦
                 ap (λ (bs : List ℕ). slice_index bs t) (piece_read link rows layout base tables k lt)
-                ∙ byte_stays own base (get_or layout.pieces.items k 0) layout (owners_in rows layout) (piece_fixes link k) (get_or fixups k []) (contents_at link k) (are_fields k lt) (are_patchable k lt) t (outside_judged k t lt outside)
+                ∙ byte_stays own base (get_or layout.pieces.items k 0) layout (owners_in rows layout) (piece_fixes link k) (get_or fixups k []) (contents_at link layout k) (are_fields k lt) (are_patchable k lt) t (outside_judged k t lt outside)
                 ∙ sym (ap (λ (bs : List ℕ). slice_index bs t) (piece_read link rows layout own tables k lt))
             | inr le ↦ ap (λ (bs : List ℕ). slice_index bs t) (table_read link rows layout base tables k le ∙ sym (table_read link rows layout own tables k le))
           ]

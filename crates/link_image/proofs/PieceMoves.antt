@@ -22,6 +22,7 @@ use Rattle.link_pieces.specs.Pieces.{link_pieces}
 use Rattle.link_plan.specs.Fixes.{piece_fixes, HaveFields}
 use Rattle.link_image.specs.BaseFields.{piece_holds_address, holds_address}
 use Rattle.link_image.specs.LinkedBytes.{owners_in, contents_at, linked_bytes, linked_contents, image_contents}
+use Rattle.link_image.proofs.HeldLemmas.{patchable_at}
 
 -- ---- the contents of a piece and a table
 
@@ -46,8 +47,8 @@ module _ (link : LinkView) (rows : List SectionRow) (layout : Layout) (base : �
   pub table_read : (tables : List (List ℕ)) (k : ℕ) → total ≤ k → get_or (image_contents link rows layout tables base) k [] ≡ get_or tables (k - total) []
   table_read tables k le = get_or-append_right linked tables total k [] length_linked le
 
-  pub length_piece : (k : ℕ) → length (linked_bytes link rows layout base k) ≡ length (contents_at link k)
-  length_piece k = length_patched base (get_or layout.pieces.items k 0) layout (owners_in rows layout) (piece_fixes link k) (contents_at link k)
+  pub length_piece : (k : ℕ) → length (linked_bytes link rows layout base k) ≡ length (contents_at link layout k)
+  length_piece k = length_patched base (get_or layout.pieces.items k 0) layout (owners_in rows layout) (piece_fixes link k) (contents_at link layout k)
 
 -- ---- a test that nothing passes
 
@@ -94,13 +95,13 @@ module _ (link : LinkView) (fixups : List (List Fix)) (rows : List SectionRow) (
   pub are_fields : (k : ℕ) → k < count → AreTheFields (piece_fixes link k) (get_or fixups k [])
   are_fields k lt = have.fields k lt
 
-  pub are_patchable : (k : ℕ) → k < count → ArePatchable (length (contents_at link k)) (get_or fixups k [])
-  are_patchable k lt = have.patchable k lt
+  pub are_patchable : (k : ℕ) → k < count → ArePatchable (length (contents_at link layout k)) (get_or fixups k [])
+  are_patchable k lt = patchable_at link layout fixups count have k lt
 
   piece_stays : holds_address link ≡ false → (base other k : ℕ) → k < count → bytes_of base k ≡ bytes_of other k
   piece_stays none base other k lt =
-      bytes_stay false false base other (get_or layout.pieces.items k 0) layout (owners_in rows layout) (piece_fixes link k) (contents_at link k)
-      (fields_suited (piece_fixes link k) (get_or fixups k []) (length (contents_at link k)) (are_fields k lt) (are_patchable k lt))
+      bytes_stay false false base other (get_or layout.pieces.items k 0) layout (owners_in rows layout) (piece_fixes link k) (contents_at link layout k)
+      (fields_suited (piece_fixes link k) (get_or fixups k []) (length (contents_at link layout k)) (are_fields k lt) (are_patchable k lt))
       (none_based none k lt)
 
   pub linked_stay : holds_address link ≡ false → (base other : ℕ) → linked_contents link rows layout base ≡ linked_contents link rows layout other
@@ -124,13 +125,13 @@ module _ (link : LinkView) (fixups : List (List Fix)) (rows : List SectionRow) (
   pub fix_moves : (own base : ℕ) → own < 2 ^ 64 → (k i : ℕ) → k < count → i < length (piece_fixes link k) → MovesFix own base k (fix_at (piece_fixes link k) i)
   fix_moves own base low k i lt within based =
       among_fields (MovesFix own base k) (piece_fixes link k) (get_or fixups k []) i (are_fields k lt)
-      (All-from_get_or (MovesFix own base k) (get_or fixups k []) no_fix (λ j inside. field_moved own base (get_or layout.pieces.items k 0) layout (owners_in rows layout) (piece_fixes link k) (get_or fixups k []) (contents_at link k) (are_fields k lt) (are_patchable k lt) low j inside))
+      (All-from_get_or (MovesFix own base k) (get_or fixups k []) no_fix (λ j inside. field_moved own base (get_or layout.pieces.items k 0) layout (owners_in rows layout) (piece_fixes link k) (get_or fixups k []) (contents_at link layout k) (are_fields k lt) (are_patchable k lt) low j inside))
       within (based_has_field (fix_at (piece_fixes link k) i) based) based
 
   -- a byte of no such field is the same
   pub byte_kept : (own base k t : ℕ) → k < count → ((i : ℕ) → i < length (piece_fixes link k) → is_based (fix_at (piece_fixes link k) i) ≡ true → IsOutsideFix t (fix_at (piece_fixes link k) i)) → slice_index (bytes_of base k) t ≡ slice_index (bytes_of own k) t
   unfolding IsAmong
   byte_kept own base k t lt outside =
-      byte_stays own base (get_or layout.pieces.items k 0) layout (owners_in rows layout) (piece_fixes link k) (get_or fixups k []) (contents_at link k) (are_fields k lt) (are_patchable k lt) t (λ j inside based.
+      byte_stays own base (get_or layout.pieces.items k 0) layout (owners_in rows layout) (piece_fixes link k) (get_or fixups k []) (contents_at link layout k) (are_fields k lt) (are_patchable k lt) t (λ j inside based.
       let among = (field_among (piece_fixes link k) (get_or fixups k []) j (are_fields k lt) inside).1 in
       subst (IsOutsideFix t) among.2 (outside among.0 among.1 (ap is_based among.2 ∙ based)))

@@ -1,5 +1,5 @@
 -- What layouts say of the fields of a link: the places of pieces and of sections decide it.
-use Rattle.std.proofs.Common.{◌≡◌, ℕ, List, length, map, get_or, Option, option_map, ap, ◌∙◌}
+use Rattle.std.proofs.Common.{◌≡◌, ℕ, ◌-◌, cond, List, [], ◌∷◌, length, map, get_or, Option, option_map, ap, ◌∙◌}
 use Rattle.std.specs.List.{range_with_len}
 use Rattle.std.proofs.Math.Path.{fun_ext}
 use Rattle.link_base.specs.Refusals.{first_refusal_below}
@@ -10,21 +10,34 @@ use Rattle.relocate.specs.PatchedBytes.{patched_bytes, range_fault}
 use Rattle.relocate.proofs.PlaceLemmas.{bytes_by_places}
 use Rattle.relocate.proofs.PlaceLemmas as places
 use Rattle.symbol_names.specs.LinkView.{LinkView}
-use Rattle.link_pieces.specs.Pieces.{link_pieces}
+use Rattle.import_tables.specs.ImportTables.{tables_of as import_tables_of}
+use Rattle.link_imports.specs.Imports.{import_rows}
+use Rattle.link_pieces.specs.LinkerPieces.{is_table}
+use Rattle.link_pieces.specs.PieceIndex.{linker_index}
+use Rattle.link_pieces.specs.Pieces.{link_pieces, link_contents}
 use Rattle.link_plan.specs.Fixes.{piece_at, piece_fixes}
-use Rattle.link_image.specs.LinkedBytes.{owners, owners_in, contents_at, linked_bytes, linked_contents, out_of_range, piece_range_fault, fields_range_fault}
+use Rattle.link_image.specs.declared.headers.Directories.{Directories}
+use Rattle.link_image.specs.LinkedImage.{extent_of, directories_of}
+use Rattle.link_image.specs.LinkedBytes.{owners, owners_in, rva_of, table_rvas, import_tables_at, contents_at, linked_bytes, linked_contents, out_of_range, piece_range_fault, fields_range_fault}
 
 module _ (layout other : Layout) (pieces : layout.pieces.items ≡ other.pieces.items) (sections : layout.sections.items ≡ other.sections.items) where
+  held_same : (link : LinkView) (k : ℕ) → contents_at link layout k ≡ contents_at link other k
+  unfolding contents_at import_tables_at table_rvas
+  held_same link k =
+      ap (λ (rvas : List ℕ). cond (is_table (length link.modules) (piece_at link k)) (get_or (import_tables_of (import_rows link.modules) (map (λ number. rva_of rvas (linker_index link number)) (range_with_len 0 5))) (piece_at link k).number []) (get_or (link_contents link) k [])) pieces
+
   piece_same : (link : LinkView) (rows : List SectionRow) (base k : ℕ) → linked_bytes link rows layout base k ≡ linked_bytes link rows other base k
   piece_same link rows base k =
-      bytes_by_places layout other pieces sections base (get_or layout.pieces.items k 0) (owners_in rows layout) (piece_fixes link k) (contents_at link k)
-      ∙ ap (λ (rvas : List ℕ). patched_bytes base (get_or rvas k 0) other (owners rows (length rvas)) (piece_fixes link k) (contents_at link k)) pieces
+      bytes_by_places layout other pieces sections base (get_or layout.pieces.items k 0) (owners_in rows layout) (piece_fixes link k) (contents_at link layout k)
+      ∙ ap (λ (rvas : List ℕ). patched_bytes base (get_or rvas k 0) other (owners rows (length rvas)) (piece_fixes link k) (contents_at link layout k)) pieces
+      ∙ ap (patched_bytes base (get_or other.pieces.items k 0) other (owners_in rows other) (piece_fixes link k)) (held_same link k)
 
   fault_same : (link : LinkView) (rows : List SectionRow) (base k : ℕ) → piece_range_fault link rows layout base k ≡ piece_range_fault link rows other base k
   fault_same link rows base k =
       ap (option_map (out_of_range (piece_at link k)))
-      (places.range_by_places layout other pieces sections base (get_or layout.pieces.items k 0) (owners_in rows layout) (piece_fixes link k) (contents_at link k)
-      ∙ ap (λ (rvas : List ℕ). range_fault base (get_or rvas k 0) other (owners rows (length rvas)) (piece_fixes link k) (contents_at link k)) pieces)
+      (places.range_by_places layout other pieces sections base (get_or layout.pieces.items k 0) (owners_in rows layout) (piece_fixes link k) (contents_at link layout k)
+      ∙ ap (λ (rvas : List ℕ). range_fault base (get_or rvas k 0) other (owners rows (length rvas)) (piece_fixes link k) (contents_at link layout k)) pieces
+      ∙ ap (range_fault base (get_or other.pieces.items k 0) other (owners_in rows other) (piece_fixes link k)) (held_same link k))
 
 pub contents_by_places : (link : LinkView) (rows : List SectionRow) (layout other : Layout) → layout.pieces.items ≡ other.pieces.items → layout.sections.items ≡ other.sections.items → linked_contents link rows layout ≡ linked_contents link rows other
 unfolding linked_contents
@@ -35,3 +48,17 @@ pub range_by_places : (link : LinkView) (rows : List SectionRow) (layout other :
 unfolding fields_range_fault
 range_by_places link rows layout other base pieces sections =
     ap (λ (f : ℕ → Option Fault). first_refusal_below (length (link_pieces link)) f) (fun_ext (λ k. fault_same layout other pieces sections link rows base k))
+
+-- the directories, by the RVAs of the pieces and the one of the base relocations
+directories : LinkView → ℕ × ℕ → List ℕ → Directories
+directories link relocations rvas = record {
+  imports = extent_of (link_pieces link) rvas (linker_index link 0);
+  slots = extent_of (link_pieces link) rvas (linker_index link 2);
+  relocations = relocations;
+}
+
+pub directories_by_places : (link : LinkView) (layout other : Layout) (tables : List (List ℕ)) → layout.pieces.items ≡ other.pieces.items → directories_of link layout tables ≡ directories_of link other tables
+unfolding directories
+directories_by_places link layout other [] pieces = ap (directories link (0, 0)) pieces
+directories_by_places link layout other (table ∷ tables) pieces =
+    ap (λ (rvas : List ℕ). directories link (get_or rvas (length rvas - 1) 0, length table) rvas) pieces

@@ -20,8 +20,9 @@ use Rattle.address_layout.specs.declared.layout.Layout.{Layout}
 use Rattle.address_layout.specs.declared.layout.LayoutError.{LayoutError}
 use Rattle.address_layout.specs.declared.layout.LayoutError.TheVariants as bad
 use Rattle.address_layout.specs.Layout.{all_pieces, IsLayout, IsPlaceRefusal, StandOnce}
+use Rattle.address_layout.specs.Places.{row_at, piece_in}
 use Rattle.address_layout.specs.PermittedBase.{is_permitted, IsBaseRefusal}
-use Rattle.address_layout.proofs.CallerLemmas.{stand_once, stands, layout_bare, size_bare, name_fits}
+use Rattle.address_layout.proofs.CallerLemmas.{stand_once, stands, stands_at, piece_end_inside, all_ends_inside, layout_bare, size_bare, name_fits}
 use Rattle.image_writer.specs.declared.headers.Headers.{Headers}
 use Rattle.link_base.specs.declared.fault.Fault.{Fault}
 use Rattle.section_group.specs.PieceContents.{piece_contents}
@@ -41,9 +42,10 @@ use Rattle.link_base.specs.Limits.{IMAGE_LIMIT}
 use Rattle.link_image.specs.declared.placement.Placement.{Placement}
 use Rattle.link_image.specs.BaseFields.{is_relocated, AreBaseFields}
 use Rattle.link_image.specs.LinkedBytes.{owners_in, fields_range_fault}
-use Rattle.link_image.specs.Steps.{tables_of, EndsWithTable, IsPlaced, IsReady, IsWritten}
+use Rattle.link_image.specs.Steps.{reloc_tables, EndsWithTable, IsPlaced, IsReady, IsWritten}
 use Rattle.link_image.specs.LinkedImage.{link_input, base_rule, table_row, AreGrouped, ArePlaced, IsWhole, IsPlacement}
 use Rattle.link_image.specs.BuildFaults.{IsBuildFault}
+use Rattle.link_image.proofs.HeldLemmas.{held_at}
 
 -- ---- pieces without their bytes
 
@@ -140,6 +142,18 @@ entry_fits options link pieces sections reloc layout place grouped placed stand 
     let needs : needs_place input piece ≡ true = or_right _ _ stand.named in
     name_fits pieces sections reloc layout piece place.value placed.layout_of.standing placed.within (stands input sections piece grouped.grouping used needs) fits stand.inside
 
+-- a piece with bytes ends inside the image
+pub end_fits : (options : LinkOptions) (link : LinkView) (pieces : List Piece) (sections : List OutSection) (reloc : Bool) (layout : Layout) (k : ℕ) → AreGrouped options link pieces sections → ArePlaced pieces sections reloc layout → k < length pieces → 0 < (get_or pieces k no_piece).size → get_or layout.pieces.items k 0 + (get_or pieces k no_piece).size ≤ IMAGE_LIMIT
+end_fits options link pieces sections reloc layout k grouped placed lt some =
+    let input = link_input options link pieces in
+    let standing = placed.layout_of.standing in
+    let at = stands_at sections k (stands input sections k grouped.grouping (used_there options link pieces k lt) (needs_there input k (inl some))) in
+    let size : (piece_in pieces (row_at sections at.section) at.number).size ≡ (get_or pieces k no_piece).size = ap (λ (n : ℕ). (get_or pieces n no_piece).size) at.is in
+    let place : get_or layout.pieces.items k 0 ≡ standing.place at.section at.number = ap (λ (n : ℕ). get_or layout.pieces.items n 0) (sym at.is) ∙ standing.written at.section at.number at.there at.within in
+    let inside = piece_end_inside (standing.arranged.each at.section at.there) at.number at.within (omega (arith, some, size)) in
+    let within = all_ends_inside pieces sections reloc layout at.section standing at.there in
+    omega (arith, size, place, inside, within, placed.within)
+
 -- ---- the base
 
 -- the one refusal of a base is that it is not permitted
@@ -175,7 +189,7 @@ no_pieces f [] e = refl
 no_pieces f (x ∷ xs) e = absurd cc
 
 -- without a table of base relocations
-pub placed_alone : (options : LinkOptions) (plan : LinkPlan) (placement : Placement) → IsPlanOf options plan.names plan → AreGrouped options plan.names plan.pieces.items placement.sections.items → ArePlaced plan.pieces.items placement.sections.items false placement.layout → is_relocated options plan.names ≡ false → tables_of placement.table ≡ [] → IsPlaced options plan placement
+pub placed_alone : (options : LinkOptions) (plan : LinkPlan) (placement : Placement) → IsPlanOf options plan.names plan → AreGrouped options plan.names plan.pieces.items placement.sections.items → ArePlaced plan.pieces.items placement.sections.items false placement.layout → is_relocated options plan.names ≡ false → reloc_tables placement.table ≡ [] → IsPlaced options plan placement
 placed_alone options plan placement planned grouped placed alone none =
     let link = plan.names in
     let pieces = plan.pieces.items in
@@ -188,7 +202,7 @@ placed_alone options plan placement planned grouped placed alone none =
         grouped = grouped_modules options link pieces sections planned.pieces_are grouped;
         before = layout;
         placed = subst (λ (r : Bool). ArePlaced (plan_pieces options link) sections r layout) (sym alone) (placed_modules options link pieces sections false layout planned.pieces_are placed);
-        whole = subst (λ (r : Bool). IsWhole r link (rows_of sections) layout (rows_of sections) layout (tables_of placement.table)) (sym alone) (refl, refl, none);
+        whole = subst (λ (r : Bool). IsWhole r link (rows_of sections) layout (rows_of sections) layout (reloc_tables placement.table)) (sym alone) (refl, refl, none);
       };
       laid = λ rest holds.
           let empty : rest ≡ [] = no_pieces piece_contents rest (holds.contents ∙ none) in
@@ -196,6 +210,7 @@ placed_alone options plan placement planned grouped placed alone none =
       stands = λ k lt needs. stands input sections k grouped.grouping (used_there options link pieces k lt) (needs_there input k needs);
       room = omega (arith, placed.layout_of.standing.rva_for_each);
       fits = λ place stand small. entry_fits options link pieces sections false layout place grouped placed stand small;
+      ends = λ k lt some. end_fits options link pieces sections false layout k grouped placed lt some;
       few = omega (arith, placed.few);
       small = subst (λ (ts : List (List ℕ)). All (λ table. length table < 2 ^ 32) ts) (sym none) (All-nil (λ (table : List ℕ). length table < 2 ^ 32));
     }
@@ -209,7 +224,7 @@ sections_more : (sections : List OutSection) (section : OutSection) → all_piec
 sections_more sections section = flat_map-append (λ (s : OutSection). s.pieces.items) sections (section ∷ [])
 
 -- with a table after all other sections
-pub placed_with_table : (options : LinkOptions) (plan : LinkPlan) (sections : List OutSection) (before : Layout) (fields : List BaseField) (placement : Placement) → IsPlanOf options plan.names plan → AreGrouped options plan.names plan.pieces.items sections → ArePlaced plan.pieces.items sections true before → is_relocated options plan.names ≡ true → AreBaseFields plan.names before.pieces.items fields → EndsWithTable sections placement.sections.items (length plan.pieces.items) → Appends before placement.layout (length (blocks_of fields)) → placement.layout.image ≤ IMAGE_LIMIT → tables_of placement.table ≡ blocks_of fields ∷ [] → length (blocks_of fields) < 2 ^ 32 → IsPlaced options plan placement
+pub placed_with_table : (options : LinkOptions) (plan : LinkPlan) (sections : List OutSection) (before : Layout) (fields : List BaseField) (placement : Placement) → IsPlanOf options plan.names plan → AreGrouped options plan.names plan.pieces.items sections → ArePlaced plan.pieces.items sections true before → is_relocated options plan.names ≡ true → AreBaseFields plan.names before.pieces.items fields → EndsWithTable sections placement.sections.items (length plan.pieces.items) → Appends before placement.layout (length (blocks_of fields)) → placement.layout.image ≤ IMAGE_LIMIT → reloc_tables placement.table ≡ blocks_of fields ∷ [] → length (blocks_of fields) < 2 ^ 32 → IsPlaced options plan placement
 placed_with_table options plan sections before fields placement planned grouped placed relocated based ends added within tables small =
     let link = plan.names in
     let pieces = plan.pieces.items in
@@ -226,7 +241,7 @@ placed_with_table options plan sections before fields placement planned grouped 
         grouped = grouped_modules options link pieces sections planned.pieces_are grouped;
         before = before;
         placed = subst (λ (r : Bool). ArePlaced (plan_pieces options link) sections r before) (sym relocated) (placed_modules options link pieces sections true before planned.pieces_are placed);
-        whole = subst (λ (r : Bool). IsWhole r link (rows_of sections) before (rows_of placement.sections.items) layout (tables_of placement.table)) (sym relocated)
+        whole = subst (λ (r : Bool). IsWhole r link (rows_of sections) before (rows_of placement.sections.items) layout (reloc_tables placement.table)) (sym relocated)
             (record { fields = fields; based = based; added = added; within = within; rows_are = rows; tables_are = tables });
       };
       laid = λ rest holds.
@@ -246,6 +261,11 @@ placed_with_table options plan sections before fields placement planned grouped 
           ap (λ (rvas : List ℕ). get_or rvas place.piece 0) added.pieces ∙ get_or_append_left before.pieces.items (added.placed.rva ∷ []) 0 place.piece (omega (arith, stand.within, count)) in
           let here = entry_fits options link pieces sections true before place grouped placed stand (omega (arith, same, fits)) in
           omega (arith, same, here);
+      ends = λ k lt some.
+          let same : get_or layout.pieces.items k 0 ≡ get_or before.pieces.items k 0 =
+          ap (λ (rvas : List ℕ). get_or rvas k 0) added.pieces ∙ get_or_append_left before.pieces.items (added.placed.rva ∷ []) 0 k (omega (arith, lt, count)) in
+          let here = end_fits options link pieces sections true before k grouped placed lt some in
+          omega (arith, same, here);
       few = omega (arith, placed.few, ap length ends.is, length-append sections (section ∷ []));
       small = subst (λ (ts : List (List ℕ)). All (λ table. length table < 2 ^ 32) ts) (sym tables) (All-cons (λ (table : List ℕ). length table < 2 ^ 32) (blocks_of fields) [] small (All-nil (λ (table : List ℕ). length table < 2 ^ 32)));
     }
@@ -253,12 +273,11 @@ placed_with_table options plan sections before fields placement planned grouped 
 -- ---- what is ready
 
 -- the pieces of a plan with their fields, where they stand
-pub ready : (options : LinkOptions) (plan : LinkPlan) (placement : Placement) (headers : Headers) (image owner : List ℕ) → IsPlanOf options plan.names plan → IsPlaced options plan placement → IsWritten headers placement plan.pieces.items image → owner ≡ owners_in (rows_of placement.sections.items) placement.layout → IsReady plan.names plan.pieces.items plan.fixes.items placement.sections.items placement.layout owner (tables_of placement.table)
+pub ready : (options : LinkOptions) (plan : LinkPlan) (placement : Placement) (headers : Headers) (image owner : List ℕ) → IsPlanOf options plan.names plan → IsPlaced options plan placement → IsWritten headers placement plan.names image → owner ≡ owners_in (rows_of placement.sections.items) placement.layout → IsReady plan.names plan.pieces.items plan.fixes.items placement.sections.items placement.layout owner (reloc_tables placement.table)
 ready options plan placement headers image owner planned placed written is = record {
   options = options;
   pieces_are = planned.pieces_are;
-  contents_are = planned.contents_are;
-  bodies = planned.bodies;
+  held = held_at options plan planned placement.layout;
   fields = planned.fields;
   rest = written.rest;
   holds = written.holds;

@@ -1,6 +1,6 @@
--- What the pieces of a link hold in its image, and the first field whose value does not fit (PE Format, "Type Indicators",
--- x64 Processors; the order is own).
-use Rattle.std.specs.Prelude.{ℕ, Bool, List, [], ◌++◌, length, map, slice_index, slice_index_or, Option, Some, option_map, unwrap_or, ◌==◌}
+-- What the pieces of a link hold in its image, and the first field whose value does not fit (PE Format, "The .idata Section" and
+-- "Type Indicators", x64 Processors; the order is own).
+use Rattle.std.specs.Prelude.{ℕ, Bool, if◌then◌else◌, List, [], ◌++◌, length, map, slice_index, slice_index_or, Option, Some, None, option_map, unwrap_or, ◌==◌}
 use Rattle.std.specs.List.{list_any, range_with_len}
 use Rattle.link_base.specs.Bytes.{first_below}
 use Rattle.link_base.specs.Refusals.{first_refusal_below}
@@ -11,7 +11,11 @@ use Rattle.section_group.specs.Uniqueness.{SectionRow}
 use Rattle.address_layout.specs.declared.layout.Layout.{Layout}
 use Rattle.relocate.specs.declared.range.RelocRange.{RelocRange}
 use Rattle.relocate.specs.PatchedBytes.{patched_bytes, range_fault}
+use Rattle.import_tables.specs.ImportTables.{tables_of as import_tables_of}
 use Rattle.symbol_names.specs.LinkView.{LinkView}
+use Rattle.link_imports.specs.Imports.{import_rows}
+use Rattle.link_pieces.specs.LinkerPieces.{is_table}
+use Rattle.link_pieces.specs.PieceIndex.{linker_index}
 use Rattle.link_pieces.specs.Pieces.{link_pieces, link_contents}
 use Rattle.link_plan.specs.Fixes.{piece_at, piece_fixes}
 
@@ -30,19 +34,46 @@ section_of rows k = unwrap_or (first_below (length rows) (row_holds rows k)) (le
 unfoldable pub owners : List SectionRow → ℕ → List ℕ
 owners rows count = map (section_of rows) (range_with_len 0 count)
 
--- ---- the bytes
-
 -- the section of each piece that a layout has a place for
 abbrev pub owners_in : List SectionRow → Layout → List ℕ
 owners_in rows layout = owners rows (length layout.pieces.items)
 
-abbrev pub contents_at : LinkView → ℕ → List ℕ
-contents_at link k = slice_index_or (link_contents link) k []
+-- ---- the import tables
+
+-- the RVA of a piece, or 0 where there is none
+abbrev pub rva_of : List ℕ → Option ℕ → ℕ
+rva_of rvas None = 0
+rva_of rvas (Some k) = slice_index rvas k
+
+-- that of the table of a number
+abbrev pub table_rva : LinkView → Layout → ℕ → ℕ
+table_rva link layout number = rva_of layout.pieces.items (linker_index link number)
+
+-- those of the directory, the lookup tables, the slots, the hints with names and the names of DLLs
+unfoldable pub table_rvas : LinkView → Layout → List ℕ
+table_rvas link layout = map (table_rva link layout) (range_with_len 0 5)
+
+-- their bytes
+unfoldable pub import_tables_at : LinkView → Layout → List (List ℕ)
+import_tables_at link layout = import_tables_of (import_rows link.modules) (table_rvas link layout)
+
+-- ---- the bytes
+
+-- what a piece holds before its fields are patched: an import table its bytes by the places of all of them, any other piece
+-- what it has without a place
+unfoldable pub contents_at : LinkView → Layout → ℕ → List ℕ
+contents_at link layout k =
+    if is_table (length link.modules) (piece_at link k)
+    then slice_index_or (import_tables_at link layout) (piece_at link k).number []
+    else slice_index_or (link_contents link) k []
+
+unfoldable pub placed_contents : LinkView → Layout → List (List ℕ)
+placed_contents link layout = map (contents_at link layout) (range_with_len 0 (length (link_pieces link)))
 
 -- the bytes of a piece with its fields, in an image at a base
 abbrev pub linked_bytes : LinkView → List SectionRow → Layout → ℕ → ℕ → List ℕ
 linked_bytes link rows layout base k =
-    patched_bytes base (slice_index layout.pieces.items k) layout (owners_in rows layout) (piece_fixes link k) (contents_at link k)
+    patched_bytes base (slice_index layout.pieces.items k) layout (owners_in rows layout) (piece_fixes link k) (contents_at link layout k)
 
 unfoldable pub linked_contents : LinkView → List SectionRow → Layout → ℕ → List (List ℕ)
 linked_contents link rows layout base =
@@ -60,7 +91,7 @@ out_of_range piece range = faults.RelocRange (Some piece.«module») piece.numbe
 -- the first field of a piece whose value does not fit
 abbrev pub piece_range_fault : LinkView → List SectionRow → Layout → ℕ → ℕ → Option Fault
 piece_range_fault link rows layout base k =
-    option_map (out_of_range (piece_at link k)) (range_fault base (slice_index layout.pieces.items k) layout (owners_in rows layout) (piece_fixes link k) (contents_at link k))
+    option_map (out_of_range (piece_at link k)) (range_fault base (slice_index layout.pieces.items k) layout (owners_in rows layout) (piece_fixes link k) (contents_at link layout k))
 
 -- that of all pieces, in their order
 unfoldable pub fields_range_fault : LinkView → List SectionRow → Layout → ℕ → Option Fault

@@ -1,10 +1,10 @@
 -- The image of modules: their pieces in sections, the places of these, and what they make. Own.
-use Rattle.std.specs.Prelude.{◌≡◌, ◌≤◌, ℕ, ◌+◌, ◌-◌, Bool, true, false, List, [], ◌∷◌, ◌++◌, length, replicate, slice_index, Option, Some, None, codes}
+use Rattle.std.specs.Prelude.{◌≡◌, ◌<◌, ◌≤◌, ℕ, ◌+◌, ◌-◌, Bool, true, false, List, [], ◌∷◌, ◌++◌, length, replicate, slice_index, slice_index_or, Option, Some, None, codes}
 use Rattle.link_base.specs.Limits.{SECTION_LIMIT, IMAGE_LIMIT}
-use Rattle.link_base.specs.PeFormat.{SCN_CNT_INITIALIZED_DATA, SCN_MEM_DISCARDABLE, SCN_MEM_READ}
+use Rattle.link_base.specs.PeFormat.{SCN_CNT_INITIALIZED_DATA, SCN_MEM_DISCARDABLE, SCN_MEM_READ, DIRECTORY_ENTRY_IMPORT}
 use Rattle.section_group.specs.declared.piece.Piece.{Piece}
 use Rattle.section_group.specs.declared.piece.OutSection.{OutSection}
-use Rattle.section_group.specs.SectionOrder.{Input, input_from}
+use Rattle.section_group.specs.SectionOrder.{Input, input_from, no_piece}
 use Rattle.section_group.specs.Merging.{HasNoBadMerge}
 use Rattle.section_group.specs.Placement.{IsGrouping}
 use Rattle.section_group.specs.Uniqueness.{SectionRow, rows_of}
@@ -16,18 +16,26 @@ use Rattle.address_layout.specs.Layout.{IsLayout}
 use Rattle.address_layout.specs.Growth.{CanGrow, Appends}
 use Rattle.base_reloc.specs.declared.field.BaseField.{BaseField}
 use Rattle.base_reloc.specs.PageBlocks.{blocks_of}
+use Rattle.pe_loader.specs.LoadedImage.{loaded, directory_rva}
+use Rattle.import_tables.specs.ImportDirectory.{Imports, imports_of}
+use Rattle.import_tables.specs.ReadBack.{AreReadable, found_of}
 use Rattle.image_writer.specs.ExpectedImage.{ImagePlan, MeansPlan, image_file}
 use Rattle.image_writer.specs.WrittenImage.{written_plan}
 use Rattle.symbol_names.specs.LinkView.{LinkView}
+use Rattle.synthetic_sections.specs.LinkerPieces.{SLOTS, size_at}
+use Rattle.link_imports.specs.Imports.{import_rows, import_sizes}
+use Rattle.link_pieces.specs.PieceIndex.{linker_index}
+use Rattle.link_pieces.specs.Pieces.{link_pieces}
 use Rattle.link_words.specs.Outcome.{LinkOptions}
 use Rattle.link_plan.specs.declared.entry.EntryPlace.{EntryPlace}
 use Rattle.link_plan.specs.Entry.{entry_place}
 use Rattle.link_plan.specs.Plan.{merges_of}
 use Rattle.link_plan.specs.Fixes.{plan_pieces}
+use Rattle.link_image.specs.declared.headers.Directories.{Directories}
 use Rattle.link_image.specs.declared.make.Built.{Built}
 use Rattle.link_image.specs.BaseFields.{is_relocated, AreBaseFields}
 use Rattle.link_image.specs.ImageHeaders.{headers_of}
-use Rattle.link_image.specs.LinkedBytes.{image_contents, fields_range_fault}
+use Rattle.link_image.specs.LinkedBytes.{table_rvas, image_contents, fields_range_fault}
 
 -- ---- sections
 
@@ -90,6 +98,28 @@ abbrev pub table_directory : Layout → List (List ℕ) → ℕ × ℕ
 table_directory layout [] = (0, 0)
 table_directory layout (table ∷ tables) = (slice_index layout.pieces.items (length layout.pieces.items - 1), length table)
 
+-- ---- the directories
+
+-- the RVA and the size of a piece, where there is one
+abbrev pub extent_of : List Piece → List ℕ → Option ℕ → ℕ × ℕ
+extent_of pieces rvas None = (0, 0)
+extent_of pieces rvas (Some k) = (slice_index rvas k, (slice_index_or pieces k no_piece).size)
+
+-- the number of the import directory among the import tables
+abbrev pub DIRECTORY : ℕ
+DIRECTORY = 0
+
+-- those of the import table of a number
+abbrev pub import_extent : LinkView → Layout → ℕ → ℕ × ℕ
+import_extent link layout number = extent_of (link_pieces link) layout.pieces.items (linker_index link number)
+
+abbrev pub directories_of : LinkView → Layout → List (List ℕ) → Directories
+directories_of link layout tables = record {
+  imports = import_extent link layout DIRECTORY;
+  slots = import_extent link layout SLOTS;
+  relocations = table_directory layout tables;
+}
+
 -- ---- the image
 
 -- the image of modules, in which every value fits
@@ -100,12 +130,29 @@ pub record IsImageOf (options : LinkOptions) (link : LinkView) (image : ImagePla
   pub placement : IsPlacement options link rows layout tables
   pub permitted : is_permitted (base_rule options) layout.image options.base ≡ true
   pub in_range : fields_range_fault link rows layout options.base ≡ None
-  pub is : image ≡ written_plan (headers_of options (entry_rva layout.pieces.items (entry_place link options.entry_name)) (table_directory layout tables)) rows layout.sections.items layout.pieces.items layout.image (image_contents link rows layout tables)
+  pub is : image ≡ written_plan (headers_of options (entry_rva layout.pieces.items (entry_place link options.entry_name)) (directories_of link layout tables)) rows layout.sections.items layout.pieces.items layout.image (image_contents link rows layout tables)
 
--- what was made is the file of the image of the modules, which loads as planned at every permitted base
+-- ---- its imports
+
+-- every import table that has bytes is made
+abbrev pub AreMade : LinkView → Type 0
+AreMade link =
+    (number : ℕ) → number < 5 → 0 < size_at (import_sizes link.modules) number → (k : ℕ) × (linker_index link number ≡ Some k)
+
+-- at each base that a file is loaded at, its import directory names the imports of the modules, each with its slot, and no other
+abbrev pub HoldsImports : LinkView → Layout → List ℕ → Type 0
+HoldsImports link layout image =
+    (base : ℕ) (memory : List ℕ) → loaded image base ≡ Some memory
+    → imports_of memory (directory_rva image DIRECTORY_ENTRY_IMPORT) ≡ Imports (found_of (import_rows link.modules) (table_rvas link layout))
+
+-- ---- what is made
+
+-- what was made is the file of the image of the modules, which loads as planned at every permitted base, and then holds their
+-- imports, where no name of these has a NUL
 pub record IsBuilt (options : LinkOptions) (link : LinkView) (built : Built) : Type 0 where
   pub image : ImagePlan
   pub is_image : IsImageOf options link image
   pub file : built.image.items ≡ image_file image
   pub means : MeansPlan image built.image.items
+  pub imports : AreMade link → AreReadable (import_rows link.modules) → HoldsImports link is_image.layout built.image.items
   pub count : built.sections ≡ length image.rows

@@ -1,13 +1,14 @@
 -- What the steps of the code promise one another. It decides nothing.
-use Rattle.std.specs.Prelude.{◌≡◌, ◌<◌, ◌≤◌, ◌⊎◌, ℕ, ◌+◌, ◌^◌, true, nat_lt, if◌then◌else◌, List, [], ◌∷◌, ◌++◌, length, map, slice_index, slice_index_or, Option, Some, None}
+use Rattle.std.specs.Prelude.{◌≡◌, ◌<◌, ◌≤◌, ◌⊎◌, ℕ, ◌+◌, ◌^◌, true, false, nat_lt, if◌then◌else◌, List, [], ◌∷◌, ◌++◌, length, map, slice_index, slice_index_or, Option, Some, None}
 use Rattle.std.specs.List.{All, Contains, filter, flat_map, range_with_len}
 use Rattle.std.specs.declared.vec.Vec.{Vec}
+use Rattle.link_base.specs.Bytes.{first_below}
 use Rattle.link_base.specs.declared.fault.Fault.{Fault}
 use Rattle.section_group.specs.declared.piece.Piece.{Piece}
 use Rattle.section_group.specs.declared.piece.OutSection.{OutSection}
 use Rattle.section_group.specs.SectionOrder.{no_piece}
 use Rattle.section_group.specs.BarePieces.{bare}
-use Rattle.section_group.specs.PieceContents.{piece_contents, HasItsBytes}
+use Rattle.section_group.specs.PieceContents.{piece_contents}
 use Rattle.section_group.specs.Uniqueness.{SectionRow, row_of, rows_of}
 use Rattle.address_layout.specs.declared.layout.Layout.{Layout}
 use Rattle.address_layout.specs.Layout.{all_pieces}
@@ -21,16 +22,18 @@ use Rattle.image_writer.specs.declared.headers.Headers.{Headers}
 use Rattle.image_writer.specs.ExpectedImage.{image_file}
 use Rattle.image_writer.specs.WrittenImage.{layout_plan, at_each_base, IsLaidOut}
 use Rattle.symbol_names.specs.LinkView.{LinkView}
-use Rattle.link_pieces.specs.Pieces.{link_pieces, link_contents}
+use Rattle.link_pieces.specs.LinkerPieces.{is_table}
+use Rattle.link_pieces.specs.PieceIndex.{is_numbered, holds}
+use Rattle.link_pieces.specs.Pieces.{link_pieces}
 use Rattle.link_plan.specs.Fixes.{HaveFields, plan_pieces}
-use Rattle.link_base.specs.Limits.{SECTION_LIMIT}
+use Rattle.link_base.specs.Limits.{SECTION_LIMIT, IMAGE_LIMIT}
 use Rattle.link_words.specs.Outcome.{LinkOptions}
 use Rattle.link_plan.specs.declared.planning.LinkPlan.{LinkPlan}
 use Rattle.link_plan.specs.declared.entry.EntryPlace.{EntryPlace}
 use Rattle.link_plan.specs.Plan.{StandsNamed}
 use Rattle.link_image.specs.declared.placement.Placement.{Placement}
 use Rattle.link_image.specs.BaseFields.{base_field, AreBaseFields}
-use Rattle.link_image.specs.LinkedBytes.{owners_in, contents_at, linked_bytes, out_of_range}
+use Rattle.link_image.specs.LinkedBytes.{owners_in, contents_at, placed_contents, linked_bytes, out_of_range}
 use Rattle.link_image.specs.LinkedImage.{table_row, IsPlacement}
 
 -- the fault says which value of a piece is out of range
@@ -59,10 +62,10 @@ Fits rvas fixups k = All (λ fix. slice_index rvas k + fix.at < 2 ^ 32) (slice_i
 
 -- ---- where everything stands
 
--- the tables that the linker makes: that of base relocations, where there is one
-abbrev pub tables_of : {A : Type 0} → Option (Vec ℕ A) → List (List ℕ)
-tables_of None = []
-tables_of (Some table) = table.items ∷ []
+-- the table of base relocations, where there is one
+abbrev pub reloc_tables : {A : Type 0} → Option (Vec ℕ A) → List (List ℕ)
+reloc_tables None = []
+reloc_tables (Some table) = table.items ∷ []
 
 -- pieces that hold the tables, each as long as its table
 pub record HoldTables (tables : List (List ℕ)) (rest : List Piece) : Type 0 where
@@ -81,22 +84,50 @@ pub record EndsWithTable (old new : List OutSection) (k : ℕ) : Type 0 where
   pub is : new ≡ old ++ section ∷ []
   pub row : row_of section ≡ table_row k
 
--- pieces with one more, which holds the table
-pub record EndsWithPiece (old new : List Piece) (table : List ℕ) : Type 0 where
-  pub piece : Piece
-  pub is : new ≡ old ++ piece ∷ []
-  pub contents : piece_contents piece ≡ table
-  pub size : piece.size ≡ length table
-
 -- the placement of a plan: what it means, that it can be written, and that pieces that need a place stand in a section
 pub record IsPlaced (options : LinkOptions) (plan : LinkPlan) (placement : Placement) : Type 0 where
-  pub means : IsPlacement options plan.names (rows_of placement.sections.items) placement.layout (tables_of placement.table)
-  pub laid : (rest : List Piece) → HoldTables (tables_of placement.table) rest → IsLaidOut (plan.pieces.items ++ rest) placement.sections.items placement.layout
+  pub means : IsPlacement options plan.names (rows_of placement.sections.items) placement.layout (reloc_tables placement.table)
+  pub laid : (rest : List Piece) → HoldTables (reloc_tables placement.table) rest → IsLaidOut (plan.pieces.items ++ rest) placement.sections.items placement.layout
   pub stands : (k : ℕ) → k < length plan.pieces.items → ((0 < (slice_index_or plan.pieces.items k no_piece).size) ⊎ ((slice_index_or plan.pieces.items k no_piece).named ≡ true)) → Contains (all_pieces placement.sections.items) k
   pub room : length plan.pieces.items ≤ length placement.layout.pieces.items
   pub fits : (place : EntryPlace) → StandsNamed plan.pieces.items place → slice_index placement.layout.pieces.items place.piece < 2 ^ 32 → slice_index placement.layout.pieces.items place.piece + place.value < 2 ^ 32
+  pub ends : (k : ℕ) → k < length plan.pieces.items → 0 < (slice_index_or plan.pieces.items k no_piece).size → slice_index placement.layout.pieces.items k + (slice_index_or plan.pieces.items k no_piece).size ≤ IMAGE_LIMIT
   pub few : length placement.sections.items ≤ SECTION_LIMIT
-  pub small : All (λ table. length table < 2 ^ 32) (tables_of placement.table)
+  pub small : All (λ table. length table < 2 ^ 32) (reloc_tables placement.table)
+
+-- ---- the import tables
+
+-- the piece of a number in the module at a position, among these
+abbrev pub numbered_index : ℕ → List Piece → ℕ → Option ℕ
+numbered_index position pieces number = first_below (length pieces) (holds (is_numbered position number) pieces)
+
+-- the pieces of the tables, where they are made
+abbrev pub numbered_indexes : ℕ → List Piece → List (Option ℕ)
+numbered_indexes position pieces = map (numbered_index position pieces) (range_with_len 0 5)
+
+-- ---- pieces with their bytes
+
+-- what a piece is given: an import table its bytes, and any other what it has
+abbrev pub given_contents : ℕ → List (List ℕ) → Piece → List ℕ
+given_contents position tables piece =
+    if is_table position piece then slice_index_or tables piece.number [] else piece_contents piece
+
+-- an import table can be given its bytes
+pub record CanBeGiven (piece : Piece) : Type 0 where
+  pub few : piece.number < 5
+  pub init : piece.init ≡ true
+
+-- the pieces with what they are given, and after them what holds the table of base relocations, where there is one
+pub record AreWhole (position : ℕ) (imports tables : List (List ℕ)) (pieces whole : List Piece) : Type 0 where
+  pub rest : List Piece
+  pub same : map bare whole ≡ map bare (pieces ++ rest)
+  pub contents : map piece_contents whole ≡ map (given_contents position imports) pieces ++ tables
+  pub holds : HoldTables tables rest
+
+-- an initialised piece holds as many bytes as its size, and another none
+pub record IsHeld (piece : Piece) (bytes : List ℕ) : Type 0 where
+  pub filled : piece.init ≡ true → length bytes ≡ piece.size
+  pub empty : piece.init ≡ false → length bytes ≡ 0
 
 -- ---- what was decided before fields are patched
 
@@ -104,8 +135,7 @@ pub record IsPlaced (options : LinkOptions) (plan : LinkPlan) (placement : Place
 pub record IsReady (link : LinkView) (pieces : List Piece) (fixups : List (List Fix)) (sections : List OutSection) (layout : Layout) (owner : List ℕ) (tables : List (List ℕ)) : Type 0 where
   pub options : LinkOptions
   pub pieces_are : map bare pieces ≡ plan_pieces options link
-  pub contents_are : map piece_contents pieces ≡ link_contents link
-  pub bodies : (k : ℕ) → k < length pieces → HasItsBytes pieces k
+  pub held : (k : ℕ) → k < length pieces → IsHeld (slice_index_or pieces k no_piece) (contents_at link layout k)
   pub fields : HaveFields link (length pieces) fixups
   pub rest : List Piece
   pub holds : HoldTables tables rest
@@ -116,7 +146,7 @@ pub record IsReady (link : LinkView) (pieces : List Piece) (fixups : List (List 
 -- the contents of an image whose first pieces are patched
 abbrev pub mixed_at : LinkView → List SectionRow → Layout → ℕ → ℕ → ℕ → List ℕ
 mixed_at link rows layout base count k =
-    if nat_lt k count then linked_bytes link rows layout base k else contents_at link k
+    if nat_lt k count then linked_bytes link rows layout base k else contents_at link layout k
 
 unfoldable pub mixed_contents : LinkView → List SectionRow → Layout → ℕ → ℕ → List (List ℕ)
 mixed_contents link rows layout base count =
@@ -131,7 +161,7 @@ mixed_file link headers sections layout tables count =
     file_of headers sections layout (mixed_contents link (rows_of sections) layout headers.base count) tables
 
 -- what was written of pieces and tables
-pub record IsWritten (headers : Headers) (placement : Placement) (pieces : List Piece) (image : List ℕ) : Type 0 where
+pub record IsWritten (headers : Headers) (placement : Placement) (link : LinkView) (image : List ℕ) : Type 0 where
   pub rest : List Piece
-  pub holds : HoldTables (tables_of placement.table) rest
-  pub file : image ≡ file_of headers placement.sections.items placement.layout (map piece_contents pieces) (tables_of placement.table)
+  pub holds : HoldTables (reloc_tables placement.table) rest
+  pub file : image ≡ file_of headers placement.sections.items placement.layout (placed_contents link placement.layout) (reloc_tables placement.table)

@@ -1,66 +1,114 @@
 //! The file of the image, before its fields are patched.
 
-ghost use Rattle.std.specs.Prelude.{◌≡◌, ◌<◌, ◌^◌, ◌++◌, ℕ, List, length, IfOk};
+ghost use Rattle.std.specs.Prelude.{◌≡◌, ◌<◌, ◌^◌, ◌∷◌, [], true, false, Some, length, map, slice_index_or, option_copied, IfOk};
 ghost use Rattle.std.specs.List.{All};
-ghost use Rattle.section_group.specs.declared.piece.Piece.{Piece};
-ghost use Rattle.section_group.specs.PieceContents.{HasItsBytes};
-ghost use Rattle.image_writer.specs.WrittenImage.{IsLaidOut};
-ghost use Rattle.link_image.specs.Steps.{HoldTables, EndsWithPiece, IsWritten, tables_of};
+ghost use Rattle.section_group.specs.BarePieces.{bare};
+ghost use Rattle.section_group.specs.PieceContents.{piece_contents};
+ghost use Rattle.link_pieces.specs.LinkerPieces.{is_table};
+ghost use Rattle.link_words.specs.Outcome.{options_said};
+ghost use Rattle.link_plan.specs.Plan.{IsPlanOf};
+ghost use Rattle.link_image.specs.LinkedBytes.{import_tables_at};
+ghost use Rattle.link_image.specs.Steps.{AreWhole, CanBeGiven, HoldTables, IsPlaced, IsWritten, given_contents, reloc_tables};
 
 use crate::placement::{Placement, TABLE_FLAGS};
 use image_writer::{Headers, image};
 use link_base::{Memory, Name};
+use link_plan::LinkPlan;
+use link_words::Options;
 use section_group::Piece;
 use std::alloc::Global;
+use synthetic_sections::FIRST_THUNK;
 
-/// The file of the image with these headers, of pieces at their places and the table of base relocations after them.
+/// The file of the image with these headers, of the pieces of a plan at their places, of which the import tables have these
+/// bytes, and the table of base relocations after them.
 pub(crate) fn write_file<'a>(
     alloc: Global,
+    plan: &LinkPlan<'a>,
+    options: &Options<'a>,
     headers: &Headers,
     placement: &Placement<'a>,
-    pieces: &[Piece<'a>],
+    tables: &[Vec<u8>; 5],
 ) -> Result<Vec<u8>, Memory>
-    requires laid { (rest : List Piece) → HoldTables (tables_of placement.now.table) rest
-        → IsLaidOut (pieces.now ++ rest) placement.now.sections.items placement.now.layout }
-    requires bodies { (k : ℕ) → k < length pieces.now → HasItsBytes pieces.now k }
-    requires small { All (λ table. length table < 2 ^ 32) (tables_of placement.now.table) }
-    ensures { IfOk result (λ image. IsWritten headers.now placement.now pieces.now image.items) }
+    requires plan { IsPlanOf (options_said options.now) plan.now.names plan.now }
+    requires placed { IsPlaced (options_said options.now) plan.now placement.now }
+    requires tables { map (λ table. table.items) tables.now ≡ import_tables_at plan.now.names placement.now.layout }
+    ensures { IfOk result (λ image. IsWritten headers.now placement.now plan.now.names image.items) }
 {
-    match &placement.table {
-        None => image(
-            alloc,
-            headers,
-            &placement.layout,
-            &placement.sections,
-            pieces,
-        ),
-        Some(table) => {
-            let pieces = with_table(alloc, pieces, table)?;
-            image(
-                alloc,
-                headers,
-                &placement.layout,
-                &placement.sections,
-                &pieces,
-            )
-        }
-    }
+    let position = plan.modules.len();
+    let pieces = whole_pieces(alloc, position, &plan.pieces, tables, &placement.table)?;
+    image(
+        alloc,
+        headers,
+        &placement.layout,
+        &placement.sections,
+        &pieces,
+    )
 }
 
-/// The pieces, with the table of base relocations as the last.
-fn with_table<'b, 'a: 'b>(
+/// The pieces with the bytes of the import tables, whose module is at a position, and the table of base relocations as the last.
+fn whole_pieces<'b, 'a: 'b>(
     alloc: Global,
+    position: usize,
     pieces: &[Piece<'a>],
-    table: &'b [u8],
+    tables: &'b [Vec<u8>; 5],
+    table: &'b Option<Vec<u8>>,
 ) -> Result<Vec<Piece<'b>>, Memory>
-    requires { length table.now < 2 ^ 32 }
-    ensures { IfOk result (λ whole. EndsWithPiece pieces.now whole.items table.now) }
+    requires given { All (λ piece. is_table position piece ≡ true → CanBeGiven piece) pieces.now }
+    requires small { All (λ table. length table < 2 ^ 32) (reloc_tables table.now) }
+    ensures { IfOk result (λ whole. AreWhole position (map (λ table. table.items) tables.now) (reloc_tables table.now) pieces.now whole.items) }
 {
     let mut whole = Vec::with_capacity(alloc, pieces.len() + 1)?;
     for piece in pieces {
-        whole.push(again(piece))?;
+        whole.push(with_table(position, piece, tables))?;
     }
-    whole.push(Piece {
+    let Some(table) = table else {
+        return Ok(whole);
+    };
+    whole.push(relocations(table))?;
+    Ok(whole)
+}
+
+/// The piece once more, with its bytes where it is an import table.
+fn with_table<'b, 'a: 'b>(position: usize, piece: &Piece<'a>, tables: &'b [Vec<u8>; 5]) -> Piece<'b>
+    requires { is_table position piece.now ≡ true → CanBeGiven piece.now }
+    ensures same { bare result ≡ bare piece.now }
+    ensures contents { piece_contents result ≡ given_contents position (map (λ table. table.items) tables.now) piece.now }
+{
+    Piece {
+        module: piece.module,
+        number: piece.number,
+        name: piece.name.again(),
+        flags: piece.flags,
+        size: piece.size,
+        align: piece.align,
+        body: given_body(position, piece, tables),
+        init: piece.init,
+        named: piece.named,
+    }
+}
+
+/// The bytes of an import table, or those that another piece has.
+fn given_body<'b, 'a: 'b>(
+    position: usize,
+    piece: &Piece<'a>,
+    tables: &'b [Vec<u8>; 5],
+) -> Option<&'b [u8]>
+    requires { is_table position piece.now ≡ true → CanBeGiven piece.now }
+    ensures table { is_table position piece.now ≡ true → option_copied result ≡ Some (slice_index_or (map (λ table. table.items) tables.now) piece.now.number []) }
+    ensures other { is_table position piece.now ≡ false → result ≡ piece.now.body }
+{
+    if piece.module as usize == position && piece.number < FIRST_THUNK {
+        return Some(&tables[piece.number as usize]);
+    }
+    piece.body
+}
+
+/// The piece that holds the table of base relocations.
+fn relocations<'b>(table: &'b [u8]) -> Piece<'b>
+    requires { length table.now < 2 ^ 32 }
+    ensures { HoldTables (table.now ∷ []) (result ∷ []) }
+{
+    Piece {
         module: 0,
         number: 0,
         name: Name::of(b".reloc"),
@@ -70,23 +118,5 @@ fn with_table<'b, 'a: 'b>(
         body: Some(table),
         init: true,
         named: false,
-    })?;
-    Ok(whole)
-}
-
-/// The piece once more.
-fn again<'b, 'a: 'b>(piece: &Piece<'a>) -> Piece<'b>
-    ensures { result ≡ piece.now }
-{
-    Piece {
-        module: piece.module,
-        number: piece.number,
-        name: piece.name.again(),
-        flags: piece.flags,
-        size: piece.size,
-        align: piece.align,
-        body: piece.body,
-        init: piece.init,
-        named: piece.named,
     }
 }

@@ -6,17 +6,29 @@ ghost use Rattle.link_image.specs.ImageHeaders.{headers_of, dll_characteristics}
 
 use image_writer::Headers;
 use link_base::pe_format::{
-    DIRECTORY_ENTRY_BASERELOC, DLLCHARACTERISTICS_DYNAMIC_BASE, DLLCHARACTERISTICS_HIGH_ENTROPY_VA,
+    DIRECTORY_ENTRY_BASERELOC, DIRECTORY_ENTRY_IAT, DIRECTORY_ENTRY_IMPORT,
+    DLLCHARACTERISTICS_DYNAMIC_BASE, DLLCHARACTERISTICS_HIGH_ENTROPY_VA,
     DLLCHARACTERISTICS_NX_COMPAT,
 };
 use link_words::Options;
 
-/// The headers of an image that begins at an RVA, with the RVA and the size of its table of base relocations.
-pub(crate) fn headers_of(options: &Options<'_>, entry: u32, table: (u32, u32)) -> Headers
-    ensures { result ≡ headers_of (options_said options.now) entry table }
+/// The directories of an image: the RVA and the size of each, or zeros where there is none.
+#[derive(Clone, Copy)]
+pub(crate) struct Directories {
+    pub(crate) imports: (u32, u32),
+    /// The slots of the imports.
+    pub(crate) slots: (u32, u32),
+    pub(crate) relocations: (u32, u32),
+}
+
+/// The headers of an image that begins at an RVA, with its directories.
+pub(crate) fn headers_of(options: &Options<'_>, entry: u32, tables: Directories) -> Headers
+    ensures { result ≡ headers_of (options_said options.now) entry tables }
 {
     let mut directories = [(0, 0); 16];
-    directories[DIRECTORY_ENTRY_BASERELOC] = table;
+    directories[DIRECTORY_ENTRY_IMPORT] = tables.imports;
+    directories[DIRECTORY_ENTRY_BASERELOC] = tables.relocations;
+    directories[DIRECTORY_ENTRY_IAT] = tables.slots;
     Headers {
         base: options.base,
         entry,

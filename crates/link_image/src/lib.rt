@@ -1,8 +1,8 @@
 //! The image of a link. It takes the plan of `link_plan` and the options, has `section_group` order the pieces,
-//! `address_layout` place them, `image_writer` write them and `relocate` patch their fields where they stand, and gives
-//! the bytes to the program that stores them. Its contract promises the image that the definitions give, whose file loads
-//! as planned at every permitted base, or the first fault of the stages from tables to range. Reading, the meaning of
-//! names, and which fields there are, are left to the crates below.
+//! `address_layout` place them, `import_tables` fill the import tables, `image_writer` write all and `relocate` patch the
+//! fields of the pieces where they stand, and gives the bytes to the program that stores them. Its contract promises the
+//! image that the definitions give, whose file loads as planned at every permitted base, or the first fault of the stages
+//! from tables to range. Reading, the meaning of names, and which fields there are, are left to the crates below.
 #![tactic(auto)]
 
 mod base_fields;
@@ -14,6 +14,7 @@ mod owners;
 mod patching;
 mod placement;
 mod sections;
+mod tables;
 
 pub use laws::{another_base_moves_addresses_alone, one_list_of_base_fields};
 pub use make::{Built, build};

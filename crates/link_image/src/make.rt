@@ -10,7 +10,8 @@ use crate::file::write_file;
 use crate::headers::headers_of;
 use crate::owners::owners_of;
 use crate::patching::patch_pieces;
-use crate::placement::{check_own_base, entry_rva, place_all, table_directory};
+use crate::placement::{check_own_base, entry_rva, place_all};
+use crate::tables::{directories_of, import_tables, table_places};
 use link_base::Refusal;
 use link_plan::LinkPlan;
 use link_words::Options;
@@ -41,8 +42,12 @@ pub fn build<'a>(
     let count = placement.sections.len() as u32;
     check_own_base(plan, options, &placement)?;
     let entry = entry_rva(plan, options, &placement);
-    let headers = headers_of(options, entry, table_directory(&placement));
-    let mut image = write_file(alloc, &headers, &placement, &plan.pieces)?;
+    let position = plan.modules.len();
+    let places = table_places(position, &plan.pieces);
+    let tables = import_tables(alloc, plan, options, &placement, &places)?;
+    let directories = directories_of(plan, options, &placement, &places);
+    let headers = headers_of(options, entry, directories);
+    let mut image = write_file(alloc, plan, options, &headers, &placement, &tables)?;
     let owner = owners_of(alloc, &placement.sections, placement.layout.pieces.len())?;
     patch_pieces(&mut image, plan, &headers, &placement, &owner)?;
     Ok(Built {

@@ -1,18 +1,17 @@
 //! The fields of the pieces, patched in the file of the image.
 
-ghost use Rattle.std.specs.Prelude.{◌≡◌, ◌<◌, ◌≤◌, ◌+◌, true, Some, None, length, map, slice_index, OnOk, IfErr};
+ghost use Rattle.std.specs.Prelude.{◌≡◌, ◌<◌, ◌≤◌, ◌+◌, true, Some, None, length, slice_index, OnOk, IfErr};
 ghost use Rattle.std.specs.List.{All};
 ghost use Rattle.link_base.specs.Bytes.{bytes_at};
 ghost use Rattle.link_base.specs.PeFormat.{NUMBEROF_DIRECTORY_ENTRIES};
-ghost use Rattle.section_group.specs.PieceContents.{piece_contents};
 ghost use Rattle.section_group.specs.Uniqueness.{rows_of};
 ghost use Rattle.address_layout.specs.Layout.{placed_at};
 ghost use Rattle.image_writer.specs.PieceInFile.{piece_place, patched};
 ghost use Rattle.relocate.specs.Judged.{ArePatchable};
 ghost use Rattle.relocate.specs.PatchedBytes.{patched_bytes};
 ghost use Rattle.relocate.specs.Value.{HaveEntries, fits};
-ghost use Rattle.link_image.specs.LinkedBytes.{linked_contents, piece_range_fault, fields_range_fault};
-ghost use Rattle.link_image.specs.Steps.{IsReady, RefusesRange, file_of, mixed_file, tables_of};
+ghost use Rattle.link_image.specs.LinkedBytes.{placed_contents, linked_contents, piece_range_fault, fields_range_fault};
+ghost use Rattle.link_image.specs.Steps.{IsReady, RefusesRange, file_of, mixed_file, reloc_tables};
 
 use crate::placement::Placement;
 use address_layout::Layout;
@@ -31,11 +30,11 @@ pub(crate) fn patch_pieces<'a>(
     placement: &Placement<'a>,
     owner: &[u32],
 ) -> Result<(), Fault<'a>>
-    requires ready { IsReady plan.now.names plan.now.pieces.items plan.now.fixes.items placement.now.sections.items placement.now.layout owner.now (tables_of placement.now.table) }
+    requires ready { IsReady plan.now.names plan.now.pieces.items plan.now.fixes.items placement.now.sections.items placement.now.layout owner.now (reloc_tables placement.now.table) }
     requires directories { length headers.now.directories ≡ NUMBEROF_DIRECTORY_ENTRIES }
-    requires file { image.old.items ≡ file_of headers.now placement.now.sections.items placement.now.layout (map piece_contents plan.now.pieces.items) (tables_of placement.now.table) }
+    requires file { image.old.items ≡ file_of headers.now placement.now.sections.items placement.now.layout (placed_contents plan.now.names placement.now.layout) (reloc_tables placement.now.table) }
     ensures patched { OnOk result (image.new.items ≡ file_of headers.now placement.now.sections.items placement.now.layout
-        (linked_contents plan.now.names (rows_of placement.now.sections.items) placement.now.layout headers.now.base) (tables_of placement.now.table)) }
+        (linked_contents plan.now.names (rows_of placement.now.sections.items) placement.now.layout headers.now.base) (reloc_tables placement.now.table)) }
     ensures in_range { OnOk result (fields_range_fault plan.now.names (rows_of placement.now.sections.items) placement.now.layout headers.now.base ≡ None) }
     ensures refused { IfErr result (λ fault. fields_range_fault plan.now.names (rows_of placement.now.sections.items) placement.now.layout headers.now.base ≡ Some fault) }
 {
@@ -54,11 +53,11 @@ fn patch_at<'a>(
     owner: &[u32],
     k: usize,
 ) -> Result<(), Fault<'a>>
-    requires ready { IsReady plan.now.names plan.now.pieces.items plan.now.fixes.items placement.now.sections.items placement.now.layout owner.now (tables_of placement.now.table) }
+    requires ready { IsReady plan.now.names plan.now.pieces.items plan.now.fixes.items placement.now.sections.items placement.now.layout owner.now (reloc_tables placement.now.table) }
     requires directories { length headers.now.directories ≡ NUMBEROF_DIRECTORY_ENTRIES }
     requires piece { k < length plan.now.pieces.items }
-    requires file { image.old.items ≡ mixed_file plan.now.names headers.now placement.now.sections.items placement.now.layout (tables_of placement.now.table) k }
-    ensures file { OnOk result (image.new.items ≡ mixed_file plan.now.names headers.now placement.now.sections.items placement.now.layout (tables_of placement.now.table) (k + 1)) }
+    requires file { image.old.items ≡ mixed_file plan.now.names headers.now placement.now.sections.items placement.now.layout (reloc_tables placement.now.table) k }
+    ensures file { OnOk result (image.new.items ≡ mixed_file plan.now.names headers.now placement.now.sections.items placement.now.layout (reloc_tables placement.now.table) (k + 1)) }
     ensures in_range { OnOk result (piece_range_fault plan.now.names (rows_of placement.now.sections.items) placement.now.layout headers.now.base k ≡ None) }
     ensures refused { IfErr result (λ fault. piece_range_fault plan.now.names (rows_of placement.now.sections.items) placement.now.layout headers.now.base k ≡ Some fault) }
 {

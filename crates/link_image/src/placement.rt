@@ -8,7 +8,7 @@ ghost use Rattle.link_plan.specs.Plan.{IsPlanOf};
 ghost use Rattle.link_image.specs.BaseFields.{is_relocated};
 ghost use Rattle.link_image.specs.LinkedImage.{base_rule, entry_rva, table_directory, AreGrouped, ArePlaced};
 ghost use Rattle.link_image.specs.BuildFaults.{RefusesBuild};
-ghost use Rattle.link_image.specs.Steps.{IsPlaced, IsTable, EndsWithTable, tables_of};
+ghost use Rattle.link_image.specs.Steps.{IsPlaced, IsTable, EndsWithTable, reloc_tables};
 
 use crate::base_fields::{base_fields, hold_address};
 use crate::sections::{group_pieces, place_pieces};
@@ -180,8 +180,8 @@ fn rva_in(rva: u32, offset: u32) -> u32
 
 /// The RVA and the size of the table of base relocations, which is the last piece.
 pub(crate) fn table_directory(placement: &Placement<'_>) -> (u32, u32)
-    requires { All (λ table. length table < 2 ^ 32) (tables_of placement.now.table) }
-    ensures { result ≡ table_directory placement.now.layout (tables_of placement.now.table) }
+    requires { All (λ table. length table < 2 ^ 32) (reloc_tables placement.now.table) }
+    ensures { result ≡ table_directory placement.now.layout (reloc_tables placement.now.table) }
 {
     match &placement.table {
         None => (0, 0),

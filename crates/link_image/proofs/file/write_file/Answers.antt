@@ -1,41 +1,53 @@
-use Rattle.std.proofs.Common.{◌≡◌, ℕ, List, [], ◌∷◌, map, sym, ap, subst, ◌∙◌}
-use Rattle.std.proofs.lemmas.List.{append-nil}
+use Rattle.std.proofs.Common.{◌≡◌, true, List, length, map, sym, ap, subst, ◌∙◌}
+use Rattle.std.specs.List.{All}
 use Rattle.std.proofs.lemmas.Result.{IfOk-weaker}
 use Rattle.section_group.specs.declared.piece.Piece.{Piece}
 use Rattle.section_group.specs.declared.piece.OutSection.{OutSection}
 use Rattle.section_group.specs.PieceContents.{piece_contents}
 use Rattle.image_writer.specs.ExpectedImage.{image_file}
 use Rattle.image_writer.specs.WrittenImage.{layout_plan, at_each_base, IsLaidOut, HasContents}
-use Rattle.link_image.specs.Steps.{HoldTables, tables_of}
-use Rattle.link_image.proofs.FileLemmas.{no_tables, one_table, contents_with, written_with}
+use Rattle.module_view.specs.Module.{ModuleView}
+use Rattle.link_pieces.specs.LinkerPieces.{is_table}
+use Rattle.link_words.specs.Outcome.{options_said}
+use Rattle.link_image.specs.LinkedBytes.{import_tables_at}
+use Rattle.link_image.specs.Steps.{CanBeGiven, reloc_tables}
+use Rattle.link_image.proofs.FileLemmas.{can_be_given, whole_by, whole_laid, whole_contents, written_with}
 use Rattle.link_image.proofs.file.write_file.Goals as goal
+
+pub whole_pieces-requires-clause-given : goal.whole_pieces-requires-clause-given
+whole_pieces-requires-clause-given c =
+    let plan = c.args.plan.now in
+    let position : c.len-position.result ≡ length plan.names.modules = c.len-position.ensures ∙ plan.modules.ok.0 ∙ ap (λ (ms : List ModuleView). length ms) c.requires.plan.modules_are in
+    subst (λ (ps : List Piece). All (λ piece. is_table c.len-position.result piece ≡ true → CanBeGiven piece) ps) (sym c.deref.ensures.value)
+    (can_be_given (options_said c.args.options.now) plan c.requires.plan c.len-position.result position)
 
 pub image-requires-clause-laid_out : goal.image-requires-clause-laid_out
 image-requires-clause-laid_out c =
+    let plan = c.args.plan.now in
     let placement = c.args.placement.now in
-    let holds : HoldTables (tables_of placement.table) [] = subst (λ (t : _). HoldTables (tables_of t) []) (sym c.in-None.is) no_tables in
-    subst (λ (ss : List OutSection). IsLaidOut c.args.pieces.now ss placement.layout) (sym c.deref.ensures.value)
-    (subst (λ (ps : List Piece). IsLaidOut ps placement.sections.items placement.layout) (append-nil c.args.pieces.now) (c.requires.laid [] holds))
+    let position : c.len-position.result ≡ length plan.names.modules = c.len-position.ensures ∙ plan.modules.ok.0 ∙ ap (λ (ms : List ModuleView). length ms) c.requires.plan.modules_are in
+    let whole = whole_by c.len-position.result (length plan.names.modules) _ (import_tables_at plan.names placement.layout) (reloc_tables placement.table) c.deref.result.now plan.pieces.items c.in_ok-pieces.pieces.items position c.requires.tables c.deref.ensures.value c.in_ok-pieces.ensures in
+    subst (λ (ps : List Piece). IsLaidOut ps c.deref-2.result.now placement.layout) (sym c.deref-3.ensures.value)
+    (subst (λ (ss : List OutSection). IsLaidOut c.in_ok-pieces.pieces.items ss placement.layout) (sym c.deref-2.ensures.value)
+    (whole_laid (options_said c.args.options.now) plan c.requires.plan placement c.requires.placed c.in_ok-pieces.pieces.items whole))
 
-pub image-requires-in-Some-clause-contents : goal.image-requires-in-Some-clause-contents
-image-requires-in-Some-clause-contents c =
+pub image-requires-clause-contents : goal.image-requires-clause-contents
+image-requires-clause-contents c =
+    let plan = c.args.plan.now in
     let placement = c.args.placement.now in
-    let ends = c.in_ok-pieces-in-Some.ensures in
-    let table = c.deref-in-Some.result.now in
-    let holds : HoldTables (table ∷ []) (ends.piece ∷ []) = one_table ends.piece table ends.contents ends.size in
-    subst (λ (ss : List OutSection). HasContents c.deref-in-Some-3.result.now ss) (sym c.deref-in-Some-2.ensures.value)
-    (subst (λ (ps : List Piece). HasContents ps placement.sections.items) (sym (c.deref-in-Some-3.ensures.value ∙ ends.is))
-    (contents_with c.args.pieces.now (ends.piece ∷ []) placement.sections.items (table ∷ []) c.requires.bodies holds))
+    let position : c.len-position.result ≡ length plan.names.modules = c.len-position.ensures ∙ plan.modules.ok.0 ∙ ap (λ (ms : List ModuleView). length ms) c.requires.plan.modules_are in
+    let whole = whole_by c.len-position.result (length plan.names.modules) _ (import_tables_at plan.names placement.layout) (reloc_tables placement.table) c.deref.result.now plan.pieces.items c.in_ok-pieces.pieces.items position c.requires.tables c.deref.ensures.value c.in_ok-pieces.ensures in
+    subst (λ (ps : List Piece). HasContents ps c.deref-2.result.now) (sym c.deref-3.ensures.value)
+    (subst (λ (ss : List OutSection). HasContents c.in_ok-pieces.pieces.items ss) (sym c.deref-2.ensures.value)
+    (whole_contents (options_said c.args.options.now) plan c.requires.plan placement c.requires.placed c.in_ok-pieces.pieces.items whole))
 
-pub returns-in_ok-pieces-in-Some : goal.returns-in_ok-pieces-in-Some
-returns-in_ok-pieces-in-Some c =
+pub returns : goal.returns
+returns c =
+    let plan = c.args.plan.now in
     let placement = c.args.placement.now in
-    let ends = c.in_ok-pieces-in-Some.ensures in
-    let table = c.deref-in-Some.result.now in
-    let one : HoldTables (table ∷ []) (ends.piece ∷ []) = one_table ends.piece table ends.contents ends.size in
-    let tables : table ∷ [] ≡ tables_of placement.table = ap (λ (t : List ℕ). t ∷ []) c.deref-in-Some.ensures.value ∙ sym (ap tables_of c.in-Some.is) in
-    let holds : HoldTables (tables_of placement.table) (ends.piece ∷ []) = subst (λ (ts : List (List ℕ)). HoldTables ts (ends.piece ∷ [])) tables one in
-    IfOk-weaker c.image-in-Some.result _ _ (λ image is. written_with c.args.headers.now placement c.args.pieces.now (ends.piece ∷ []) image.items holds
+    let position : c.len-position.result ≡ length plan.names.modules = c.len-position.ensures ∙ plan.modules.ok.0 ∙ ap (λ (ms : List ModuleView). length ms) c.requires.plan.modules_are in
+    let whole = whole_by c.len-position.result (length plan.names.modules) _ (import_tables_at plan.names placement.layout) (reloc_tables placement.table) c.deref.result.now plan.pieces.items c.in_ok-pieces.pieces.items position c.requires.tables c.deref.ensures.value c.in_ok-pieces.ensures in
+    IfOk-weaker c.image.result _ _ (λ image is. written_with (options_said c.args.options.now) plan c.requires.plan placement c.requires.placed c.in_ok-pieces.pieces.items whole c.args.headers.now image.items
     (is
-    ∙ ap (λ (ss : List OutSection). image_file (layout_plan c.args.headers.now ss placement.layout (at_each_base (map piece_contents c.deref-in-Some-3.result.now)))) c.deref-in-Some-2.ensures.value
-    ∙ ap (λ (ps : List Piece). image_file (layout_plan c.args.headers.now placement.sections.items placement.layout (at_each_base (map piece_contents ps)))) (c.deref-in-Some-3.ensures.value ∙ ends.is))) c.image-in-Some.ensures
+    ∙ ap (λ (ss : List OutSection). image_file (layout_plan c.args.headers.now ss placement.layout (at_each_base (map piece_contents c.deref-3.result.now)))) c.deref-2.ensures.value
+    ∙ ap (λ (ps : List Piece). image_file (layout_plan c.args.headers.now placement.sections.items placement.layout (at_each_base (map piece_contents ps)))) c.deref-3.ensures.value)) c.image.ensures

@@ -1,0 +1,196 @@
+-- What pieces hold at their places: an import table its bytes, and any other piece what it has.
+use Rattle.std.proofs.Common.{◌≡◌, ℕ, ◌-◌, ◌<◌, ◌≤◌, Bool, true, false, cond, eqb, ltb, IsTrue, List, [], ◌∷◌, ◌++◌, length, get_or, refl, sym, ap, ◌∙◌, subst, inl, inr, arith}
+use Rattle.std.specs.List.{All, filter}
+use Rattle.std.proofs.Math.ListN.{get_or-map}
+use Rattle.std.proofs.lemmas.Bool.{cases_lt, and_parts, eqb-true, false≢true}
+use Rattle.std.proofs.lemmas.List.{length-map, length-append, get_or_append_left, get_or-append_right}
+use Rattle.std.proofs.lemmas.List.Elements.{All-nil}
+use Rattle.std.proofs.lemmas.List.FromFn.{get_or-map-range_with_len, length-map-range_with_len}
+use Rattle.std.proofs.lemmas.List.Sorted.{All-permutation}
+use Rattle.section_group.specs.declared.piece.Piece.{Piece}
+use Rattle.section_group.specs.declared.piece.OutSection.{OutSection}
+use Rattle.section_group.specs.BarePieces.{bare}
+use Rattle.section_group.specs.SectionOrder.{no_piece}
+use Rattle.section_group.specs.PieceContents.{piece_contents}
+use Rattle.address_layout.specs.declared.layout.Layout.{Layout}
+use Rattle.address_layout.specs.Layout.{all_pieces}
+use Rattle.relocate.specs.declared.fix.Fix.{Fix}
+use Rattle.relocate.specs.Field.{has_field}
+use Rattle.relocate.specs.Judged.{IsPatchable, ArePatchable}
+use Rattle.import_tables.specs.ImportShape.{sizes_of}
+use Rattle.import_tables.specs.ImportTables.{tables_of as import_tables_of}
+use Rattle.import_tables.proofs.SizeLemmas.{sizes_kept}
+use Rattle.image_writer.specs.WrittenImage.{HaveRoom}
+use Rattle.synthetic_sections.specs.LinkerPieces.{FIRST_THUNK, size_at}
+use Rattle.symbol_names.specs.LinkView.{LinkView}
+use Rattle.link_imports.specs.Imports.{import_rows, import_sizes}
+use Rattle.link_pieces.specs.LinkerPieces.{is_table}
+use Rattle.link_pieces.specs.Pieces.{link_pieces, link_contents}
+use Rattle.link_pieces.proofs.CallerLemmas.{table_is}
+use Rattle.link_words.specs.Outcome.{LinkOptions}
+use Rattle.link_plan.specs.declared.planning.LinkPlan.{LinkPlan}
+use Rattle.link_plan.specs.Fixes.{piece_at, piece_fixes, planned_piece, HaveFields}
+use Rattle.link_plan.specs.Plan.{IsPlanOf}
+use Rattle.link_plan.proofs.CallerLemmas.{planned_at, plan_count}
+use Rattle.link_image.specs.LinkedBytes.{table_rvas, import_tables_at, contents_at, placed_contents}
+use Rattle.link_image.specs.Steps.{HoldTables, IsHeld}
+
+-- ---- by what a piece is
+
+pub table_contents : (link : LinkView) (layout : Layout) (k : ℕ) → is_table (length link.modules) (piece_at link k) ≡ true → contents_at link layout k ≡ get_or (import_tables_at link layout) (piece_at link k).number []
+unfolding contents_at
+table_contents link layout k table =
+    ap (λ (b : Bool). cond b (get_or (import_tables_at link layout) (piece_at link k).number []) (get_or (link_contents link) k [])) table
+
+pub other_contents : (link : LinkView) (layout : Layout) (k : ℕ) → is_table (length link.modules) (piece_at link k) ≡ false → contents_at link layout k ≡ get_or (link_contents link) k []
+unfolding contents_at
+other_contents link layout k other =
+    ap (λ (b : Bool). cond b (get_or (import_tables_at link layout) (piece_at link k).number []) (get_or (link_contents link) k [])) other
+
+-- ---- the length of a table
+
+pub length-table : (link : LinkView) (layout : Layout) (number : ℕ) → length (get_or (import_tables_at link layout) number []) ≡ size_at (import_sizes link.modules) number
+unfolding import_tables_at
+length-table link layout number =
+    let rows = import_rows link.modules in
+    let rvas = table_rvas link layout in
+    sym (get_or-map length (import_tables_of rows rvas) number [])
+    ∙ ap (λ (sizes : List ℕ). get_or sizes number 0) (sizes_kept rows rvas (import_tables_of rows rvas) (sizes_of rows) refl refl)
+
+-- ---- fields
+
+not_below : (n : ℕ) → ltb n n ≡ false
+not_below n = grind arith
+
+-- an import table has none
+pub table_fixes : (link : LinkView) (k : ℕ) → is_table (length link.modules) (piece_at link k) ≡ true → piece_fixes link k ≡ []
+table_fixes link k table =
+    let piece = piece_at link k in
+    let both = and_parts (eqb piece.«module» (length link.modules)) (ltb piece.number FIRST_THUNK) table in
+    let behind : ltb piece.«module» (length link.modules) ≡ false = ap (λ (n : ℕ). ltb n (length link.modules)) (eqb-true piece.«module» (length link.modules) both.0) ∙ not_below (length link.modules) in
+    rw (behind, both.0, both.1) refl
+
+no_element : (fixes : List Fix) → All (λ (fix : Fix). ⊥) fixes → fixes ≡ []
+no_element [] none = refl
+no_element (fix ∷ fixes) none = absurd (none 0 fix (omega arith))
+
+nothing_patchable : (len : ℕ) → ArePatchable len []
+nothing_patchable len = record {
+  each = All-nil (IsPatchable len);
+  apart = λ i j d lt below. absurd (omega (arith, below));
+}
+
+-- fields that are judged for a piece without a place can be patched where it has one
+pub patchable_at : (link : LinkView) (layout : Layout) (fixups : List (List Fix)) (count : ℕ) → HaveFields link count fixups → (k : ℕ) → k < count → ArePatchable (length (contents_at link layout k)) (get_or fixups k [])
+patchable_at link layout fixups count have k lt = by (is_table (length link.modules) (piece_at link k)) refl
+  where
+    by : (b : Bool) → is_table (length link.modules) (piece_at link k) ≡ b → ArePatchable (length (contents_at link layout k)) (get_or fixups k [])
+    by true table =
+        let none : All (λ (fix : Fix). ⊥) (filter has_field (piece_fixes link k)) = subst (λ (fixes : List Fix). All (λ (fix : Fix). ⊥) (filter has_field fixes)) (sym (table_fixes link k table)) (All-nil (λ (fix : Fix). ⊥)) in
+        let empty = no_element (get_or fixups k []) (All-permutation (λ (fix : Fix). ⊥) (filter has_field (piece_fixes link k)) (get_or fixups k []) (have.fields k lt) none) in
+        subst (ArePatchable (length (contents_at link layout k))) (sym empty) (nothing_patchable (length (contents_at link layout k)))
+    by false other = subst (λ (bytes : List ℕ). ArePatchable (length bytes) (get_or fixups k [])) (sym (other_contents link layout k other)) (have.patchable k lt)
+
+-- ---- the pieces of a plan
+
+not_initialised : (piece : Piece) → piece.init ≡ false → piece_contents piece ≡ []
+not_initialised piece off = rw off refl
+
+module _ (options : LinkOptions) (plan : LinkPlan) (planned : IsPlanOf options plan.names plan) where
+  pub piece_count : length plan.pieces.items ≡ length (link_pieces plan.names)
+  piece_count = sym (length-map plan.pieces.items bare) ∙ ap (λ (ps : List Piece). length ps) planned.pieces_are ∙ plan_count options plan.names
+
+  pub planned_is : (k : ℕ) → k < length plan.pieces.items → bare (get_or plan.pieces.items k no_piece) ≡ planned_piece options plan.names k
+  planned_is k lt =
+      sym (get_or-map bare plan.pieces.items k no_piece)
+      ∙ ap (λ (ps : List Piece). get_or ps k no_piece) planned.pieces_are
+      ∙ planned_at options plan.names k (omega (arith, lt, piece_count))
+
+  pub same_test : (k : ℕ) → k < length plan.pieces.items → is_table (length plan.names.modules) (get_or plan.pieces.items k no_piece) ≡ is_table (length plan.names.modules) (piece_at plan.names k)
+  same_test k lt = ap (is_table (length plan.names.modules)) (planned_is k lt)
+
+  pub same_size : (k : ℕ) → k < length plan.pieces.items → (get_or plan.pieces.items k no_piece).size ≡ (piece_at plan.names k).size
+  same_size k lt = ap (λ (p : Piece). p.size) (planned_is k lt)
+
+  -- what one that is no import table has
+  pub other_is : (layout : Layout) (k : ℕ) → is_table (length plan.names.modules) (piece_at plan.names k) ≡ false → contents_at plan.names layout k ≡ piece_contents (get_or plan.pieces.items k no_piece)
+  other_is layout k other =
+      other_contents plan.names layout k other
+      ∙ ap (λ (cs : List (List ℕ)). get_or cs k []) (sym planned.contents_are)
+      ∙ get_or-map piece_contents plan.pieces.items k no_piece
+
+  pub held_at : (layout : Layout) (k : ℕ) → k < length plan.pieces.items → IsHeld (get_or plan.pieces.items k no_piece) (contents_at plan.names layout k)
+  held_at layout k lt = by (is_table (length plan.names.modules) (piece_at plan.names k)) refl
+    where
+      by : (b : Bool) → is_table (length plan.names.modules) (piece_at plan.names k) ≡ b → IsHeld (get_or plan.pieces.items k no_piece) (contents_at plan.names layout k)
+      by true table =
+          let is = table_is plan.names k (omega (arith, lt, piece_count)) table in
+          let init : (get_or plan.pieces.items k no_piece).init ≡ true = ap (λ (p : Piece). p.init) (planned_is k lt) ∙ is.init in
+          record {
+            filled = λ on. ap length (table_contents plan.names layout k table) ∙ length-table plan.names layout (piece_at plan.names k).number ∙ sym is.size ∙ sym (same_size k lt);
+            empty = λ off. absurd (false≢true (sym off ∙ init));
+          }
+      by false other =
+          let contents = other_is layout k other in
+          record {
+            filled = λ on. ap length contents ∙ planned.bodies k lt (same_test k lt ∙ other) on;
+            empty = λ off. ap length (contents ∙ not_initialised (get_or plan.pieces.items k no_piece) off);
+          }
+
+  pub held_size : (layout : Layout) (k : ℕ) → k < length plan.pieces.items → length (contents_at plan.names layout k) ≤ (get_or plan.pieces.items k no_piece).size
+  held_size layout k lt = by (get_or plan.pieces.items k no_piece).init refl
+    where
+      by : (b : Bool) → (get_or plan.pieces.items k no_piece).init ≡ b → length (contents_at plan.names layout k) ≤ (get_or plan.pieces.items k no_piece).size
+      by true on = omega (arith, (held_at layout k lt).filled on)
+      by false off = omega (arith, (held_at layout k lt).empty off)
+
+-- ---- pieces with tables after them
+
+rest_held : (tables : List (List ℕ)) (rest : List Piece) → HoldTables tables rest → (j : ℕ) → j < length rest → IsHeld (get_or rest j no_piece) (get_or tables j [])
+rest_held tables rest holds j lt =
+    let is : get_or tables j [] ≡ piece_contents (get_or rest j no_piece) = ap (λ (cs : List (List ℕ)). get_or cs j []) (sym holds.contents) ∙ get_or-map piece_contents rest j no_piece in
+    record {
+      filled = λ on. sym (holds.sizes j lt);
+      empty = λ off. ap length (is ∙ not_initialised (get_or rest j no_piece) off);
+    }
+
+-- each has its bytes
+pub all_held : (pieces rest : List Piece) (contents tables : List (List ℕ)) → length contents ≡ length pieces → ((k : ℕ) → k < length pieces → IsHeld (get_or pieces k no_piece) (get_or contents k [])) → HoldTables tables rest → (k : ℕ) → k < length (pieces ++ rest) → IsHeld (get_or (pieces ++ rest) k no_piece) (get_or (contents ++ tables) k [])
+all_held pieces rest contents tables same held holds k lt =
+    elim (cases_lt k (length pieces)) [
+      | inl here ↦
+          subst (λ (bytes : List ℕ). IsHeld (get_or (pieces ++ rest) k no_piece) bytes) (sym (get_or_append_left contents tables [] k (omega (arith, here, same))))
+          (subst (λ (piece : Piece). IsHeld piece (get_or contents k [])) (sym (get_or_append_left pieces rest no_piece k here)) (held k here))
+      | inr past ↦
+          let n = length-append pieces rest in
+          subst (λ (bytes : List ℕ). IsHeld (get_or (pieces ++ rest) k no_piece) bytes) (sym (get_or-append_right contents tables (length pieces) k [] same past))
+          (subst (λ (piece : Piece). IsHeld piece (get_or tables (k - length pieces) [])) (sym (get_or-append_right pieces rest (length pieces) k no_piece refl past)) (rest_held tables rest holds (k - length pieces) (omega (arith, lt, n, past))))
+    ]
+
+-- so whatever is as long as that has room
+pub have_room_for : (pieces rest : List Piece) (sections : List OutSection) (contents tables others : List (List ℕ)) → length contents ≡ length pieces → ((k : ℕ) → k < length pieces → IsHeld (get_or pieces k no_piece) (get_or contents k [])) → HoldTables tables rest → All (λ k. k < length (pieces ++ rest)) (all_pieces sections) → ((k : ℕ) → length (get_or others k []) ≡ length (get_or (contents ++ tables) k [])) → HaveRoom (pieces ++ rest) sections others
+have_room_for pieces rest sections contents tables others same held holds within len = λ i d lt.
+    let k = get_or (all_pieces sections) i d in
+    fits (get_or (pieces ++ rest) k no_piece) (get_or others k []) (get_or (contents ++ tables) k []) (len k) (all_held pieces rest contents tables same held holds k (within i d lt))
+  where
+    fits : (piece : Piece) (bytes held : List ℕ) → length bytes ≡ length held → IsHeld piece held → (length bytes ≤ piece.size) × (0 < length bytes → IsTrue piece.init)
+    fits piece bytes held len is = by piece.init refl
+      where
+        by : (b : Bool) → piece.init ≡ b → (length bytes ≤ piece.size) × (0 < length bytes → IsTrue piece.init)
+        by true on = (omega (arith, len, is.filled on), λ some. on)
+        by false off = (omega (arith, len, is.empty off), λ some. absurd (omega (arith, some, len, is.empty off)))
+
+-- ---- the contents of all pieces
+
+pub length-placed : (link : LinkView) (layout : Layout) → length (placed_contents link layout) ≡ length (link_pieces link)
+unfolding placed_contents
+length-placed link layout = length-map-range_with_len (contents_at link layout) 0 (length (link_pieces link))
+
+pub placed_read : (link : LinkView) (layout : Layout) (k : ℕ) → k < length (link_pieces link) → get_or (placed_contents link layout) k [] ≡ contents_at link layout k
+unfolding placed_contents
+placed_read link layout k lt = get_or-map-range_with_len (contents_at link layout) 0 (length (link_pieces link)) k k [] lt (omega arith)
+
+-- what holds of what each piece holds
+pub placed_held : (link : LinkView) (layout : Layout) (pieces : List Piece) → length pieces ≡ length (link_pieces link) → ((k : ℕ) → k < length pieces → IsHeld (get_or pieces k no_piece) (contents_at link layout k)) → (k : ℕ) → k < length pieces → IsHeld (get_or pieces k no_piece) (get_or (placed_contents link layout) k [])
+placed_held link layout pieces same held k lt =
+    subst (IsHeld (get_or pieces k no_piece)) (sym (placed_read link layout k (omega (arith, lt, same)))) (held k lt)

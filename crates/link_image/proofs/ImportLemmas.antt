@@ -1,0 +1,269 @@
+-- The imports of the modules, read back from the memory that an image of theirs is loaded to.
+use Rattle.std.proofs.Common.{◌≡◌, ℕ, ◌+◌, ◌*◌, ◌^◌, ◌<◌, ◌≤◌, ◌⊎◌, Bool, true, false, cond, eqb, List, [], ◌∷◌, ◌++◌, length, get_or, slice_index, slice_get, Option, Some, None, refl, sym, ap, ◌∙◌, subst, inl, inr, arith}
+use Rattle.std.specs.List.{list_any}
+use Rattle.std.proofs.lemmas.Bool.{cases_lt, eqb-true, false≢true}
+use Rattle.std.proofs.lemmas.List.FromFn.{get_or-map-range_with_len}
+use Rattle.link_base.specs.Bytes.{bytes_at}
+use Rattle.section_group.specs.declared.piece.Piece.{Piece}
+use Rattle.section_group.specs.declared.piece.OutSection.{OutSection}
+use Rattle.section_group.specs.SectionOrder.{no_piece}
+use Rattle.section_group.specs.Uniqueness.{rows_of}
+use Rattle.address_layout.specs.declared.layout.Layout.{Layout}
+use Rattle.pe_loader.specs.LoadedImage.{loaded, directory_rva}
+use Rattle.relocate.specs.declared.fix.Fix.{Fix}
+use Rattle.relocate.specs.PatchedBytes.{patched_bytes}
+use Rattle.relocate.proofs.CallerLemmas.{nothing_patched}
+use Rattle.import_tables.specs.declared.row.ImportRow.{ImportRow}
+use Rattle.import_tables.specs.ImportDirectory.{Imports, imports_of}
+use Rattle.import_tables.specs.ImportShape.{same_name, dlls_of, directory_size, dll_at, extent_of as shape_extent, sizes_of}
+use Rattle.import_tables.specs.ImportTables.{EndBelow4G, tables_of as import_tables_of}
+use Rattle.import_tables.specs.ReadBack.{Holds, HoldsTables, StandAboveZero, AreReadable, found_of}
+use Rattle.import_tables.proofs.ApartLemmas.{listed, table_within}
+use Rattle.import_tables.proofs.DirectoryReadLemmas.{tables_read_back}
+use Rattle.image_writer.specs.declared.headers.Headers.{Headers}
+use Rattle.image_writer.specs.ExpectedImage.{ImagePlan, MeansPlan, permits, expected_image, image_file}
+use Rattle.image_writer.specs.HeaderTable.{size_of_headers}
+use Rattle.image_writer.specs.WrittenImage.{written_plan, layout_plan}
+use Rattle.synthetic_sections.specs.LinkerPieces.{size_at}
+use Rattle.symbol_names.specs.LinkView.{LinkView}
+use Rattle.link_imports.specs.Imports.{import_rows, import_sizes}
+use Rattle.link_pieces.specs.PieceIndex.{linker_index}
+use Rattle.link_pieces.specs.Pieces.{link_pieces}
+use Rattle.link_words.specs.Outcome.{LinkOptions}
+use Rattle.link_plan.specs.declared.planning.LinkPlan.{LinkPlan}
+use Rattle.link_plan.specs.Fixes.{piece_at}
+use Rattle.link_plan.specs.Plan.{IsPlanOf}
+use Rattle.link_image.specs.declared.placement.Placement.{Placement}
+use Rattle.link_image.specs.ImageHeaders.{headers_of}
+use Rattle.link_image.specs.LinkedBytes.{section_of, owners_in, rva_of, table_rva, table_rvas, import_tables_at, contents_at, image_contents}
+use Rattle.link_image.specs.LinkedImage.{extent_of, import_extent, directories_of, AreMade, HoldsImports}
+use Rattle.link_image.specs.Steps.{reloc_tables, IsPlaced, IsReady}
+use Rattle.link_image.proofs.HeldLemmas.{piece_count, same_size, table_contents, table_fixes, length-table}
+use Rattle.link_image.proofs.MemoryLemmas.{directory_reads, above_headers, in_memory}
+use Rattle.link_image.proofs.MoveLemmas.{contents_room}
+use Rattle.link_image.proofs.PieceMoves.{piece_read}
+use Rattle.link_image.proofs.StandsLemmas.{OwnerAt, owner_at}
+use Rattle.link_image.proofs.TableLemmas.{IsTableAt, found_table}
+
+-- ---- what a file is loaded to
+
+loaded_is : (plan : ImagePlan) (file : List ℕ) → MeansPlan plan file → (base : ℕ) (memory : List ℕ) → loaded file base ≡ Some memory → memory ≡ expected_image plan base
+loaded_is plan file means base memory loads = by (permits plan base) (sym (means.loads base) ∙ loads)
+  where
+    by : (b : Bool) → cond b (Some (expected_image plan base)) None ≡ Some memory → memory ≡ expected_image plan base
+    by true e = cc
+    by false e = absurd cc
+
+-- ---- the tables of some imports, one by one
+
+held_all : (memory : List ℕ) (rows : List ImportRow) (rvas : List ℕ) → ((number : ℕ) → number < 5 → Holds memory (slice_index rvas number) (get_or (import_tables_of rows rvas) number [])) → HoldsTables memory rows rvas
+unfolding import_tables_of
+held_all memory rows rvas each = record {
+  directory = each 0 (omega arith);
+  lookups = each 1 (omega arith);
+  slots = each 2 (omega arith);
+  hints = each 3 (omega arith);
+  names = each 4 (omega arith);
+}
+
+end_all : (rows : List ImportRow) (rvas : List ℕ) → ((number : ℕ) → number < 5 → slice_index rvas number + size_at (sizes_of rows) number < 2 ^ 32) → EndBelow4G rvas (sizes_of rows)
+end_all rows rvas each = record {
+  directory = each 0 (omega arith);
+  lookups = each 1 (omega arith);
+  slots = each 2 (omega arith);
+  hints = each 3 (omega arith);
+  names = each 4 (omega arith);
+}
+
+some_listed : (name : List ℕ) (dlls : List (List ℕ)) → list_any (same_name name) dlls ≡ true → 0 < length dlls
+some_listed name [] any = absurd (false≢true any)
+some_listed name (dll ∷ dlls) any = omega arith
+
+some_directory : (dlls : ℕ) → 0 < dlls → 0 < directory_size dlls
+some_directory dlls some = by (eqb dlls 0) refl
+  where
+    by : (b : Bool) → eqb dlls 0 ≡ b → 0 < directory_size dlls
+    by true none = absurd (omega (arith, some, eqb-true dlls 0 none))
+    by false any = subst (λ (b : Bool). 0 < cond b 0 (20 * (dlls + 1))) (sym any) (omega arith)
+
+above_all : (rows : List ImportRow) (rvas : List ℕ) → 0 < length rows → ((number : ℕ) → number < 5 → 0 < size_at (sizes_of rows) number → 0 < slice_index rvas number) → StandAboveZero rows rvas
+unfolding sizes_of shape_extent
+above_all rows rvas some each = record {
+  directory = each 0 (omega arith) (some_directory (length (dlls_of rows)) (some_listed (dll_at rows 0) (dlls_of rows) (listed rows 0 some)));
+  slots = each 2 (omega arith) (let within = table_within rows 0 some in omega (arith, within));
+  hints = λ named. each 3 (omega arith) named;
+}
+
+-- without an import there is nothing
+no_size : (rows : List ImportRow) → rows ≡ [] → size_at (sizes_of rows) 0 ≡ 0
+unfolding sizes_of shape_extent dlls_of
+no_size rows none = ap (λ (rs : List ImportRow). size_at (sizes_of rs) 0) none
+
+none_found : (rows : List ImportRow) (rvas : List ℕ) → rows ≡ [] → found_of rows rvas ≡ []
+unfolding found_of dlls_of
+none_found rows rvas none = ap (λ (rs : List ImportRow). found_of rs rvas) none
+
+none_read : (memory : List ℕ) → imports_of memory 0 ≡ Imports []
+unfolding imports_of
+none_read memory = refl
+
+-- ---- lists and numbers
+
+empty_is : {X : Type 0} (xs : List X) → length xs ≡ 0 → xs ≡ []
+empty_is [] e = refl
+empty_is (x ∷ xs) e = absurd (omega (arith, e))
+
+some_headers : (count len : ℕ) → len ≡ size_of_headers count → 0 < len
+some_headers count len is = omega arith
+
+nothing_some : (k : ℕ) → None ≡ Some k → ⊥
+nothing_some k e = absurd cc
+
+extent_rva : (pieces : List Piece) (rvas : List ℕ) (place : Option ℕ) → (extent_of pieces rvas place).0 ≡ rva_of rvas place
+extent_rva pieces rvas None = refl
+extent_rva pieces rvas (Some k) = refl
+
+-- ---- the image of a plan
+
+module _ (options : LinkOptions) (plan : LinkPlan) (placement : Placement) (owner : List ℕ) (planned : IsPlanOf options plan.names plan) (placed : IsPlaced options plan placement)
+    (ready : IsReady plan.names plan.pieces.items plan.fixes.items placement.sections.items placement.layout owner (reloc_tables placement.table))
+    (headers : Headers) where
+  abbrev link : LinkView
+  link = plan.names
+
+  abbrev layout : Layout
+  layout = placement.layout
+
+  abbrev sections : List OutSection
+  sections = placement.sections.items
+
+  abbrev contents : ℕ → List (List ℕ)
+  contents base = image_contents plan.names (rows_of placement.sections.items) placement.layout (reloc_tables placement.table) base
+
+  abbrev image : ImagePlan
+  image = layout_plan headers placement.sections.items placement.layout contents
+
+  abbrev table : ℕ → List ℕ
+  table number = get_or (import_tables_at plan.names placement.layout) number []
+
+  abbrev size : ℕ → ℕ
+  size number = size_at (import_sizes plan.names.modules) number
+
+  -- a table in the memory at a base
+  record Stands (base number : ℕ) : Type 0 where
+    held : Holds (expected_image image base) (table_rva plan.names placement.layout number) (table number)
+    ends : table_rva plan.names placement.layout number + size number < 2 ^ 32
+    above : 0 < size number → 0 < table_rva plan.names placement.layout number
+
+  -- what its piece holds in the image
+  table_linked : (base number k : ℕ) → IsTableAt plan.names number k → get_or (contents base) k [] ≡ table number
+  table_linked base number k at =
+      let rva = get_or placement.layout.pieces.items k 0 in
+      let owners = owners_in (rows_of placement.sections.items) placement.layout in
+      piece_read plan.names (rows_of placement.sections.items) placement.layout base (reloc_tables placement.table) k at.there
+      ∙ ap (λ (fixes : List Fix). patched_bytes base rva placement.layout owners fixes (contents_at plan.names placement.layout k)) (table_fixes plan.names k at.table)
+      ∙ nothing_patched base rva placement.layout owners (contents_at plan.names placement.layout k)
+      ∙ table_contents plan.names placement.layout k at.table
+      ∙ ap table at.number_is
+
+  table_size : (number k : ℕ) → IsTableAt plan.names number k → (piece_at plan.names k).size ≡ size number
+  table_size number k at = at.is.size ∙ ap size at.number_is
+
+  made_stands : (base number k : ℕ) → IsTableAt plan.names number k → table_rva plan.names placement.layout number ≡ get_or placement.layout.pieces.items k 0 → Stands base number
+  made_stands base number k at rva =
+      let lt : k < length plan.pieces.items = omega (arith, at.there, piece_count options plan planned) in
+      let same = same_size options plan planned k lt in
+      let sized = table_size number k at in
+      let some : 0 < (get_or plan.pieces.items k no_piece).size = omega (arith, same, at.is.some) in
+      let own : OwnerAt placement.sections.items k = owner_at placement.sections.items k (ready.stands k lt (inl some)) in
+      let i = section_of (rows_of placement.sections.items) k in
+      let room = contents_room plan.names plan.pieces.items plan.fixes.items placement.sections.items placement.layout owner (reloc_tables placement.table) ready base in
+      let linked = table_linked base number k at in
+      let len : length (get_or (contents base) k []) ≡ size number = ap length linked ∙ length-table plan.names placement.layout number in
+      let there = in_memory headers (plan.pieces.items ++ ready.rest) placement.sections.items placement.layout contents base ready.laid room i own.number own.there own.within in
+      let here = subst (λ (n : ℕ). bytes_at (expected_image image base) (get_or placement.layout.pieces.items n 0) (length (get_or (contents base) n [])) ≡ get_or (contents base) n []) own.is there in
+      let low = subst (λ (n : ℕ). 0 < length (get_or (contents base) n []) → placement.layout.headers ≤ get_or placement.layout.pieces.items n 0) own.is
+      (above_headers headers (plan.pieces.items ++ ready.rest) placement.sections.items placement.layout contents base ready.laid room i own.number own.there own.within) in
+      let end = placed.ends k lt some in
+      record {
+        held =
+            subst (λ (r : ℕ). Holds (expected_image image base) r (table number)) (sym rva)
+            (subst (λ (bytes : List ℕ). bytes_at (expected_image image base) (get_or placement.layout.pieces.items k 0) (length bytes) ≡ bytes) linked here);
+        ends = omega (arith, rva, end, same, sized);
+        above = λ any. omega (arith, rva, low (omega (arith, len, any)), some_headers (length placement.sections.items) placement.layout.headers ready.laid.headers);
+      }
+
+  module _ (made : AreMade plan.names) where
+    none_stands : (base number : ℕ) → number < 5 → linker_index plan.names number ≡ None → table_rva plan.names placement.layout number ≡ 0 → Stands base number
+    none_stands base number few none rva =
+        let nothing : size number ≡ 0 = by (cases_lt 0 (size number)) in
+        let empty : table number ≡ [] = empty_is (table number) (length-table plan.names placement.layout number ∙ nothing) in
+        record {
+          held = subst (λ (bytes : List ℕ). Holds (expected_image image base) (table_rva plan.names placement.layout number) bytes) (sym empty) refl;
+          ends = omega (arith, rva, nothing);
+          above = λ any. absurd (omega (arith, any, nothing));
+        }
+      where
+        nowhere : (k : ℕ) → linker_index plan.names number ≡ Some k → ⊥
+        nowhere k found = nothing_some k (sym none ∙ found)
+
+        by : (0 < size number) ⊎ (size number ≤ 0) → size number ≡ 0
+        by (inl some) = absurd (let there = made number few some in nowhere there.0 there.1)
+        by (inr zero) = omega arith
+
+    stands : (base number : ℕ) → number < 5 → Stands base number
+    stands base number few = by (linker_index plan.names number) refl
+      where
+        by : (place : Option ℕ) → linker_index plan.names number ≡ place → Stands base number
+        by None none = none_stands base number few none (ap (rva_of placement.layout.pieces.items) none)
+        by (Some k) found = made_stands base number k (found_table plan.names number k (omega (arith, few)) found) (ap (rva_of placement.layout.pieces.items) found)
+
+    rva_is : (number : ℕ) → number < 5 → slice_index (table_rvas plan.names placement.layout) number ≡ table_rva plan.names placement.layout number
+    unfolding table_rvas
+    rva_is number few = get_or-map-range_with_len (table_rva plan.names placement.layout) 0 5 number number 0 few (omega arith)
+
+    some_read : (base : ℕ) → 0 < length (import_rows plan.names.modules) → AreReadable (import_rows plan.names.modules) → imports_of (expected_image image base) (table_rva plan.names placement.layout 0) ≡ Imports (found_of (import_rows plan.names.modules) (table_rvas plan.names placement.layout))
+    unfolding import_tables_at
+    some_read base some readable =
+        let rows = import_rows plan.names.modules in
+        let rvas = table_rvas plan.names placement.layout in
+        let memory = expected_image image base in
+        ap (imports_of memory) (sym (rva_is 0 (omega arith)))
+        ∙ tables_read_back rows rvas memory some readable
+        (end_all rows rvas (λ number few. let rva = rva_is number few in let end = (stands base number few).ends in omega (arith, rva, end)))
+        (above_all rows rvas some (λ number few any. let rva = rva_is number few in let above = (stands base number few).above any in omega (arith, rva, above)))
+        (held_all memory rows rvas (λ number few. subst (λ (r : ℕ). Holds memory r (table number)) (sym (rva_is number few)) (stands base number few).held))
+
+    none_read_here : (base : ℕ) → import_rows plan.names.modules ≡ [] → imports_of (expected_image image base) (table_rva plan.names placement.layout 0) ≡ Imports (found_of (import_rows plan.names.modules) (table_rvas plan.names placement.layout))
+    none_read_here base none =
+        ap (imports_of (expected_image image base)) (by (linker_index plan.names 0) refl)
+        ∙ none_read (expected_image image base)
+        ∙ ap Imports (sym (none_found (import_rows plan.names.modules) (table_rvas plan.names placement.layout) none))
+      where
+        by : (place : Option ℕ) → linker_index plan.names 0 ≡ place → table_rva plan.names placement.layout 0 ≡ 0
+        by None nowhere = ap (rva_of placement.layout.pieces.items) nowhere
+        by (Some k) found =
+            let at = found_table plan.names 0 k (omega arith) found in
+            absurd (omega (arith, at.is.some, table_size 0 k at, no_size (import_rows plan.names.modules) none))
+
+    imports_read : (base : ℕ) → AreReadable (import_rows plan.names.modules) → imports_of (expected_image image base) (table_rva plan.names placement.layout 0) ≡ Imports (found_of (import_rows plan.names.modules) (table_rvas plan.names placement.layout))
+    imports_read base readable =
+        elim (cases_lt 0 (length (import_rows plan.names.modules))) [
+          | inl some ↦ some_read base some readable
+          | inr none ↦ none_read_here base (empty_is (import_rows plan.names.modules) (omega (arith, none)))
+        ]
+
+    -- the directory that the headers name
+    directory_is : (entry : ℕ) → headers ≡ headers_of options entry (directories_of plan.names placement.layout (reloc_tables placement.table)) → directory_rva (image_file image) 1 ≡ table_rva plan.names placement.layout 0
+    unfolding written_plan
+    directory_is entry is =
+        let rva = extent_rva (link_pieces plan.names) placement.layout.pieces.items (linker_index plan.names 0) in
+        let end = (stands 0 0 (omega arith)).ends in
+        directory_reads image 1 (import_extent plan.names placement.layout 0) (ap (λ (h : Headers). slice_get h.directories 1) is) (omega (arith, rva, end))
+        ∙ rva
+
+    pub imports_there : (entry : ℕ) (file : List ℕ) → headers ≡ headers_of options entry (directories_of plan.names placement.layout (reloc_tables placement.table)) → file ≡ image_file image → MeansPlan image file → AreReadable (import_rows plan.names.modules) → HoldsImports plan.names placement.layout file
+    imports_there entry file is written means readable base memory loads =
+        ap (λ (m : List ℕ). imports_of m (directory_rva file 1)) (loaded_is image file means base memory loads)
+        ∙ ap (imports_of (expected_image image base)) (ap (λ (bytes : List ℕ). directory_rva bytes 1) written ∙ directory_is entry is)
+        ∙ imports_read base readable

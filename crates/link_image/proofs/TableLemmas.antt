@@ -1,0 +1,158 @@
+-- The pieces of the import tables, where they stand, and that they end below 4 GiB.
+use Rattle.std.proofs.Common.{◌≡◌, ℕ, zero, suc, ◌+◌, ◌^◌, ◌<◌, ◌≤◌, Bool, true, cond, eqb, ltb, List, length, map, get_or, slice_index, Option, Some, None, IfSome, refl, sym, ap, ◌∙◌, subst, lt-ltb, arith}
+use Rattle.std.specs.List.{All, range_with_len}
+use Rattle.std.specs.Option.{option_or}
+use Rattle.std.proofs.Math.Path.{fun_ext}
+use Rattle.std.proofs.lemmas.Bool.{and_parts, and_from, eqb-true}
+use Rattle.std.proofs.lemmas.List.{ext_get_or, get_or_default}
+use Rattle.std.proofs.lemmas.List.FromFn.{get_or-map-range_with_len, length-map-range_with_len}
+use Rattle.link_base.specs.Bytes.{first_below}
+use Rattle.link_base.proofs.CallerLemmas.{first_below-some}
+use Rattle.section_group.specs.declared.piece.Piece.{Piece}
+use Rattle.section_group.specs.SectionOrder.{no_piece}
+use Rattle.address_layout.specs.declared.layout.Layout.{Layout}
+use Rattle.import_tables.specs.ImportTables.{EndBelow4G}
+use Rattle.synthetic_sections.specs.LinkerPieces.{FIRST_THUNK, size_at}
+use Rattle.module_view.specs.Module.{ModuleView}
+use Rattle.symbol_names.specs.LinkView.{LinkView}
+use Rattle.link_imports.specs.Imports.{import_sizes}
+use Rattle.link_pieces.specs.LinkerPieces.{is_table, IsImportTable}
+use Rattle.link_pieces.specs.PieceIndex.{is_numbered, holds, linker_index}
+use Rattle.link_pieces.specs.Pieces.{link_pieces}
+use Rattle.link_pieces.proofs.CallerLemmas.{table_is}
+use Rattle.link_words.specs.Outcome.{LinkOptions}
+use Rattle.link_plan.specs.declared.planning.LinkPlan.{LinkPlan}
+use Rattle.link_plan.specs.Fixes.{piece_at}
+use Rattle.link_plan.specs.Plan.{IsPlanOf}
+use Rattle.link_image.specs.declared.placement.Placement.{Placement}
+use Rattle.link_image.specs.LinkedBytes.{rva_of, table_rva, table_rvas}
+use Rattle.link_image.specs.LinkedImage.{extent_of}
+use Rattle.link_image.specs.Steps.{numbered_index, numbered_indexes, IsPlaced}
+use Rattle.link_image.proofs.HeldLemmas.{piece_count, planned_is, same_size}
+
+-- ---- the first piece of a number
+
+first_same : (n : ℕ) (f g : ℕ → Bool) → ((k : ℕ) → k < n → f k ≡ g k) → first_below n f ≡ first_below n g
+unfolding first_below
+first_same zero f g same = refl
+first_same (suc n) f g same = rw (first_same n f g (λ k lt. same k (omega arith)), same n (omega arith)) refl
+
+-- one piece more
+pub noted_more : (position number k : ℕ) (pieces : List Piece) (piece : Piece) (old new : Option ℕ) → k < length pieces → piece ≡ get_or pieces k piece → old ≡ first_below k (holds (is_numbered position number) pieces) → new ≡ option_or old (cond (is_numbered position number piece) (Some k) None) → new ≡ first_below (k + 1) (holds (is_numbered position number) pieces)
+unfolding first_below
+noted_more position number k pieces piece old new lt read was is =
+    let here : piece ≡ get_or pieces k no_piece = read ∙ get_or_default pieces k piece no_piece lt in
+    let next : suc k ≡ k + 1 = omega arith in
+    is
+    ∙ ap (λ (o : Option ℕ). option_or o (cond (is_numbered position number piece) (Some k) None)) was
+    ∙ ap (λ (p : Piece). option_or (first_below k (holds (is_numbered position number) pieces)) (cond (is_numbered position number p) (Some k) None)) here
+    ∙ ap (λ (n : ℕ). first_below n (holds (is_numbered position number) pieces)) next
+
+-- all of them
+pub all_noted : (position : ℕ) (pieces : List Piece) (places : List (Option ℕ)) → length places ≡ 5 → ((number : ℕ) → number < 5 → get_or places number None ≡ numbered_index position pieces number) → places ≡ numbered_indexes position pieces
+all_noted position pieces places count each =
+    let indexes = length-map-range_with_len (numbered_index position pieces) 0 5 in
+    ext_get_or None places (numbered_indexes position pieces) (count ∙ sym indexes) (λ number lt.
+    let within : number < 5 = omega (arith, lt, count) in
+    each number within ∙ sym (get_or-map-range_with_len (numbered_index position pieces) 0 5 number number None within (omega arith)))
+
+-- ---- the pieces of a link
+
+pub record IsTableAt (link : LinkView) (number k : ℕ) : Type 0 where
+  pub there : k < length (link_pieces link)
+  pub table : is_table (length link.modules) (piece_at link k) ≡ true
+  pub number_is : (piece_at link k).number ≡ number
+  pub is : IsImportTable link (piece_at link k)
+
+pub found_table : (link : LinkView) (number k : ℕ) → number < FIRST_THUNK → linker_index link number ≡ Some k → IsTableAt link number k
+found_table link number k few found =
+    let at = first_below-some (length (link_pieces link)) k (holds (is_numbered (length link.modules) number) (link_pieces link)) found in
+    let piece = piece_at link k in
+    let both = and_parts (eqb piece.«module» (length link.modules)) (eqb piece.number number) at.1.0 in
+    let same : piece.number ≡ number = eqb-true piece.number number both.1 in
+    let table : is_table (length link.modules) piece ≡ true = and_from (eqb piece.«module» (length link.modules)) (ltb piece.number FIRST_THUNK) both.0 (lt-ltb piece.number FIRST_THUNK (omega (arith, same, few))) in
+    record { there = at.0; table = table; number_is = same; is = table_is link k at.0 table }
+
+module _ (options : LinkOptions) (plan : LinkPlan) (planned : IsPlanOf options plan.names plan) where
+  numbered_is : (number : ℕ) → numbered_index (length plan.modules.items) plan.pieces.items number ≡ linker_index plan.names number
+  numbered_is number =
+      ap (λ (ms : List ModuleView). numbered_index (length ms) plan.pieces.items number) planned.modules_are
+      ∙ first_same (length plan.pieces.items) (holds (is_numbered (length plan.names.modules) number) plan.pieces.items) (holds (is_numbered (length plan.names.modules) number) (link_pieces plan.names)) (λ k lt. ap (is_numbered (length plan.names.modules) number) (planned_is options plan planned k lt))
+      ∙ ap (λ (n : ℕ). first_below n (holds (is_numbered (length plan.names.modules) number) (link_pieces plan.names))) (piece_count options plan planned)
+
+  pub places_are : (places : List (Option ℕ)) → places ≡ numbered_indexes (length plan.modules.items) plan.pieces.items → places ≡ map (linker_index plan.names) (range_with_len 0 5)
+  places_are places is = is ∙ ap (λ (f : ℕ → Option ℕ). map f (range_with_len 0 5)) (fun_ext numbered_is)
+
+  -- each is a piece of the plan
+  place_there : (number : ℕ) → number < 5 → IfSome (linker_index plan.names number) (λ k. k < length plan.pieces.items)
+  place_there number few = by (linker_index plan.names number) refl
+    where
+      by : (place : Option ℕ) → linker_index plan.names number ≡ place → IfSome place (λ k. k < length plan.pieces.items)
+      by None none = tt
+      by (Some k) found = let at = found_table plan.names number k (omega (arith, few)) found in omega (arith, at.there, piece_count options plan planned)
+
+  pub place_within : (places : List (Option ℕ)) (number bound : ℕ) → places ≡ numbered_indexes (length plan.modules.items) plan.pieces.items → number < 5 → length plan.pieces.items ≤ bound → IfSome (get_or places number None) (λ k. k < bound)
+  place_within places number bound is few room =
+      subst (λ (place : Option ℕ). IfSome place (λ k. k < bound)) (sym (ap (λ (ps : List (Option ℕ)). get_or ps number None) (places_are places is) ∙ get_or-map-range_with_len (linker_index plan.names) 0 5 number number None few (omega arith)))
+      (wider (linker_index plan.names number) (place_there number few))
+    where
+      wider : (place : Option ℕ) → IfSome place (λ k. k < length plan.pieces.items) → IfSome place (λ k. k < bound)
+      wider None there = tt
+      wider (Some k) there = omega (arith, there, room)
+
+  pub places_within : (places : List (Option ℕ)) (bound : ℕ) → places ≡ numbered_indexes (length plan.modules.items) plan.pieces.items → length plan.pieces.items ≤ bound → All (λ place. IfSome place (λ k. k < bound)) places
+  places_within places bound is room = λ number d lt.
+      let count : length places ≡ 5 = ap (λ (ps : List (Option ℕ)). length ps) is ∙ length-map-range_with_len (numbered_index (length plan.modules.items) plan.pieces.items) 0 5 in
+      subst (λ (place : Option ℕ). IfSome place (λ k. k < bound)) (get_or_default places number None d lt) (place_within places number bound is (omega (arith, lt, count)) room)
+
+  -- their RVAs
+  pub rvas_are : (layout : Layout) (places : List (Option ℕ)) (rvas : List ℕ) → places ≡ numbered_indexes (length plan.modules.items) plan.pieces.items → rvas ≡ map (rva_of layout.pieces.items) places → rvas ≡ table_rvas plan.names layout
+  unfolding table_rvas
+  rvas_are layout places rvas is read = read ∙ ap (map (rva_of layout.pieces.items)) (places_are places is)
+
+  -- and sizes
+  pub extent_is : (rvas : List ℕ) (places : List (Option ℕ)) (number : ℕ) → number < 5 → places ≡ numbered_indexes (length plan.modules.items) plan.pieces.items → extent_of plan.pieces.items rvas (get_or places number None) ≡ extent_of (link_pieces plan.names) rvas (linker_index plan.names number)
+  extent_is rvas places number few is =
+      ap (extent_of plan.pieces.items rvas) (ap (λ (ps : List (Option ℕ)). get_or ps number None) (places_are places is) ∙ get_or-map-range_with_len (linker_index plan.names) 0 5 number number None few (omega arith))
+      ∙ by (linker_index plan.names number) (place_there number few)
+    where
+      by : (place : Option ℕ) → IfSome place (λ k. k < length plan.pieces.items) → extent_of plan.pieces.items rvas place ≡ extent_of (link_pieces plan.names) rvas place
+      by None there = refl
+      by (Some k) there = ap (λ (size : ℕ). (get_or rvas k 0, size)) (same_size options plan planned k there)
+
+  -- ---- each ends below 4 GiB
+
+  module _ (placement : Placement) (placed : IsPlaced options plan placement) where
+    table_ends : (number : ℕ) → number < 5 → size_at (import_sizes plan.names.modules) number < 2 ^ 32 → table_rva plan.names placement.layout number + size_at (import_sizes plan.names.modules) number < 2 ^ 32
+    table_ends number few small = by (linker_index plan.names number) refl
+      where
+        by : (place : Option ℕ) → linker_index plan.names number ≡ place → rva_of placement.layout.pieces.items place + size_at (import_sizes plan.names.modules) number < 2 ^ 32
+        by None none = omega (arith, small)
+        by (Some k) found =
+            let at = found_table plan.names number k (omega (arith, few)) found in
+            let lt : k < length plan.pieces.items = omega (arith, at.there, piece_count options plan planned) in
+            let same = same_size options plan planned k lt in
+            let size : (piece_at plan.names k).size ≡ size_at (import_sizes plan.names.modules) number = at.is.size ∙ ap (size_at (import_sizes plan.names.modules)) at.number_is in
+            let end = placed.ends k lt (omega (arith, same, at.is.some)) in
+            omega (arith, end, same, size)
+
+    pub tables_end : (rvas sizes : List ℕ) → rvas ≡ table_rvas plan.names placement.layout → sizes ≡ import_sizes plan.names.modules → ((n : ℕ) → n < 5 → slice_index sizes n < 2 ^ 32) → EndBelow4G rvas sizes
+    unfolding table_rvas
+    tables_end rvas sizes are same small = record {
+      directory = at 0 (omega arith);
+      lookups = at 1 (omega arith);
+      slots = at 2 (omega arith);
+      hints = at 3 (omega arith);
+      names = at 4 (omega arith);
+    }
+      where
+        rva_is : (n : ℕ) → n < 5 → slice_index rvas n ≡ table_rva plan.names placement.layout n
+        rva_is n lt = ap (λ (xs : List ℕ). get_or xs n 0) are ∙ get_or-map-range_with_len (table_rva plan.names placement.layout) 0 5 n n 0 lt (omega arith)
+
+        at : (n : ℕ) → n < 5 → slice_index rvas n + slice_index sizes n < 2 ^ 32
+        at n lt =
+            let rva = rva_is n lt in
+            let size : slice_index sizes n ≡ size_at (import_sizes plan.names.modules) n = ap (λ (xs : List ℕ). get_or xs n 0) same in
+            let fits = small n lt in
+            let end = table_ends n lt (omega (arith, size, fits)) in
+            omega (arith, rva, size, end)
