@@ -28,6 +28,7 @@ use Rattle.synthetic_sections.specs.LinkerPieces.{size_at}
 use Rattle.symbol_names.specs.LinkView.{LinkView}
 use Rattle.link_imports.specs.Imports.{import_rows, import_sizes}
 use Rattle.link_pieces.specs.PieceIndex.{linker_index}
+use Rattle.link_pieces.proofs.CallerLemmas.{table_there}
 use Rattle.link_pieces.specs.Pieces.{link_pieces}
 use Rattle.link_words.specs.Outcome.{LinkOptions}
 use Rattle.link_plan.specs.declared.planning.LinkPlan.{LinkPlan}
@@ -36,7 +37,7 @@ use Rattle.link_plan.specs.Plan.{IsPlanOf}
 use Rattle.link_image.specs.declared.placement.Placement.{Placement}
 use Rattle.link_image.specs.ImageHeaders.{headers_of}
 use Rattle.link_image.specs.LinkedBytes.{section_of, owners_in, rva_of, table_rva, table_rvas, import_tables_at, contents_at, image_contents}
-use Rattle.link_image.specs.LinkedImage.{extent_of, import_extent, directories_of, AreMade, HoldsImports}
+use Rattle.link_image.specs.LinkedImage.{extent_of, import_extent, directories_of, HoldsImports}
 use Rattle.link_image.specs.Steps.{reloc_tables, IsPlaced, IsReady}
 use Rattle.link_image.proofs.HeldLemmas.{piece_count, same_size, table_contents, table_fixes, length-table}
 use Rattle.link_image.proofs.MemoryLemmas.{directory_reads, above_headers, in_memory}
@@ -44,6 +45,19 @@ use Rattle.link_image.proofs.MoveLemmas.{contents_room}
 use Rattle.link_image.proofs.PieceMoves.{piece_read}
 use Rattle.link_image.proofs.StandsLemmas.{OwnerAt, owner_at}
 use Rattle.link_image.proofs.TableLemmas.{IsTableAt, found_table}
+
+-- ---- every import table that has bytes is made
+
+abbrev AreMade : LinkView → Type 0
+AreMade link =
+    (number : ℕ) → number < 5 → 0 < size_at (import_sizes link.modules) number → (k : ℕ) × (linker_index link number ≡ Some k)
+
+pub are_made : (link : LinkView) → AreMade link
+are_made link number few sized = by (linker_index link number) refl
+  where
+    by : (place : Option ℕ) → linker_index link number ≡ place → (k : ℕ) × (linker_index link number ≡ Some k)
+    by None none = absurd (table_there link number few sized none)
+    by (Some k) found = (k, found)
 
 -- ---- what a file is loaded to
 

@@ -42,7 +42,7 @@ use Rattle.link_image.specs.LinkedBytes.{linked_contents, image_contents, fields
 use Rattle.link_image.specs.LinkedImage.{base_rule, entry_rva, table_row, directories_of, HasTable, IsWhole, IsBuilt}
 use Rattle.link_image.specs.Steps.{reloc_tables, file_of, IsPlaced, IsReady}
 use Rattle.link_image.proofs.FieldLemmas.{total_is}
-use Rattle.link_image.proofs.ImportLemmas.{imports_there}
+use Rattle.link_image.proofs.ImportLemmas.{are_made, imports_there}
 use Rattle.link_image.proofs.MoveLemmas.{one_length, contents_room, contents_stay, contents_moved}
 use Rattle.link_image.proofs.PieceMoves.{length_linked}
 
@@ -231,7 +231,7 @@ module _ (options : LinkOptions) (plan : LinkPlan) (placement : Placement) (owne
         };
         file = file;
         means = subst (MeansPlan image) (sym file) (means permitted);
-        imports = λ are_made readable.
-            imports_there options plan placement owner planned placed ready headers are_made (entry_rva placement.layout.pieces.items plan.entry) made.image.items refl file (subst (MeansPlan image) (sym file) (means permitted)) readable;
+        imports = λ readable.
+            imports_there options plan placement owner planned placed ready headers (are_made plan.names) (entry_rva placement.layout.pieces.items plan.entry) made.image.items refl file (subst (MeansPlan image) (sym file) (means permitted)) readable;
         count = count ∙ sym (length-section_rows (plan.pieces.items ++ ready.rest) placement.sections.items placement.layout ready.laid);
       }

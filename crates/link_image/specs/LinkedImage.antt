@@ -134,11 +134,6 @@ pub record IsImageOf (options : LinkOptions) (link : LinkView) (image : ImagePla
 
 -- ---- its imports
 
--- every import table that has bytes is made
-abbrev pub AreMade : LinkView → Type 0
-AreMade link =
-    (number : ℕ) → number < 5 → 0 < size_at (import_sizes link.modules) number → (k : ℕ) × (linker_index link number ≡ Some k)
-
 -- at each base that a file is loaded at, its import directory names the imports of the modules, each with its slot, and no other
 abbrev pub HoldsImports : LinkView → Layout → List ℕ → Type 0
 HoldsImports link layout image =
@@ -154,5 +149,5 @@ pub record IsBuilt (options : LinkOptions) (link : LinkView) (built : Built) : T
   pub is_image : IsImageOf options link image
   pub file : built.image.items ≡ image_file image
   pub means : MeansPlan image built.image.items
-  pub imports : AreMade link → AreReadable (import_rows link.modules) → HoldsImports link is_image.layout built.image.items
+  pub imports : AreReadable (import_rows link.modules) → HoldsImports link is_image.layout built.image.items
   pub count : built.sections ≡ length image.rows
