@@ -1,4 +1,5 @@
 use Rattle.std.proofs.Common.{◌≡◌, ℕ, ◌+◌, ◌-◌, length, refl, sym, ap, ◌∙◌, arith}
+use Rattle.std.proofs.lemmas.Result.{err_from_is_err_and}
 use Rattle.link_base.specs.Refusals.{first_refusal_below}
 use Rattle.link_base.proofs.RefusalLemmas.{first_refusal_below-more, first_refusal_below-found}
 use Rattle.link_pieces.specs.LocalSlots.{slot_names}
@@ -19,3 +20,12 @@ loop-slot-preserved c =
     let slot = c.loop-slot.slot in
     first_refusal_below-more slot (slot_fault link) c.loop-slot.invariant
     (ap (slot_fault link) (sym (from_number slot)) ∙ c.in_ok-check_slot.ensures.accepted)
+
+pub returns-in_err-check_slot-clause-refused : goal.returns-in_err-check_slot-clause-refused
+returns-in_err-check_slot-clause-refused c =
+    let link = c.args.names.now in
+    let slot = c.loop-slot.slot in
+    let given = err_from_is_err_and c.from_residual.result c.from_residual.ensures.1 in
+    rw (given.1, given.2)
+    (first_refusal_below-found slot (length (slot_names link)) (slot_fault link) _ (omega (arith, c.requires.count)) c.loop-slot.invariant
+    (ap (slot_fault link) (sym (from_number slot)) ∙ c.in_err-check_slot.ensures.refused))
