@@ -10,6 +10,8 @@ use Rattle.relocate.specs.PatchedBytes.{patched_bytes, range_fault}
 use Rattle.relocate.proofs.PlaceLemmas.{bytes_by_places}
 use Rattle.relocate.proofs.PlaceLemmas as places
 use Rattle.symbol_names.specs.LinkView.{LinkView}
+use Rattle.import_tables.specs.ImportDirectory.{Imports}
+use Rattle.import_tables.specs.ReadBack.{found_of}
 use Rattle.import_tables.specs.ImportTables.{tables_of as import_tables_of}
 use Rattle.link_imports.specs.Imports.{import_rows}
 use Rattle.link_pieces.specs.LinkerPieces.{is_table}
@@ -17,7 +19,7 @@ use Rattle.link_pieces.specs.PieceIndex.{linker_index}
 use Rattle.link_pieces.specs.Pieces.{link_pieces, link_contents}
 use Rattle.link_plan.specs.Fixes.{piece_at, piece_fixes}
 use Rattle.link_image.specs.declared.headers.Directories.{Directories}
-use Rattle.link_image.specs.LinkedImage.{extent_of, directories_of}
+use Rattle.link_image.specs.LinkedImage.{extent_of, directories_of, HoldsImports}
 use Rattle.link_image.specs.LinkedBytes.{owners, owners_in, rva_of, table_rvas, import_tables_at, contents_at, linked_bytes, linked_contents, out_of_range, piece_range_fault, fields_range_fault}
 
 module _ (layout other : Layout) (pieces : layout.pieces.items ≡ other.pieces.items) (sections : layout.sections.items ≡ other.sections.items) where
@@ -62,3 +64,13 @@ unfolding directories
 directories_by_places link layout other [] pieces = ap (directories link (0, 0)) pieces
 directories_by_places link layout other (table ∷ tables) pieces =
     ap (λ (rvas : List ℕ). directories link (get_or rvas (length rvas - 1) 0, length table) rvas) pieces
+
+-- the RVAs of the import tables, and so the imports that an image holds
+rvas_by_places : (link : LinkView) (layout other : Layout) → layout.pieces.items ≡ other.pieces.items → table_rvas link layout ≡ table_rvas link other
+unfolding table_rvas
+rvas_by_places link layout other pieces =
+    ap (λ (rvas : List ℕ). map (λ number. rva_of rvas (linker_index link number)) (range_with_len 0 5)) pieces
+
+pub imports_by_places : (link : LinkView) (layout other : Layout) (image : List ℕ) → layout.pieces.items ≡ other.pieces.items → HoldsImports link layout image → HoldsImports link other image
+imports_by_places link layout other image pieces holds base memory loads =
+    holds base memory loads ∙ ap (λ (rvas : List ℕ). Imports (found_of (import_rows link.modules) rvas)) (rvas_by_places link layout other pieces)

@@ -1,5 +1,5 @@
 -- Words and files have one outcome.
-use Rattle.std.proofs.Common.{◌≡◌, ℕ, ◌+◌, ◌-◌, ◌≤◌, ◌⊎◌, Bool, true, false, cond, List, [], ◌∷◌, ◌++◌, length, get_or, subst, Option, Some, None, Result, Ok, Err, refl, sym, ap, ◌∙◌, inl, inr, arith}
+use Rattle.std.proofs.Common.{◌≡◌, ℕ, ◌+◌, ◌≤◌, ◌⊎◌, Bool, true, false, cond, List, ◌++◌, length, subst, Option, Some, None, Result, Ok, Err, refl, sym, ap, ◌∙◌, inl, inr, arith}
 use Rattle.std.proofs.lemmas.Bool.{cases_lt, false≢true}
 use Rattle.std.proofs.lemmas.List.{length-map}
 use Rattle.link_base.specs.declared.fault.Fault.{Fault}
@@ -33,11 +33,12 @@ use Rattle.link_words.specs.Outcome.{LinkOptions, CommandSaid, Link, At, Show, G
 use Rattle.link_words.specs.Commands.{words_say}
 use Rattle.link_plan.specs.Entry.{entry_place}
 use Rattle.link_image.specs.BaseFields.{is_relocated}
+use Rattle.image_writer.specs.declared.headers.Headers.{Headers}
 use Rattle.link_image.specs.ImageHeaders.{headers_of}
-use Rattle.link_image.specs.LinkedImage.{base_rule, entry_rva, table_directory, AreGrouped, ArePlaced, IsWhole, IsPlacement, IsImageOf}
+use Rattle.link_image.specs.LinkedImage.{base_rule, entry_rva, directories_of, AreGrouped, ArePlaced, IsWhole, IsPlacement, IsImageOf}
 use Rattle.link_image.specs.LinkedBytes.{linked_contents, image_contents, fields_range_fault}
 use Rattle.link_image.specs.BuildFaults.{IsBadMerge, HasTooManySections, HasLargeTable, IsTooLarge, HasBadBase, HasBadRange, IsBuildFault}
-use Rattle.link_image.proofs.PlaceLemmas.{range_by_places, contents_by_places}
+use Rattle.link_image.proofs.PlaceLemmas.{range_by_places, contents_by_places, directories_by_places}
 use Rattle.link_image.proofs.OnePlacement.{same_rows, same_layout, same_fields, one_refused_size, one_grown_size, SamePlacement, one_placement}
 use Rattle.linker_program.specs.Unbuilt.{is_unbuilt_link}
 use Rattle.linker_program.specs.Ending.{Plan, Outcome, Usage, Refused, Linked, Shown}
@@ -214,30 +215,24 @@ fault_or_image options link f image (inr (inr (inr (inr x)))) y =
 
 -- ---- the plan
 
--- where the table is, by the RVAs of the pieces
-abbrev directory_at : List ℕ → List (List ℕ) → ℕ × ℕ
-directory_at rvas [] = (0, 0)
-directory_at rvas (table ∷ tables) = (get_or rvas (length rvas - 1) 0, length table)
-
-directory_is : (layout : Layout) (tables : List (List ℕ)) → table_directory layout tables ≡ directory_at layout.pieces.items tables
-directory_is layout [] = refl
-directory_is layout (table ∷ tables) = refl
-
 same_image : (options : LinkOptions) (link : LinkView) (a b : ImagePlan) → IsImageOf options link a → IsImageOf options link b → a ≡ b
 same_image options link a b x y =
     let place = entry_place link options.entry_name in
     let same = one_placement options link x.rows y.rows x.layout y.layout x.tables y.tables x.placement y.placement in
     let linked : linked_contents link x.rows x.layout ≡ linked_contents link y.rows y.layout =
     ap (λ (r : List SectionRow). linked_contents link r x.layout) same.rows_same ∙ contents_by_places link y.rows x.layout y.layout (sym same.layouts.pieces) (sym same.layouts.sections) in
+    let headers = headers_of options (entry_rva y.layout.pieces.items place) (directories_of link y.layout y.tables) in
+    let heads : headers_of options (entry_rva x.layout.pieces.items place) (directories_of link x.layout x.tables) ≡ headers =
+    ap (λ (rvas : List ℕ). headers_of options (entry_rva rvas place) (directories_of link x.layout x.tables)) (sym same.layouts.pieces)
+    ∙ ap (headers_of options (entry_rva y.layout.pieces.items place)) (directories_by_places link x.layout y.layout x.tables (sym same.layouts.pieces) ∙ ap (directories_of link y.layout) same.tables_same) in
     x.is
-    ∙ ap (λ (d : ℕ × ℕ). written_plan (headers_of options (entry_rva x.layout.pieces.items place) d) x.rows x.layout.sections.items x.layout.pieces.items x.layout.image (image_contents link x.rows x.layout x.tables)) (directory_is x.layout x.tables)
-    ∙ ap (λ (cs : ℕ → List (List ℕ)). written_plan (headers_of options (entry_rva x.layout.pieces.items place) (directory_at x.layout.pieces.items x.tables)) x.rows x.layout.sections.items x.layout.pieces.items x.layout.image (λ base. cs base ++ x.tables)) linked
-    ∙ ap (λ (ts : List (List ℕ)). written_plan (headers_of options (entry_rva x.layout.pieces.items place) (directory_at x.layout.pieces.items ts)) x.rows x.layout.sections.items x.layout.pieces.items x.layout.image (image_contents link y.rows y.layout ts)) same.tables_same
-    ∙ ap (λ (r : List SectionRow). written_plan (headers_of options (entry_rva x.layout.pieces.items place) (directory_at x.layout.pieces.items y.tables)) r x.layout.sections.items x.layout.pieces.items x.layout.image (image_contents link y.rows y.layout y.tables)) same.rows_same
-    ∙ ap (λ (p : List Placed). written_plan (headers_of options (entry_rva x.layout.pieces.items place) (directory_at x.layout.pieces.items y.tables)) y.rows p x.layout.pieces.items x.layout.image (image_contents link y.rows y.layout y.tables)) (sym same.layouts.sections)
-    ∙ ap (λ (r : List ℕ). written_plan (headers_of options (entry_rva r place) (directory_at r y.tables)) y.rows y.layout.sections.items r x.layout.image (image_contents link y.rows y.layout y.tables)) (sym same.layouts.pieces)
-    ∙ ap (λ (n : ℕ). written_plan (headers_of options (entry_rva y.layout.pieces.items place) (directory_at y.layout.pieces.items y.tables)) y.rows y.layout.sections.items y.layout.pieces.items n (image_contents link y.rows y.layout y.tables)) (sym same.layouts.image)
-    ∙ sym (ap (λ (d : ℕ × ℕ). written_plan (headers_of options (entry_rva y.layout.pieces.items place) d) y.rows y.layout.sections.items y.layout.pieces.items y.layout.image (image_contents link y.rows y.layout y.tables)) (directory_is y.layout y.tables))
+    ∙ ap (λ (h : Headers). written_plan h x.rows x.layout.sections.items x.layout.pieces.items x.layout.image (image_contents link x.rows x.layout x.tables)) heads
+    ∙ ap (λ (cs : ℕ → List (List ℕ)). written_plan headers x.rows x.layout.sections.items x.layout.pieces.items x.layout.image (λ base. cs base ++ x.tables)) linked
+    ∙ ap (λ (ts : List (List ℕ)). written_plan headers x.rows x.layout.sections.items x.layout.pieces.items x.layout.image (image_contents link y.rows y.layout ts)) same.tables_same
+    ∙ ap (λ (r : List SectionRow). written_plan headers r x.layout.sections.items x.layout.pieces.items x.layout.image (image_contents link y.rows y.layout y.tables)) same.rows_same
+    ∙ ap (λ (p : List Placed). written_plan headers y.rows p x.layout.pieces.items x.layout.image (image_contents link y.rows y.layout y.tables)) (sym same.layouts.sections)
+    ∙ ap (λ (r : List ℕ). written_plan headers y.rows y.layout.sections.items r x.layout.image (image_contents link y.rows y.layout y.tables)) (sym same.layouts.pieces)
+    ∙ ap (λ (n : ℕ). written_plan headers y.rows y.layout.sections.items y.layout.pieces.items n (image_contents link y.rows y.layout y.tables)) (sym same.layouts.image)
     ∙ sym y.is
 
 plan_from : LinkOptions → List ModuleView → ImagePlan → Plan

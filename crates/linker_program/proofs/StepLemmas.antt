@@ -22,6 +22,8 @@ use Rattle.link_plan.specs.declared.planning.LinkPlan.{LinkPlan}
 use Rattle.link_plan.specs.Planning.{GivesPlan, JoinsBadly, FaultsPlan}
 use Rattle.link_image.specs.declared.make.Built.{Built}
 use Rattle.link_image.specs.LinkedImage.{IsBuilt}
+use Rattle.link_image.proofs.PlaceLemmas.{imports_by_places}
+use Rattle.link_image.proofs.OnePlacement.{one_placement}
 use Rattle.link_image.specs.BuildFaults.{RefusesBuild}
 use Rattle.linker_program.specs.declared.answer.Answer.{Answer}
 use Rattle.linker_program.specs.declared.linked.Linked.{Linked as LinkedBytes}
@@ -65,6 +67,7 @@ made_later : (has later : Store → Outcome → Type 0) (files : FilesView) (pla
 made_later has later files plan image follows made = record {
   outcome = expects_later has later files (Linked plan) follows made.outcome;
   means = made.means;
+  imports = made.imports;
 }
 
 answers_later : (has later : Store → Outcome → Type 0) (tries : Option Store → List ℕ → Type 0) (before after : FilesView) (answer : Status) (line : List ℕ) → Follows has later before → LinkAnswers has tries before after answer line → LinkAnswers later tries before after answer line
@@ -113,7 +116,7 @@ written_answers options modules tries before after linked status.Done line is wr
   (
     linked.image.items,
     record {
-      made = record { outcome = record { told = λ store told. is.outcome }; means = is.means };
+      made = record { outcome = record { told = λ store told. is.outcome }; means = is.means; imports = is.imports };
       files = rw is.asked wrote.files;
       says = rw (is.asked, ← is.modules_are, ← is.sections_are) wrote.says;
     },
@@ -126,7 +129,7 @@ written_answers options modules tries before after linked status.WriteFailed lin
     (
       wrote.0,
       record {
-        made = record { outcome = record { told = λ store told. is.outcome }; means = is.means };
+        made = record { outcome = record { told = λ store told. is.outcome }; means = is.means; imports = is.imports };
         files = rw is.asked wrote.1.files;
         says = subst (λ (o : LinkOptions). line ≡ write_failure_line (output_at (linked_outputs o.out linked) wrote.0).name) (sym is.asked) wrote.1.says;
       },
@@ -156,7 +159,7 @@ on_left (Err error) options modules before after linked is left = elim left [
     (
       linked.image.items,
       record {
-        made = record { outcome = record { told = λ store told. is.outcome }; means = is.means };
+        made = record { outcome = record { told = λ store told. is.outcome }; means = is.means; imports = is.imports };
         count = some.0;
         files = rw is.asked some.1;
       },
@@ -235,6 +238,10 @@ linked options modules built made planned is image sections count =
       asked = refl;
       outcome = rw planned made_plan;
       means = rw image is.means;
+      imports = λ other are_made readable.
+          let link = link_of options modules in
+          let same = one_placement options link is.is_image.rows other.rows is.is_image.layout other.layout is.is_image.tables other.tables is.is_image.placement other.placement in
+          rw image (imports_by_places link is.is_image.layout other.layout built.image.items (sym same.layouts.pieces) (is.imports are_made readable));
       modules_are = count;
       sections_are = sections ∙ is.count;
     }
