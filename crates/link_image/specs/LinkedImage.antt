@@ -143,7 +143,7 @@ HoldsImports link layout image =
 -- ---- what is made
 
 -- what was made is the file of the image of the modules, which loads as planned at every permitted base, and then holds their
--- imports: where every table is made, no name has a NUL, and ordinals and hints fit their fields
+-- imports: where no name has a NUL, and ordinals and hints fit their fields
 pub record IsBuilt (options : LinkOptions) (link : LinkView) (built : Built) : Type 0 where
   pub image : ImagePlan
   pub is_image : IsImageOf options link image
