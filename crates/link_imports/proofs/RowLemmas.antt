@@ -1,6 +1,9 @@
 -- The rows of imports, one module more at a time.
-use Rattle.std.proofs.Common.{◌≡◌, ℕ, ◌+◌, ◌<◌, ◌≤◌, List, [], ◌∷◌, ◌++◌, length, take, get_or, Option, Some, None, inl, inr, refl, sym, ap, subst, ◌∙◌, arith}
-use Rattle.std.specs.List.{All, cons_option}
+use Rattle.std.proofs.Common.{◌≡◌, ℕ, ◌+◌, ◌<◌, ◌≤◌, Bool, true, false, List, [], ◌∷◌, ◌++◌, length, take, get_or, Option, Some, None, inl, inr, refl, sym, ap, subst, ◌∙◌, arith}
+use Rattle.std.specs.List.{All, cons_option, list_any}
+use Rattle.link_base.specs.Bytes.{is_nul}
+use Rattle.link_base.specs.NameText.{begins_import, behind_import, with_import}
+use Rattle.link_base.proofs.SectionNameLemmas.{text_made}
 use Rattle.std.proofs.lemmas.Bool.{cases_lt}
 use Rattle.std.proofs.lemmas.List.{take_more, take_all, length-append, get_or_push, get_or_append_left, get_or_past}
 use Rattle.std.proofs.lemmas.List.Elements.{filter_map-append, All-weaker}
@@ -10,7 +13,8 @@ use Rattle.module_view.specs.Module.{ModuleView}
 use Rattle.import_tables.specs.declared.row.ImportRow.{ImportRow}
 use Rattle.import_tables.specs.ImportShape.{name_len, slot_offset as row_offset, slots_of, AreWithinLimits}
 use Rattle.link_imports.specs.Imports.{row_by, import_rows, import_slots, imports_before, slot_offset}
-use Rattle.link_imports.specs.Steps.{IsShort}
+use Rattle.import_tables.specs.ReadBack.{HasNoNul, IsReadable, AreReadable}
+use Rattle.link_imports.specs.Steps.{CanBeTold}
 
 -- ---- rows
 
@@ -31,12 +35,27 @@ pub count_more : (now after : List ImportRow) (o : Option ImportRow) (k : ℕ) �
 count_more now after o k grown few =
     omega (arith, few, ap length grown, length-append now (cons_option o []), at_most_one o)
 
-pub within_limits : (rows : List ImportRow) → length rows ≤ MODULE_LIMIT → All IsShort rows → AreWithinLimits rows
-within_limits rows few short = record {
+-- the prefix of a name has no NUL
+pub plain_name : (name : List ℕ) → list_any is_nul (behind_import name) ≡ false → list_any is_nul name ≡ false
+plain_name name plain = ap (list_any is_nul) (text_made name) ∙ by_prefix (begins_import name) ∙ plain
+  where
+    by_prefix : (b : Bool) → list_any is_nul (with_import b (behind_import name)) ≡ list_any is_nul (behind_import name)
+    by_prefix true = refl
+    by_prefix false = refl
+
+pub within_limits : (rows : List ImportRow) → length rows ≤ MODULE_LIMIT → All CanBeTold rows → AreWithinLimits rows
+within_limits rows few told = record {
   few = few;
-  dlls = All-weaker IsShort (λ (row : ImportRow). length row.dll ≤ NAME_LIMIT) (λ row is. is.dll) rows short;
-  names = All-weaker IsShort (λ (row : ImportRow). name_len row.by ≤ NAME_LIMIT) (λ row is. is.name) rows short;
+  dlls = All-weaker CanBeTold (λ (row : ImportRow). length row.dll ≤ NAME_LIMIT) (λ row is. is.short_dll) rows told;
+  names = All-weaker CanBeTold (λ (row : ImportRow). name_len row.by ≤ NAME_LIMIT) (λ row is. is.short_name) rows told;
 }
+
+pub all_readable : (rows own : List ImportRow) → rows ≡ own → All CanBeTold rows → AreReadable own
+all_readable rows own same told =
+    subst AreReadable same (record {
+      dlls = All-weaker CanBeTold (λ (row : ImportRow). HasNoNul row.dll) (λ row is. is.dll) rows told;
+      imports = All-weaker CanBeTold (λ (row : ImportRow). IsReadable row.by) (λ row is. is.by) rows told;
+    })
 
 -- ---- offsets
 

@@ -4,6 +4,7 @@ use Rattle.short_import.specs.declared.import.Import.{Import}
 use Rattle.module_view.specs.Module.{ModuleView}
 use Rattle.import_tables.specs.declared.row.ImportRow.{ImportRow}
 use Rattle.import_tables.specs.ImportShape.{sizes_of, slots_of}
+use Rattle.import_tables.specs.ReadBack.{AreReadable}
 use Rattle.link_imports.specs.declared.imports.LinkImports.{LinkImports}
 
 -- ---- the rows of the import tables
@@ -38,6 +39,7 @@ slot_offset modules position = slice_index_or (import_slots modules) (imports_be
 
 pub record AreImports (modules : List ModuleView) (imports : LinkImports) : Type 0 where
   pub rows : imports.rows.items ≡ import_rows modules
+  pub readable : AreReadable (import_rows modules)
   pub lengths : imports.shape.lengths ≡ import_sizes modules
   pub slots : imports.shape.slots.items ≡ import_slots modules
   pub offsets : (position : ℕ) → slice_index_or imports.offsets.items position 0 ≡ slot_offset modules position

@@ -1,14 +1,16 @@
 //! The imports of a link, as rows of its import tables.
 
-ghost use Rattle.std.specs.Prelude.{◌≡◌, ◌≤◌, ℕ, [], ◌++◌, length, slice_index_or, IfOk, OnOk, All};
-ghost use Rattle.std.specs.List.{cons_option};
-ghost use Rattle.link_base.specs.Limits.{MODULE_LIMIT};
+ghost use Rattle.std.specs.Prelude.{◌≡◌, ◌≤◌, ℕ, [], ◌++◌, length, slice_index_or, IfOk, OnOk, IsTrue, All};
+ghost use Rattle.std.specs.List.{cons_option, list_any};
+ghost use Rattle.link_base.specs.Bytes.{is_nul};
 ghost use Rattle.import_tables.specs.ImportShape.{name_len, AreWithinLimits};
 ghost use Rattle.link_imports.specs.Imports.{row_by, import_rows, import_slots, slot_offset, AreImports};
-ghost use Rattle.link_imports.specs.Steps.{IsShort};
+ghost use Rattle.import_tables.specs.ReadBack.{HasNoNul, IsReadable, AreReadable};
+ghost use Rattle.link_base.specs.Limits.{MODULE_LIMIT, NAME_LIMIT};
+ghost use Rattle.link_imports.specs.Steps.{CanBeTold};
 
 use import_tables::{ImportRow, ImportShape, shape};
-use link_base::{Memory, NAME_LIMIT};
+use link_base::{Memory, NAME_LIMIT, Name};
 use module_view::Module;
 use short_import::{Import, ImportBy};
 use std::alloc::Global;
@@ -24,8 +26,8 @@ pub struct LinkImports<'a> {
     pub offsets: Vec<u32>,
 }
 
-/// The imports among these modules. One with a name of more than 32,000 bytes, which does not open as a module, is want of
-/// memory.
+/// The imports among these modules. One with a name of more than 32,000 bytes or with a NUL, which does not open as a module, is
+/// want of memory.
 pub fn link_imports<'a>(alloc: Global, modules: &[Module<'a>]) -> Result<LinkImports<'a>, Memory>
     requires { length modules.now ≤ MODULE_LIMIT }
     ensures { IfOk result (AreImports modules.now) }
@@ -45,6 +47,7 @@ fn import_rows<'a>(alloc: Global, modules: &[Module<'a>]) -> Result<Vec<ImportRo
     requires { length modules.now ≤ MODULE_LIMIT }
     ensures rows { IfOk result (λ rows. rows.items ≡ import_rows modules.now) }
     ensures limits { IfOk result (λ rows. AreWithinLimits rows.items) }
+    ensures readable { OnOk result (AreReadable (import_rows modules.now)) }
 {
     let mut rows = Vec::new(alloc);
     for module in modules {
@@ -56,27 +59,56 @@ fn import_rows<'a>(alloc: Global, modules: &[Module<'a>]) -> Result<Vec<ImportRo
 /// Appends the row of a module, where it is a short import.
 fn push_row<'a>(rows: &mut Vec<ImportRow<'a>>, module: &Module<'a>) -> Result<(), Memory>
     ensures rows { OnOk result (rows.new.items ≡ rows.old.items ++ cons_option (row_by «module».now) []) }
-    ensures short { OnOk result (All IsShort rows.old.items → All IsShort rows.new.items) }
+    ensures told { OnOk result (All CanBeTold rows.old.items → All CanBeTold rows.new.items) }
 {
     let Some(import) = module.import() else {
         return Ok(());
     };
     let Import { dll, by, .. } = import.again();
-    if dll.len() > NAME_LIMIT || name_len(&by) > NAME_LIMIT {
+    if !can_stand(&dll) || !can_be_found(&by) {
         return Err(Memory);
     }
     rows.push(ImportRow { dll, by })?;
     Ok(())
 }
 
-/// How long the name is by which the loader finds an import, where it goes by one.
-fn name_len(by: &ImportBy<'_>) -> usize
-    ensures { result ≡ name_len by.now }
+/// Whether the loader can find an import so: by an ordinal, or by a name that can stand in the tables.
+fn can_be_found(by: &ImportBy<'_>) -> bool
+    ensures short { IsTrue result → name_len by.now ≤ NAME_LIMIT }
+    ensures readable { IsTrue result → IsReadable by.now }
 {
     match by {
-        ImportBy::Ordinal(_) => 0,
-        ImportBy::Named { name, .. } => name.len(),
+        ImportBy::Ordinal(number) => {
+            let _ordinal = *number;
+            true
+        }
+        ImportBy::Named { hint, name } => {
+            let _hint = *hint;
+            can_stand(name)
+        }
     }
+}
+
+/// Whether a name can stand in the tables: it has at most 32,000 bytes, and no NUL.
+#[tactic(auto, using(crate::proofs::RowLemmas::plain_name))]
+fn can_stand(name: &Name<'_>) -> bool
+    ensures short { IsTrue result → length name.now ≤ NAME_LIMIT }
+    ensures plain { IsTrue result → HasNoNul name.now }
+{
+    name.len() <= NAME_LIMIT && !has_nul(name.rest())
+}
+
+/// Whether a byte of a text is a NUL.
+fn has_nul(text: &[u8]) -> bool
+    ensures { result ≡ list_any is_nul text.now }
+{
+    text.iter().any(|byte| is_nul(byte))
+}
+
+fn is_nul(byte: &u8) -> bool
+    ensures { result ≡ is_nul byte.now }
+{
+    *byte == 0
 }
 
 /// The offset of the slot of the import that is a module, by the module's position, where there are imports, which have these

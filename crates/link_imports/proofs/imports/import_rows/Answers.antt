@@ -13,5 +13,5 @@ loop-module-preserved c =
     record {
       rows = rows_more c.args.modules.now k m now after (omega arith) c.module-item.is kept.rows c.in_ok-push_row.ensures.rows;
       few = count_more now after (row_by m) k c.in_ok-push_row.ensures.rows kept.few;
-      short = c.in_ok-push_row.ensures.short kept.short;
+      told = c.in_ok-push_row.ensures.told kept.told;
     }
