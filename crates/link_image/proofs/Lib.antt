@@ -13,7 +13,6 @@ pub mod MoveLemmas
 pub mod ListedLemmas
 pub mod TableLemmas
 pub mod FileLemmas
-pub mod ReadableLemmas
 pub mod ImportLemmas
 pub mod MeansLemmas
 pub mod MemoryLemmas

@@ -231,7 +231,7 @@ module _ (options : LinkOptions) (plan : LinkPlan) (placement : Placement) (owne
         };
         file = file;
         means = subst (MeansPlan image) (sym file) (means permitted);
-        imports = λ readable.
-            imports_there options plan placement owner planned placed ready headers (are_made plan.names) (entry_rva placement.layout.pieces.items plan.entry) made.image.items refl file (subst (MeansPlan image) (sym file) (means permitted)) readable;
+        imports =
+            imports_there options plan placement owner planned placed ready headers (are_made plan.names) (entry_rva placement.layout.pieces.items plan.entry) made.image.items refl file (subst (MeansPlan image) (sym file) (means permitted)) planned.imports.readable;
         count = count ∙ sym (length-section_rows (plan.pieces.items ++ ready.rest) placement.sections.items placement.layout ready.laid);
       }

@@ -18,12 +18,12 @@ use Rattle.base_reloc.specs.declared.field.BaseField.{BaseField}
 use Rattle.base_reloc.specs.PageBlocks.{blocks_of}
 use Rattle.pe_loader.specs.LoadedImage.{loaded, directory_rva}
 use Rattle.import_tables.specs.ImportDirectory.{Imports, imports_of}
-use Rattle.import_tables.specs.ReadBack.{AreReadable, found_of}
+use Rattle.import_tables.specs.ReadBack.{found_of}
 use Rattle.image_writer.specs.ExpectedImage.{ImagePlan, MeansPlan, image_file}
 use Rattle.image_writer.specs.WrittenImage.{written_plan}
 use Rattle.symbol_names.specs.LinkView.{LinkView}
-use Rattle.synthetic_sections.specs.LinkerPieces.{SLOTS, size_at}
-use Rattle.link_imports.specs.Imports.{import_rows, import_sizes}
+use Rattle.synthetic_sections.specs.LinkerPieces.{SLOTS}
+use Rattle.link_imports.specs.Imports.{import_rows}
 use Rattle.link_pieces.specs.PieceIndex.{linker_index}
 use Rattle.link_pieces.specs.Pieces.{link_pieces}
 use Rattle.link_words.specs.Outcome.{LinkOptions}
@@ -143,11 +143,11 @@ HoldsImports link layout image =
 -- ---- what is made
 
 -- what was made is the file of the image of the modules, which loads as planned at every permitted base, and then holds their
--- imports: where no name has a NUL, and ordinals and hints fit their fields
+-- imports
 pub record IsBuilt (options : LinkOptions) (link : LinkView) (built : Built) : Type 0 where
   pub image : ImagePlan
   pub is_image : IsImageOf options link image
   pub file : built.image.items ≡ image_file image
   pub means : MeansPlan image built.image.items
-  pub imports : AreReadable (import_rows link.modules) → HoldsImports link is_image.layout built.image.items
+  pub imports : HoldsImports link is_image.layout built.image.items
   pub count : built.sections ≡ length image.rows

@@ -238,10 +238,10 @@ linked options modules built made planned is image sections count =
       asked = refl;
       outcome = rw planned made_plan;
       means = rw image is.means;
-      imports = λ other readable.
+      imports = λ other.
           let link = link_of options modules in
           let same = one_placement options link is.is_image.rows other.rows is.is_image.layout other.layout is.is_image.tables other.tables is.is_image.placement other.placement in
-          rw image (imports_by_places link is.is_image.layout other.layout built.image.items (sym same.layouts.pieces) (is.imports readable));
+          rw image (imports_by_places link is.is_image.layout other.layout built.image.items (sym same.layouts.pieces) is.imports);
       modules_are = count;
       sections_are = sections ∙ is.count;
     }

@@ -13,8 +13,6 @@ use Rattle.link_words.specs.Outcome.{LinkOptions, CommandSaid, Link, At}
 use Rattle.link_words.specs.Commands.{words_say}
 use Rattle.file_search.specs.Reading.{TriesInput}
 use Rattle.lib_search.specs.Loading.{TriesDefault}
-use Rattle.import_tables.specs.ReadBack.{AreReadable}
-use Rattle.link_imports.specs.Imports.{import_rows}
 use Rattle.lib_search.specs.LinkOf.{link_of}
 use Rattle.link_image.specs.LinkedImage.{IsImageOf, HoldsImports}
 use Rattle.linker_program.specs.declared.status.Status.{Status}
@@ -43,11 +41,11 @@ pub record Expects (has : Store → Outcome → Type 0) (files : FilesView) (out
   pub told : ForSome files.store (λ store. has store outcome)
 
 -- wherever an image is loaded, its import directory names the imports of the modules, each with the slot that the layout gives
--- it, and no other: where no name has a NUL, and ordinals and hints fit their fields
+-- it, and no other
 abbrev pub HasImports : Plan → List ℕ → Type 0
 HasImports plan image =
     let link = link_of plan.options plan.modules in
-    (is : IsImageOf plan.options link plan.image) → AreReadable (import_rows link.modules) → HoldsImports link is.layout image
+    (is : IsImageOf plan.options link plan.image) → HoldsImports link is.layout image
 
 -- the plan is the outcome, and the image means it and has the imports
 pub record IsMade (has : Store → Outcome → Type 0) (files : FilesView) (plan : Plan) (image : List ℕ) : Type 0 where
