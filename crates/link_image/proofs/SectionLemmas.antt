@@ -34,7 +34,8 @@ use Rattle.link_plan.specs.Fixes.{plan_pieces}
 use Rattle.link_words.specs.Outcome.{LinkOptions}
 use Rattle.link_plan.specs.declared.entry.EntryPlace.{EntryPlace}
 use Rattle.link_plan.specs.declared.planning.LinkPlan.{LinkPlan}
-use Rattle.link_plan.specs.Plan.{IsPlanOf, StandsNamed}
+use Rattle.link_plan.specs.Laid.{StandsNamed}
+use Rattle.link_plan.specs.Plan.{IsPlanOf}
 use Rattle.base_reloc.specs.declared.field.BaseField.{BaseField}
 use Rattle.base_reloc.specs.PageBlocks.{blocks_of}
 use Rattle.address_layout.specs.Growth.{Appends, IsGrowRefusal}

@@ -30,7 +30,7 @@ use Rattle.link_base.specs.Limits.{SECTION_LIMIT, IMAGE_LIMIT}
 use Rattle.link_words.specs.Outcome.{LinkOptions}
 use Rattle.link_plan.specs.declared.planning.LinkPlan.{LinkPlan}
 use Rattle.link_plan.specs.declared.entry.EntryPlace.{EntryPlace}
-use Rattle.link_plan.specs.Plan.{StandsNamed}
+use Rattle.link_plan.specs.Laid.{StandsNamed}
 use Rattle.link_image.specs.declared.placement.Placement.{Placement}
 use Rattle.link_image.specs.BaseFields.{base_field, AreBaseFields}
 use Rattle.link_image.specs.LinkedBytes.{owners_in, contents_at, placed_contents, linked_bytes, out_of_range}

@@ -32,7 +32,7 @@ use Rattle.link_words.specs.Outcome.{LinkOptions}
 use Rattle.link_plan.specs.declared.entry.EntryPlace.{EntryPlace}
 use Rattle.link_plan.specs.Entry.{meant, place_in, meant_place, entry_place, piece_of_place}
 use Rattle.link_plan.specs.Fixes.{piece_at, is_meant, is_entry, is_that, planned_piece, plan_pieces}
-use Rattle.link_plan.specs.Plan.{StandsNamed}
+use Rattle.link_plan.specs.Laid.{StandsNamed}
 use Rattle.link_plan.proofs.CallerLemmas.{planned_at, plan_count}
 
 -- ---- a place that a name means is inside its section

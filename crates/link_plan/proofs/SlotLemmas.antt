@@ -25,10 +25,7 @@ slots_noted link entry includes none after_entry after_includes slots words begi
     ∙ ap (with_meant link []) (sym words))
 
 -- as the code notes them
-pub slots_so : (options : LinkOptions) (link names : LinkView) (meaning : Option Meaning) (includes none entered included all slots : List (List ℕ)) → link.words ≡ cons_option options.entry_name options.includes → names ≡ link → slots ≡ all → none ≡ [] → meaning ≡ entry_meant names options.entry_name → ((l : LinkView) (entry : Option (List ℕ)) → meaning ≡ entry_meant l entry → entered ≡ with_meant l none (cons_option entry [])) → includes ≡ options.includes → included ≡ with_meant names entered includes → all ≡ with_meant names included (modules_asked names) → slots ≡ slot_names link
-slots_so options link names meaning includes none entered included all slots words names_are is empty meant noted same of_words of_modules =
+pub slots_so : (options : LinkOptions) (link : LinkView) (meaning : Option Meaning) (includes none entered included all slots : List (List ℕ)) → link.words ≡ cons_option options.entry_name options.includes → slots ≡ all → none ≡ [] → meaning ≡ entry_meant link options.entry_name → ((l : LinkView) (entry : Option (List ℕ)) → meaning ≡ entry_meant l entry → entered ≡ with_meant l none (cons_option entry [])) → includes ≡ options.includes → included ≡ with_meant link entered includes → all ≡ with_meant link included (modules_asked link) → slots ≡ slot_names link
+slots_so options link meaning includes none entered included all slots words is empty meant noted same of_words of_modules =
     is
-    ∙ slots_noted link options.entry_name options.includes none entered included all words empty
-    (noted link options.entry_name (meant ∙ ap (λ (l : LinkView). entry_meant l options.entry_name) names_are))
-    (of_words ∙ ap (with_meant names entered) same ∙ ap (λ (l : LinkView). with_meant l entered options.includes) names_are)
-    (of_modules ∙ ap (λ (l : LinkView). with_meant l included (modules_asked l)) names_are)
+    ∙ slots_noted link options.entry_name options.includes none entered included all words empty (noted link options.entry_name meant) (of_words ∙ ap (with_meant link entered) same) of_modules

@@ -1,9 +1,8 @@
 -- The stages of a plan, one after the other, and the piece of the entry.
-use Rattle.std.proofs.Common.{◌≡◌, ℕ, List, Some, None, refl, sym, ap, ◌∙◌}
+use Rattle.std.proofs.Common.{◌≡◌, List, Some, None, refl, sym, ap, ◌∙◌}
 use Rattle.std.specs.Option.{option_or}
 use Rattle.link_base.specs.Refusals.{RefusesFor}
 use Rattle.link_base.specs.declared.stop.Refusal.{Refusal}
-use Rattle.link_base.specs.declared.stop.Refusal.TheVariants as refusal
 use Rattle.link_base.proofs.RefusalLemmas.{neither_stands, refuses_first, refuses_later}
 use Rattle.link_base.specs.declared.fault.Fault.{Fault}
 use Rattle.module_view.specs.Module.{ModuleView}
@@ -44,41 +43,64 @@ chosen_well link agreed conflict clash = record {
   chosen = neither_stands (conflict_fault link.modules) (clash_fault link.modules) conflict clash;
 }
 
-pub entry_stage : (options : LinkOptions) (link : LinkView) (fault : Fault) → AreChosen link → entry_meaning_fault link options.entry_name ≡ Some fault → plan_fault options link ≡ Some fault
+pub meaning_stage : (options : LinkOptions) (link : LinkView) (r : Refusal) → AreChosen link → RefusesFor (meaning_fault options link) r → RefusesFor (plan_fault options link) r
 unfolding plan_fault
-entry_stage options link fault well is = rw (well.agreed, well.chosen, is) refl
+meaning_stage options link r well refused =
+    let rest = option_or (meaning_fault options link) (fields_fault options link) in
+    refuses_later (mismatch_fault link.modules) (option_or (choice_fault link) rest) r well.agreed
+    (refuses_later (choice_fault link) rest r well.chosen (refuses_first (meaning_fault options link) (fields_fault options link) r refused))
 
-pub includes_stage : (options : LinkOptions) (link : LinkView) (r : Refusal) → AreChosen link → entry_meaning_fault link options.entry_name ≡ None → RefusesFor (includes_fault link None options.includes) r → RefusesFor (plan_fault options link) r
+pub fields_stage : (options : LinkOptions) (link : LinkView) (r : Refusal) → AreChosen link → meaning_fault options link ≡ None → RefusesFor (fields_fault options link) r → RefusesFor (plan_fault options link) r
 unfolding plan_fault
-includes_stage options link (refusal.Fault fault) well meant is = rw (well.agreed, well.chosen, meant, is) refl
-includes_stage options link refusal.Memory well meant is = tt
+fields_stage options link r well meant refused =
+    let rest = option_or (meaning_fault options link) (fields_fault options link) in
+    refuses_later (mismatch_fault link.modules) (option_or (choice_fault link) rest) r well.agreed
+    (refuses_later (choice_fault link) rest r well.chosen (refuses_later (meaning_fault options link) (fields_fault options link) r meant refused))
 
--- all names mean something
-pub record AreMeant (options : LinkOptions) (link : LinkView) : Type 0 where
-  pub well : AreChosen link
-  pub entry : entry_meaning_fault link options.entry_name ≡ None
-  pub included : includes_fault link None options.includes ≡ None
-
-pub references_stage : (options : LinkOptions) (link : LinkView) (r : Refusal) → AreMeant options link → RefusesFor (references_fault link) r → RefusesFor (plan_fault options link) r
+pub no_stage : (options : LinkOptions) (link : LinkView) → AreChosen link → meaning_fault options link ≡ None → fields_fault options link ≡ None → plan_fault options link ≡ None
 unfolding plan_fault
-references_stage options link (refusal.Fault fault) meant is =
-    rw (meant.well.agreed, meant.well.chosen, meant.entry, meant.included, is) refl
-references_stage options link refusal.Memory meant is = tt
+no_stage options link well meant laid =
+    neither_stands (mismatch_fault link.modules) (option_or (choice_fault link) (option_or (meaning_fault options link) (fields_fault options link))) well.agreed
+    (neither_stands (choice_fault link) (option_or (meaning_fault options link) (fields_fault options link)) well.chosen
+    (neither_stands (meaning_fault options link) (fields_fault options link) meant laid))
 
-pub place_stage : (options : LinkOptions) (link : LinkView) (fault : Fault) → AreMeant options link → references_fault link ≡ None → meant_fault link (entry_meant link options.entry_name) ≡ Some fault → plan_fault options link ≡ Some fault
-unfolding plan_fault
-place_stage options link fault meant all_meant is =
-    rw (meant.well.agreed, meant.well.chosen, meant.entry, meant.included, all_meant, is) refl
+-- ---- in the stage of meaning
 
-pub slots_stage : (options : LinkOptions) (link : LinkView) (fault : Fault) → AreMeant options link → references_fault link ≡ None → meant_fault link (entry_meant link options.entry_name) ≡ None → slots_fault link ≡ Some fault → plan_fault options link ≡ Some fault
-unfolding plan_fault
-slots_stage options link fault meant all_meant placed is =
-    rw (meant.well.agreed, meant.well.chosen, meant.entry, meant.included, all_meant, placed, is) refl
+pub entry_refused : (options : LinkOptions) (link : LinkView) (fault : Fault) → entry_meaning_fault link options.entry_name ≡ Some fault → meaning_fault options link ≡ Some fault
+entry_refused options link fault is = rw is refl
 
-pub fields_stage : (options : LinkOptions) (link : LinkView) → AreMeant options link → references_fault link ≡ None → meant_fault link (entry_meant link options.entry_name) ≡ None → slots_fault link ≡ None → plan_fault options link ≡ fixes_fault link options.large
-unfolding plan_fault
-fields_stage options link meant all_meant placed pointed =
-    rw (meant.well.agreed, meant.well.chosen, meant.entry, meant.included, all_meant, placed, pointed) refl
+pub includes_refused : (options : LinkOptions) (link : LinkView) (r : Refusal) → entry_meaning_fault link options.entry_name ≡ None → RefusesFor (includes_fault link None options.includes) r → RefusesFor (meaning_fault options link) r
+includes_refused options link r entry refused =
+    refuses_later (entry_meaning_fault link options.entry_name) (option_or (includes_fault link None options.includes) (references_fault link)) r entry
+    (refuses_first (includes_fault link None options.includes) (references_fault link) r refused)
+
+pub references_refused : (options : LinkOptions) (link : LinkView) (r : Refusal) → entry_meaning_fault link options.entry_name ≡ None → includes_fault link None options.includes ≡ None → RefusesFor (references_fault link) r → RefusesFor (meaning_fault options link) r
+references_refused options link r entry included refused =
+    refuses_later (entry_meaning_fault link options.entry_name) (option_or (includes_fault link None options.includes) (references_fault link)) r entry
+    (refuses_later (includes_fault link None options.includes) (references_fault link) r included refused)
+
+pub all_meant : (options : LinkOptions) (link : LinkView) → entry_meaning_fault link options.entry_name ≡ None → includes_fault link None options.includes ≡ None → references_fault link ≡ None → meaning_fault options link ≡ None
+all_meant options link entry included referred =
+    neither_stands (entry_meaning_fault link options.entry_name) (option_or (includes_fault link None options.includes) (references_fault link)) entry
+    (neither_stands (includes_fault link None options.includes) (references_fault link) included referred)
+
+-- ---- in the stage of fields
+
+pub place_refused : (options : LinkOptions) (link : LinkView) (fault : Fault) → meant_fault link (entry_meant link options.entry_name) ≡ Some fault → fields_fault options link ≡ Some fault
+place_refused options link fault is = rw is refl
+
+pub slots_refused : (options : LinkOptions) (link : LinkView) (fault : Fault) → meant_fault link (entry_meant link options.entry_name) ≡ None → slots_fault link ≡ Some fault → fields_fault options link ≡ Some fault
+slots_refused options link fault placed is = rw (placed, is) refl
+
+pub fixes_refused : (options : LinkOptions) (link : LinkView) (r : Refusal) → meant_fault link (entry_meant link options.entry_name) ≡ None → slots_fault link ≡ None → RefusesFor (fixes_fault link options.large) r → RefusesFor (fields_fault options link) r
+fixes_refused options link r placed pointed refused =
+    refuses_later (meant_fault link (entry_meant link options.entry_name)) (option_or (slots_fault link) (fixes_fault link options.large)) r placed
+    (refuses_later (slots_fault link) (fixes_fault link options.large) r pointed refused)
+
+pub all_laid : (options : LinkOptions) (link : LinkView) → meant_fault link (entry_meant link options.entry_name) ≡ None → slots_fault link ≡ None → fixes_fault link options.large ≡ None → fields_fault options link ≡ None
+all_laid options link placed pointed fixed =
+    neither_stands (meant_fault link (entry_meant link options.entry_name)) (option_or (slots_fault link) (fixes_fault link options.large)) placed
+    (neither_stands (slots_fault link) (fixes_fault link options.large) pointed fixed)
 
 -- ---- as the code has them
 
@@ -86,11 +108,3 @@ pub chosen_so : (link names : LinkView) (first second : List ModuleView) → nam
 chosen_so link names first second names_are first_is agreed second_is apart one =
     chosen_well link (ap mismatch_fault (sym first_is) ∙ agreed) (ap conflict_fault (sym second_is) ∙ apart)
     (ap (λ (l : LinkView). clash_fault l.modules) (sym names_are) ∙ one)
-
-pub meant_so : (options : LinkOptions) (link names : LinkView) (first second : List ModuleView) (includes : List (List ℕ)) → names ≡ link → first ≡ link.modules → mismatch_fault first ≡ None → second ≡ link.modules → conflict_fault second ≡ None → clash_fault names.modules ≡ None → entry_meaning_fault names options.entry_name ≡ None → includes ≡ options.includes → includes_fault names None includes ≡ None → AreMeant options link
-meant_so options link names first second includes names_are first_is agreed second_is apart one entry same included = record {
-  well = chosen_so link names first second names_are first_is agreed second_is apart one;
-  entry = ap (λ (l : LinkView). entry_meaning_fault l options.entry_name) (sym names_are) ∙ entry;
-  included =
-      ap (includes_fault link None) (sym same) ∙ ap (λ (l : LinkView). includes_fault l None includes) (sym names_are) ∙ included;
-}

@@ -1,6 +1,7 @@
 pub mod References
 pub mod Targets
 pub mod Fixes
+pub mod Laid
 pub mod Entry
 pub mod PlanFaults
 pub mod Plan

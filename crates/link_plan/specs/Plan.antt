@@ -1,8 +1,7 @@
 -- What a plan says of the modules that it was made for.
-use Rattle.std.specs.Prelude.{◌≡◌, ◌<◌, ◌≤◌, ℕ, ◌^◌, true, false, List, length, map, slice_index_or, None}
+use Rattle.std.specs.Prelude.{◌≡◌, ◌<◌, ℕ, ◌^◌, false, List, length, map, slice_index_or, None}
 use Rattle.std.specs.List.{All}
 use Rattle.std.specs.Option.{ForSome}
-use Rattle.section_group.specs.declared.piece.Piece.{Piece}
 use Rattle.section_group.specs.SectionOrder.{no_piece}
 use Rattle.section_group.specs.BarePieces.{bare}
 use Rattle.address_layout.specs.Layout.{IsAlignment}
@@ -14,17 +13,11 @@ use Rattle.link_imports.specs.Imports.{AreImports}
 use Rattle.link_pieces.specs.Pieces.{link_contents}
 use Rattle.link_pieces.specs.LinkerPieces.{is_table}
 use Rattle.link_words.specs.Outcome.{LinkOptions}
-use Rattle.link_plan.specs.declared.entry.EntryPlace.{EntryPlace}
 use Rattle.link_plan.specs.declared.planning.LinkPlan.{LinkPlan}
 use Rattle.link_plan.specs.Entry.{entry_place}
 use Rattle.link_plan.specs.Fixes.{HaveFields, plan_pieces}
 use Rattle.link_plan.specs.PlanFaults.{plan_fault}
-
--- a place in a piece that stands in a section even where it has no bytes
-pub record StandsNamed (pieces : List Piece) (place : EntryPlace) : Type 0 where
-  pub within : place.piece < length pieces
-  pub named : (slice_index_or pieces place.piece no_piece).named ≡ true
-  pub inside : place.value ≤ (slice_index_or pieces place.piece no_piece).size
+use Rattle.link_plan.specs.Laid.{StandsNamed}
 
 -- the merges of a link: those of the options, then those of the directives
 abbrev pub merges_of : LinkOptions → LinkView → List (List ℕ × List ℕ)

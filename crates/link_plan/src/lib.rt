@@ -8,6 +8,8 @@
 mod entry;
 mod fixes;
 mod judge;
+mod laid;
+mod meanings;
 mod meant;
 mod mismatch;
 mod planning;

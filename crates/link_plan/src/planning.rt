@@ -10,25 +10,22 @@ ghost use Rattle.link_plan.specs.PlanFaults.{plan_fault};
 ghost use Rattle.link_plan.specs.Plan.{IsPlanOf};
 ghost use Rattle.link_plan.specs.Planning.{Plans};
 
-use crate::entry::{EntryPlace, entry_meaning, entry_place, note_entry_slot};
-use crate::judge::judge_pieces;
-use crate::meant::{mark_entry, name_meant};
+use crate::entry::EntryPlace;
+use crate::laid::{LaidPieces, lay_pieces};
+use crate::meanings::meanings_of;
 use crate::mismatch::check_mismatch;
-use crate::references::{check_includes, check_references};
-use crate::slots::check_slots;
 use input_arena::Inputs;
 use lib_search::{LinkList, complete};
 use link_base::{Name, Refusal, Stop};
 use link_directives::link_merges;
 use link_files::Files;
 use link_imports::{LinkImports, link_imports};
-use link_pieces::{LinkNames, LocalSlots, PieceIndex, check_clash, link_names, pieces_of};
+use link_pieces::{LinkNames, check_clash, link_names};
 use link_words::Options;
 use module_view::Module;
 use relocate::Fixups;
 use section_group::Piece;
 use std::alloc::Global;
-use std::collections::BTreeSet;
 
 /// What a link will hold.
 #[derive(Drop)]
@@ -94,27 +91,20 @@ fn plan_of<'a>(
     check_mismatch(alloc, &modules)?;
     let names = link_names(alloc, table, &modules)?;
     check_clash(&names)?;
-    let mut slots = BTreeSet::new(alloc);
-    let meaning = entry_meaning(&names, &options.entry)?;
-    note_entry_slot(&mut slots, &meaning)?;
-    check_includes(&names, &options.includes, &mut slots)?;
-    check_references(&names, &modules, &mut slots)?;
-    let slots = LocalSlots::of(alloc, &slots)?;
-    let count = slots.len();
+    let meant = meanings_of(alloc, &names, &modules, options)?;
     let imports = link_imports(alloc, &modules)?;
-    let mut pieces = pieces_of(alloc, &names, &modules, &imports, count)?;
-    let index = PieceIndex::new(alloc, &modules, &imports, slots, &pieces)?;
-    let entry = entry_place(&index, &meaning)?;
-    check_slots(&names, &index, count)?;
-    let mut fixes = judge_pieces(alloc, &names, &index, &modules, &pieces, options.large)?;
-    mark_entry(&mut fixes.meant, &entry);
-    name_meant(&mut pieces, &fixes.meant);
+    let laid = lay_pieces(alloc, &names, &modules, &imports, meant, options)?;
     let merges = link_merges(alloc, &options.merges, &modules)?;
+    let LaidPieces {
+        pieces,
+        fixes,
+        entry,
+    } = laid;
     Ok(LinkPlan {
         modules,
         names,
         pieces,
-        fixes: fixes.fixups,
+        fixes,
         imports,
         merges,
         entry,

@@ -1,0 +1,38 @@
+-- What is laid out of a link before anything has a place. It decides nothing beyond the definitions that it names.
+use Rattle.std.specs.Prelude.{◌≡◌, ◌<◌, ◌≤◌, ℕ, ◌^◌, true, false, List, length, map, slice_index_or, None}
+use Rattle.std.specs.List.{All}
+use Rattle.std.specs.Option.{ForSome}
+use Rattle.section_group.specs.declared.piece.Piece.{Piece}
+use Rattle.section_group.specs.SectionOrder.{no_piece}
+use Rattle.section_group.specs.BarePieces.{bare}
+use Rattle.section_group.specs.PieceContents.{piece_contents, HasItsBytes}
+use Rattle.address_layout.specs.Layout.{IsAlignment}
+use Rattle.symbol_names.specs.LinkView.{LinkView}
+use Rattle.module_view.specs.Opening.{IsOpened}
+use Rattle.link_pieces.specs.Pieces.{link_contents}
+use Rattle.link_pieces.specs.LinkerPieces.{is_table}
+use Rattle.link_words.specs.Outcome.{LinkOptions}
+use Rattle.link_plan.specs.declared.entry.EntryPlace.{EntryPlace}
+use Rattle.link_plan.specs.declared.laid.LaidPieces.{LaidPieces}
+use Rattle.link_plan.specs.Entry.{entry_place}
+use Rattle.link_plan.specs.Fixes.{HaveFields, plan_pieces}
+use Rattle.link_plan.specs.PlanFaults.{fields_fault}
+
+-- a place in a piece that stands in a section even where it has no bytes
+pub record StandsNamed (pieces : List Piece) (place : EntryPlace) : Type 0 where
+  pub within : place.piece < length pieces
+  pub named : (slice_index_or pieces place.piece no_piece).named ≡ true
+  pub inside : place.value ≤ (slice_index_or pieces place.piece no_piece).size
+
+-- the pieces of the modules with their fields, and the place of the entry, none of which has a fault
+pub record AreLaid (options : LinkOptions) (link : LinkView) (laid : LaidPieces) : Type 0 where
+  pub opened : All IsOpened link.modules
+  pub pieces_are : map bare laid.pieces.items ≡ plan_pieces options link
+  pub contents_are : map piece_contents laid.pieces.items ≡ link_contents link
+  pub aligned : All (λ piece. IsAlignment piece.align) laid.pieces.items
+  pub bodies : (k : ℕ) → k < length laid.pieces.items → is_table (length link.modules) (slice_index_or laid.pieces.items k no_piece) ≡ false → HasItsBytes laid.pieces.items k
+  pub few : length laid.pieces.items < 2 ^ 31
+  pub fields : HaveFields link (length laid.pieces.items) laid.fixes.items
+  pub entry_is : laid.entry ≡ entry_place link options.entry_name
+  pub stands : ForSome laid.entry (StandsNamed laid.pieces.items)
+  pub no_fault : fields_fault options link ≡ None
