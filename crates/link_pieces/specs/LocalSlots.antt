@@ -11,7 +11,7 @@ use Rattle.module_view.specs.Module.{module_at}
 use Rattle.module_view.specs.SymbolLists.{is_definition, place_of, is_reference}
 use Rattle.symbol_names.specs.LinkView.{LinkView}
 use Rattle.symbol_names.specs.Lists.{is_live_at}
-use Rattle.symbol_names.specs.References.{includes_by}
+use Rattle.symbol_names.specs.References.{names_by}
 use Rattle.symbol_table.specs.declared.meaning.Meaning.{Meaning}
 use Rattle.symbol_table.specs.declared.meaning.Meaning.TheVariants as meaning
 use Rattle.symbol_table.specs.declared.meaning.NoMeaning.{NoMeaning}
@@ -32,7 +32,7 @@ name_asked link position entry = if asks link position entry.1 then Some (name_i
 
 -- a module refers to names by its symbols, then by its directives
 abbrev pub names_asked : LinkView → ℕ → List ℕ → List (List ℕ)
-names_asked link position bytes = filter_map (name_asked link position) (symbol_entries bytes) ++ includes_by bytes
+names_asked link position bytes = filter_map (name_asked link position) (symbol_entries bytes) ++ names_by bytes
 
 abbrev pub modules_asked : LinkView → List (List ℕ)
 modules_asked link = flat_map (λ k. names_asked link k (module_at link.modules k).bytes) (range_with_len 0 (length link.modules))

@@ -16,7 +16,7 @@ use Rattle.directives.specs.Said.{said}
 use Rattle.directives.specs.declared.item.Directive.{Directive}
 use Rattle.module_view.specs.Module.{ModuleView, no_module, module_at}
 use Rattle.symbol_names.specs.LinkView.{LinkView}
-use Rattle.symbol_names.specs.References.{include_said}
+use Rattle.symbol_names.specs.References.{name_said}
 use Rattle.link_pieces.specs.LocalSlots.{slot_meant, with_slot, with_slots, with_meant}
 use Rattle.link_plan.specs.References.{included_fault, includes_fault, object_fault_among, references_fault_at}
 
@@ -73,15 +73,15 @@ refuses_at count k fault_at refusal.Memory lt none refused = tt
 -- the refusal of a directive that includes a name
 abbrev pub directive_fault : LinkView → ℕ → Directive → Option Fault
 directive_fault link position directive =
-    includes_fault link (Some position) (filter_map include_said (said directive ∷ []))
+    includes_fault link (Some position) (filter_map name_said (said directive ∷ []))
 
 -- those of directives, one after another
-pub directives_fault : (link : LinkView) (position : ℕ) (directives : List Directive) → includes_fault link (Some position) (filter_map include_said (map said directives)) ≡ first_standing (map (directive_fault link position) directives)
+pub directives_fault : (link : LinkView) (position : ℕ) (directives : List Directive) → includes_fault link (Some position) (filter_map name_said (map said directives)) ≡ first_standing (map (directive_fault link position) directives)
 directives_fault link position [] = refl
 directives_fault link position (directive ∷ directives) =
-    by (include_said (said directive)) (directives_fault link position directives)
+    by (name_said (said directive)) (directives_fault link position directives)
   where
-    by : (o : Option (List ℕ)) → includes_fault link (Some position) (filter_map include_said (map said directives)) ≡ first_standing (map (directive_fault link position) directives) → includes_fault link (Some position) (cons_option o (filter_map include_said (map said directives))) ≡ option_or (includes_fault link (Some position) (cons_option o [])) (first_standing (map (directive_fault link position) directives))
+    by : (o : Option (List ℕ)) → includes_fault link (Some position) (filter_map name_said (map said directives)) ≡ first_standing (map (directive_fault link position) directives) → includes_fault link (Some position) (cons_option o (filter_map name_said (map said directives))) ≡ option_or (includes_fault link (Some position) (cons_option o [])) (first_standing (map (directive_fault link position) directives))
     by None rest = rest
     by (Some name) rest =
         ap (option_or (included_fault link (Some position) name)) rest
@@ -109,9 +109,9 @@ meant_first link slots name x xs =
     ∙ meant_append link slots (cons_option (name x) []) (filter_map name xs)
 
 -- the names that directives include, of some and of others
-pub included_append : (xs ys : List Directive) → filter_map include_said (map said (xs ++ ys)) ≡ filter_map include_said (map said xs) ++ filter_map include_said (map said ys)
+pub included_append : (xs ys : List Directive) → filter_map name_said (map said (xs ++ ys)) ≡ filter_map name_said (map said xs) ++ filter_map name_said (map said ys)
 included_append xs ys =
-    ap (filter_map include_said) (map-append said xs ys) ∙ filter_map-append include_said (map said xs) (map said ys)
+    ap (filter_map name_said) (map-append said xs ys) ∙ filter_map-append name_said (map said xs) (map said ys)
 
 -- positions, and the next
 range_more : (a n j : ℕ) → a + n ≡ j → range_with_len a (n + 1) ≡ range_with_len a n ++ j ∷ []

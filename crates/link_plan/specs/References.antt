@@ -7,7 +7,7 @@ use Rattle.link_base.specs.declared.fault.Fault.TheVariants as faults
 use Rattle.module_view.specs.Module.{module_at}
 use Rattle.symbol_names.specs.LinkView.{LinkView}
 use Rattle.coff_records.specs.ObjectFile.{SymbolEntry, name_in, symbol_entries}
-use Rattle.symbol_names.specs.References.{includes_by}
+use Rattle.symbol_names.specs.References.{names_by}
 use Rattle.symbol_table.specs.declared.meaning.Meaning.{Meaning}
 use Rattle.symbol_table.specs.declared.meaning.NoMeaning.{NoMeaning}
 use Rattle.symbol_table.specs.declared.meaning.NoMeaning.TheVariants.{Undefined, WeakCycle}
@@ -47,7 +47,7 @@ includes_fault link at names = first_standing (map (included_fault link at) name
 -- in a module its symbols come before its directives
 abbrev pub object_fault_among : LinkView → ℕ → List ℕ → Option Fault
 object_fault_among link position bytes =
-    option_or (symbols_fault link position bytes) (includes_fault link (Some position) (includes_by bytes))
+    option_or (symbols_fault link position bytes) (includes_fault link (Some position) (names_by bytes))
 
 abbrev pub references_fault_at : LinkView → ℕ → Option Fault
 references_fault_at link position = object_fault_among link position (module_at link.modules position).bytes

@@ -7,7 +7,7 @@ ghost use Rattle.link_base.specs.Refusals.{RefusesFor};
 ghost use Rattle.directives.specs.Said.{said};
 ghost use Rattle.coff_records.specs.ObjectFile.{symbol_at, symbol_entries};
 ghost use Rattle.module_view.specs.Module.{module_at};
-ghost use Rattle.symbol_names.specs.References.{include_said};
+ghost use Rattle.symbol_names.specs.References.{name_said};
 ghost use Rattle.link_pieces.specs.LocalSlots.{asks, name_asked, names_asked, modules_asked, with_meant};
 ghost use Rattle.link_plan.specs.References.{no_meaning_fault, name_fault, symbol_fault, symbols_fault, includes_fault, object_fault_among, references_fault};
 
@@ -81,9 +81,9 @@ fn check_directives<'a>(
     position: u32,
     slots: &mut BTreeSet<Name<'a>>,
 ) -> Result<(), Refusal<'a>>
-    ensures accepted { OnOk result (includes_fault names.now (Some position) (filter_map include_said (map said directives.now)) ≡ None) }
-    ensures refused { IfErr result (RefusesFor (includes_fault names.now (Some position) (filter_map include_said (map said directives.now)))) }
-    ensures slots { OnOk result (slots.new.keys ≡ with_meant names.now slots.old.keys (filter_map include_said (map said directives.now))) }
+    ensures accepted { OnOk result (includes_fault names.now (Some position) (filter_map name_said (map said directives.now)) ≡ None) }
+    ensures refused { IfErr result (RefusesFor (includes_fault names.now (Some position) (filter_map name_said (map said directives.now)))) }
+    ensures slots { OnOk result (slots.new.keys ≡ with_meant names.now slots.old.keys (filter_map name_said (map said directives.now))) }
 {
     for directive in directives {
         check_directive(names, directive, position, slots)?;
@@ -98,9 +98,9 @@ fn check_directive<'a>(
     position: u32,
     slots: &mut BTreeSet<Name<'a>>,
 ) -> Result<(), Refusal<'a>>
-    ensures accepted { OnOk result (includes_fault names.now (Some position) (filter_map include_said (said directive.now ∷ [])) ≡ None) }
-    ensures refused { IfErr result (RefusesFor (includes_fault names.now (Some position) (filter_map include_said (said directive.now ∷ [])))) }
-    ensures slots { OnOk result (slots.new.keys ≡ with_meant names.now slots.old.keys (filter_map include_said (said directive.now ∷ []))) }
+    ensures accepted { OnOk result (includes_fault names.now (Some position) (filter_map name_said (said directive.now ∷ [])) ≡ None) }
+    ensures refused { IfErr result (RefusesFor (includes_fault names.now (Some position) (filter_map name_said (said directive.now ∷ [])))) }
+    ensures slots { OnOk result (slots.new.keys ≡ with_meant names.now slots.old.keys (filter_map name_said (said directive.now ∷ []))) }
 {
     match directive {
         Directive::Include(name) => check_name(names, name, Some(position), slots),

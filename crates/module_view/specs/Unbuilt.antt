@@ -36,10 +36,10 @@ is_unbuilt_symbol symbol = is_external_name symbol && is_loader_name (name_in sy
 
 -- ---- directives
 
--- a row of the export table, or such a name
+-- one that names what the loader looks for
 abbrev pub is_unbuilt_directive : Said → Bool
 is_unbuilt_directive (says.DefaultLib text) = false
-is_unbuilt_directive (says.Exports row) = true
+is_unbuilt_directive (says.Exports row) = false
 is_unbuilt_directive (says.Include name) = is_loader_name name
 is_unbuilt_directive (says.AlternateName left right) = is_loader_name left || is_loader_name right
 is_unbuilt_directive (says.AlignComm name log) = false

@@ -20,15 +20,15 @@ pub(crate) fn is_unbuilt_section(name: &Name<'_>, flags: u32) -> bool
     (has_base_name(name, b".pdata") && comes_in(flags, name)) || has_base_name(name, b".rsrc")
 }
 
-/// Whether a directive has a form that is not linked yet: it exports a name, or names what the loader of a program looks for.
+/// Whether a directive has a form that is not linked yet: it names what the loader of a program looks for.
 pub(crate) fn is_unbuilt_directive(directive: &Directive<'_>) -> bool
     ensures { result ≡ is_unbuilt_directive (said directive.now) }
 {
     match directive {
-        Directive::Export(_) => true,
         Directive::Include(name) => is_loader_name(name),
         Directive::AlternateName { left, right } => is_loader_name(left) || is_loader_name(right),
         Directive::DefaultLib(_)
+        | Directive::Export(_)
         | Directive::AlignComm { .. }
         | Directive::FailIfMismatch { .. }
         | Directive::Merge { .. } => false,

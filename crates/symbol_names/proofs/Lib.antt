@@ -1,3 +1,4 @@
 pub mod NotedLemmas
 pub mod NumberLemmas
 pub mod RecordLemmas
+pub mod DotLemmas

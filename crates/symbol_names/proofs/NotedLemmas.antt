@@ -6,7 +6,7 @@ use Rattle.std.proofs.lemmas.List.{map-append, take_more}
 use Rattle.directives.specs.Said.{Said, said}
 use Rattle.directives.specs.declared.item.Directive.{Directive}
 use Rattle.symbol_names.specs.declared.noted.NotedAsked.{NotedAsked}
-use Rattle.symbol_names.specs.References.{Asked, asked_by_name, include_said}
+use Rattle.symbol_names.specs.References.{Asked, asked_by_name, name_said}
 use Rattle.symbol_names.specs.Interning.{KeepsNumbers, NotesAsked}
 use Rattle.symbol_names.proofs.NumberLemmas.{mapped_more, zip_push, zip_map, asked_kept}
 
@@ -25,7 +25,7 @@ asked_more {X} asks before after kept earlier xs i x notes now noted lt here was
 
 -- the names that directives include
 abbrev pub included : List Directive → List Asked
-included directives = map asked_by_name (filter_map include_said (map said directives))
+included directives = map asked_by_name (filter_map name_said (map said directives))
 
 filter_map-append : {A B : Type 0} (f : A → Option B) (xs ys : List A) → filter_map f (xs ++ ys) ≡ filter_map f xs ++ filter_map f ys
 filter_map-append f [] ys = refl
@@ -38,9 +38,9 @@ filter_map-append {A} {B} f (x ∷ xs) ys = go (f x) (filter_map-append f xs ys)
 pub included_more : (earlier : List Asked) (directives : List Directive) (i : ℕ) (d : Directive) → i < length directives → d ≡ get_or directives i d → earlier ++ included (take (i + 1) directives) ≡ (earlier ++ included (take i directives)) ++ included (d ∷ [])
 included_more earlier directives i d lt is =
     ap (λ (ds : List Directive). earlier ++ included ds) (take_more directives i d lt ∙ ap (λ (x : Directive). take i directives ++ x ∷ []) (sym is))
-    ∙ ap (λ (says : List Said). earlier ++ map asked_by_name (filter_map include_said says)) (map-append said (take i directives) (d ∷ []))
-    ∙ ap (λ (names : List (List ℕ)). earlier ++ map asked_by_name names) (filter_map-append include_said (map said (take i directives)) (said d ∷ []))
-    ∙ ap (λ (asked : List Asked). earlier ++ asked) (map-append asked_by_name (filter_map include_said (map said (take i directives))) (filter_map include_said (said d ∷ [])))
+    ∙ ap (λ (says : List Said). earlier ++ map asked_by_name (filter_map name_said says)) (map-append said (take i directives) (d ∷ []))
+    ∙ ap (λ (names : List (List ℕ)). earlier ++ map asked_by_name names) (filter_map-append name_said (map said (take i directives)) (said d ∷ []))
+    ∙ ap (λ (asked : List Asked). earlier ++ asked) (map-append asked_by_name (filter_map name_said (map said (take i directives))) (filter_map name_said (said d ∷ [])))
     ∙ sym (append_assoc earlier (included (take i directives)) (included (d ∷ [])))
 
 pub filter_map_mapped : {A B C : Type 0} (h : B → Option C) (f : A → B) (xs : List A) → filter_map (λ x. h (f x)) xs ≡ filter_map h (map f xs)

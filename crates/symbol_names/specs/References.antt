@@ -5,6 +5,7 @@ use Rattle.directives.specs.Said as says
 use Rattle.module_view.specs.ModuleDirectives.{module_directives}
 use Rattle.module_view.specs.SymbolLists.{references_of}
 use Rattle.module_view.specs.declared.reference.Reference.{Reference}
+use Rattle.symbol_names.specs.Exports.{internal_name}
 use Rattle.symbol_names.specs.LinkView.{LinkView}
 use Rattle.symbol_names.specs.Lists.{of_all}
 
@@ -15,29 +16,30 @@ pub record Asked : Type 0 where
 
 -- ---- what asks
 
--- a word of the command line, or a directive that includes a name (MSVC linker reference, "/INCLUDE")
+-- a word of the command line, or a directive
 abbrev pub asked_by_name : List ℕ → Asked
 asked_by_name name = record { name = name; search = true }
 
 abbrev pub asked_by_symbol : Reference → Asked
 asked_by_symbol reference = record { name = reference.name; search = reference.search }
 
-abbrev pub include_said : Said → Option (List ℕ)
-include_said (says.Include name) = Some name
-include_said (says.AlignComm name log) = None
-include_said (says.AlternateName left right) = None
-include_said (says.DefaultLib text) = None
-include_said (says.Exports row) = None
-include_said (says.FailIfMismatch key value) = None
-include_said (says.Merge left right) = None
+-- a directive asks for a name that it includes, or that stands behind an export (MSVC linker reference, "/INCLUDE", "/EXPORT")
+abbrev pub name_said : Said → Option (List ℕ)
+name_said (says.Include name) = Some name
+name_said (says.Exports row) = internal_name row
+name_said (says.AlignComm name log) = None
+name_said (says.AlternateName left right) = None
+name_said (says.DefaultLib text) = None
+name_said (says.FailIfMismatch key value) = None
+name_said (says.Merge left right) = None
 
--- the names that the directives of a module include
-abbrev pub includes_by : List ℕ → List (List ℕ)
-includes_by bytes = filter_map include_said (module_directives bytes)
+-- the names that the directives of a module ask for
+abbrev pub names_by : List ℕ → List (List ℕ)
+names_by bytes = filter_map name_said (module_directives bytes)
 
 -- a module asks by its symbols, then by its directives
 abbrev pub asked_by : ℕ → List ℕ → List Asked
-asked_by position bytes = map asked_by_symbol (references_of bytes) ++ map asked_by_name (includes_by bytes)
+asked_by position bytes = map asked_by_symbol (references_of bytes) ++ map asked_by_name (names_by bytes)
 
 -- the words come before the modules, and these come in their order
 abbrev pub all_asked : LinkView → List Asked

@@ -8,6 +8,7 @@
 
 mod alternates;
 mod chosen;
+mod exports;
 mod given;
 mod interning;
 mod lists;
@@ -17,6 +18,7 @@ mod references;
 mod weak_default;
 
 pub use chosen::{Chosen, is_chosen, is_live_at};
+pub use exports::{forwarder, internal_name};
 pub use given::{GivenNames, given_names};
 pub use interning::name_at;
 pub use lists::note_lists;
@@ -25,4 +27,4 @@ pub use noted::{
     NotedLists, NotedWeak,
 };
 pub use records::noted_number;
-pub use references::note_words;
+pub use references::{asked_name, note_words};

@@ -3,9 +3,10 @@
 ghost use Rattle.std.specs.Prelude.{◌≡◌, ◌++◌, ◌∷◌, [], ℕ, List, map, filter_map, IfOk, OnOk};
 ghost use Rattle.std.specs.List.{All, AllZip};
 ghost use Rattle.directives.specs.Said.{said};
-ghost use Rattle.symbol_names.specs.References.{Asked, asked_by_name, asked_by_symbol, include_said, asked_by};
+ghost use Rattle.symbol_names.specs.References.{Asked, asked_by_name, asked_by_symbol, name_said, asked_by};
 ghost use Rattle.symbol_names.specs.Interning.{KeepsNumbers, AreRecords, IsNamedSo, NotesAsked};
 
+use crate::exports::internal_name;
 use crate::interning::{number_of, number_symbol};
 use crate::noted::NotedAsked;
 use directives::Directive;
@@ -46,7 +47,7 @@ pub(crate) fn note_asked<'a>(
     let references = module.references();
     let mut noted = Vec::with_capacity(alloc, references.len())?;
     note_references(names, records, &mut noted, references)?;
-    note_includes(names, &mut noted, module.directives())?;
+    note_names(names, &mut noted, module.directives())?;
     Ok(noted)
 }
 
@@ -73,38 +74,51 @@ fn note_references<'a>(
     Ok(())
 }
 
-/// The names that directives include, by their numbers, after what was noted.
-fn note_includes<'a>(
+/// The names that directives ask for, by their numbers, after what was noted.
+fn note_names<'a>(
     names: &mut IndexSet<Name<'a>>,
     noted: &mut Vec<NotedAsked>,
     directives: &[Directive<'a>],
 ) -> Result<(), Memory>
     ensures kept { KeepsNumbers names.old.keys names.new.keys }
     ensures noted { OnOk result ((earlier : List Asked) → AllZip (NotesAsked names.old.keys) earlier noted.old.items
-        → AllZip (NotesAsked names.new.keys) (earlier ++ map asked_by_name (filter_map include_said (map said directives.now))) noted.new.items) }
+        → AllZip (NotesAsked names.new.keys) (earlier ++ map asked_by_name (filter_map name_said (map said directives.now))) noted.new.items) }
 {
     for directive in directives {
-        note_include(names, noted, directive)?;
+        note_name(names, noted, directive)?;
     }
     Ok(())
 }
 
-/// The name that a directive includes, where it includes one.
-fn note_include<'a>(
+/// The name that a directive asks for, where it asks for one.
+fn note_name<'a>(
     names: &mut IndexSet<Name<'a>>,
     noted: &mut Vec<NotedAsked>,
     directive: &Directive<'a>,
 ) -> Result<(), Memory>
     ensures kept { KeepsNumbers names.old.keys names.new.keys }
     ensures noted { OnOk result ((earlier : List Asked) → AllZip (NotesAsked names.old.keys) earlier noted.old.items
-        → AllZip (NotesAsked names.new.keys) (earlier ++ map asked_by_name (filter_map include_said (said directive.now ∷ []))) noted.new.items) }
+        → AllZip (NotesAsked names.new.keys) (earlier ++ map asked_by_name (filter_map name_said (said directive.now ∷ []))) noted.new.items) }
+{
+    let Some(name) = asked_name(directive) else {
+        return Ok(());
+    };
+    let name = number_of(names, &name)?;
+    noted.push(NotedAsked { name, search: true })?;
+    Ok(())
+}
+
+/// The name that a directive asks for: one that it includes, or that stands behind an export.
+pub fn asked_name<'a>(directive: &Directive<'a>) -> Option<Name<'a>>
+    ensures { result ≡ name_said (said directive.now) }
 {
     match directive {
-        Directive::Include(name) => {
-            let name = number_of(names, name)?;
-            noted.push(NotedAsked { name, search: true })?;
-            Ok(())
-        }
-        _ => Ok(()),
+        Directive::Include(name) => Some(name.again()),
+        Directive::Export(export) => internal_name(export),
+        Directive::AlignComm { .. }
+        | Directive::AlternateName { .. }
+        | Directive::DefaultLib(_)
+        | Directive::FailIfMismatch { .. }
+        | Directive::Merge { .. } => None,
     }
 }

@@ -6,7 +6,7 @@ use Rattle.symbol_names.specs.References.{Asked}
 use Rattle.symbol_names.specs.Interning.{NotesAsked}
 use Rattle.symbol_names.proofs.NotedLemmas.{included, included_more}
 use Rattle.symbol_names.proofs.NumberLemmas.{keeps_both}
-use Rattle.symbol_names.proofs.references.note_includes.Goals as goal
+use Rattle.symbol_names.proofs.references.note_names.Goals as goal
 
 pub loop-directive-init : goal.loop-directive-init
 loop-directive-init c = record {
@@ -14,19 +14,19 @@ loop-directive-init c = record {
   noted = λ earlier was. subst (λ (l : List Asked). AllZip (NotesAsked c.args.names.now.keys) l c.args.noted.now.items) (sym (append-nil earlier)) was;
 }
 
-pub returns-in_err-note_include-clause-kept : goal.returns-in_err-note_include-clause-kept
-returns-in_err-note_include-clause-kept c = keeps_both _ _ _ c.loop-directive.invariant.kept c.note_include.ensures.kept
+pub returns-in_err-note_name-clause-kept : goal.returns-in_err-note_name-clause-kept
+returns-in_err-note_name-clause-kept c = keeps_both _ _ _ c.loop-directive.invariant.kept c.note_name.ensures.kept
 
 pub loop-directive-preserved : goal.loop-directive-preserved
 loop-directive-preserved c =
     let i = c.loop-directive.directive-index in
     let item = c.directive-item.result in
     record {
-      kept = keeps_both _ _ _ c.loop-directive.invariant.kept c.note_include.ensures.kept;
+      kept = keeps_both _ _ _ c.loop-directive.invariant.kept c.note_name.ensures.kept;
       noted = λ earlier was.
-          subst (λ (l : List Asked). AllZip (NotesAsked c.note_include.new.names.keys) l c.note_include.new.noted.items)
+          subst (λ (l : List Asked). AllZip (NotesAsked c.note_name.new.names.keys) l c.note_name.new.noted.items)
           (sym (included_more earlier c.args.directives.now i item (omega arith) c.directive-item.is))
-          (c.in_ok-note_include.ensures.noted (earlier ++ included (take i c.args.directives.now)) (c.loop-directive.invariant.noted earlier was));
+          (c.in_ok-note_name.ensures.noted (earlier ++ included (take i c.args.directives.now)) (c.loop-directive.invariant.noted earlier was));
     }
 
 pub returns-clause-kept : goal.returns-clause-kept

@@ -3,7 +3,7 @@ use Rattle.std.specs.List.{AllZip}
 use Rattle.symbol_names.specs.References.{Asked}
 use Rattle.symbol_names.specs.Interning.{KeepsNumbers, NotesAsked}
 use Rattle.symbol_names.proofs.NotedLemmas.{included}
-use Rattle.symbol_names.proofs.references.note_includes.Given as goal
+use Rattle.symbol_names.proofs.references.note_names.Given as goal
 
 abbrev pub invariant-loop-directive : goal.invariant-loop-directive
 invariant-loop-directive l = record {

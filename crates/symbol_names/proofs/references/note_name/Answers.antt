@@ -4,7 +4,7 @@ use Rattle.directives.specs.declared.item.Directive.{Directive}
 use Rattle.symbol_names.specs.Interning.{NotesAsked}
 use Rattle.symbol_names.specs.References.{asked_by_name}
 use Rattle.symbol_names.proofs.NotedLemmas.{asked_last, included}
-use Rattle.symbol_names.proofs.references.note_include.Goals as goal
+use Rattle.symbol_names.proofs.references.note_name.Goals as goal
 
 pub returns-in_ok-push-in-Include-clause-noted : goal.returns-in_ok-push-in-Include-clause-noted
 returns-in_ok-push-in-Include-clause-noted c = λ earlier was.
