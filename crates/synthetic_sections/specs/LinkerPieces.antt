@@ -1,4 +1,4 @@
--- The sections that the linker makes itself for imports, as pieces of a module behind all others (PE Format, "The .idata Section";
+-- The sections that the linker makes itself for imports and exports, as pieces of a module behind all others (PE Format, "The .idata Section" and "The .edata Section (Image Only)";
 -- the numbers of the pieces, and jumps and slots as pieces, are own).
 use Rattle.std.specs.Prelude.{ℕ, ◌+◌, Bool, true, false, ◌==◌, if◌then◌else◌, List, [], ◌∷◌, ◌++◌, replicate, slice_index_or, None, codes}
 use Rattle.link_base.specs.PeFormat.{SCN_CNT_CODE, SCN_CNT_INITIALIZED_DATA, SCN_MEM_EXECUTE, SCN_MEM_READ}
@@ -53,7 +53,17 @@ table_pieces position sizes =
     ++ (table_if position 3 (codes ".idata$6") 2 (size_at sizes 3)
     ++ table_if position 4 (codes ".idata$7") 1 (size_at sizes 4))))
 
--- their bytes are not known before they have places: until then they hold nothing
+-- ---- the export table
+
+-- its number
+abbrev pub EXPORTS : ℕ
+EXPORTS = 5
+
+-- without bytes it is not made
+unfoldable pub export_table_pieces : ℕ → ℕ → List Piece
+export_table_pieces position size = table_if position EXPORTS (codes ".edata") 4 size
+
+-- the bytes of a table are not known before it has a place: until then it holds nothing
 abbrev pub no_bytes : Piece → List ℕ
 no_bytes piece = []
 

@@ -1,4 +1,4 @@
-//! The sections that the linker makes itself for imports, as units of layout: the import tables, a jump for each function that
+//! The sections that the linker makes itself for imports and exports, as units of layout: the tables, a jump for each function that
 //! is called by its own name, and slots that point to what is linked. It takes the sizes of the tables, as `import_tables` says
 //! them, and what jumps and slots mean, and gives pieces of `section_group` and fields of `relocate` to the crates that plan a
 //! link. Its contract promises each piece with its number, its name, its flags, its alignment and its bytes, and each field.
@@ -9,4 +9,7 @@ mod fields;
 mod pieces;
 
 pub use fields::{slot_field, thunk_field};
-pub use pieces::{FIRST_LOCAL_SLOT, FIRST_THUNK, SLOTS, push_slot, push_tables, push_thunk};
+pub use pieces::{
+    EXPORTS, FIRST_LOCAL_SLOT, FIRST_THUNK, SLOTS, push_export_table, push_slot, push_tables,
+    push_thunk,
+};

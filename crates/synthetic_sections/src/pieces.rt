@@ -4,7 +4,7 @@ ghost use Rattle.std.specs.Prelude.{◌≡◌, ◌<◌, ◌+◌, ◌^◌, ◌∷
 ghost use Rattle.std.specs.Option.{option_copied};
 ghost use Rattle.section_group.specs.BarePieces.{bare};
 ghost use Rattle.section_group.specs.PieceContents.{piece_contents};
-ghost use Rattle.synthetic_sections.specs.LinkerPieces.{made_piece, table_if, table_pieces, no_bytes, thunk_piece, thunk_bytes, slot_piece, slot_bytes};
+ghost use Rattle.synthetic_sections.specs.LinkerPieces.{made_piece, table_if, table_pieces, export_table_pieces, no_bytes, thunk_piece, thunk_bytes, slot_piece, slot_bytes};
 
 use link_base::pe_format::{SCN_CNT_CODE, SCN_CNT_INITIALIZED_DATA, SCN_MEM_EXECUTE, SCN_MEM_READ};
 use link_base::{Memory, Name};
@@ -12,6 +12,9 @@ use section_group::Piece;
 
 /// The number of the table of the slots.
 pub const SLOTS: u32 = 2;
+
+/// The number of the export table.
+pub const EXPORTS: u32 = 5;
 
 /// The number of the jump of the first module.
 pub const FIRST_THUNK: u32 = 16;
@@ -51,6 +54,20 @@ pub fn push_tables(
     push_table(pieces, position, SLOTS, b".idata$5", 8, sizes[2])?;
     push_table(pieces, position, 3, b".idata$6", 2, sizes[3])?;
     push_table(pieces, position, 4, b".idata$7", 1, sizes[4])
+}
+
+/// Appends the export table of this size, as a piece of the module at a position (PE Format, "The .edata Section (Image Only)").
+/// Without bytes it is not made. It holds nothing until it has a place.
+#[tactic(auto, unfolding(crate::specs::LinkerPieces::export_table_pieces))]
+pub fn push_export_table(
+    pieces: &mut Vec<Piece<'_>>,
+    position: u32,
+    size: u32,
+) -> Result<(), Memory>
+    ensures pieces { OnOk result (map bare pieces.new.items ≡ map bare pieces.old.items ++ export_table_pieces position size) }
+    ensures contents { OnOk result (map piece_contents pieces.new.items ≡ map piece_contents pieces.old.items ++ map no_bytes (export_table_pieces position size)) }
+{
+    push_table(pieces, position, EXPORTS, b".edata", 4, size)
 }
 
 /// Appends one of the tables, where it has bytes.
