@@ -1,6 +1,6 @@
 -- The exports of a link, with their ordinals, and the size of the table that names them (MSVC linker reference, "/EXPORT"; which
 -- exports count once, and the DLL's name, are own).
-use Rattle.std.specs.Prelude.{◌≡◌, ◌≤◌, ◌⊎◌, ℕ, Bool, true, bool_eq, ◌&&◌, nat_eq, if◌then◌else◌, List, [], ◌∷◌, ◌++◌, length, map, fold, filter_map, Option, Some, None, is_some}
+use Rattle.std.specs.Prelude.{◌≡◌, ◌≤◌, ℕ, Bool, bool_eq, ◌&&◌, nat_eq, if◌then◌else◌, List, [], ◌∷◌, ◌++◌, length, map, fold, filter_map, Option, Some, None, is_some}
 use Rattle.std.specs.List.{All, after_last, list_any}
 use Rattle.std.specs.Option.{option_eq}
 use Rattle.link_base.specs.Limits.{NAME_LIMIT}
@@ -20,10 +20,9 @@ use Rattle.export_tables.specs.declared.error.ExportError.TheVariants as error
 use Rattle.export_tables.specs.declared.row.ExportRow.{ExportRow}
 use Rattle.export_tables.specs.declared.row.ExportTo.{ExportTo}
 use Rattle.export_tables.specs.declared.row.ExportTo.TheVariants.{Rva, Forward}
-use Rattle.export_tables.specs.ExportTable.{DLL_LIMIT, table_size}
+use Rattle.export_tables.specs.ExportTable.{DLL_LIMIT, AreNumbered, table_size}
 use Rattle.export_tables.specs.ReadBack.{HasNoNul}
 use Rattle.export_tables.specs.Ordinals.{row_at, ordinals_of, ordinal_fault}
-use Rattle.link_exports.specs.declared.exports.LinkExports.{LinkExports}
 
 -- ---- what is exported
 
@@ -66,20 +65,16 @@ refused_rows rows None = None
 refused_rows rows (Some told) = refused_row rows told
 
 -- the first that is wrong with the ordinals of exports
-abbrev pub numbers_fault : LinkOptions → List ModuleView → Option Fault
-numbers_fault options modules = refused_rows (export_rows options modules) (ordinal_fault (export_rows options modules))
+unfoldable pub numbers_fault : List Export → Option Fault
+numbers_fault rows = refused_rows rows (ordinal_fault rows)
 
-abbrev pub ordinals_if : Bool → List Export → List ℕ
-ordinals_if wrong rows = if wrong then [] else ordinals_of rows
-
--- the ordinals of the exports; none where something is wrong with them
-abbrev pub export_ordinals : LinkOptions → List ModuleView → List ℕ
-export_ordinals options modules =
-    ordinals_if (is_some (ordinal_fault (export_rows options modules))) (export_rows options modules)
+-- the ordinals; none where something is wrong with them
+unfoldable pub numbers_of : List Export → List ℕ
+numbers_of rows = if is_some (ordinal_fault rows) then [] else ordinals_of rows
 
 -- ---- the size of their table
 
--- what is exported, where it stands in the link at an RVA
+-- what is exported: what stands at an RVA, or what another image exports
 abbrev pub export_to : Option (List ℕ) → ℕ → ExportTo
 export_to None rva = Rva rva
 export_to (Some text) rva = Forward text
@@ -92,24 +87,35 @@ table_row row rva = record { name = row.name; ordinal = row.ordinal; noname = ro
 abbrev pub unplaced_row : Export → ExportRow
 unplaced_row row = table_row row 0
 
-abbrev pub unplaced_rows : LinkOptions → List ModuleView → List ExportRow
-unplaced_rows options modules = map unplaced_row (export_rows options modules)
-
 -- the DLL has the name of the image's file, behind the last slash
-abbrev pub dll_name : LinkOptions → List ℕ
-dll_name options = after_last is_slash options.out
+abbrev pub dll_name : List ℕ → List ℕ
+dll_name out = after_last is_slash out
 
--- without exports there is none
-abbrev pub size_of : List ExportRow → List ℕ → List ℕ → ℕ
+-- without exports there is no table
+abbrev pub size_of : List Export → List ℕ → List ℕ → ℕ
 size_of [] ordinals dll = 0
-size_of (row ∷ rows) ordinals dll = table_size (row ∷ rows) ordinals dll
+size_of (row ∷ rows) ordinals dll = table_size (map unplaced_row (row ∷ rows)) ordinals dll
 
-abbrev pub export_size : LinkOptions → List ModuleView → ℕ
-export_size options modules =
-    if is_some (ordinal_fault (export_rows options modules)) then 0
-    else size_of (unplaced_rows options modules) (export_ordinals options modules) (dll_name options)
+unfoldable pub size_if : List Export → List ℕ → ℕ
+size_if rows dll = if is_some (ordinal_fault rows) then 0 else size_of rows (numbers_of rows) dll
 
--- ---- what is known of all of them
+-- ---- all of them
+
+-- the exports of a link, the ordinal of each, what is wrong with these, the DLL's name, and the size of the table
+pub record ExportsView : Type 0 where
+  pub rows : List Export
+  pub ordinals : List ℕ
+  pub fault : Option Fault
+  pub dll : List ℕ
+  pub size : ℕ
+
+abbrev pub exports_from : List Export → List ℕ → ExportsView
+exports_from rows dll = record { rows = rows; ordinals = numbers_of rows; fault = numbers_fault rows; dll = dll; size = size_if rows dll }
+
+abbrev pub exports_of : LinkOptions → List ModuleView → ExportsView
+exports_of options modules = exports_from (export_rows options modules) (dll_name options.out)
+
+-- ---- what is known of them
 
 abbrev pub text_of : Option (List ℕ) → List ℕ
 text_of None = []
@@ -122,11 +128,8 @@ pub record CanBeTold (row : Export) : Type 0 where
   pub plain_name : HasNoNul row.name
   pub plain_forwarder : HasNoNul (text_of (forwarder row))
 
-pub record AreExports (options : LinkOptions) (modules : List ModuleView) (exports : LinkExports) : Type 0 where
-  pub rows : exports.rows.items ≡ export_rows options modules
-  pub ordinals : exports.ordinals.items ≡ export_ordinals options modules
-  pub fault : exports.fault ≡ numbers_fault options modules
-  pub size : exports.size ≡ export_size options modules
-  pub dll : length (dll_name options) ≤ DLL_LIMIT
-  pub few : length (export_rows options modules) ≤ 65535 ⊎ is_some (numbers_fault options modules) ≡ true
-  pub told : All CanBeTold (export_rows options modules)
+-- exports that a table can name
+pub record AreTold (exports : ExportsView) : Type 0 where
+  pub rows : All CanBeTold exports.rows
+  pub dll : length exports.dll ≤ DLL_LIMIT
+  pub numbered : exports.fault ≡ None → AreNumbered (map unplaced_row exports.rows) exports.ordinals

@@ -1,23 +1,28 @@
 //! The exports of a link, with their ordinals.
 
-ghost use Rattle.std.specs.Prelude.{◌≡◌, ◌≤◌, ◌<◌, ◌^◌, None, length, is_some, IfOk, OnOk};
+ghost use Rattle.std.specs.Prelude.{◌≡◌, ◌≤◌, ◌<◌, ◌^◌, None, length, map, IfOk, OnOk};
 ghost use Rattle.std.specs.List.{All};
+ghost use Rattle.std.specs.String.{string_bytes};
 ghost use Rattle.link_words.specs.Outcome.{options_said};
-ghost use Rattle.export_tables.specs.ExportTable.{DLL_LIMIT};
+ghost use Rattle.export_tables.specs.ExportTable.{DLL_LIMIT, AreNumbered};
 ghost use Rattle.export_tables.specs.Ordinals.{row_at, ordinals_of, ordinal_fault};
-ghost use Rattle.link_exports.specs.Exports.{export_rows, unplaced_row, dll_name, size_of, AreExports, CanBeTold};
+ghost use Rattle.link_exports.specs.Exports.{unplaced_row, dll_name, size_of, exports_from, exports_of, AreTold, CanBeTold};
 
 use crate::rows::{check_rows, export_rows};
 use crate::table_rows::{dll_name, unplaced_rows};
 use directives::Export;
 use export_tables::{ExportError, assign, length};
-use link_base::{ExportFault, Fault, Memory};
+use link_base::{ExportFault, Fault, Memory, NAME_LIMIT, Name};
 use link_words::Options;
 use module_view::Module;
 use std::alloc::Global;
+use std::marker::Model;
 
 /// More exports than this have no ordinals.
 const MOST_ROWS: usize = 65_535;
+
+/// The name of a DLL is at most so long: that of an image, with an extension behind a name that has none.
+const DLL_LIMIT: usize = NAME_LIMIT + 4;
 
 /// The exports of a link.
 #[derive(Drop)]
@@ -28,8 +33,18 @@ pub struct LinkExports<'a> {
     pub ordinals: Vec<u16>,
     /// What is wrong with the ordinals, where something is.
     pub fault: Option<Fault<'a>>,
+    /// The name of the image as a DLL.
+    pub dll: Vec<u8>,
     /// The size of the export table; 0 where there is none, or something is wrong with the ordinals.
     pub size: u32,
+}
+
+impl<'a> Model for LinkExports<'a> {
+    ghost use Rattle.link_exports.specs.Exports.{ExportsView};
+
+    ghost Value = { ExportsView };
+
+    ghost view = { λ exports. record { rows = exports.rows.items; ordinals = exports.ordinals.items; fault = exports.fault; dll = exports.dll.items; size = exports.size } };
 }
 
 /// The exports of a link with these options. A name of more than 32,000 bytes or with a NUL, which words and modules do not
@@ -39,31 +54,60 @@ pub fn link_exports<'a>(
     options: &Options<'a>,
     modules: &[Module<'a>],
 ) -> Result<LinkExports<'a>, Memory>
-    ensures { IfOk result (AreExports (options_said options.now) modules.now) }
+    ensures exports { IfOk result (λ exports. exports ≡ exports_of (options_said options.now) modules.now) }
+    ensures told { IfOk result AreTold }
 {
     let rows = export_rows(alloc, options, modules)?;
     check_rows(&rows)?;
-    check_dll(options)?;
+    let dll = dll_of(alloc, options)?;
+    exports_from(alloc, rows, dll)
+}
+
+/// The name of the image as a DLL.
+fn dll_of(alloc: Global, options: &Options<'_>) -> Result<Vec<u8>, Memory>
+    ensures name { IfOk result (λ dll. dll.items ≡ dll_name (string_bytes options.now.out)) }
+    ensures short { IfOk result (λ dll. length dll.items ≤ DLL_LIMIT) }
+{
+    let name = dll_name(options.out.as_bytes());
+    if name.len() > DLL_LIMIT {
+        return Err(Memory);
+    }
+    Ok(name.to_vec(alloc)?)
+}
+
+/// These exports, with their ordinals or what is wrong with these.
+#[tactic(auto, unfolding(crate::specs::Exports::numbers_of, crate::specs::Exports::numbers_fault, crate::specs::Exports::size_if))]
+fn exports_from<'a>(
+    alloc: Global,
+    rows: Vec<Export<'a>>,
+    dll: Vec<u8>,
+) -> Result<LinkExports<'a>, Memory>
+    requires told { All CanBeTold rows.items }
+    requires few { length rows.items < 2 ^ 32 }
+    requires dll { length dll.items ≤ DLL_LIMIT }
+    ensures exports { IfOk result (λ exports. exports ≡ exports_from rows.entry.items dll.entry.items) }
+    ensures told { IfOk result AreTold }
+{
     match assign(alloc, &rows) {
-        Ok(ordinals) => with_ordinals(alloc, options, rows, ordinals),
+        Ok(ordinals) => {
+            let size = size_of(alloc, &rows, &ordinals, &dll)?;
+            Ok(LinkExports {
+                rows,
+                ordinals,
+                fault: None,
+                dll,
+                size,
+            })
+        }
         Err(ExportError::Bad { row, kind }) => Ok(LinkExports {
             fault: Some(bad_export(&rows, row, kind)),
             rows,
             ordinals: Vec::new(alloc),
+            dll,
             size: 0,
         }),
         Err(ExportError::Memory) => Err(Memory),
     }
-}
-
-/// That the DLL's name can stand in a table.
-fn check_dll(options: &Options<'_>) -> Result<(), Memory>
-    ensures { OnOk result (length (dll_name (options_said options.now)) ≤ DLL_LIMIT) }
-{
-    if dll_name(options).len() > NAME_LIMIT + 4 {
-        return Err(Memory);
-    }
-    Ok(())
 }
 
 /// What is wrong with the export of an index.
@@ -77,52 +121,27 @@ fn bad_export<'a>(rows: &[Export<'a>], row: u32, kind: ExportFault) -> Fault<'a>
     Fault::BadExport { kind, name }
 }
 
-/// These exports with their ordinals.
-fn with_ordinals<'a>(
+/// The size of the table of exports that have these ordinals: without exports there is none. More of them than there are
+/// ordinals, to which none are given, would be want of memory.
+fn size_of<'a>(
     alloc: Global,
-    options: &Options<'a>,
-    rows: Vec<Export<'a>>,
-    ordinals: Vec<u16>,
-) -> Result<LinkExports<'a>, Memory>
-    requires told { All CanBeTold rows.items }
-    requires dll { length (dll_name (options_said options.now)) ≤ DLL_LIMIT }
-    requires none { ordinal_fault rows.items ≡ None }
-    requires ordinals { ordinals.items ≡ ordinals_of rows.items }
-    ensures rows { IfOk result (λ exports. exports.rows.items ≡ rows.entry.items) }
-    ensures ordinals { IfOk result (λ exports. exports.ordinals.items ≡ ordinals.entry.items) }
-    ensures fault { IfOk result (λ exports. exports.fault ≡ None) }
-    ensures size { IfOk result (λ exports. exports.size ≡ size_of (map unplaced_row rows.entry.items) ordinals.entry.items (dll_name (options_said options.now))) }
-    ensures few { OnOk result (length rows.entry.items ≤ 65535) }
-{
-    let size = table_size(alloc, options, &rows, &ordinals)?;
-    Ok(LinkExports {
-        rows,
-        ordinals,
-        fault: None,
-        size,
-    })
-}
-
-/// The size of the table of exports, of which there are at most 65,535: without exports there is none.
-fn table_size<'a>(
-    alloc: Global,
-    options: &Options<'a>,
     rows: &[Export<'a>],
     ordinals: &[u16],
+    dll: &[u8],
 ) -> Result<u32, Memory>
     requires told { All CanBeTold rows.now }
-    requires dll { length (dll_name (options_said options.now)) ≤ DLL_LIMIT }
     requires none { ordinal_fault rows.now ≡ None }
     requires ordinals { ordinals.now ≡ ordinals_of rows.now }
-    ensures size { IfOk result (λ size. size ≡ size_of (map unplaced_row rows.now) ordinals.now (dll_name (options_said options.now))) }
-    ensures few { OnOk result (length rows.now ≤ 65535) }
+    requires dll { length dll.now ≤ DLL_LIMIT }
+    ensures size { IfOk result (λ size. size ≡ size_of rows.now ordinals.now dll.now) }
+    ensures numbered { OnOk result (AreNumbered (map unplaced_row rows.now) ordinals.now) }
 {
-    if rows.is_empty() {
-        return Ok(0);
-    }
     if rows.len() > MOST_ROWS {
         return Err(Memory);
     }
+    if rows.is_empty() {
+        return Ok(0);
+    }
     let unplaced = unplaced_rows(alloc, rows)?;
-    Ok(length(&unplaced, ordinals, dll_name(options)))
+    Ok(length(&unplaced, ordinals, Name::of(dll)))
 }

@@ -1,15 +1,11 @@
 //! Exports as rows of the export table.
 
 ghost use Rattle.std.specs.Prelude.{◌≡◌, map, IfOk};
-ghost use Rattle.std.specs.List.{after_last};
-ghost use Rattle.link_words.specs.Extension.{is_slash};
-ghost use Rattle.link_words.specs.Outcome.{options_said};
 ghost use Rattle.link_exports.specs.Exports.{export_to, table_row, unplaced_row, dll_name};
 
 use directives::Export;
 use export_tables::{ExportRow, ExportTo};
-use link_base::{Memory, Name};
-use link_words::Options;
+use link_base::Memory;
 use memchr::memrchr2;
 use std::alloc::Global;
 use symbol_names::forwarder;
@@ -50,22 +46,15 @@ pub(crate) fn unplaced_rows<'a>(
     Ok(unplaced)
 }
 
-/// The name of the image as a DLL: that of its file, behind the last slash.
-pub fn dll_name<'b>(options: &'b Options<'_>) -> Name<'b>
-    ensures { result ≡ dll_name (options_said options.now) }
+/// The name of an image as a DLL: that of its file, behind the last slash.
+pub(crate) fn dll_name(out: &[u8]) -> &[u8]
+    ensures { result.now ≡ dll_name out.now }
 {
-    Name::of(after_last_slash(options.out.as_bytes()))
-}
-
-/// The part of a path behind its last slash.
-fn after_last_slash(path: &[u8]) -> &[u8]
-    ensures { result.now ≡ after_last is_slash path.now }
-{
-    match memrchr2(b'/', b'\\', path) {
+    match memrchr2(b'/', b'\\', out) {
         Some(slash) => {
-            let (_, name) = path.split_at(slash + 1);
+            let (_, name) = out.split_at(slash + 1);
             name
         }
-        None => path,
+        None => out,
     }
 }
