@@ -11,3 +11,5 @@ pub mod EntryLemmas
 pub mod FillLemmas
 pub mod WorkedTable
 pub mod LengthLemmas
+pub mod HeldLemmas
+pub mod SizeLemmas
