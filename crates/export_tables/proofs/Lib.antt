@@ -13,3 +13,5 @@ pub mod WorkedTable
 pub mod LengthLemmas
 pub mod HeldLemmas
 pub mod SizeLemmas
+pub mod StandLemmas
+pub mod DirectoryLemmas
