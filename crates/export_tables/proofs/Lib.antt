@@ -15,3 +15,5 @@ pub mod HeldLemmas
 pub mod SizeLemmas
 pub mod StandLemmas
 pub mod DirectoryLemmas
+pub mod RowLemmas
+pub mod AddressLemmas
