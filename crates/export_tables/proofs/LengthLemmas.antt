@@ -15,31 +15,31 @@ use Rattle.export_tables.specs.ExportTable.{least, address_count, targets_of, na
 use Rattle.export_tables.proofs.TargetLemmas.{length_targets}
 use Rattle.export_tables.proofs.FillLemmas.{parts_size}
 
-directory_len : (directory : Directory) → length (fields (directory_fields directory)) ≡ 40
+pub directory_len : (directory : Directory) → length (fields (directory_fields directory)) ≡ 40
 unfolding number_bytes
 directory_len directory = refl
 
-numbers_len : (numbers : List ℕ) → length (flat_map (number_bytes 4) numbers) ≡ 4 * length numbers
+pub numbers_len : (numbers : List ℕ) → length (flat_map (number_bytes 4) numbers) ≡ 4 * length numbers
 numbers_len [] = refl
 numbers_len (n ∷ numbers) =
     omega (arith, length-append (number_bytes 4 n) (flat_map (number_bytes 4) numbers), length-number_bytes 4 n, numbers_len numbers)
 
-addresses_len : (start : ℕ) (targets : List (Option ExportTo)) (count : ℕ) → length (addresses start targets count) ≡ 4 * count
+pub addresses_len : (start : ℕ) (targets : List (Option ExportTo)) (count : ℕ) → length (addresses start targets count) ≡ 4 * count
 unfolding addresses
 addresses_len start targets count =
     omega (arith, numbers_len (map (address_at start targets) (range_with_len 0 count)), length-map-range_with_len (address_at start targets) 0 count)
 
-rvas_len : (start : ℕ) (names : List NameEntry) (count : ℕ) → length (name_rvas start names count) ≡ 4 * count
+pub rvas_len : (start : ℕ) (names : List NameEntry) (count : ℕ) → length (name_rvas start names count) ≡ 4 * count
 unfolding name_rvas
 rvas_len start names count =
     omega (arith, numbers_len (map (text_rva name_size start names) (range_with_len 0 count)), length-map-range_with_len (text_rva name_size start names) 0 count)
 
-indexes_len : (names : List NameEntry) → length (flat_map index_bytes names) ≡ 2 * length names
+pub indexes_len : (names : List NameEntry) → length (flat_map index_bytes names) ≡ 2 * length names
 indexes_len [] = refl
 indexes_len (name ∷ names) =
     omega (arith, length-append (index_bytes name) (flat_map index_bytes names), length-number_bytes 2 name.index, indexes_len names)
 
-names_len : (names : List NameEntry) → length (flat_map name_bytes names) ≡ sum_by name_size names
+pub names_len : (names : List NameEntry) → length (flat_map name_bytes names) ≡ sum_by name_size names
 names_len [] = refl
 names_len (name ∷ names) =
     omega (arith, length-append (name_bytes name) (flat_map name_bytes names), length-append name.name (0 ∷ []), names_len names, sum_by-cons name_size name names)
@@ -49,12 +49,12 @@ target_len None = refl
 target_len (Some (Rva rva)) = refl
 target_len (Some (Forward text)) = length-append text (0 ∷ [])
 
-targets_len : (targets : List (Option ExportTo)) → length (flat_map target_bytes targets) ≡ sum_by target_size targets
+pub targets_len : (targets : List (Option ExportTo)) → length (flat_map target_bytes targets) ≡ sum_by target_size targets
 targets_len [] = refl
 targets_len (target ∷ targets) =
     omega (arith, length-append (target_bytes target) (flat_map target_bytes targets), target_len target, targets_len targets, sum_by-cons target_size target targets)
 
-tables_len : (directory : Directory) (names_rva forwarders_rva : ℕ) (targets : List (Option ExportTo)) (names : List NameEntry) → length (tables_bytes directory names_rva forwarders_rva targets names) ≡ 40 + 4 * length targets + 6 * length names
+pub tables_len : (directory : Directory) (names_rva forwarders_rva : ℕ) (targets : List (Option ExportTo)) (names : List NameEntry) → length (tables_bytes directory names_rva forwarders_rva targets names) ≡ 40 + 4 * length targets + 6 * length names
 unfolding tables_bytes
 tables_len directory names_rva forwarders_rva targets names =
     let first = length-append (fields (directory_fields directory)) (addresses forwarders_rva targets (length targets) ++ (name_rvas names_rva names (length names) ++ flat_map index_bytes names)) in

@@ -11,3 +11,9 @@ pub mod EntryLemmas
 pub mod FillLemmas
 pub mod WorkedTable
 pub mod LengthLemmas
+pub mod HeldLemmas
+pub mod SizeLemmas
+pub mod StandLemmas
+pub mod DirectoryLemmas
+pub mod RowLemmas
+pub mod AddressLemmas

@@ -1,11 +1,15 @@
 -- The table of a DLL `c.dll` at RVA 0x2000, which exports what stands at 0x1000 as `api` and by the ordinal 1; and that of
 -- `a.dll`, which exports a forwarder by the name `a` and the ordinal 6, and what stands at 0x1000 by the ordinal 5 alone.
-use Rattle.std.proofs.Common.{◌≡◌, List, [], ◌∷◌, ◌++◌, Some, None, true, false, refl, codes}
-use Rattle.link_base.specs.Bytes.{number_bytes}
+use Rattle.std.proofs.Common.{◌≡◌, ℕ, List, [], ◌∷◌, ◌++◌, Some, None, true, false, refl, codes}
+use Rattle.link_base.specs.Bytes.{number_at, number_bytes}
+use Rattle.link_base.specs.Refusals.{first_refusal_below}
 use Rattle.export_tables.specs.declared.row.ExportRow.{ExportRow}
 use Rattle.export_tables.specs.declared.row.ExportTo.TheVariants.{Rva, Forward}
+use Rattle.export_tables.specs.declared.exported.Exported.TheVariants as exported
 use Rattle.export_tables.specs.Order.{inserted, in_order}
+use Rattle.export_tables.specs.ExportDirectory.{directory_in, is_export, entry_address, ordinal_address, is_named, named_address, name_address, export_of_ordinal, export_of_name}
 use Rattle.export_tables.specs.ExportTable.{target_in, targets_in, entries_before, names_of, rows_size, table_size, text_rva, addresses, name_rvas, tables_bytes, texts_bytes, export_table}
+use Rattle.export_tables.specs.ReadBack.{exported_name, exported_ordinal}
 
 one : List ExportRow
 one = record { name = codes "api"; ordinal = None; noname = false; what = Rva 0x1000 } ∷ []
@@ -36,3 +40,34 @@ two_table : export_table two (6 ∷ 5 ∷ []) (codes "a.dll") 0x2000
     0x00 ∷ 0x10 ∷ 0 ∷ 0 ∷ 0x3E ∷ 0x20 ∷ 0 ∷ 0 ∷ 0x3C ∷ 0x20 ∷ 0 ∷ 0 ∷ 1 ∷ 0 ∷ codes "a.dll" ++ 0 ∷ codes "a" ++ 0 ∷ codes "k.f" ++ 0 ∷ []
 unfolding two target_in targets_in inserted in_order entries_before names_of rows_size table_size text_rva number_bytes addresses name_rvas tables_bytes texts_bytes export_table
 two_table = refl
+
+-- what is found of the second: a name, none by the name of a row that has its ordinal alone, and both ordinals
+
+name_found : exported_name two (codes "a") ≡ exported.Forward (codes "k.f")
+unfolding two exported_name
+name_found = refl
+
+noname_missing : exported_name two (codes "main") ≡ exported.Missing
+unfolding two exported_name
+noname_missing = refl
+
+ordinal_found : exported_ordinal two (6 ∷ 5 ∷ []) 5 ≡ exported.Address 0x1000
+unfolding two exported_ordinal
+ordinal_found = refl
+
+ordinal_missing : exported_ordinal two (6 ∷ 5 ∷ []) 7 ≡ exported.Missing
+unfolding two exported_ordinal
+ordinal_missing = refl
+
+-- and in the bytes of its table, where they stand at RVA 0
+
+second : List ℕ
+second = export_table two (6 ∷ 5 ∷ []) (codes "a.dll") 0
+
+name_read : export_of_name second 0 0x42 (codes "a") ≡ exported_name two (codes "a")
+unfolding second two target_in targets_in inserted in_order entries_before names_of rows_size table_size text_rva number_at number_bytes addresses name_rvas tables_bytes texts_bytes export_table first_refusal_below directory_in is_export entry_address is_named named_address name_address export_of_name exported_name
+name_read = refl
+
+ordinal_read : export_of_ordinal second 0 0x42 5 ≡ exported_ordinal two (6 ∷ 5 ∷ []) 5
+unfolding second two target_in targets_in inserted in_order entries_before names_of rows_size table_size text_rva number_at number_bytes addresses name_rvas tables_bytes texts_bytes export_table directory_in is_export entry_address ordinal_address export_of_ordinal exported_ordinal
+ordinal_read = refl
