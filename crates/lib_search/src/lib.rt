@@ -5,6 +5,7 @@
 #![tactic(auto)]
 
 mod alternates;
+mod asked;
 mod join;
 mod library;
 mod link_list;
@@ -13,6 +14,7 @@ mod open;
 mod search;
 mod searched;
 
+pub use asked::asked_names;
 pub use link_list::{LinkList, complete};
 
 #[cfg(test)]

@@ -1,22 +1,22 @@
 //! The search of libraries: which member joins next, and how it joins.
 
 ghost use Rattle.std.specs.Prelude.{◌≡◌, ◌≤◌, ◌<◌, ◌∷◌, [], None, length, IfOk, OnOk, IfErr, IfSome};
-ghost use Rattle.std.specs.List.{cons_option};
 ghost use Rattle.link_base.specs.Limits.{MODULE_LIMIT as most_modules};
 ghost use Rattle.link_base.specs.Refusals.{RefusesFor};
 ghost use Rattle.link_words.specs.Outcome.{options_said};
 ghost use Rattle.symbol_names.specs.Alternates.{all_alternates};
 ghost use Rattle.symbol_names.specs.References.{all_asked};
 ghost use Rattle.lib_search.specs.AlternateParts.{KeepsAlternates, KeepsSearch};
-ghost use Rattle.lib_search.specs.LinkOf.{asked_words, link_of};
+ghost use Rattle.lib_search.specs.LinkOf.{link_of};
 ghost use Rattle.lib_search.specs.SearchSteps.{member_by_reference, member_by_alternate, next_member, join_fault, member_at, with_member, with_library};
 ghost use Rattle.lib_search.specs.SearchParts.{IsFresh};
 
 use crate::alternates::Alternates;
+use crate::asked::asked_words;
 use crate::library::OpenLibrary;
 use crate::open::{OpenInputs, push_module};
 use crate::searched::Searched;
-use link_base::{Memory, Name, Refusal};
+use link_base::{Memory, Refusal};
 use link_words::Options;
 use module_view::Module;
 use std::alloc::Global;
@@ -200,30 +200,4 @@ fn table_of<'a>(
         table.add_module(module)?;
     }
     Ok(table)
-}
-
-/// The names that the command line asks for: the entry, where there is one, and those that it includes.
-fn asked_words<'a>(alloc: Global, options: &Options<'a>) -> Result<Vec<Name<'a>>, Memory>
-    ensures { IfOk result (λ words. words.items ≡ asked_words (options_said options.now)) }
-{
-    let mut words = entry_word(alloc, &options.entry)?;
-    words.reserve(options.includes.len())?;
-    for name in &options.includes {
-        words.push(name.again())?;
-    }
-    Ok(words)
-}
-
-/// The name of the entry, where there is one.
-fn entry_word<'a>(alloc: Global, entry: &Option<Name<'a>>) -> Result<Vec<Name<'a>>, Memory>
-    ensures { IfOk result (λ words. words.items ≡ cons_option entry.now []) }
-{
-    let mut words = Vec::new(alloc);
-    match entry {
-        Some(name) => {
-            words.push(name.again())?;
-            Ok(words)
-        }
-        None => Ok(words),
-    }
 }

@@ -9,7 +9,7 @@ use Rattle.relocate.specs.Judged.{AreTheFields}
 use Rattle.relocate.specs.PatchedBytes.{is_based}
 use Rattle.relocate.proofs.OrderLemmas.{IsAmong}
 use Rattle.relocate.proofs.CallerLemmas.{based_width, field_among, among_fields}
-use Rattle.symbol_names.specs.LinkView.{LinkView}
+use Rattle.link_pieces.specs.LinkParts.{LinkParts}
 use Rattle.link_pieces.specs.Pieces.{link_pieces}
 use Rattle.link_plan.specs.Fixes.{piece_fixes, HaveFields}
 use Rattle.link_image.specs.BaseFields.{piece_holds_address, holds_address}
@@ -72,7 +72,7 @@ any_from test at (x ∷ xs) d start same =
     one_more : (n k : ℕ) → n + suc k ≡ n + 1 + k
     one_more n k = omega arith
 
-pub held_addresses : (link : LinkView) (fixups : List (List Fix)) (count : ℕ) → count ≡ length (link_pieces link) → HaveFields link count fixups → list_any (λ fixes. list_any is_based fixes) fixups ≡ holds_address link
+pub held_addresses : (link : LinkParts) (fixups : List (List Fix)) (count : ℕ) → count ≡ length (link_pieces link) → HaveFields link count fixups → list_any (λ fixes. list_any is_based fixes) fixups ≡ holds_address link
 unfolding holds_address
 held_addresses link fixups count same fields =
     any_from (λ fixes. list_any is_based fixes) (piece_holds_address link) fixups [] 0 (λ k lt. same_piece (piece_fixes link k) (get_or fixups k []) (fields.fields k (omega (arith, lt, fields.for_each))) ∙ ap (piece_holds_address link) (none_more k))

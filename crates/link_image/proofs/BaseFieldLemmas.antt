@@ -16,7 +16,7 @@ use Rattle.relocate.specs.declared.fix.Fix.{Fix}
 use Rattle.relocate.specs.Field.{field_end, has_field, no_fix, fix_at}
 use Rattle.relocate.specs.PatchedBytes.{is_based}
 use Rattle.relocate.proofs.CallerLemmas.{ends_within, based_width, among_fields}
-use Rattle.symbol_names.specs.LinkView.{LinkView}
+use Rattle.link_pieces.specs.LinkParts.{LinkParts}
 use Rattle.link_pieces.specs.Pieces.{link_pieces}
 use Rattle.link_plan.specs.Fixes.{HaveFields, piece_fixes}
 use Rattle.link_image.specs.BaseFields.{base_field, IsBaseField, AreBaseFields}
@@ -76,7 +76,7 @@ has_its_field fix based =
 
 -- ---- the fields of a link
 
-module _ (link : LinkView) (pieces : List Piece) (fixups : List (List Fix)) (sections : List OutSection) (reloc : Bool) (layout : Layout)
+module _ (link : LinkParts) (pieces : List Piece) (fixups : List (List Fix)) (sections : List OutSection) (reloc : Bool) (layout : Layout)
     (count : length pieces ≡ length (link_pieces link))
     (fields : HaveFields link (length pieces) fixups)
     (sizes : (k : ℕ) → k < length pieces → length (contents_at link layout k) ≤ (get_or pieces k no_piece).size)

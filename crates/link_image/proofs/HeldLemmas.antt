@@ -22,7 +22,7 @@ use Rattle.import_tables.specs.ImportTables.{tables_of as import_tables_of}
 use Rattle.import_tables.proofs.SizeLemmas.{sizes_kept}
 use Rattle.image_writer.specs.WrittenImage.{HaveRoom}
 use Rattle.synthetic_sections.specs.LinkerPieces.{FIRST_THUNK, size_at}
-use Rattle.symbol_names.specs.LinkView.{LinkView}
+use Rattle.link_pieces.specs.LinkParts.{LinkParts}
 use Rattle.link_imports.specs.Imports.{import_rows, import_sizes}
 use Rattle.link_pieces.specs.LinkerPieces.{is_table}
 use Rattle.link_pieces.specs.Pieces.{link_pieces, link_contents}
@@ -37,19 +37,19 @@ use Rattle.link_image.specs.Steps.{HoldTables, IsHeld}
 
 -- ---- by what a piece is
 
-pub table_contents : (link : LinkView) (layout : Layout) (k : ℕ) → is_table (length link.modules) (piece_at link k) ≡ true → contents_at link layout k ≡ get_or (import_tables_at link layout) (piece_at link k).number []
+pub table_contents : (link : LinkParts) (layout : Layout) (k : ℕ) → is_table (length link.modules) (piece_at link k) ≡ true → contents_at link layout k ≡ get_or (import_tables_at link layout) (piece_at link k).number []
 unfolding contents_at
 table_contents link layout k table =
     ap (λ (b : Bool). cond b (get_or (import_tables_at link layout) (piece_at link k).number []) (get_or (link_contents link) k [])) table
 
-pub other_contents : (link : LinkView) (layout : Layout) (k : ℕ) → is_table (length link.modules) (piece_at link k) ≡ false → contents_at link layout k ≡ get_or (link_contents link) k []
+pub other_contents : (link : LinkParts) (layout : Layout) (k : ℕ) → is_table (length link.modules) (piece_at link k) ≡ false → contents_at link layout k ≡ get_or (link_contents link) k []
 unfolding contents_at
 other_contents link layout k other =
     ap (λ (b : Bool). cond b (get_or (import_tables_at link layout) (piece_at link k).number []) (get_or (link_contents link) k [])) other
 
 -- ---- the length of a table
 
-pub length-table : (link : LinkView) (layout : Layout) (number : ℕ) → length (get_or (import_tables_at link layout) number []) ≡ size_at (import_sizes link.modules) number
+pub length-table : (link : LinkParts) (layout : Layout) (number : ℕ) → length (get_or (import_tables_at link layout) number []) ≡ size_at (import_sizes link.modules) number
 unfolding import_tables_at
 length-table link layout number =
     let rows = import_rows link.modules in
@@ -63,7 +63,7 @@ not_below : (n : ℕ) → ltb n n ≡ false
 not_below n = grind arith
 
 -- an import table has none
-pub table_fixes : (link : LinkView) (k : ℕ) → is_table (length link.modules) (piece_at link k) ≡ true → piece_fixes link k ≡ []
+pub table_fixes : (link : LinkParts) (k : ℕ) → is_table (length link.modules) (piece_at link k) ≡ true → piece_fixes link k ≡ []
 table_fixes link k table =
     let piece = piece_at link k in
     let both = and_parts (eqb piece.«module» (length link.modules)) (ltb piece.number FIRST_THUNK) table in
@@ -81,7 +81,7 @@ nothing_patchable len = record {
 }
 
 -- fields that are judged for a piece without a place can be patched where it has one
-pub patchable_at : (link : LinkView) (layout : Layout) (fixups : List (List Fix)) (count : ℕ) → HaveFields link count fixups → (k : ℕ) → k < count → ArePatchable (length (contents_at link layout k)) (get_or fixups k [])
+pub patchable_at : (link : LinkParts) (layout : Layout) (fixups : List (List Fix)) (count : ℕ) → HaveFields link count fixups → (k : ℕ) → k < count → ArePatchable (length (contents_at link layout k)) (get_or fixups k [])
 patchable_at link layout fixups count have k lt = by (is_table (length link.modules) (piece_at link k)) refl
   where
     by : (b : Bool) → is_table (length link.modules) (piece_at link k) ≡ b → ArePatchable (length (contents_at link layout k)) (get_or fixups k [])
@@ -182,15 +182,15 @@ have_room_for pieces rest sections contents tables others same held holds within
 
 -- ---- the contents of all pieces
 
-pub length-placed : (link : LinkView) (layout : Layout) → length (placed_contents link layout) ≡ length (link_pieces link)
+pub length-placed : (link : LinkParts) (layout : Layout) → length (placed_contents link layout) ≡ length (link_pieces link)
 unfolding placed_contents
 length-placed link layout = length-map-range_with_len (contents_at link layout) 0 (length (link_pieces link))
 
-pub placed_read : (link : LinkView) (layout : Layout) (k : ℕ) → k < length (link_pieces link) → get_or (placed_contents link layout) k [] ≡ contents_at link layout k
+pub placed_read : (link : LinkParts) (layout : Layout) (k : ℕ) → k < length (link_pieces link) → get_or (placed_contents link layout) k [] ≡ contents_at link layout k
 unfolding placed_contents
 placed_read link layout k lt = get_or-map-range_with_len (contents_at link layout) 0 (length (link_pieces link)) k k [] lt (omega arith)
 
 -- what holds of what each piece holds
-pub placed_held : (link : LinkView) (layout : Layout) (pieces : List Piece) → length pieces ≡ length (link_pieces link) → ((k : ℕ) → k < length pieces → IsHeld (get_or pieces k no_piece) (contents_at link layout k)) → (k : ℕ) → k < length pieces → IsHeld (get_or pieces k no_piece) (get_or (placed_contents link layout) k [])
+pub placed_held : (link : LinkParts) (layout : Layout) (pieces : List Piece) → length pieces ≡ length (link_pieces link) → ((k : ℕ) → k < length pieces → IsHeld (get_or pieces k no_piece) (contents_at link layout k)) → (k : ℕ) → k < length pieces → IsHeld (get_or pieces k no_piece) (get_or (placed_contents link layout) k [])
 placed_held link layout pieces same held k lt =
     subst (IsHeld (get_or pieces k no_piece)) (sym (placed_read link layout k (omega (arith, lt, same)))) (held k lt)

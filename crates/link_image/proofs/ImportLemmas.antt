@@ -25,7 +25,7 @@ use Rattle.image_writer.specs.ExpectedImage.{ImagePlan, MeansPlan, permits, expe
 use Rattle.image_writer.specs.HeaderTable.{size_of_headers}
 use Rattle.image_writer.specs.WrittenImage.{written_plan, layout_plan}
 use Rattle.synthetic_sections.specs.LinkerPieces.{size_at}
-use Rattle.symbol_names.specs.LinkView.{LinkView}
+use Rattle.link_pieces.specs.LinkParts.{LinkParts}
 use Rattle.link_imports.specs.Imports.{import_rows, import_sizes}
 use Rattle.link_pieces.specs.PieceIndex.{linker_index}
 use Rattle.link_pieces.proofs.CallerLemmas.{table_there}
@@ -48,11 +48,11 @@ use Rattle.link_image.proofs.TableLemmas.{IsTableAt, found_table}
 
 -- ---- every import table that has bytes is made
 
-abbrev AreMade : LinkView → Type 0
+abbrev AreMade : LinkParts → Type 0
 AreMade link =
     (number : ℕ) → number < 5 → 0 < size_at (import_sizes link.modules) number → (k : ℕ) × (linker_index link number ≡ Some k)
 
-pub are_made : (link : LinkView) → AreMade link
+pub are_made : (link : LinkParts) → AreMade link
 are_made link number few sized = by (linker_index link number) refl
   where
     by : (place : Option ℕ) → linker_index link number ≡ place → (k : ℕ) × (linker_index link number ≡ Some k)
@@ -142,7 +142,7 @@ extent_rva pieces rvas (Some k) = refl
 module _ (options : LinkOptions) (plan : LinkPlan) (placement : Placement) (owner : List ℕ) (planned : IsPlanOf options plan.names plan) (placed : IsPlaced options plan placement)
     (ready : IsReady plan.names plan.pieces.items plan.fixes.items placement.sections.items placement.layout owner (reloc_tables placement.table))
     (headers : Headers) where
-  abbrev link : LinkView
+  abbrev link : LinkParts
   link = plan.names
 
   abbrev layout : Layout

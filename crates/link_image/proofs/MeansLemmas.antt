@@ -26,7 +26,7 @@ use Rattle.image_writer.proofs.PieceInFileLemmas.{pieces_link}
 use Rattle.image_writer.proofs.TableLemmas.{length-section_rows}
 use Rattle.image_writer.proofs.CallerLemmas.{stays_means, moves_means}
 use Rattle.relocate.specs.Field.{fix_at}
-use Rattle.symbol_names.specs.LinkView.{LinkView}
+use Rattle.link_pieces.specs.LinkParts.{LinkParts}
 use Rattle.link_pieces.specs.Pieces.{link_pieces}
 use Rattle.link_words.specs.Outcome.{LinkOptions}
 use Rattle.link_plan.specs.declared.entry.EntryPlace.{EntryPlace}
@@ -85,7 +85,7 @@ grown len = go (eqb len 0) refl
 
 -- ---- fields by RVAs that agree
 
-fields_agree : (link : LinkView) (rvas other : List ℕ) (fields : List BaseField) → ((k : ℕ) → k < length (link_pieces link) → get_or rvas k 0 ≡ get_or other k 0) → AreBaseFields link rvas fields → AreBaseFields link other fields
+fields_agree : (link : LinkParts) (rvas other : List ℕ) (fields : List BaseField) → ((k : ℕ) → k < length (link_pieces link) → get_or rvas k 0 ≡ get_or other k 0) → AreBaseFields link rvas fields → AreBaseFields link other fields
 fields_agree link rvas other fields same are = record {
   ascending = are.ascending;
   apart = are.apart;
@@ -107,7 +107,7 @@ fields_agree link rvas other fields same are = record {
 
 module _ (options : LinkOptions) (plan : LinkPlan) (placement : Placement) (owner : List ℕ) (planned : IsPlanOf options plan.names plan) (placed : IsPlaced options plan placement)
     (ready : IsReady plan.names plan.pieces.items plan.fixes.items placement.sections.items placement.layout owner (reloc_tables placement.table)) where
-  abbrev link : LinkView
+  abbrev link : LinkParts
   link = plan.names
 
   abbrev sections : List OutSection

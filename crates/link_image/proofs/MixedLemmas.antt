@@ -8,14 +8,14 @@ use Rattle.section_group.specs.Uniqueness.{SectionRow}
 use Rattle.address_layout.specs.declared.layout.Layout.{Layout}
 use Rattle.relocate.proofs.CallerLemmas.{length_patched}
 use Rattle.image_writer.specs.PieceInFile.{DiffersAt}
-use Rattle.symbol_names.specs.LinkView.{LinkView}
+use Rattle.link_pieces.specs.LinkParts.{LinkParts}
 use Rattle.link_pieces.specs.Pieces.{link_pieces}
 use Rattle.link_plan.specs.Fixes.{piece_fixes}
 use Rattle.link_image.specs.LinkedBytes.{owners_in, contents_at, placed_contents, linked_bytes, linked_contents}
 use Rattle.link_image.specs.Steps.{mixed_at, mixed_contents}
 use Rattle.link_image.proofs.HeldLemmas.{length-placed, placed_read}
 
-module _ (link : LinkView) (rows : List SectionRow) (layout : Layout) (base : ℕ) where
+module _ (link : LinkParts) (rows : List SectionRow) (layout : Layout) (base : ℕ) where
   abbrev total : ℕ
   total = length (link_pieces link)
 

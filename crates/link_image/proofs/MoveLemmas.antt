@@ -26,7 +26,7 @@ use Rattle.relocate.proofs.CallerLemmas.{bytes_moved, byte_stays, ends_within, b
 use Rattle.image_writer.specs.WrittenImage.{HaveRoom}
 use Rattle.image_writer.specs.MovedContents.{HaveOneLength, IsMoved, AreMoved}
 use Rattle.image_writer.specs.PieceInFile.{piece_at}
-use Rattle.symbol_names.specs.LinkView.{LinkView}
+use Rattle.link_pieces.specs.LinkParts.{LinkParts}
 use Rattle.link_pieces.specs.Pieces.{link_pieces}
 use Rattle.link_plan.specs.Fixes.{piece_fixes, HaveFields}
 use Rattle.link_plan.proofs.CallerLemmas.{plan_count}
@@ -62,7 +62,7 @@ outside_fix rva t fix based (inr behind) = inr (let w = width_is rva fix based i
 
 -- ---- what is ready
 
-module _ (link : LinkView) (pieces : List Piece) (fixups : List (List Fix)) (sections : List OutSection) (layout : Layout) (owner : List ℕ) (tables : List (List ℕ)) (ready : IsReady link pieces fixups sections layout owner tables) where
+module _ (link : LinkParts) (pieces : List Piece) (fixups : List (List Fix)) (sections : List OutSection) (layout : Layout) (owner : List ℕ) (tables : List (List ℕ)) (ready : IsReady link pieces fixups sections layout owner tables) where
   abbrev rows : List SectionRow
   rows = rows_of sections
 

@@ -17,7 +17,7 @@ use Rattle.relocate.specs.Value.{IsOutside as IsOutsideFix}
 use Rattle.relocate.specs.PatchedBytes.{is_based, HaveNoBased}
 use Rattle.relocate.proofs.OrderLemmas.{IsAmong}
 use Rattle.relocate.proofs.CallerLemmas.{length_patched, bytes_stay, fields_suited, field_moved, byte_stays, based_width, field_among, among_fields}
-use Rattle.symbol_names.specs.LinkView.{LinkView}
+use Rattle.link_pieces.specs.LinkParts.{LinkParts}
 use Rattle.link_pieces.specs.Pieces.{link_pieces}
 use Rattle.link_plan.specs.Fixes.{piece_fixes, HaveFields}
 use Rattle.link_image.specs.BaseFields.{piece_holds_address, holds_address}
@@ -26,7 +26,7 @@ use Rattle.link_image.proofs.HeldLemmas.{patchable_at}
 
 -- ---- the contents of a piece and a table
 
-module _ (link : LinkView) (rows : List SectionRow) (layout : Layout) (base : ℕ) where
+module _ (link : LinkParts) (rows : List SectionRow) (layout : Layout) (base : ℕ) where
   abbrev total : ℕ
   total = length (link_pieces link)
 
@@ -73,7 +73,7 @@ based_has_field fix based = lt-ltb 0 (field_width fix.kind) (based_some fix base
 
 -- ---- judged fields
 
-module _ (link : LinkView) (fixups : List (List Fix)) (rows : List SectionRow) (layout : Layout) (have : HaveFields link (length (link_pieces link)) fixups) where
+module _ (link : LinkParts) (fixups : List (List Fix)) (rows : List SectionRow) (layout : Layout) (have : HaveFields link (length (link_pieces link)) fixups) where
   abbrev count : ℕ
   count = length (link_pieces link)
 

@@ -28,7 +28,7 @@ use Rattle.link_base.specs.declared.fault.Fault.{Fault}
 use Rattle.section_group.specs.PieceContents.{piece_contents}
 use Rattle.image_writer.specs.WrittenImage.{section_rows, written_plan, layout_plan, IsLaidOut}
 use Rattle.image_writer.proofs.CallerLemmas.{laid_out, appended_laid_out}
-use Rattle.symbol_names.specs.LinkView.{LinkView}
+use Rattle.link_pieces.specs.LinkParts.{LinkParts}
 use Rattle.link_plan.specs.Plan.{merges_of}
 use Rattle.link_plan.specs.Fixes.{plan_pieces}
 use Rattle.link_words.specs.Outcome.{LinkOptions}
@@ -51,7 +51,7 @@ use Rattle.link_image.proofs.HeldLemmas.{held_at}
 -- ---- pieces without their bytes
 
 -- the grouping of the pieces of a plan is that of the modules
-pub grouped_modules : (options : LinkOptions) (link : LinkView) (pieces : List Piece) (sections : List OutSection) → map bare pieces ≡ plan_pieces options link → AreGrouped options link pieces sections → AreGrouped options link (plan_pieces options link) sections
+pub grouped_modules : (options : LinkOptions) (link : LinkParts) (pieces : List Piece) (sections : List OutSection) → map bare pieces ≡ plan_pieces options link → AreGrouped options link pieces sections → AreGrouped options link (plan_pieces options link) sections
 grouped_modules options link pieces sections are grouped =
     let used : replicate (length pieces) true ≡ replicate (length (map bare pieces)) true = ap (λ (n : ℕ). replicate n true) (sym (length-map pieces bare)) in
     let bared = subst (λ (u : List Bool). IsGrouping (input_from (map bare pieces) u (merges_of options link)) sections) used (grouping_bare pieces (replicate (length pieces) true) (merges_of options link) sections grouped.grouping) in
@@ -60,7 +60,7 @@ grouped_modules options link pieces sections are grouped =
       grouping = subst (λ (ps : List Piece). IsGrouping (link_input options link ps) sections) are bared;
     }
 
-pub placed_modules : (options : LinkOptions) (link : LinkView) (pieces : List Piece) (sections : List OutSection) (reloc : Bool) (layout : Layout) → map bare pieces ≡ plan_pieces options link → ArePlaced pieces sections reloc layout → ArePlaced (plan_pieces options link) sections reloc layout
+pub placed_modules : (options : LinkOptions) (link : LinkParts) (pieces : List Piece) (sections : List OutSection) (reloc : Bool) (layout : Layout) → map bare pieces ≡ plan_pieces options link → ArePlaced pieces sections reloc layout → ArePlaced (plan_pieces options link) sections reloc layout
 placed_modules options link pieces sections reloc layout are placed = record {
   layout_of = subst (λ (ps : List Piece). IsLayout ps sections reloc layout) are (layout_bare pieces sections reloc layout placed.layout_of);
   few = placed.few;
@@ -70,15 +70,15 @@ placed_modules options link pieces sections reloc layout are placed = record {
 
 -- ---- each piece stands once
 
-pub standing : (options : LinkOptions) (link : LinkView) (pieces : List Piece) (sections : List OutSection) → AreGrouped options link pieces sections → StandOnce pieces sections
+pub standing : (options : LinkOptions) (link : LinkParts) (pieces : List Piece) (sections : List OutSection) → AreGrouped options link pieces sections → StandOnce pieces sections
 standing options link pieces sections grouped = stand_once (link_input options link pieces) sections grouped.grouping
 
 -- ---- why there is no image
 
-pub bad_merge : (options : LinkOptions) (link : LinkView) (name : List ℕ) → NamesFirstBad (merges_of options link) name → IsBuildFault options link (faults.BadMerge name)
+pub bad_merge : (options : LinkOptions) (link : LinkParts) (name : List ℕ) → NamesFirstBad (merges_of options link) name → IsBuildFault options link (faults.BadMerge name)
 bad_merge options link name named = inl (record { name = name; named = named; is = refl })
 
-pub too_many : (options : LinkOptions) (link : LinkView) (pieces : List Piece) (sections : List OutSection) (reloc : Bool) (count : ℕ) → map bare pieces ≡ plan_pieces options link → AreGrouped options link pieces sections → reloc ≡ is_relocated options link → IsPlaceRefusal pieces sections reloc (bad.TooManySections count) → IsBuildFault options link (faults.TooManySections count)
+pub too_many : (options : LinkOptions) (link : LinkParts) (pieces : List Piece) (sections : List OutSection) (reloc : Bool) (count : ℕ) → map bare pieces ≡ plan_pieces options link → AreGrouped options link pieces sections → reloc ≡ is_relocated options link → IsPlaceRefusal pieces sections reloc (bad.TooManySections count) → IsBuildFault options link (faults.TooManySections count)
 too_many options link pieces sections reloc count are grouped same refused =
     inr (inl (record {
       sections = sections;
@@ -88,7 +88,7 @@ too_many options link pieces sections reloc count are grouped same refused =
       is = refl;
     }))
 
-pub too_large : (options : LinkOptions) (link : LinkView) (pieces : List Piece) (sections : List OutSection) (reloc : Bool) (size : ℕ) → map bare pieces ≡ plan_pieces options link → AreGrouped options link pieces sections → reloc ≡ is_relocated options link → IsPlaceRefusal pieces sections reloc (bad.ImageTooLarge size) → IsBuildFault options link (faults.ImageTooLarge size)
+pub too_large : (options : LinkOptions) (link : LinkParts) (pieces : List Piece) (sections : List OutSection) (reloc : Bool) (size : ℕ) → map bare pieces ≡ plan_pieces options link → AreGrouped options link pieces sections → reloc ≡ is_relocated options link → IsPlaceRefusal pieces sections reloc (bad.ImageTooLarge size) → IsBuildFault options link (faults.ImageTooLarge size)
 too_large options link pieces sections reloc size are grouped same refused =
     let bared : IsPlaceRefusal (map bare pieces) sections reloc (bad.ImageTooLarge size) = (refused.0, size_bare pieces sections reloc size refused.1, refused.2) in
     inr (inr (inl (record {
@@ -99,7 +99,7 @@ too_large options link pieces sections reloc size are grouped same refused =
       is = refl;
     })))
 
-pub large_table : (options : LinkOptions) (link : LinkView) (pieces : List Piece) (sections : List OutSection) (layout : Layout) (fields : List BaseField) (size : ℕ) → map bare pieces ≡ plan_pieces options link → AreGrouped options link pieces sections → ArePlaced pieces sections true layout → is_relocated options link ≡ true → AreBaseFields link layout.pieces.items fields → IsGrowRefusal layout (length (blocks_of fields)) (bad.ImageTooLarge size) → IsBuildFault options link (faults.ImageTooLarge size)
+pub large_table : (options : LinkOptions) (link : LinkParts) (pieces : List Piece) (sections : List OutSection) (layout : Layout) (fields : List BaseField) (size : ℕ) → map bare pieces ≡ plan_pieces options link → AreGrouped options link pieces sections → ArePlaced pieces sections true layout → is_relocated options link ≡ true → AreBaseFields link layout.pieces.items fields → IsGrowRefusal layout (length (blocks_of fields)) (bad.ImageTooLarge size) → IsBuildFault options link (faults.ImageTooLarge size)
 large_table options link pieces sections layout fields size are grouped placed relocated based refused =
     inr (inr (inl (record {
       sections = sections;
@@ -116,16 +116,16 @@ large_table options link pieces sections layout fields size are grouped placed r
       is = refl;
     })))
 
-pub bad_base : (options : LinkOptions) (link : LinkView) (rows : List OutRow) (layout : Layout) (tables : List (List ℕ)) → IsPlacement options link rows layout tables → is_permitted (base_rule options) layout.image options.base ≡ false → IsBuildFault options link (faults.BaseRange options.base)
+pub bad_base : (options : LinkOptions) (link : LinkParts) (rows : List OutRow) (layout : Layout) (tables : List (List ℕ)) → IsPlacement options link rows layout tables → is_permitted (base_rule options) layout.image options.base ≡ false → IsBuildFault options link (faults.BaseRange options.base)
 bad_base options link rows layout tables placement refused =
     inr (inr (inr (inl (record { rows = rows; layout = layout; tables = tables; placement = placement; refused = refused; is = refl }))))
 
 -- a value that does not fit
-pub bad_range : (options : LinkOptions) (link : LinkView) (rows : List OutRow) (layout : Layout) (tables : List (List ℕ)) (fault : Fault) → IsPlacement options link rows layout tables → is_permitted (base_rule options) layout.image options.base ≡ true → fields_range_fault link rows layout options.base ≡ Some fault → IsBuildFault options link fault
+pub bad_range : (options : LinkOptions) (link : LinkParts) (rows : List OutRow) (layout : Layout) (tables : List (List ℕ)) (fault : Fault) → IsPlacement options link rows layout tables → is_permitted (base_rule options) layout.image options.base ≡ true → fields_range_fault link rows layout options.base ≡ Some fault → IsBuildFault options link fault
 bad_range options link rows layout tables fault placement permitted is =
     inr (inr (inr (inr (record { rows = rows; layout = layout; tables = tables; placement = placement; permitted = permitted; is = is }))))
 
-pub used_there : (options : LinkOptions) (link : LinkView) (pieces : List Piece) (k : ℕ) → k < length pieces → is_used (link_input options link pieces) k ≡ true
+pub used_there : (options : LinkOptions) (link : LinkParts) (pieces : List Piece) (k : ℕ) → k < length pieces → is_used (link_input options link pieces) k ≡ true
 used_there options link pieces k lt = and_from _ _ (lt-ltb k (length pieces) lt) (get_or-replicate (length pieces) k true false lt)
 
 pub needs_there : (input : Input) (k : ℕ) → (0 < (get_or input.pieces k no_piece).size) ⊎ ((get_or input.pieces k no_piece).named ≡ true) → needs_place input k ≡ true
@@ -135,7 +135,7 @@ needs_there input k (inr named) = or_right _ _ named
 -- ---- the entry
 
 -- a piece that is named stands in a section, so an offset in it has an RVA
-pub entry_fits : (options : LinkOptions) (link : LinkView) (pieces : List Piece) (sections : List OutSection) (reloc : Bool) (layout : Layout) (place : EntryPlace) → AreGrouped options link pieces sections → ArePlaced pieces sections reloc layout → StandsNamed pieces place → get_or layout.pieces.items place.piece 0 < 2 ^ 32 → get_or layout.pieces.items place.piece 0 + place.value < 2 ^ 32
+pub entry_fits : (options : LinkOptions) (link : LinkParts) (pieces : List Piece) (sections : List OutSection) (reloc : Bool) (layout : Layout) (place : EntryPlace) → AreGrouped options link pieces sections → ArePlaced pieces sections reloc layout → StandsNamed pieces place → get_or layout.pieces.items place.piece 0 < 2 ^ 32 → get_or layout.pieces.items place.piece 0 + place.value < 2 ^ 32
 entry_fits options link pieces sections reloc layout place grouped placed stand fits =
     let piece = place.piece in
     let input = link_input options link pieces in
@@ -144,7 +144,7 @@ entry_fits options link pieces sections reloc layout place grouped placed stand 
     name_fits pieces sections reloc layout piece place.value placed.layout_of.standing placed.within (stands input sections piece grouped.grouping used needs) fits stand.inside
 
 -- a piece with bytes ends inside the image
-pub end_fits : (options : LinkOptions) (link : LinkView) (pieces : List Piece) (sections : List OutSection) (reloc : Bool) (layout : Layout) (k : ℕ) → AreGrouped options link pieces sections → ArePlaced pieces sections reloc layout → k < length pieces → 0 < (get_or pieces k no_piece).size → get_or layout.pieces.items k 0 + (get_or pieces k no_piece).size ≤ IMAGE_LIMIT
+pub end_fits : (options : LinkOptions) (link : LinkParts) (pieces : List Piece) (sections : List OutSection) (reloc : Bool) (layout : Layout) (k : ℕ) → AreGrouped options link pieces sections → ArePlaced pieces sections reloc layout → k < length pieces → 0 < (get_or pieces k no_piece).size → get_or layout.pieces.items k 0 + (get_or pieces k no_piece).size ≤ IMAGE_LIMIT
 end_fits options link pieces sections reloc layout k grouped placed lt some =
     let input = link_input options link pieces in
     let standing = placed.layout_of.standing in
@@ -179,7 +179,7 @@ plan_rows headers sections layout contents same =
     rows_count (rows_of sections) layout.sections.items (same ∙ sym count) ∙ count
 
 -- what is placed without a table can be written
-laid : (options : LinkOptions) (link : LinkView) (pieces : List Piece) (sections : List OutSection) (layout : Layout) → AreGrouped options link pieces sections → ArePlaced pieces sections false layout → IsLaidOut pieces sections layout
+laid : (options : LinkOptions) (link : LinkParts) (pieces : List Piece) (sections : List OutSection) (layout : Layout) → AreGrouped options link pieces sections → ArePlaced pieces sections false layout → IsLaidOut pieces sections layout
 laid options link pieces sections layout grouped placed =
     laid_out pieces sections layout placed.layout_of.standing (standing options link pieces sections grouped) placed.few placed.growth
 

@@ -25,7 +25,7 @@ use Rattle.relocate.specs.declared.fix.Target.TheVariants as target
 use Rattle.relocate.specs.Field.{has_field}
 use Rattle.relocate.specs.Judged.{AreTheFields}
 use Rattle.relocate.specs.Value.{target_of, HasEntry, HaveEntries}
-use Rattle.symbol_names.specs.LinkView.{LinkView}
+use Rattle.link_pieces.specs.LinkParts.{LinkParts}
 use Rattle.link_pieces.specs.Pieces.{link_pieces}
 use Rattle.link_plan.specs.Fixes.{piece_fixes}
 use Rattle.link_plan.proofs.CallerLemmas.{Stands, fields_stand, planned_at, plan_count}
@@ -105,7 +105,7 @@ owner_read rows count k lt = get_or-map-range_with_len (section_of rows) 0 count
 
 -- ---- what fields mean
 
-module _ (link : LinkView) (pieces : List Piece) (fixups : List (List Fix)) (sections : List OutSection) (layout : Layout) (owner : List ℕ) (tables : List (List ℕ)) (ready : IsReady link pieces fixups sections layout owner tables) where
+module _ (link : LinkParts) (pieces : List Piece) (fixups : List (List Fix)) (sections : List OutSection) (layout : Layout) (owner : List ℕ) (tables : List (List ℕ)) (ready : IsReady link pieces fixups sections layout owner tables) where
   pub pieces_count : length pieces ≡ length (link_pieces link)
   pieces_count = sym (length-map pieces bare) ∙ ap (λ (ps : List Piece). length ps) ready.pieces_are ∙ plan_count ready.options link
 

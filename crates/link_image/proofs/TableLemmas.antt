@@ -14,7 +14,7 @@ use Rattle.address_layout.specs.declared.layout.Layout.{Layout}
 use Rattle.import_tables.specs.ImportTables.{EndBelow4G}
 use Rattle.synthetic_sections.specs.LinkerPieces.{FIRST_THUNK, size_at}
 use Rattle.module_view.specs.Module.{ModuleView}
-use Rattle.symbol_names.specs.LinkView.{LinkView}
+use Rattle.link_pieces.specs.LinkParts.{LinkParts}
 use Rattle.link_imports.specs.Imports.{import_sizes}
 use Rattle.link_pieces.specs.LinkerPieces.{is_table, IsImportTable}
 use Rattle.link_pieces.specs.PieceIndex.{is_numbered, holds, linker_index}
@@ -58,13 +58,13 @@ all_noted position pieces places count each =
 
 -- ---- the pieces of a link
 
-pub record IsTableAt (link : LinkView) (number k : ℕ) : Type 0 where
+pub record IsTableAt (link : LinkParts) (number k : ℕ) : Type 0 where
   pub there : k < length (link_pieces link)
   pub table : is_table (length link.modules) (piece_at link k) ≡ true
   pub number_is : (piece_at link k).number ≡ number
   pub is : IsImportTable link (piece_at link k)
 
-pub found_table : (link : LinkView) (number k : ℕ) → number < FIRST_THUNK → linker_index link number ≡ Some k → IsTableAt link number k
+pub found_table : (link : LinkParts) (number k : ℕ) → number < FIRST_THUNK → linker_index link number ≡ Some k → IsTableAt link number k
 found_table link number k few found =
     let at = first_below-some (length (link_pieces link)) k (holds (is_numbered (length link.modules) number) (link_pieces link)) found in
     let piece = piece_at link k in

@@ -12,7 +12,7 @@ use Rattle.address_layout.specs.declared.layout.Layout.{Layout}
 use Rattle.relocate.specs.declared.range.RelocRange.{RelocRange}
 use Rattle.relocate.specs.PatchedBytes.{patched_bytes, range_fault}
 use Rattle.import_tables.specs.ImportTables.{tables_of as import_tables_of}
-use Rattle.symbol_names.specs.LinkView.{LinkView}
+use Rattle.link_pieces.specs.LinkParts.{LinkParts}
 use Rattle.link_imports.specs.Imports.{import_rows}
 use Rattle.link_pieces.specs.LinkerPieces.{is_table}
 use Rattle.link_pieces.specs.PieceIndex.{linker_index}
@@ -46,41 +46,41 @@ rva_of rvas None = 0
 rva_of rvas (Some k) = slice_index rvas k
 
 -- that of the table of a number
-abbrev pub table_rva : LinkView → Layout → ℕ → ℕ
+abbrev pub table_rva : LinkParts → Layout → ℕ → ℕ
 table_rva link layout number = rva_of layout.pieces.items (linker_index link number)
 
 -- those of the directory, the lookup tables, the slots, the hints with names and the names of DLLs
-unfoldable pub table_rvas : LinkView → Layout → List ℕ
+unfoldable pub table_rvas : LinkParts → Layout → List ℕ
 table_rvas link layout = map (table_rva link layout) (range_with_len 0 5)
 
 -- their bytes
-unfoldable pub import_tables_at : LinkView → Layout → List (List ℕ)
+unfoldable pub import_tables_at : LinkParts → Layout → List (List ℕ)
 import_tables_at link layout = import_tables_of (import_rows link.modules) (table_rvas link layout)
 
 -- ---- the bytes
 
 -- what a piece holds before its fields are patched: an import table its bytes by the places of all of them, any other piece
 -- what it has without a place
-unfoldable pub contents_at : LinkView → Layout → ℕ → List ℕ
+unfoldable pub contents_at : LinkParts → Layout → ℕ → List ℕ
 contents_at link layout k =
     if is_table (length link.modules) (piece_at link k)
     then slice_index_or (import_tables_at link layout) (piece_at link k).number []
     else slice_index_or (link_contents link) k []
 
-unfoldable pub placed_contents : LinkView → Layout → List (List ℕ)
+unfoldable pub placed_contents : LinkParts → Layout → List (List ℕ)
 placed_contents link layout = map (contents_at link layout) (range_with_len 0 (length (link_pieces link)))
 
 -- the bytes of a piece with its fields, in an image at a base
-abbrev pub linked_bytes : LinkView → List SectionRow → Layout → ℕ → ℕ → List ℕ
+abbrev pub linked_bytes : LinkParts → List SectionRow → Layout → ℕ → ℕ → List ℕ
 linked_bytes link rows layout base k =
     patched_bytes base (slice_index layout.pieces.items k) layout (owners_in rows layout) (piece_fixes link k) (contents_at link layout k)
 
-unfoldable pub linked_contents : LinkView → List SectionRow → Layout → ℕ → List (List ℕ)
+unfoldable pub linked_contents : LinkParts → List SectionRow → Layout → ℕ → List (List ℕ)
 linked_contents link rows layout base =
     map (linked_bytes link rows layout base) (range_with_len 0 (length (link_pieces link)))
 
 -- and after them the tables that the linker makes, which are the same at each base
-abbrev pub image_contents : LinkView → List SectionRow → Layout → List (List ℕ) → ℕ → List (List ℕ)
+abbrev pub image_contents : LinkParts → List SectionRow → Layout → List (List ℕ) → ℕ → List (List ℕ)
 image_contents link rows layout tables base = linked_contents link rows layout base ++ tables
 
 -- ---- values that do not fit
@@ -89,11 +89,11 @@ abbrev pub out_of_range : Piece → RelocRange → Fault
 out_of_range piece range = faults.RelocRange (Some piece.«module») piece.number range.index range.value
 
 -- the first field of a piece whose value does not fit
-abbrev pub piece_range_fault : LinkView → List SectionRow → Layout → ℕ → ℕ → Option Fault
+abbrev pub piece_range_fault : LinkParts → List SectionRow → Layout → ℕ → ℕ → Option Fault
 piece_range_fault link rows layout base k =
     option_map (out_of_range (piece_at link k)) (range_fault base (slice_index layout.pieces.items k) layout (owners_in rows layout) (piece_fixes link k) (contents_at link layout k))
 
 -- that of all pieces, in their order
-unfoldable pub fields_range_fault : LinkView → List SectionRow → Layout → ℕ → Option Fault
+unfoldable pub fields_range_fault : LinkParts → List SectionRow → Layout → ℕ → Option Fault
 fields_range_fault link rows layout base =
     first_refusal_below (length (link_pieces link)) (piece_range_fault link rows layout base)

@@ -21,7 +21,7 @@ use Rattle.import_tables.specs.ImportDirectory.{Imports, imports_of}
 use Rattle.import_tables.specs.ReadBack.{found_of}
 use Rattle.image_writer.specs.ExpectedImage.{ImagePlan, MeansPlan, image_file}
 use Rattle.image_writer.specs.WrittenImage.{written_plan}
-use Rattle.symbol_names.specs.LinkView.{LinkView}
+use Rattle.link_pieces.specs.LinkParts.{LinkParts}
 use Rattle.synthetic_sections.specs.LinkerPieces.{SLOTS}
 use Rattle.link_imports.specs.Imports.{import_rows}
 use Rattle.link_pieces.specs.PieceIndex.{linker_index}
@@ -40,11 +40,11 @@ use Rattle.link_image.specs.LinkedBytes.{table_rvas, image_contents, fields_rang
 -- ---- sections
 
 -- what is put into sections: every piece is used, and the merges are those of the link
-abbrev pub link_input : LinkOptions → LinkView → List Piece → Input
+abbrev pub link_input : LinkOptions → LinkParts → List Piece → Input
 link_input options link pieces = input_from pieces (replicate (length pieces) true) (merges_of options link)
 
 -- the sections that pieces stand in, by merges of which none is bad
-pub record AreGrouped (options : LinkOptions) (link : LinkView) (pieces : List Piece) (sections : List OutSection) : Type 0 where
+pub record AreGrouped (options : LinkOptions) (link : LinkParts) (pieces : List Piece) (sections : List OutSection) : Type 0 where
   pub merges : HasNoBadMerge (merges_of options link)
   pub grouping : IsGrouping (link_input options link pieces) sections
 
@@ -73,7 +73,7 @@ abbrev pub table_row : ℕ → SectionRow
 table_row k = record { name = codes ".reloc"; flags = SCN_CNT_INITIALIZED_DATA + SCN_MEM_DISCARDABLE + SCN_MEM_READ; pieces = k ∷ [] }
 
 -- the table as the last section and the last piece
-pub record HasTable (link : LinkView) (piece_rows : List SectionRow) (before : Layout) (rows : List SectionRow) (layout : Layout) (tables : List (List ℕ)) : Type 0 where
+pub record HasTable (link : LinkParts) (piece_rows : List SectionRow) (before : Layout) (rows : List SectionRow) (layout : Layout) (tables : List (List ℕ)) : Type 0 where
   pub fields : List BaseField
   pub based : AreBaseFields link before.pieces.items fields
   pub added : Appends before layout (length (blocks_of fields))
@@ -81,12 +81,12 @@ pub record HasTable (link : LinkView) (piece_rows : List SectionRow) (before : L
   pub rows_are : rows ≡ piece_rows ++ table_row (length before.pieces.items) ∷ []
   pub tables_are : tables ≡ blocks_of fields ∷ []
 
-abbrev pub IsWhole : Bool → LinkView → List SectionRow → Layout → List SectionRow → Layout → List (List ℕ) → Type 0
+abbrev pub IsWhole : Bool → LinkParts → List SectionRow → Layout → List SectionRow → Layout → List (List ℕ) → Type 0
 IsWhole true link piece_rows before rows layout tables = HasTable link piece_rows before rows layout tables
 IsWhole false link piece_rows before rows layout tables = (rows ≡ piece_rows) × (layout ≡ before) × (tables ≡ [])
 
 -- where everything stands: the sections of the pieces, and after them the table of base relocations where there is one
-pub record IsPlacement (options : LinkOptions) (link : LinkView) (rows : List SectionRow) (layout : Layout) (tables : List (List ℕ)) : Type 0 where
+pub record IsPlacement (options : LinkOptions) (link : LinkParts) (rows : List SectionRow) (layout : Layout) (tables : List (List ℕ)) : Type 0 where
   pub sections : List OutSection
   pub grouped : AreGrouped options link (plan_pieces options link) sections
   pub before : Layout
@@ -110,10 +110,10 @@ abbrev pub DIRECTORY : ℕ
 DIRECTORY = 0
 
 -- those of the import table of a number
-abbrev pub import_extent : LinkView → Layout → ℕ → ℕ × ℕ
+abbrev pub import_extent : LinkParts → Layout → ℕ → ℕ × ℕ
 import_extent link layout number = extent_of (link_pieces link) layout.pieces.items (linker_index link number)
 
-abbrev pub directories_of : LinkView → Layout → List (List ℕ) → Directories
+abbrev pub directories_of : LinkParts → Layout → List (List ℕ) → Directories
 directories_of link layout tables = record {
   imports = import_extent link layout DIRECTORY;
   slots = import_extent link layout SLOTS;
@@ -123,7 +123,7 @@ directories_of link layout tables = record {
 -- ---- the image
 
 -- the image of modules, in which every value fits
-pub record IsImageOf (options : LinkOptions) (link : LinkView) (image : ImagePlan) : Type 0 where
+pub record IsImageOf (options : LinkOptions) (link : LinkParts) (image : ImagePlan) : Type 0 where
   pub rows : List SectionRow
   pub layout : Layout
   pub tables : List (List ℕ)
@@ -135,7 +135,7 @@ pub record IsImageOf (options : LinkOptions) (link : LinkView) (image : ImagePla
 -- ---- its imports
 
 -- at each base that a file is loaded at, its import directory names the imports of the modules, each with its slot, and no other
-abbrev pub HoldsImports : LinkView → Layout → List ℕ → Type 0
+abbrev pub HoldsImports : LinkParts → Layout → List ℕ → Type 0
 HoldsImports link layout image =
     (base : ℕ) (memory : List ℕ) → loaded image base ≡ Some memory
     → imports_of memory (directory_rva image DIRECTORY_ENTRY_IMPORT) ≡ Imports (found_of (import_rows link.modules) (table_rvas link layout))
@@ -144,7 +144,7 @@ HoldsImports link layout image =
 
 -- what was made is the file of the image of the modules, which loads as planned at every permitted base, and then holds their
 -- imports
-pub record IsBuilt (options : LinkOptions) (link : LinkView) (built : Built) : Type 0 where
+pub record IsBuilt (options : LinkOptions) (link : LinkParts) (built : Built) : Type 0 where
   pub image : ImagePlan
   pub is_image : IsImageOf options link image
   pub file : built.image.items ≡ image_file image

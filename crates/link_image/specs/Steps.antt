@@ -21,7 +21,7 @@ use Rattle.relocate.specs.Value.{IsLeastOutside}
 use Rattle.image_writer.specs.declared.headers.Headers.{Headers}
 use Rattle.image_writer.specs.ExpectedImage.{image_file}
 use Rattle.image_writer.specs.WrittenImage.{layout_plan, at_each_base, IsLaidOut}
-use Rattle.symbol_names.specs.LinkView.{LinkView}
+use Rattle.link_pieces.specs.LinkParts.{LinkParts}
 use Rattle.link_pieces.specs.LinkerPieces.{is_table}
 use Rattle.link_pieces.specs.PieceIndex.{is_numbered, holds}
 use Rattle.link_pieces.specs.Pieces.{link_pieces}
@@ -73,7 +73,7 @@ pub record HoldTables (tables : List (List ℕ)) (rest : List Piece) : Type 0 wh
   pub sizes : (j : ℕ) → j < length rest → (slice_index_or rest j no_piece).size ≡ length (slice_index_or tables j [])
 
 -- a table of base relocations
-pub record IsTable (link : LinkView) (rvas table : List ℕ) : Type 0 where
+pub record IsTable (link : LinkParts) (rvas table : List ℕ) : Type 0 where
   pub fields : List BaseField
   pub based : AreBaseFields link rvas fields
   pub is : table ≡ blocks_of fields
@@ -132,7 +132,7 @@ pub record IsHeld (piece : Piece) (bytes : List ℕ) : Type 0 where
 -- ---- what was decided before fields are patched
 
 -- the pieces with their fields, the tables after them, and where all of these stand
-pub record IsReady (link : LinkView) (pieces : List Piece) (fixups : List (List Fix)) (sections : List OutSection) (layout : Layout) (owner : List ℕ) (tables : List (List ℕ)) : Type 0 where
+pub record IsReady (link : LinkParts) (pieces : List Piece) (fixups : List (List Fix)) (sections : List OutSection) (layout : Layout) (owner : List ℕ) (tables : List (List ℕ)) : Type 0 where
   pub options : LinkOptions
   pub pieces_are : map bare pieces ≡ plan_pieces options link
   pub held : (k : ℕ) → k < length pieces → IsHeld (slice_index_or pieces k no_piece) (contents_at link layout k)
@@ -144,11 +144,11 @@ pub record IsReady (link : LinkView) (pieces : List Piece) (fixups : List (List 
   pub owner_is : owner ≡ owners_in (rows_of sections) layout
 
 -- the contents of an image whose first pieces are patched
-abbrev pub mixed_at : LinkView → List SectionRow → Layout → ℕ → ℕ → ℕ → List ℕ
+abbrev pub mixed_at : LinkParts → List SectionRow → Layout → ℕ → ℕ → ℕ → List ℕ
 mixed_at link rows layout base count k =
     if nat_lt k count then linked_bytes link rows layout base k else contents_at link layout k
 
-unfoldable pub mixed_contents : LinkView → List SectionRow → Layout → ℕ → ℕ → List (List ℕ)
+unfoldable pub mixed_contents : LinkParts → List SectionRow → Layout → ℕ → ℕ → List (List ℕ)
 mixed_contents link rows layout base count =
     map (mixed_at link rows layout base count) (range_with_len 0 (length (link_pieces link)))
 
@@ -156,12 +156,12 @@ mixed_contents link rows layout base count =
 abbrev pub file_of : Headers → List OutSection → Layout → List (List ℕ) → List (List ℕ) → List ℕ
 file_of headers sections layout contents tables = image_file (layout_plan headers sections layout (at_each_base (contents ++ tables)))
 
-abbrev pub mixed_file : LinkView → Headers → List OutSection → Layout → List (List ℕ) → ℕ → List ℕ
+abbrev pub mixed_file : LinkParts → Headers → List OutSection → Layout → List (List ℕ) → ℕ → List ℕ
 mixed_file link headers sections layout tables count =
     file_of headers sections layout (mixed_contents link (rows_of sections) layout headers.base count) tables
 
 -- what was written of pieces and tables
-pub record IsWritten (headers : Headers) (placement : Placement) (link : LinkView) (image : List ℕ) : Type 0 where
+pub record IsWritten (headers : Headers) (placement : Placement) (link : LinkParts) (image : List ℕ) : Type 0 where
   pub rest : List Piece
   pub holds : HoldTables (reloc_tables placement.table) rest
   pub file : image ≡ file_of headers placement.sections.items placement.layout (placed_contents link placement.layout) (reloc_tables placement.table)

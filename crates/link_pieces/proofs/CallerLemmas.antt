@@ -11,23 +11,21 @@ use Rattle.section_group.specs.declared.piece.Piece.{Piece}
 use Rattle.section_group.specs.BarePieces.{bare}
 use Rattle.section_group.specs.SectionOrder.{no_piece}
 use Rattle.module_view.specs.Module.{module_at}
-use Rattle.symbol_names.specs.LinkView.{LinkView}
+use Rattle.link_pieces.specs.LinkParts.{LinkParts}
 use Rattle.module_view.specs.SymbolLists.{commons_of}
 use Rattle.link_pieces.specs.Commons.{FIRST_COMMON, is_meant_common, meant_commons, common_piece}
 use Rattle.link_pieces.specs.Pieces.{is_linked, linked_sections, piece_of, pieces_in, module_pieces, link_pieces, IsPieceOf}
-use Rattle.link_pieces.specs.LinkerPieces.{linker_pieces, is_table, IsImportTable, IsLinkerPiece}
-use Rattle.link_pieces.proofs.LinkerLemmas.{linker_pieces_are, either_any, later_any, table_made}
+use Rattle.link_pieces.specs.LinkerPieces.{linker_pieces, is_table, table_sizes, IsLinkTable, IsLinkerPiece}
+use Rattle.link_pieces.proofs.LinkerLemmas.{linker_pieces_are, later_any, made_there}
 use Rattle.link_pieces.specs.PieceIndex.{is_section, is_numbered, is_section_of, is_common_of, holds, piece_index, common_index, linker_index, slot_index}
 use Rattle.std.specs.Option.{option_and_then}
 use Rattle.synthetic_sections.specs.LinkerPieces.{FIRST_THUNK, FIRST_LOCAL_SLOT, size_at}
-use Rattle.link_imports.specs.Imports.{import_sizes}
-use Rattle.link_imports.specs.ImportPieces.{tables_for, import_pieces}
 use Rattle.link_pieces.specs.LocalSlots.{slot_names, slot_number}
 use Rattle.link_pieces.proofs.CommonLemmas.{all_kept_of}
 
 -- ---- what each piece is
 
-section_pieces : (link : LinkView) (m : ℕ) → m < length link.modules → All (IsPieceOf link) (map (piece_of m (module_at link.modules m).bytes) (linked_sections link m (module_at link.modules m).bytes))
+section_pieces : (link : LinkParts) (m : ℕ) → m < length link.modules → All (IsPieceOf link) (map (piece_of m (module_at link.modules m).bytes) (linked_sections link m (module_at link.modules m).bytes))
 section_pieces link m within =
     let bytes = (module_at link.modules m).bytes in
     all_kept (IsPieceOf link) (piece_of m bytes) (is_linked link m bytes) 1 (section_total bytes) (λ section first last linked.
@@ -36,7 +34,7 @@ section_pieces link m within =
       is = inl (record { first = first; last = omega (arith, last); linked = linked; is = refl });
     }))
 
-common_pieces : (link : LinkView) (m : ℕ) → m < length link.modules → All (IsPieceOf link) (map (common_piece link.modules m) (meant_commons link m (module_at link.modules m).bytes))
+common_pieces : (link : LinkParts) (m : ℕ) → m < length link.modules → All (IsPieceOf link) (map (common_piece link.modules m) (meant_commons link m (module_at link.modules m).bytes))
 common_pieces link m within =
     let commons = commons_of (module_at link.modules m).bytes in
     All-map (IsPieceOf link) (common_piece link.modules m) (meant_commons link m (module_at link.modules m).bytes)
@@ -47,23 +45,23 @@ common_pieces link m within =
     })) (filter (is_meant_common link m) commons)
     (all_kept_of (Contains commons) (is_meant_common link m) commons (All-contains_itself commons)))
 
-module_pieces_are : (link : LinkView) → All (IsPieceOf link) (module_pieces link)
+module_pieces_are : (link : LinkParts) → All (IsPieceOf link) (module_pieces link)
 module_pieces_are link =
     all_joined (IsPieceOf link) (λ m. pieces_in link m (module_at link.modules m).bytes) 0 (length link.modules) (λ m low high.
     let bytes = (module_at link.modules m).bytes in
     let within : m < length link.modules = omega arith in
     All-append (IsPieceOf link) (map (piece_of m bytes) (linked_sections link m bytes)) (map (common_piece link.modules m) (meant_commons link m bytes)) (section_pieces link m within) (common_pieces link m within))
 
-pub pieces_are : (link : LinkView) → All (IsPieceOf link) (link_pieces link)
+pub pieces_are : (link : LinkParts) → All (IsPieceOf link) (link_pieces link)
 pieces_are link =
     All-append (IsPieceOf link) (module_pieces link) (linker_pieces link) (module_pieces_are link)
     (All-weaker (IsLinkerPiece link) (IsPieceOf link) (λ piece is. inr is) (linker_pieces link) (linker_pieces_are link))
 
-pub piece_is : (link : LinkView) (k : ℕ) → k < length (link_pieces link) → IsPieceOf link (get_or (link_pieces link) k no_piece)
+pub piece_is : (link : LinkParts) (k : ℕ) → k < length (link_pieces link) → IsPieceOf link (get_or (link_pieces link) k no_piece)
 piece_is link k lt = pieces_are link k no_piece lt
 
--- an import table is one of the five, and as long as its bytes will be
-pub table_is : (link : LinkView) (k : ℕ) → k < length (link_pieces link) → is_table (length link.modules) (get_or (link_pieces link) k no_piece) ≡ true → IsImportTable link (get_or (link_pieces link) k no_piece)
+-- a table is one of the six, and as long as its bytes will be
+pub table_is : (link : LinkParts) (k : ℕ) → k < length (link_pieces link) → is_table (length link.modules) (get_or (link_pieces link) k no_piece) ≡ true → IsLinkTable link (get_or (link_pieces link) k no_piece)
 table_is link k lt table =
     let piece = get_or (link_pieces link) k no_piece in
     let both = and_parts (eqb piece.«module» (length link.modules)) (ltb piece.number FIRST_THUNK) table in
@@ -74,12 +72,12 @@ table_is link k lt table =
     ]
 
 -- one that has bytes is there
-pub table_there : (link : LinkView) (number : ℕ) → number < 5 → 0 < size_at (import_sizes link.modules) number → linker_index link number ≡ None → ⊥
+pub table_there : (link : LinkParts) (number : ℕ) → number < 6 → 0 < size_at (table_sizes link) number → linker_index link number ≡ None → ⊥
 table_there link number few sized none =
     let test = is_numbered (length link.modules) number in
     let pieces = link_pieces link in
     let none_passes = first_below-none (length pieces) (holds test pieces) none in
-    let there = later_any test (module_pieces link) (linker_pieces link) (either_any test (import_pieces link.modules) _ (either_any test (tables_for link.modules) _ (table_made link.modules number few sized))) in
+    let there = later_any test (module_pieces link) (linker_pieces link) (made_there link number few sized) in
     false≢true (sym (no_any test pieces none_passes) ∙ there)
   where
     no_any : (test : Piece → Bool) (pieces : List Piece) → ((k : ℕ) → k < length pieces → test (get_or pieces k no_piece) ≡ false) → list_any test pieces ≡ false
@@ -88,14 +86,14 @@ table_there link number few sized none =
         rw (each 0 (omega arith)) (no_any test pieces (λ k lt. each (suc k) (omega (arith, lt))))
 
 -- a piece without its bytes is one of the link
-pub bare_at : (link : LinkView) (pieces : List Piece) (k : ℕ) → map bare pieces ≡ link_pieces link → bare (get_or pieces k no_piece) ≡ get_or (link_pieces link) k no_piece
+pub bare_at : (link : LinkParts) (pieces : List Piece) (k : ℕ) → map bare pieces ≡ link_pieces link → bare (get_or pieces k no_piece) ≡ get_or (link_pieces link) k no_piece
 bare_at link pieces k same =
     sym (get_or-map bare pieces k no_piece) ∙ ap (λ (ps : List Piece). get_or ps k no_piece) same
 
 -- ---- the piece that a section is
 
 -- it is there, and is that section
-pub record IsFoundAt (link : LinkView) (position section k : ℕ) : Type 0 where
+pub record IsFoundAt (link : LinkParts) (position section k : ℕ) : Type 0 where
   pub within : k < length (link_pieces link)
   pub is : get_or (link_pieces link) k no_piece ≡ piece_of position (module_at link.modules position).bytes section
 
@@ -104,7 +102,7 @@ same_place position number piece e =
     let both = and_parts (eqb piece.«module» position) (eqb piece.number number) e in
     (eqb-true piece.«module» position both.0, eqb-true piece.number number both.1)
 
-pub found_piece : (link : LinkView) (position section k : ℕ) → piece_index link position section ≡ Some k → IsFoundAt link position section k
+pub found_piece : (link : LinkParts) (position section k : ℕ) → piece_index link position section ≡ Some k → IsFoundAt link position section k
 found_piece link position section k e =
     let pieces = link_pieces link in
     let count = length link.modules in
@@ -130,17 +128,17 @@ found_piece link position section k e =
     ]
 
 -- a common's piece is there
-pub found_common : (link : LinkView) (position symbol k : ℕ) → common_index link position symbol ≡ Some k → k < length (link_pieces link)
+pub found_common : (link : LinkParts) (position symbol k : ℕ) → common_index link position symbol ≡ Some k → k < length (link_pieces link)
 found_common link position symbol k e =
     (first_below-some (length (link_pieces link)) k (holds (is_common_of position symbol) (link_pieces link)) e).0
 
 -- one that the linker makes is there
-pub found_linker : (link : LinkView) (number k : ℕ) → linker_index link number ≡ Some k → k < length (link_pieces link)
+pub found_linker : (link : LinkParts) (number k : ℕ) → linker_index link number ≡ Some k → k < length (link_pieces link)
 found_linker link number k e =
     (first_below-some (length (link_pieces link)) k (holds (is_numbered (length link.modules) number) (link_pieces link)) e).0
 
 -- and so is the slot of a name
-pub found_slot : (link : LinkView) (name : List ℕ) (k : ℕ) → slot_index link name ≡ Some k → k < length (link_pieces link)
+pub found_slot : (link : LinkParts) (name : List ℕ) (k : ℕ) → slot_index link name ≡ Some k → k < length (link_pieces link)
 found_slot link name k e = go (slot_number (slot_names link) name) e
   where
     go : (number : Option ℕ) → option_and_then (λ slot. linker_index link (FIRST_LOCAL_SLOT + slot)) number ≡ Some k → k < length (link_pieces link)

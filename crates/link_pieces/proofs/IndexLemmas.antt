@@ -12,7 +12,7 @@ use Rattle.section_group.specs.BarePieces.{bare}
 use Rattle.section_group.specs.SectionOrder.{no_piece}
 use Rattle.coff_records.specs.ObjectFile.{section_total}
 use Rattle.module_view.specs.Module.{ModuleView, no_module, module_at}
-use Rattle.symbol_names.specs.LinkView.{LinkView}
+use Rattle.link_pieces.specs.LinkParts.{LinkParts}
 use Rattle.link_pieces.specs.Commons.{FIRST_COMMON, HasFewSections}
 use Rattle.link_pieces.specs.Pieces.{link_pieces, IsModulePiece, IsPieceOf}
 use Rattle.link_pieces.specs.LocalSlots.{slot_names}
@@ -281,7 +281,7 @@ noted_same places modules test pieces k piece rows lt read fails are = record {
 
 -- ---- places in rows
 
-module_place : (link : LinkView) (piece : Piece) → All HasFewSections link.modules → IsModulePiece link piece → HasPlace link.modules piece.«module» piece.number
+module_place : (link : LinkParts) (piece : Piece) → All HasFewSections link.modules → IsModulePiece link piece → HasPlace link.modules piece.«module» piece.number
 module_place link piece few whole = record {
   within = whole.within;
   section = λ small.
@@ -306,7 +306,7 @@ few_numbers : (modules slots number : ℕ) → modules ≤ MODULE_LIMIT → numb
 few_numbers modules slots number few below (inl made) = omega (arith, made, few)
 few_numbers modules slots number few below (inr slot) = omega (arith, slot.1, below)
 
-some_place : (link : LinkView) (slots : ℕ) (piece : Piece) → slots ≡ length (slot_names link) → length link.modules ≤ MODULE_LIMIT → numbers_below slots ≤ FIRST_COMMON → All HasFewSections link.modules → IsPieceOf link piece → HasSomePlace link.modules slots piece.«module» piece.number
+some_place : (link : LinkParts) (slots : ℕ) (piece : Piece) → slots ≡ length (slot_names link) → length link.modules ≤ MODULE_LIMIT → numbers_below slots ≤ FIRST_COMMON → All HasFewSections link.modules → IsPieceOf link piece → HasSomePlace link.modules slots piece.«module» piece.number
 some_place link slots piece same limit below few (inl of_module) = inl (module_place link piece few of_module)
 some_place link slots piece same limit below few (inr of_linker) =
     let numbered = subst (λ (n : ℕ). IsLinkerNumber (length link.modules) n piece.number) (sym same) of_linker.numbered in
@@ -316,7 +316,7 @@ some_place link slots piece same limit below few (inr of_linker) =
       few = few_numbers (length link.modules) slots piece.number limit below numbered;
     })
 
-pub all_placed : (link : LinkView) (slots : ℕ) → slots ≡ length (slot_names link) → length link.modules ≤ MODULE_LIMIT → numbers_below slots ≤ FIRST_COMMON → All HasFewSections link.modules → All (λ piece. HasSomePlace link.modules slots piece.«module» piece.number) (link_pieces link)
+pub all_placed : (link : LinkParts) (slots : ℕ) → slots ≡ length (slot_names link) → length link.modules ≤ MODULE_LIMIT → numbers_below slots ≤ FIRST_COMMON → All HasFewSections link.modules → All (λ piece. HasSomePlace link.modules slots piece.«module» piece.number) (link_pieces link)
 all_placed link slots same limit below few =
     All-weaker (IsPieceOf link) (λ (piece : Piece). HasSomePlace link.modules slots piece.«module» piece.number) (λ piece whole. some_place link slots piece same limit below few whole) (link_pieces link) (pieces_are link)
 

@@ -2,8 +2,9 @@
 use Rattle.std.proofs.Common.{◌≡◌, ℕ, zero, suc, ◌+◌, ◌<◌, Bool, true, false, cond, ◌||◌, eqb, List, [], ◌∷◌, ◌++◌, length, map, inl, inr, refl, sym, ap, subst, ◌∙◌, append_assoc, eq-eqb, arith}
 use Rattle.std.specs.Prelude.{codes}
 use Rattle.std.specs.List.{All, range_with_len, list_any}
-use Rattle.std.proofs.lemmas.Bool.{false≢true, lt-ltb}
+use Rattle.std.proofs.lemmas.Bool.{cases_lt, false≢true, lt-ltb}
 use Rattle.std.proofs.lemmas.Bool.Decides.{eqb_tells}
+use Rattle.std.proofs.lemmas.List.{get_or_push, get_or_append_left}
 use Rattle.std.proofs.lemmas.List.Elements.{All-nil, All-cons, All-append}
 use Rattle.std.proofs.lemmas.List.Folds.{list_any-append}
 use Rattle.std.proofs.lemmas.List.FromFn.{length-map-range_with_len, get_or-map-range_with_len, map-range_with_len_more}
@@ -11,12 +12,13 @@ use Rattle.link_base.proofs.RangeLemmas.{all_kept}
 use Rattle.section_group.specs.declared.piece.Piece.{Piece}
 use Rattle.address_layout.specs.Layout.{IsAlignment}
 use Rattle.module_view.specs.Module.{ModuleView}
-use Rattle.symbol_names.specs.LinkView.{LinkView}
-use Rattle.synthetic_sections.specs.LinkerPieces.{SLOTS, FIRST_THUNK, size_at, table_piece, table_if, table_pieces, thunk_piece, slot_piece}
+use Rattle.link_pieces.specs.LinkParts.{LinkParts}
+use Rattle.synthetic_sections.specs.LinkerPieces.{SLOTS, EXPORTS, FIRST_THUNK, size_at, table_piece, table_if, table_pieces, export_table_pieces, thunk_piece, slot_piece}
+use Rattle.import_tables.specs.ImportShape.{sizes_of}
 use Rattle.link_imports.specs.Imports.{import_sizes}
 use Rattle.link_imports.specs.ImportPieces.{has_thunk, code_imports, tables_for, import_pieces}
 use Rattle.link_pieces.specs.LocalSlots.{slot_names}
-use Rattle.link_pieces.specs.LinkerPieces.{slots_below, linker_pieces, is_table, IsLinkerPiece}
+use Rattle.link_pieces.specs.LinkerPieces.{slots_below, made_pieces, linker_pieces, is_table, table_sizes, IsLinkerPiece}
 use Rattle.link_pieces.specs.PieceIndex.{is_numbered}
 
 or_true : (b : Bool) → (b || true) ≡ true
@@ -70,16 +72,29 @@ all_tables P modules each =
 
 -- ---- what each is
 
-tables_are : (link : LinkView) → All (IsLinkerPiece link) (tables_for link.modules)
+import_sizes_count : (modules : List ModuleView) → length (import_sizes modules) ≡ 5
+unfolding sizes_of
+import_sizes_count modules = refl
+
+-- the size of an import table, and that of the export table
+import_size : (link : LinkParts) (number : ℕ) → number < 5 → size_at (table_sizes link) number ≡ size_at (import_sizes link.modules) number
+import_size link number few =
+    get_or_append_left (import_sizes link.modules) (link.exports.size ∷ []) 0 number (omega (arith, few, import_sizes_count link.modules))
+
+export_size : (link : LinkParts) → size_at (table_sizes link) EXPORTS ≡ link.exports.size
+export_size link =
+    get_or_push (import_sizes link.modules) link.exports.size 0 EXPORTS (import_sizes_count link.modules)
+
+tables_are : (link : LinkParts) → All (IsLinkerPiece link) (tables_for link.modules)
 tables_are link =
     all_tables (IsLinkerPiece link) link.modules (λ number name align few aligned some.
     record {
       of_linker = refl;
       numbered = inl (omega (arith, few));
-      table = λ below. record { few = few; init = refl; some = some; size = refl };
+      table = λ below. record { few = omega (arith, few); init = refl; some = some; size = sym (import_size link number few) };
     })
 
-jumps_are : (link : LinkView) → All (IsLinkerPiece link) (map (thunk_piece (length link.modules)) (code_imports link.modules))
+jumps_are : (link : LinkParts) → All (IsLinkerPiece link) (map (thunk_piece (length link.modules)) (code_imports link.modules))
 jumps_are link =
     all_kept (IsLinkerPiece link) (thunk_piece (length link.modules)) (has_thunk link.modules) 0 (length link.modules) (λ import first last kept.
     record {
@@ -88,7 +103,18 @@ jumps_are link =
       table = λ below. absurd (omega (arith, below));
     })
 
-slots_are : (link : LinkView) → All (IsLinkerPiece link) (slots_below (length link.modules) (length (slot_names link)))
+export_is : (link : LinkParts) → All (IsLinkerPiece link) (export_table_pieces (length link.modules) link.exports.size)
+unfolding export_table_pieces
+export_is link =
+    let count = length link.modules in
+    all_if (IsLinkerPiece link) (eqb link.exports.size 0) (table_piece count EXPORTS (codes ".edata") 4 link.exports.size) (λ made.
+    record {
+      of_linker = refl;
+      numbered = inl (omega arith);
+      table = λ below. record { few = omega arith; init = refl; some = some_bytes link.exports.size made; size = sym (export_size link) };
+    })
+
+slots_are : (link : LinkParts) → All (IsLinkerPiece link) (slots_below (length link.modules) (length (slot_names link)))
 slots_are link =
     all_made (IsLinkerPiece link) (slot_piece (length link.modules)) (length (slot_names link)) (λ slot lt.
     record {
@@ -97,10 +123,11 @@ slots_are link =
       table = λ below. absurd (omega (arith, below));
     })
 
-pub linker_pieces_are : (link : LinkView) → All (IsLinkerPiece link) (linker_pieces link)
+pub linker_pieces_are : (link : LinkParts) → All (IsLinkerPiece link) (linker_pieces link)
 linker_pieces_are link =
-    All-append (IsLinkerPiece link) (import_pieces link.modules) (slots_below (length link.modules) (length (slot_names link)))
-    (All-append (IsLinkerPiece link) (tables_for link.modules) (map (thunk_piece (length link.modules)) (code_imports link.modules)) (tables_are link) (jumps_are link)) (slots_are link)
+    All-append (IsLinkerPiece link) (import_pieces link.modules) (made_pieces (length link.modules) link.exports.size (length (slot_names link)))
+    (All-append (IsLinkerPiece link) (tables_for link.modules) (map (thunk_piece (length link.modules)) (code_imports link.modules)) (tables_are link) (jumps_are link))
+    (All-append (IsLinkerPiece link) (export_table_pieces (length link.modules) link.exports.size) (slots_below (length link.modules) (length (slot_names link))) (export_is link) (slots_are link))
 
 -- ---- alignments
 
@@ -114,14 +141,20 @@ imports_aligned modules =
     (all_kept HasAlignment (thunk_piece (length modules)) (has_thunk modules) 0 (length modules) (λ import first last kept.
     record { positive = omega arith; divides = refl }))
 
+export_aligned : (position size : ℕ) → All HasAlignment (export_table_pieces position size)
+unfolding export_table_pieces
+export_aligned position size =
+    all_if HasAlignment (eqb size 0) (table_piece position EXPORTS (codes ".edata") 4 size) (λ made. record { positive = omega arith; divides = refl })
+
 slots_aligned : (position slots : ℕ) → All HasAlignment (slots_below position slots)
 slots_aligned position slots =
     all_made HasAlignment (slot_piece position) slots (λ slot lt. record { positive = omega arith; divides = refl })
 
-pub linker_aligned : (link : LinkView) → All (λ (piece : Piece). IsAlignment piece.align) (linker_pieces link)
+pub linker_aligned : (link : LinkParts) → All (λ (piece : Piece). IsAlignment piece.align) (linker_pieces link)
 linker_aligned link =
-    All-append HasAlignment (import_pieces link.modules) (slots_below (length link.modules) (length (slot_names link)))
-    (imports_aligned link.modules) (slots_aligned (length link.modules) (length (slot_names link)))
+    let count = length link.modules in
+    All-append HasAlignment (import_pieces link.modules) (made_pieces count link.exports.size (length (slot_names link))) (imports_aligned link.modules)
+    (All-append HasAlignment (export_table_pieces count link.exports.size) (slots_below count (length (slot_names link))) (export_aligned count link.exports.size) (slots_aligned count (length (slot_names link))))
 
 -- ---- tables are told by their numbers
 
@@ -129,6 +162,12 @@ pub tables_told : (modules : List ModuleView) → All (λ (piece : Piece). is_ta
 tables_told modules =
     all_tables (λ (piece : Piece). is_table (length modules) piece ≡ true) modules (λ number name align few aligned some.
     rw (eq-eqb (length modules) (length modules) refl, lt-ltb number FIRST_THUNK (omega (arith, few))) refl)
+
+pub export_told : (count size : ℕ) → All (λ (piece : Piece). is_table count piece ≡ true) (export_table_pieces count size)
+unfolding export_table_pieces
+export_told count size =
+    all_if (λ (piece : Piece). is_table count piece ≡ true) (eqb size 0) (table_piece count EXPORTS (codes ".edata") 4 size) (λ made.
+    rw (eq-eqb count count refl) refl)
 
 -- a table that has bytes is among them
 found_in : (test : Piece → Bool) (none : Bool) (piece : Piece) → none ≡ false → test piece ≡ true → list_any test (cond none [] (piece ∷ [])) ≡ true
@@ -187,3 +226,29 @@ unfolding table_pieces
 table_made modules number few sized =
     any_of_five (is_numbered (length modules) number) (table_of modules 0 (codes ".idata$2") 4) (table_of modules 1 (codes ".idata$4") 8) (table_of modules SLOTS (codes ".idata$5") 8) (table_of modules 3 (codes ".idata$6") 2) (table_of modules 4 (codes ".idata$7") 1) number
     (table_of_number modules number few sized)
+
+export_made : (count size : ℕ) → 0 < size → list_any (is_numbered count EXPORTS) (export_table_pieces count size) ≡ true
+unfolding export_table_pieces
+export_made count size some =
+    found_in (is_numbered count EXPORTS) (eqb size 0) (table_piece count EXPORTS (codes ".edata") 4 size) (none_false size some) (rw (eq-eqb count count refl) refl)
+  where
+    none_false : (size : ℕ) → 0 < size → eqb size 0 ≡ false
+    none_false zero some = absurd (omega (arith, some))
+    none_false (suc size) some = refl
+
+-- among the pieces that the linker makes
+pub made_there : (link : LinkParts) (number : ℕ) → number < 6 → 0 < size_at (table_sizes link) number → list_any (is_numbered (length link.modules) number) (linker_pieces link) ≡ true
+made_there link number few sized =
+    let count = length link.modules in
+    elim (cases_lt number 5) [
+      | inl below ↦
+          either_any (is_numbered count number) (import_pieces link.modules) _
+          (either_any (is_numbered count number) (tables_for link.modules) _
+          (table_made link.modules number below (subst (λ (n : ℕ). 0 < n) (import_size link number below) sized)))
+      | inr last ↦
+          let same : number ≡ EXPORTS = omega (arith, few, last) in
+          let some = subst (λ (n : ℕ). 0 < n) (ap (size_at (table_sizes link)) same ∙ export_size link) sized in
+          subst (λ (n : ℕ). list_any (is_numbered count n) (linker_pieces link) ≡ true) (sym same)
+          (later_any (is_numbered count EXPORTS) (import_pieces link.modules) _
+          (either_any (is_numbered count EXPORTS) (export_table_pieces count link.exports.size) _ (export_made count link.exports.size some)))
+    ]

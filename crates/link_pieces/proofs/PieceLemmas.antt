@@ -20,7 +20,7 @@ use Rattle.section_group.specs.SectionOrder.{no_piece}
 use Rattle.address_layout.specs.Layout.{IsAlignment}
 use Rattle.section_group.specs.PieceContents.{piece_contents, HasItsBytes}
 use Rattle.module_view.specs.Module.{ModuleView, no_module, module_at}
-use Rattle.symbol_names.specs.LinkView.{LinkView}
+use Rattle.link_pieces.specs.LinkParts.{LinkParts}
 use Rattle.module_view.specs.Opening.{IsOpened}
 use Rattle.module_view.specs.declared.definition.Common.{Common}
 use Rattle.module_view.proofs.CallerLemmas.{opened_sound}
@@ -28,11 +28,11 @@ use Rattle.link_directives.specs.LinkDirectives.{raised_alignment}
 use Rattle.link_directives.proofs.CallerLemmas.{raised_holds}
 use Rattle.link_pieces.specs.Commons.{meant_commons, common_alignment, common_piece}
 use Rattle.link_pieces.specs.Pieces.{is_linked, linked_sections, piece_of, section_contents, no_contents, pieces_in, contents_in, module_pieces, module_contents, link_pieces, link_contents}
-use Rattle.synthetic_sections.specs.LinkerPieces.{no_bytes, thunk_piece, slot_piece}
+use Rattle.synthetic_sections.specs.LinkerPieces.{no_bytes, export_table_pieces, thunk_piece, slot_piece}
 use Rattle.link_imports.specs.ImportPieces.{has_thunk, code_imports, jump, tables_for, import_pieces, import_contents}
 use Rattle.link_pieces.specs.LocalSlots.{slot_names}
-use Rattle.link_pieces.specs.LinkerPieces.{pointer, slots_below, pointers_below, linker_pieces, linker_contents, is_table}
-use Rattle.link_pieces.proofs.LinkerLemmas.{tables_told, linker_aligned}
+use Rattle.link_pieces.specs.LinkerPieces.{pointer, slots_below, pointers_below, made_pieces, made_contents, linker_pieces, linker_contents, is_table}
+use Rattle.link_pieces.proofs.LinkerLemmas.{tables_told, export_told, linker_aligned}
 use Rattle.link_pieces.proofs.CommonLemmas.{common_aligned}
 
 -- ---- pieces beside what they hold
@@ -82,7 +82,7 @@ commons_filled : (count : ℕ) (modules : List ModuleView) (position : ℕ) (com
 commons_filled count modules position [] = tt
 commons_filled count modules position (common ∷ commons) = (λ other e. absurd (false≢true e), commons_filled count modules position commons)
 
-modules_filled : (link : LinkView) → ((m : ℕ) → m < length link.modules → object_fault (module_at link.modules m).bytes ≡ None) → Paired (IsFilled (length link.modules)) (module_pieces link) (module_contents link)
+modules_filled : (link : LinkParts) → ((m : ℕ) → m < length link.modules → object_fault (module_at link.modules m).bytes ≡ None) → Paired (IsFilled (length link.modules)) (module_pieces link) (module_contents link)
 modules_filled link sound =
     let count = length link.modules in
     paired_joined (IsFilled count) (λ m. pieces_in link m (module_at link.modules m).bytes) (λ m. contents_in link m (module_at link.modules m).bytes) 0 count (λ m low high.
@@ -110,16 +110,19 @@ slots_filled : (count position a n : ℕ) → Paired (IsFilled count) (map (slot
 slots_filled count position a zero = tt
 slots_filled count position a (suc n) = (λ other e. refl, slots_filled count position (a + 1) n)
 
-linker_filled : (link : LinkView) → Paired (IsFilled (length link.modules)) (linker_pieces link) (linker_contents link)
+linker_filled : (link : LinkParts) → Paired (IsFilled (length link.modules)) (linker_pieces link) (linker_contents link)
 linker_filled link =
     let count = length link.modules in
     let tables = tables_for link.modules in
     let jumps = code_imports link.modules in
-    paired_append (IsFilled count) (import_pieces link.modules) (slots_below count (length (slot_names link))) (import_contents link.modules) (pointers_below (length (slot_names link)))
+    let size = link.exports.size in
+    let slots = length (slot_names link) in
+    let table = export_table_pieces count size in
+    paired_append (IsFilled count) (import_pieces link.modules) (made_pieces count size slots) (import_contents link.modules) (made_contents count size slots)
     (paired_append (IsFilled count) tables (map (thunk_piece count) jumps) (map no_bytes tables) (map jump jumps) (tables_filled count tables (tables_told link.modules)) (jumps_filled count link.modules))
-    (slots_filled count count 0 (length (slot_names link)))
+    (paired_append (IsFilled count) table (slots_below count slots) (map no_bytes table) (pointers_below slots) (tables_filled count table (export_told count size)) (slots_filled count count 0 slots))
 
-link_filled : (link : LinkView) → ((m : ℕ) → m < length link.modules → object_fault (module_at link.modules m).bytes ≡ None) → Paired (IsFilled (length link.modules)) (link_pieces link) (link_contents link)
+link_filled : (link : LinkParts) → ((m : ℕ) → m < length link.modules → object_fault (module_at link.modules m).bytes ≡ None) → Paired (IsFilled (length link.modules)) (link_pieces link) (link_contents link)
 link_filled link sound =
     paired_append (IsFilled (length link.modules)) (module_pieces link) (linker_pieces link) (module_contents link) (linker_contents link) (modules_filled link sound) (linker_filled link)
 
@@ -129,10 +132,10 @@ filled_at count (piece ∷ pieces) zero paired lt other = paired.0 other
 filled_at count (piece ∷ pieces) (suc k) paired lt other = filled_at count pieces k paired.1 (omega arith) other
 
 -- the object of each module is well formed
-pub each_sound : (link : LinkView) → All IsOpened link.modules → (m : ℕ) → m < length link.modules → object_fault (module_at link.modules m).bytes ≡ None
+pub each_sound : (link : LinkParts) → All IsOpened link.modules → (m : ℕ) → m < length link.modules → object_fault (module_at link.modules m).bytes ≡ None
 each_sound link all m lt = opened_sound (module_at link.modules m).bytes (all m no_module lt)
 
-pub bodies : (link : LinkView) (pieces : List Piece) → All IsOpened link.modules → map bare pieces ≡ link_pieces link → map piece_contents pieces ≡ link_contents link → (k : ℕ) → k < length pieces → is_table (length link.modules) (get_or pieces k no_piece) ≡ false → HasItsBytes pieces k
+pub bodies : (link : LinkParts) (pieces : List Piece) → All IsOpened link.modules → map bare pieces ≡ link_pieces link → map piece_contents pieces ≡ link_contents link → (k : ℕ) → k < length pieces → is_table (length link.modules) (get_or pieces k no_piece) ≡ false → HasItsBytes pieces k
 bodies link pieces sound same_pieces same_contents k lt other =
     filled_at (length link.modules) pieces k
     (subst (λ (ps : List Piece). Paired (IsFilled (length link.modules)) ps (map piece_contents pieces)) (sym same_pieces)
@@ -166,7 +169,7 @@ commons_aligned modules position [] = All-nil (λ piece. IsAlignment piece.align
 commons_aligned modules position (common ∷ commons) =
     All-cons (λ (piece : Piece). IsAlignment piece.align) (common_piece modules position common) (map (common_piece modules position) commons) (raised_aligned modules common.name (common_alignment common.size) (common_aligned common.size)) (commons_aligned modules position commons)
 
-modules_aligned : (link : LinkView) → All IsOpened link.modules → All (λ piece. IsAlignment piece.align) (module_pieces link)
+modules_aligned : (link : LinkParts) → All IsOpened link.modules → All (λ piece. IsAlignment piece.align) (module_pieces link)
 modules_aligned link sound =
     all_joined (λ piece. IsAlignment piece.align) (λ m. pieces_in link m (module_at link.modules m).bytes) 0 (length link.modules) (λ m low high.
     let bytes = (module_at link.modules m).bytes in
@@ -176,7 +179,7 @@ modules_aligned link sound =
     alignment (alignment_of (flags_of bytes section)) (section_alignment bytes section (each_sound link sound m within) first (omega arith))))
     (commons_aligned link.modules m (meant_commons link m bytes)))
 
-pub aligned : (link : LinkView) (pieces : List Piece) → All IsOpened link.modules → map bare pieces ≡ link_pieces link → All (λ piece. IsAlignment piece.align) pieces
+pub aligned : (link : LinkParts) (pieces : List Piece) → All IsOpened link.modules → map bare pieces ≡ link_pieces link → All (λ piece. IsAlignment piece.align) pieces
 aligned link pieces sound same =
     over_bare (λ piece. IsAlignment piece.align) pieces
     (subst (All (λ (piece : Piece). IsAlignment piece.align)) (sym same)

@@ -10,7 +10,7 @@ use Rattle.module_view.specs.declared.definition.Common.{Common}
 use Rattle.symbol_table.specs.declared.meaning.Meaning.{Meaning}
 use Rattle.symbol_table.specs.declared.meaning.Meaning.TheVariants as meaning
 use Rattle.symbol_table.specs.declared.meaning.NoMeaning.{NoMeaning}
-use Rattle.symbol_names.specs.LinkView.{LinkView}
+use Rattle.link_pieces.specs.LinkParts.{LinkParts}
 use Rattle.link_directives.specs.LinkDirectives.{raised_alignment}
 use Rattle.link_pieces.specs.NameMeaning.{name_meaning}
 
@@ -28,10 +28,10 @@ is_that_common position symbol (Ok meaning.ImageBase) = false
 is_that_common position symbol (Err none) = false
 
 -- some name means a common exactly where its own name does: a chain that ends at it comes to that name
-abbrev pub is_meant_common : LinkView → ℕ → Common → Bool
+abbrev pub is_meant_common : LinkParts → ℕ → Common → Bool
 is_meant_common link position common = is_that_common position common.symbol (name_meaning link common.name)
 
-abbrev pub meant_commons : LinkView → ℕ → List ℕ → List Common
+abbrev pub meant_commons : LinkParts → ℕ → List ℕ → List Common
 meant_commons link position bytes = filter (is_meant_common link position) (commons_of bytes)
 
 -- ---- what they are

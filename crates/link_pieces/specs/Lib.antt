@@ -1,3 +1,4 @@
+pub mod LinkParts
 pub mod NameMeaning
 pub mod ChoiceFaults
 pub mod Commons

@@ -9,7 +9,7 @@ use Rattle.link_base.specs.NameText.{same_name}
 use Rattle.coff_records.specs.ObjectFile.{SymbolView, SymbolEntry, name_in, symbol_entries}
 use Rattle.module_view.specs.Module.{module_at}
 use Rattle.module_view.specs.SymbolLists.{is_definition, place_of, is_reference}
-use Rattle.symbol_names.specs.LinkView.{LinkView}
+use Rattle.link_pieces.specs.LinkParts.{LinkParts}
 use Rattle.symbol_names.specs.Lists.{is_live_at}
 use Rattle.symbol_names.specs.References.{names_by}
 use Rattle.symbol_table.specs.declared.meaning.Meaning.{Meaning}
@@ -21,20 +21,20 @@ use Rattle.link_pieces.specs.NameMeaning.{name_meaning}
 -- ---- the names that a link refers to
 
 -- a definition in a section that takes no part in the link stands for its name
-abbrev pub is_lost : LinkView → ℕ → SymbolView → Bool
+abbrev pub is_lost : LinkParts → ℕ → SymbolView → Bool
 is_lost link position symbol = is_definition symbol && not (is_live_at (chosen_sections link.modules) position (place_of symbol))
 
-unfoldable pub asks : LinkView → ℕ → SymbolView → Bool
+unfoldable pub asks : LinkParts → ℕ → SymbolView → Bool
 asks link position symbol = is_reference symbol || is_lost link position symbol
 
-abbrev pub name_asked : LinkView → ℕ → SymbolEntry → Option (List ℕ)
+abbrev pub name_asked : LinkParts → ℕ → SymbolEntry → Option (List ℕ)
 name_asked link position entry = if asks link position entry.1 then Some (name_in entry.1) else None
 
 -- a module refers to names by its symbols, then by its directives
-abbrev pub names_asked : LinkView → ℕ → List ℕ → List (List ℕ)
+abbrev pub names_asked : LinkParts → ℕ → List ℕ → List (List ℕ)
 names_asked link position bytes = filter_map (name_asked link position) (symbol_entries bytes) ++ names_by bytes
 
-abbrev pub modules_asked : LinkView → List (List ℕ)
+abbrev pub modules_asked : LinkParts → List (List ℕ)
 modules_asked link = flat_map (λ k. names_asked link k (module_at link.modules k).bytes) (range_with_len 0 (length link.modules))
 
 -- ---- the names of slots
@@ -50,7 +50,7 @@ slot_in (Ok (meaning.Absolute value)) = None
 slot_in (Ok meaning.ImageBase) = None
 slot_in (Err none) = None
 
-abbrev pub slot_meant : LinkView → List ℕ → Option (List ℕ)
+abbrev pub slot_meant : LinkParts → List ℕ → Option (List ℕ)
 slot_meant link name = slot_in (name_meaning link name)
 
 -- with one more, in the order of their bytes, each once
@@ -61,11 +61,11 @@ abbrev pub with_slots : List (List ℕ) → List (List ℕ) → List (List ℕ)
 with_slots slots names = fold with_slot slots names
 
 -- with those that some names mean
-abbrev pub with_meant : LinkView → List (List ℕ) → List (List ℕ) → List (List ℕ)
+abbrev pub with_meant : LinkParts → List (List ℕ) → List (List ℕ) → List (List ℕ)
 with_meant link slots names = with_slots slots (filter_map (slot_meant link) names)
 
 -- the names whose slots a link refers to, by words or by modules
-unfoldable pub slot_names : LinkView → List (List ℕ)
+unfoldable pub slot_names : LinkParts → List (List ℕ)
 slot_names link = with_meant link (with_meant link [] link.words) (modules_asked link)
 
 -- the number of the slot of a name among these, where it is one of them

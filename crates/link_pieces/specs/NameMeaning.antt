@@ -1,15 +1,15 @@
 -- What a name means in a link, of each group of whose COMDAT sections one is chosen. Own.
 use Rattle.std.specs.Prelude.{ℕ, Bool, List, Result}
-use Rattle.symbol_names.specs.LinkView.{LinkView}
+use Rattle.link_pieces.specs.LinkParts.{LinkParts, names_in}
 use Rattle.symbol_table.specs.declared.meaning.Meaning.{Meaning}
 use Rattle.symbol_table.specs.declared.meaning.NoMeaning.{NoMeaning}
 use Rattle.symbol_names.specs.Lists.{is_chosen_in}
 use Rattle.symbol_table.specs.Resolution.{meaning_of}
 use Rattle.comdat.specs.Selection.{chosen_sections}
 
-abbrev pub name_meaning : LinkView → List ℕ → Result Meaning NoMeaning
-name_meaning link name = meaning_of link (chosen_sections link.modules) name
+abbrev pub name_meaning : LinkParts → List ℕ → Result Meaning NoMeaning
+name_meaning link name = meaning_of (names_in link) (chosen_sections link.modules) name
 
 -- a section of the module at a position takes part in the link
-abbrev pub takes_part : LinkView → ℕ → ℕ → Bool
+abbrev pub takes_part : LinkParts → ℕ → ℕ → Bool
 takes_part link position section = is_chosen_in (chosen_sections link.modules) position section

@@ -3,7 +3,7 @@ use Rattle.std.specs.Prelude.{◌≡◌, ℕ, ◌+◌, ◌-◌, Bool, ◌&&◌, 
 use Rattle.link_base.specs.Bytes.{first_below}
 use Rattle.section_group.specs.declared.piece.Piece.{Piece}
 use Rattle.section_group.specs.SectionOrder.{no_piece}
-use Rattle.symbol_names.specs.LinkView.{LinkView}
+use Rattle.link_pieces.specs.LinkParts.{LinkParts}
 use Rattle.link_pieces.specs.Commons.{FIRST_COMMON}
 use Rattle.synthetic_sections.specs.LinkerPieces.{FIRST_LOCAL_SLOT}
 use Rattle.link_imports.specs.Imports.{slot_offset}
@@ -31,22 +31,22 @@ holds test pieces k = test (slice_index_or pieces k no_piece)
 -- ---- among the pieces of a link
 
 -- the piece that is a section of the module at a position, where that comes into the image
-abbrev pub piece_index : LinkView → ℕ → ℕ → Option ℕ
+abbrev pub piece_index : LinkParts → ℕ → ℕ → Option ℕ
 piece_index link position section =
     first_below (length (link_pieces link)) (holds (is_section_of (length link.modules) position section) (link_pieces link))
 
 -- the piece that is a common of the module at a position, by the record of its symbol, where some name means it
-abbrev pub common_index : LinkView → ℕ → ℕ → Option ℕ
+abbrev pub common_index : LinkParts → ℕ → ℕ → Option ℕ
 common_index link position symbol =
     first_below (length (link_pieces link)) (holds (is_common_of position symbol) (link_pieces link))
 
 -- the piece that the linker makes, by its number, where it makes one
-abbrev pub linker_index : LinkView → ℕ → Option ℕ
+abbrev pub linker_index : LinkParts → ℕ → Option ℕ
 linker_index link number =
     first_below (length (link_pieces link)) (holds (is_numbered (length link.modules) number) (link_pieces link))
 
 -- the piece that is the slot of a name, where the link refers to it
-abbrev pub slot_index : LinkView → List ℕ → Option ℕ
+abbrev pub slot_index : LinkParts → List ℕ → Option ℕ
 slot_index link name =
     option_and_then (λ slot. linker_index link (FIRST_LOCAL_SLOT + slot)) (slot_number (slot_names link) name)
 
@@ -92,7 +92,7 @@ slot_indexed index name =
     option_and_then (λ slot. linker_indexed index.linker (FIRST_LOCAL_SLOT + slot)) (slot_number index.slots name)
 
 -- they tell the piece of each
-pub record IsPieceIndex (link : LinkView) (index : IndexView) : Type 0 where
+pub record IsPieceIndex (link : LinkParts) (index : IndexView) : Type 0 where
   pub sections : (position section : ℕ) → indexed index.sections position section ≡ piece_index link position section
   pub commons : (position symbol : ℕ) → indexed index.commons position symbol ≡ common_index link position symbol
   pub linker : (number : ℕ) → linker_indexed index.linker number ≡ linker_index link number

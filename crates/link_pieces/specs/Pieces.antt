@@ -11,7 +11,7 @@ use Rattle.module_view.specs.declared.definition.Common.{Common}
 use Rattle.module_view.specs.declared.definition.Definition.{Definition}
 use Rattle.module_view.specs.declared.definition.Place.{Place}
 use Rattle.module_view.specs.declared.definition.Place.TheVariants as place
-use Rattle.symbol_names.specs.LinkView.{LinkView}
+use Rattle.link_pieces.specs.LinkParts.{LinkParts}
 use Rattle.link_pieces.specs.NameMeaning.{takes_part}
 use Rattle.link_pieces.specs.Commons.{meant_commons, common_piece, IsCommonOf}
 use Rattle.link_pieces.specs.LinkerPieces.{linker_pieces, linker_contents, IsLinkerPiece}
@@ -52,14 +52,14 @@ section_contents bytes section = unwrap_or (body_of bytes section) []
 -- ---- all that come into the image
 
 -- a section that takes part in the link
-abbrev pub is_linked : LinkView → ℕ → List ℕ → ℕ → Bool
+abbrev pub is_linked : LinkParts → ℕ → List ℕ → ℕ → Bool
 is_linked link position bytes section = takes_part link position section && is_placed bytes section
 
-abbrev pub linked_sections : LinkView → ℕ → List ℕ → List ℕ
+abbrev pub linked_sections : LinkParts → ℕ → List ℕ → List ℕ
 linked_sections link position bytes = filter (is_linked link position bytes) (range_with_len 1 (section_total bytes))
 
 -- its sections in the order of their headers, then its commons in the order of their symbols
-abbrev pub pieces_in : LinkView → ℕ → List ℕ → List Piece
+abbrev pub pieces_in : LinkParts → ℕ → List ℕ → List Piece
 pieces_in link position bytes =
     map (piece_of position bytes) (linked_sections link position bytes)
     ++ map (common_piece link.modules position) (meant_commons link position bytes)
@@ -68,38 +68,38 @@ pieces_in link position bytes =
 abbrev pub no_contents : Common → List ℕ
 no_contents common = []
 
-abbrev pub contents_in : LinkView → ℕ → List ℕ → List (List ℕ)
+abbrev pub contents_in : LinkParts → ℕ → List ℕ → List (List ℕ)
 contents_in link position bytes =
     map (section_contents bytes) (linked_sections link position bytes)
     ++ map no_contents (meant_commons link position bytes)
 
-abbrev pub module_pieces : LinkView → List Piece
+abbrev pub module_pieces : LinkParts → List Piece
 module_pieces link = flat_map (λ k. pieces_in link k (module_at link.modules k).bytes) (range_with_len 0 (length link.modules))
 
-abbrev pub module_contents : LinkView → List (List ℕ)
+abbrev pub module_contents : LinkParts → List (List ℕ)
 module_contents link = flat_map (λ k. contents_in link k (module_at link.modules k).bytes) (range_with_len 0 (length link.modules))
 
 -- those of the modules, then those that the linker makes
-abbrev pub link_pieces : LinkView → List Piece
+abbrev pub link_pieces : LinkParts → List Piece
 link_pieces link = module_pieces link ++ linker_pieces link
 
-abbrev pub link_contents : LinkView → List (List ℕ)
+abbrev pub link_contents : LinkParts → List (List ℕ)
 link_contents link = module_contents link ++ linker_contents link
 
 -- ---- what a piece is
 
 -- a section of its module that comes into the image
-pub record IsSectionOf (link : LinkView) (piece : Piece) : Type 0 where
+pub record IsSectionOf (link : LinkParts) (piece : Piece) : Type 0 where
   pub first : 1 ≤ piece.number
   pub last : piece.number ≤ section_total (module_at link.modules piece.«module»).bytes
   pub linked : is_linked link piece.«module» (module_at link.modules piece.«module»).bytes piece.number ≡ true
   pub is : piece ≡ piece_of piece.«module» (module_at link.modules piece.«module»).bytes piece.number
 
 -- or a common of its module
-pub record IsModulePiece (link : LinkView) (piece : Piece) : Type 0 where
+pub record IsModulePiece (link : LinkParts) (piece : Piece) : Type 0 where
   pub within : piece.«module» < length link.modules
   pub is : IsSectionOf link piece ⊎ IsCommonOf link.modules piece.«module» (module_at link.modules piece.«module»).bytes piece
 
 -- or one that the linker makes
-abbrev pub IsPieceOf : LinkView → Piece → Type 0
+abbrev pub IsPieceOf : LinkParts → Piece → Type 0
 IsPieceOf link piece = IsModulePiece link piece ⊎ IsLinkerPiece link piece

@@ -7,36 +7,46 @@ ghost use Rattle.coff_records.specs.ObjectFile.{symbol_at, name_in};
 ghost use Rattle.module_view.specs.Module.{module_at};
 ghost use Rattle.symbol_names.specs.Kept.{rows_of};
 ghost use Rattle.comdat.specs.Selection.{chosen_sections};
+ghost use Rattle.link_pieces.specs.LinkParts.{parts_of};
 ghost use Rattle.link_pieces.specs.NameMeaning.{name_meaning, takes_part};
 ghost use Rattle.link_pieces.specs.ChoiceFaults.{conflict_fault, clash_fault};
 
 use coff_object::SymbolRecord;
 use comdat::{ChooseError, choose_all};
 use link_base::{Fault, Name, Refusal};
+use link_exports::LinkExports;
 use module_view::Module;
 use std::alloc::Global;
 use std::marker::Model;
 use symbol_table::{Chosen, Meaning, NoMeaning, ResolvedNames, SymbolTable};
 
-/// What names mean in the modules of a link, of each group of whose COMDAT sections one is chosen.
+/// What names mean in the modules of a link, of each group of whose COMDAT sections one is chosen, and what it exports.
 #[derive(Drop)]
 pub struct LinkNames<'a> {
     names: ResolvedNames<'a>,
+    exports: LinkExports<'a>,
 }
 
 impl<'a> Model for LinkNames<'a> {
     ghost use Rattle.std.specs.Prelude.{◌≡◌};
-    ghost use Rattle.symbol_names.specs.LinkView.{LinkView};
+    ghost use Rattle.link_pieces.specs.LinkParts.{LinkParts, parts_of};
     ghost use Rattle.comdat.specs.Selection.{chosen_sections};
 
-    ghost Value = { LinkView };
+    ghost Value = { LinkParts };
 
-    ghost view = { λ t. t.names.link };
+    ghost view = { λ t. parts_of t.names.link t.exports };
 
     ghost invariant = { λ t. t.names.chosen ≡ chosen_sections t.names.link.modules };
 }
 
 impl<'a> LinkNames<'a> {
+    /// What the link exports.
+    pub fn exports(&self) -> &LinkExports<'a>
+        ensures { result.now ≡ self.now.exports }
+    {
+        &self.exports
+    }
+
     /// What a name means.
     pub fn resolve(&self, name: Name<'a>) -> Result<Meaning<'a>, NoMeaning>
         ensures { result ≡ name_meaning self.now name.entry }
@@ -65,21 +75,22 @@ impl<'a> LinkNames<'a> {
     }
 }
 
-/// What the names of a table mean, whose modules these are. COMDAT sections that conflict are refused (`ComdatConflict`).
+/// What the names of a table mean, whose modules these are, with what the link exports. COMDAT sections that conflict are refused (`ComdatConflict`).
 pub fn link_names<'a>(
     alloc: Global,
     table: SymbolTable<'a>,
     modules: &[Module<'a>],
+    exports: LinkExports<'a>,
 ) -> Result<LinkNames<'a>, Refusal<'a>>
     requires few { length modules.now ≤ MODULE_LIMIT }
     requires same { table.modules ≡ modules.now }
-    ensures names { IfOk result (λ names. names ≡ table.entry) }
+    ensures names { IfOk result (λ names. names ≡ parts_of table.entry exports.entry) }
     ensures accepted { OnOk result (conflict_fault modules.now ≡ None) }
     ensures refused { IfErr result (RefusesFor (conflict_fault modules.now)) }
 {
     let chosen = choose(alloc, modules)?;
     let names = table.resolved(alloc, chosen)?;
-    Ok(LinkNames { names })
+    Ok(LinkNames { names, exports })
 }
 
 /// Which sections of the modules are chosen.

@@ -6,7 +6,7 @@ ghost use Rattle.link_pieces.specs.Pieces.{link_pieces};
 ghost use Rattle.synthetic_sections.specs.LinkerPieces as slot;
 ghost use Rattle.link_pieces.specs.LocalSlots.{slot_names};
 ghost use Rattle.coff_records.specs.ObjectFile.{section_total};
-ghost use Rattle.symbol_names.specs.LinkView.{LinkView};
+ghost use Rattle.link_pieces.specs.LinkParts.{LinkParts};
 ghost use Rattle.link_pieces.specs.Commons.{FIRST_COMMON};
 ghost use Rattle.link_base.specs.Limits.{MODULE_LIMIT};
 ghost use Rattle.link_imports.specs.Imports.{AreImports};
@@ -61,7 +61,7 @@ impl<'a> PieceIndex<'a> {
         requires imports { AreImports modules.now imports.now }
         requires placed { All (λ piece. HasSomePlace modules.now (length slots) piece.«module» piece.number) pieces.now }
         requires few { length pieces.now < 2 ^ 31 }
-        ensures { IfOk result (λ index. (link : LinkView) → link.modules ≡ modules.now → slot_names link ≡ slots.entry → map bare pieces.now ≡ link_pieces link → IsPieceIndex link index) }
+        ensures { IfOk result (λ index. (link : LinkParts) → link.modules ≡ modules.now → slot_names link ≡ slots.entry → map bare pieces.now ≡ link_pieces link → IsPieceIndex link index) }
     {
         let mut sections = section_rows(alloc, modules)?;
         let mut commons = common_rows(alloc, modules)?;

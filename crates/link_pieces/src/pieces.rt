@@ -19,7 +19,7 @@ ghost use Rattle.link_pieces.specs.LinkerPieces.{numbers_below, is_table};
 ghost use Rattle.link_pieces.specs.Pieces.{is_named, is_linked, piece_of, section_contents, no_contents, linked_sections, pieces_in, contents_in, link_pieces, link_contents};
 
 use crate::commons::{FIRST_COMMON, common_piece, is_meant};
-use crate::linker::push_slots;
+use crate::linker::push_made;
 use crate::named::name_sections;
 use crate::names::LinkNames;
 use coff_object::{Object, Section};
@@ -38,7 +38,7 @@ const RECORD_LIMIT: u32 = 1 << 31;
 
 /// The sections of the modules that come into the image, and the commons that names mean: module by module, and in each the
 /// sections in the order of their headers before the commons in the order of their symbols. Then come the import tables, a jump
-/// for each import of code, and the local slots, so many as the link refers to. The tables hold nothing before they have places.
+/// for each import of code, the export table, and the local slots, so many as the link refers to. The tables hold nothing before they have places.
 /// Too many pieces are want of memory, and so are too many sections or symbol records of one module.
 pub fn pieces_of<'a>(
     alloc: Global,
@@ -74,7 +74,8 @@ pub fn pieces_of<'a>(
         )?;
     }
     push_imports(&mut pieces, modules, imports)?;
-    push_slots(&mut pieces, modules.len() as u32, slots)?;
+    let size = names.exports().size;
+    push_made(&mut pieces, modules.len() as u32, size, slots)?;
     if pieces.len() >= PIECE_LIMIT {
         return Err(Memory);
     }

@@ -18,7 +18,7 @@ use Rattle.relocate.specs.Field.{has_field, fix_at}
 use Rattle.relocate.specs.Value.{meant, target_of}
 use Rattle.relocate.specs.PatchedBytes.{AreNumbered}
 use Rattle.module_view.specs.Module.{module_at}
-use Rattle.symbol_names.specs.LinkView.{LinkView}
+use Rattle.link_pieces.specs.LinkParts.{LinkParts}
 use Rattle.module_view.specs.SymbolLists.{is_absolute}
 use Rattle.symbol_table.specs.declared.meaning.Meaning.{Meaning}
 use Rattle.symbol_table.specs.declared.meaning.Meaning.TheVariants as meaning
@@ -45,7 +45,7 @@ kept_all P keep (x ∷ xs) h =
 
 -- ---- numbers
 
-numbered_from : (link : LinkView) (position : ℕ) (bytes : List ℕ) (index : ℕ) (relocations : List Relocation) (k : ℕ) → k < length (fixes_from link position bytes index relocations) → (fix_at (fixes_from link position bytes index relocations) k).index ≡ index + k
+numbered_from : (link : LinkParts) (position : ℕ) (bytes : List ℕ) (index : ℕ) (relocations : List Relocation) (k : ℕ) → k < length (fixes_from link position bytes index relocations) → (fix_at (fixes_from link position bytes index relocations) k).index ≡ index + k
 unfolding fixes_from
 numbered_from link position bytes index [] k lt = absurd (omega arith)
 numbered_from link position bytes index (r ∷ rs) zero lt = omega arith
@@ -56,13 +56,13 @@ one_numbered : (fix : Fix) → fix.index ≡ 0 → AreNumbered (fix ∷ [])
 one_numbered fix first zero lt = first
 one_numbered fix first (suc i) lt = absurd (omega (arith, lt))
 
-linker_numbered : (link : LinkView) (number : ℕ) (table jump : Bool) → AreNumbered (cond table [] (cond jump (jump_fixes link (number - FIRST_THUNK)) (slot_fixes link (slot_at link number))))
+linker_numbered : (link : LinkParts) (number : ℕ) (table jump : Bool) → AreNumbered (cond table [] (cond jump (jump_fixes link (number - FIRST_THUNK)) (slot_fixes link (slot_at link number))))
 linker_numbered link number true jump i lt = absurd (omega arith)
 linker_numbered link number false true i lt = one_numbered (thunk_field (import_target link (number - FIRST_THUNK))) refl i lt
 linker_numbered link number false false i lt =
     one_numbered (slot_field (meant_target link (name_meaning link (slot_at link number)))) refl i lt
 
-pub fixes_numbered : (link : LinkView) (k : ℕ) → AreNumbered (piece_fixes link k)
+pub fixes_numbered : (link : LinkParts) (k : ℕ) → AreNumbered (piece_fixes link k)
 fixes_numbered link k = by_kind (is_section (length link.modules) (piece_at link k)) (eqb (piece_at link k).«module» (length link.modules))
   where
     by_kind : (section linker : Bool) → AreNumbered (cond section (section_fixes link (piece_at link k).«module» (module_at link.modules (piece_at link k).«module»).bytes (piece_at link k).number) (cond linker (linker_fixes link (piece_at link k).number) []))
@@ -77,44 +77,44 @@ fixes_numbered link k = by_kind (is_section (length link.modules) (piece_at link
 -- ---- targets
 
 -- a target in a piece is in one that there is
-abbrev IsWithin : LinkView → Target → Type 0
+abbrev IsWithin : LinkParts → Target → Type 0
 IsWithin link (target.Piece piece value) = piece < length (link_pieces link)
 IsWithin link (target.Absolute value) = Unit {0}
 IsWithin link target.ImageBase = Unit {0}
 
-abbrev OkWithin : LinkView → Result Target TargetFault → Type 0
+abbrev OkWithin : LinkParts → Result Target TargetFault → Type 0
 OkWithin link (Ok t) = IsWithin link t
 OkWithin link (Err fault) = Unit {0}
 
-index_within : (link : LinkView) (value : ℕ) (found : Option ℕ) (position section : ℕ) → piece_index link position section ≡ found → OkWithin link (target_in value found)
+index_within : (link : LinkParts) (value : ℕ) (found : Option ℕ) (position section : ℕ) → piece_index link position section ≡ found → OkWithin link (target_in value found)
 index_within link value None position section e = tt
 index_within link value (Some piece) position section e =
     (first_below-some (length (link_pieces link)) piece (holds (is_section_of (length link.modules) position section) (link_pieces link)) e).0
 
-section_within : (link : LinkView) (position section value : ℕ) → OkWithin link (section_target link position section value)
+section_within : (link : LinkParts) (position section value : ℕ) → OkWithin link (section_target link position section value)
 section_within link position section value = index_within link value (piece_index link position section) position section refl
 
-common_found : (link : LinkView) (found : Option ℕ) (position symbol : ℕ) → common_index link position symbol ≡ found → OkWithin link (target_in 0 found)
+common_found : (link : LinkParts) (found : Option ℕ) (position symbol : ℕ) → common_index link position symbol ≡ found → OkWithin link (target_in 0 found)
 common_found link None position symbol e = tt
 common_found link (Some piece) position symbol e =
     (first_below-some (length (link_pieces link)) piece (holds (is_common_of position symbol) (link_pieces link)) e).0
 
-common_within : (link : LinkView) (position symbol : ℕ) → OkWithin link (common_target link position symbol)
+common_within : (link : LinkParts) (position symbol : ℕ) → OkWithin link (common_target link position symbol)
 common_within link position symbol = common_found link (common_index link position symbol) position symbol refl
 
-slot_found : (link : LinkView) (found : Option ℕ) (name : List ℕ) → slot_index link name ≡ found → OkWithin link (target_in 0 found)
+slot_found : (link : LinkParts) (found : Option ℕ) (name : List ℕ) → slot_index link name ≡ found → OkWithin link (target_in 0 found)
 slot_found link None name e = tt
 slot_found link (Some piece) name e = found_slot link name piece e
 
-linker_within : (link : LinkView) (number value : ℕ) (found : Option ℕ) → linker_index link number ≡ found → OkWithin link (target_in value found)
+linker_within : (link : LinkParts) (number value : ℕ) (found : Option ℕ) → linker_index link number ≡ found → OkWithin link (target_in value found)
 linker_within link number value None e = tt
 linker_within link number value (Some piece) e = found_linker link number piece e
 
-import_within : (link : LinkView) (position : ℕ) → OkWithin link (import_target link position)
+import_within : (link : LinkParts) (position : ℕ) → OkWithin link (import_target link position)
 import_within link position =
     linker_within link SLOTS (slot_offset link.modules position) (linker_index link SLOTS) refl
 
-name_within : (link : LinkView) (r : Result Meaning NoMeaning) → OkWithin link (meant_target link r)
+name_within : (link : LinkParts) (r : Result Meaning NoMeaning) → OkWithin link (meant_target link r)
 name_within link (Ok (meaning.Section position section value)) = section_within link position section value
 name_within link (Ok (meaning.Common position symbol)) = common_within link position symbol
 name_within link (Ok (meaning.Slot position)) = import_within link position
@@ -125,39 +125,39 @@ name_within link (Ok (meaning.Absolute value)) = tt
 name_within link (Ok meaning.ImageBase) = tt
 name_within link (Err none) = tt
 
-own_within : (link : LinkView) (position section value : ℕ) (part : Bool) → OkWithin link (cond part (section_target link position section value) (Err Discarded))
+own_within : (link : LinkParts) (position section value : ℕ) (part : Bool) → OkWithin link (cond part (section_target link position section value) (Err Discarded))
 own_within link position section value true = section_within link position section value
 own_within link position section value false = tt
 
-local_within : (link : LinkView) (position : ℕ) (symbol : SymbolView) (absolute inside : Bool) → OkWithin link (cond absolute (Ok (target.Absolute (value_in symbol))) (cond inside (own_target link position (section_of_number (section_number_in symbol)) (value_in symbol)) (Err Local)))
+local_within : (link : LinkParts) (position : ℕ) (symbol : SymbolView) (absolute inside : Bool) → OkWithin link (cond absolute (Ok (target.Absolute (value_in symbol))) (cond inside (own_target link position (section_of_number (section_number_in symbol)) (value_in symbol)) (Err Local)))
 local_within link position symbol true inside = tt
 local_within link position symbol false true =
     own_within link position (section_of_number (section_number_in symbol)) (value_in symbol) (takes_part link position (section_of_number (section_number_in symbol)))
 local_within link position symbol false false = tt
 
-symbol_within : (link : LinkView) (position : ℕ) (symbol : SymbolView) (b : Bool) → OkWithin link (cond b (meant_target link (name_meaning link (name_in symbol))) (local_target link position symbol))
+symbol_within : (link : LinkParts) (position : ℕ) (symbol : SymbolView) (b : Bool) → OkWithin link (cond b (meant_target link (name_meaning link (name_in symbol))) (local_target link position symbol))
 unfolding local_target
 symbol_within link position symbol true = name_within link (name_meaning link (name_in symbol))
 symbol_within link position symbol false = local_within link position symbol (is_absolute symbol) _
 
-result_within : (link : LinkView) (r : Result Target TargetFault) → OkWithin link r → IsWithin link (meant (Some r))
+result_within : (link : LinkParts) (r : Result Target TargetFault) → OkWithin link r → IsWithin link (meant (Some r))
 result_within link (Ok t) h = h
 result_within link (Err fault) h = tt
 
-record_within : (link : LinkView) (position : ℕ) (found : Option SymbolEntry) → IsWithin link (meant (option_map (λ entry. symbol_target link position entry.1) found))
+record_within : (link : LinkParts) (position : ℕ) (found : Option SymbolEntry) → IsWithin link (meant (option_map (λ entry. symbol_target link position entry.1) found))
 record_within link position None = tt
 record_within link position (Some entry) = result_within link (symbol_target link position entry.1) (symbol_within link position entry.1 (has_meaning entry.1))
 
 -- ---- fields
 
 -- a target in a piece: the piece is there, and stands in a section
-abbrev pub Stands : LinkView → Target → Type 0
+abbrev pub Stands : LinkParts → Target → Type 0
 Stands link (target.Piece piece value) =
     (piece < length (link_pieces link)) × ((options : LinkOptions) → (planned_piece options link piece).named ≡ true)
 Stands link (target.Absolute value) = Unit {0}
 Stands link target.ImageBase = Unit {0}
 
-all_within : (link : LinkView) (position : ℕ) (bytes : List ℕ) (index : ℕ) (relocations : List Relocation) → All (λ fix. IsWithin link (target_of fix)) (fixes_from link position bytes index relocations)
+all_within : (link : LinkParts) (position : ℕ) (bytes : List ℕ) (index : ℕ) (relocations : List Relocation) → All (λ fix. IsWithin link (target_of fix)) (fixes_from link position bytes index relocations)
 unfolding fixes_from
 all_within link position bytes index [] = All-nil (λ fix. IsWithin link (target_of fix))
 all_within link position bytes index (r ∷ rs) =
@@ -165,13 +165,13 @@ all_within link position bytes index (r ∷ rs) =
     (record_within link position (find (is_record r.symbol) (symbol_entries bytes)))
     (all_within link position bytes (index + 1) rs)
 
-one_within : (link : LinkView) (fix : Fix) (means : Result Target TargetFault) → fix.target ≡ Some means → OkWithin link means → All (λ fix. IsWithin link (target_of fix)) (fix ∷ [])
+one_within : (link : LinkParts) (fix : Fix) (means : Result Target TargetFault) → fix.target ≡ Some means → OkWithin link means → All (λ fix. IsWithin link (target_of fix)) (fix ∷ [])
 one_within link fix means is within =
     All-cons (λ (f : Fix). IsWithin link (target_of f)) fix []
     (subst (λ (told : Option (Result Target TargetFault)). IsWithin link (meant told)) (sym is) (result_within link means within))
     (All-nil (λ (f : Fix). IsWithin link (target_of f)))
 
-made_within : (link : LinkView) (number : ℕ) (table jump : Bool) → All (λ fix. IsWithin link (target_of fix)) (cond table [] (cond jump (jump_fixes link (number - FIRST_THUNK)) (slot_fixes link (slot_at link number))))
+made_within : (link : LinkParts) (number : ℕ) (table jump : Bool) → All (λ fix. IsWithin link (target_of fix)) (cond table [] (cond jump (jump_fixes link (number - FIRST_THUNK)) (slot_fixes link (slot_at link number))))
 made_within link number true jump = All-nil (λ fix. IsWithin link (target_of fix))
 made_within link number false true =
     let means = import_target link (number - FIRST_THUNK) in
@@ -181,7 +181,7 @@ made_within link number false false =
     one_within link (slot_field means) means refl (name_within link (name_meaning link (slot_at link number)))
 
 -- the field of a piece that means another makes it named
-field_stands : (link : LinkView) (k i : ℕ) (d : Fix) → k < length (link_pieces link) → i < length (piece_fixes link k) → has_field (get_or (piece_fixes link k) i d) ≡ true → IsWithin link (target_of (get_or (piece_fixes link k) i d)) → Stands link (target_of (get_or (piece_fixes link k) i d))
+field_stands : (link : LinkParts) (k i : ℕ) (d : Fix) → k < length (link_pieces link) → i < length (piece_fixes link k) → has_field (get_or (piece_fixes link k) i d) ≡ true → IsWithin link (target_of (get_or (piece_fixes link k) i d)) → Stands link (target_of (get_or (piece_fixes link k) i d))
 unfolding meant_in
 field_stands link k i d within lt some = by_target (target_of (get_or (piece_fixes link k) i d)) refl
   where
@@ -200,7 +200,7 @@ field_stands link k i d within lt some = by_target (target_of (get_or (piece_fix
     by_target (target.Absolute value) is inside = tt
     by_target target.ImageBase is inside = tt
 
-pub fields_stand : (link : LinkView) (k : ℕ) → k < length (link_pieces link) → All (λ fix. Stands link (target_of fix)) (filter has_field (piece_fixes link k))
+pub fields_stand : (link : LinkParts) (k : ℕ) → k < length (link_pieces link) → All (λ fix. Stands link (target_of fix)) (filter has_field (piece_fixes link k))
 fields_stand link k within =
     kept_all (λ fix. Stands link (target_of fix)) has_field (piece_fixes link k) (λ i d lt some.
     field_stands link k i d within lt some (of_piece (is_section (length link.modules) (piece_at link k)) (eqb (piece_at link k).«module» (length link.modules)) i d lt))
@@ -214,10 +214,10 @@ fields_stand link k within =
         all_within link piece.«module» bytes 0 (relocations_of bytes piece.number)
 
 -- a piece of a plan
-pub planned_at : (options : LinkOptions) (link : LinkView) (k : ℕ) → k < length (link_pieces link) → get_or (plan_pieces options link) k no_piece ≡ planned_piece options link k
+pub planned_at : (options : LinkOptions) (link : LinkParts) (k : ℕ) → k < length (link_pieces link) → get_or (plan_pieces options link) k no_piece ≡ planned_piece options link k
 unfolding plan_pieces
 planned_at options link k lt = get_or-map-range_with_len (planned_piece options link) 0 (length (link_pieces link)) k k no_piece lt (omega arith)
 
-pub plan_count : (options : LinkOptions) (link : LinkView) → length (plan_pieces options link) ≡ length (link_pieces link)
+pub plan_count : (options : LinkOptions) (link : LinkParts) → length (plan_pieces options link) ≡ length (link_pieces link)
 unfolding plan_pieces
 plan_count options link = length-map-range_with_len (planned_piece options link) 0 (length (link_pieces link))

@@ -13,7 +13,7 @@ use Rattle.section_group.specs.declared.piece.Piece.{Piece}
 use Rattle.section_group.specs.BarePieces.{bare}
 use Rattle.section_group.specs.SectionOrder.{no_piece}
 use Rattle.module_view.specs.Module.{module_at}
-use Rattle.symbol_names.specs.LinkView.{LinkView}
+use Rattle.link_pieces.specs.LinkParts.{LinkParts}
 use Rattle.module_view.specs.Opening.{IsOpened}
 use Rattle.module_view.specs.ImportModule.{module_definitions}
 use Rattle.module_view.specs.declared.definition.Definition.{Definition}
@@ -37,7 +37,7 @@ use Rattle.link_plan.proofs.CallerLemmas.{planned_at, plan_count}
 
 -- ---- a place that a name means is inside its section
 
-value_inside : (link : LinkView) (chosen : List (List Bool)) (position section value : ℕ) → All IsOpened link.modules → MeansPlace link.modules chosen position section value → value ≤ raw_size_of (module_at link.modules position).bytes section
+value_inside : (link : LinkParts) (chosen : List (List Bool)) (position section value : ℕ) → All IsOpened link.modules → MeansPlace link.modules chosen position section value → value ≤ raw_size_of (module_at link.modules position).bytes section
 value_inside link chosen position section value opened means =
     let view = module_at link.modules position in
     let bytes = view.bytes in
@@ -53,31 +53,31 @@ value_inside link chosen position section value opened means =
 
 -- ---- and inside the piece of the link
 
-record IsInside (link : LinkView) (place : EntryPlace) : Type 0 where
+record IsInside (link : LinkParts) (place : EntryPlace) : Type 0 where
   within : place.piece < length (link_pieces link)
   inside : place.value ≤ (piece_at link place.piece).size
 
-section_inside : (link : LinkView) (position section value piece : ℕ) → value ≤ raw_size_of (module_at link.modules position).bytes section → piece_index link position section ≡ Some piece → IsInside link (record { piece = piece; value = value })
+section_inside : (link : LinkParts) (position section value piece : ℕ) → value ≤ raw_size_of (module_at link.modules position).bytes section → piece_index link position section ≡ Some piece → IsInside link (record { piece = piece; value = value })
 section_inside link position section value piece inside found =
     let stands = found_piece link position section piece found in
     let size = ap (λ (p : Piece). p.size) stands.is in
     record { within = stands.within; inside = omega (arith, inside, size) }
 
-common_inside : (link : LinkView) (position symbol piece : ℕ) → common_index link position symbol ≡ Some piece → IsInside link (record { piece = piece; value = 0 })
+common_inside : (link : LinkParts) (position symbol piece : ℕ) → common_index link position symbol ≡ Some piece → IsInside link (record { piece = piece; value = 0 })
 common_inside link position symbol piece found =
     record { within = found_common link position symbol piece found; inside = omega arith }
 
-jump_inside : (link : LinkView) (position piece : ℕ) → linker_index link (FIRST_THUNK + position) ≡ Some piece → IsInside link (record { piece = piece; value = 0 })
+jump_inside : (link : LinkParts) (position piece : ℕ) → linker_index link (FIRST_THUNK + position) ≡ Some piece → IsInside link (record { piece = piece; value = 0 })
 jump_inside link position piece found =
     record { within = found_linker link (FIRST_THUNK + position) piece found; inside = omega arith }
 
-by_piece : (link : LinkView) (value : ℕ) (place : EntryPlace) (found : Option ℕ) → ((piece : ℕ) → found ≡ Some piece → IsInside link (record { piece = piece; value = value })) → place_in value found ≡ Some place → IsInside link place
+by_piece : (link : LinkParts) (value : ℕ) (place : EntryPlace) (found : Option ℕ) → ((piece : ℕ) → found ≡ Some piece → IsInside link (record { piece = piece; value = value })) → place_in value found ≡ Some place → IsInside link place
 by_piece link value place None each e = absurd cc
 by_piece link value place (Some piece) each e =
     let same : record { piece = piece; value = value } ≡ place = cc in
     subst (IsInside link) same (each piece refl)
 
-by_meaning : (link : LinkView) (name : List ℕ) (place : EntryPlace) (r : Result Meaning NoMeaning) → All IsOpened link.modules → name_meaning link name ≡ r → meant_place link (meant r) ≡ Some place → IsInside link place
+by_meaning : (link : LinkParts) (name : List ℕ) (place : EntryPlace) (r : Result Meaning NoMeaning) → All IsOpened link.modules → name_meaning link name ≡ r → meant_place link (meant r) ≡ Some place → IsInside link place
 by_meaning link name place (Ok (meaning.Section position section value)) opened is e =
     let inside = value_inside link (chosen_sections link.modules) position section value opened (meaning_stands link (chosen_sections link.modules) name position section value is) in
     by_piece link value place (piece_index link position section) (λ piece found. section_inside link position section value piece inside found) e
@@ -91,13 +91,13 @@ by_meaning link name place (Ok (meaning.Absolute value)) opened is e = absurd cc
 by_meaning link name place (Ok meaning.ImageBase) opened is e = absurd cc
 by_meaning link name place (Err none) opened is e = absurd cc
 
-entry_inside : (link : LinkView) (entry : Option (List ℕ)) (place : EntryPlace) → All IsOpened link.modules → entry_place link entry ≡ Some place → IsInside link place
+entry_inside : (link : LinkParts) (entry : Option (List ℕ)) (place : EntryPlace) → All IsOpened link.modules → entry_place link entry ≡ Some place → IsInside link place
 entry_inside link None place opened e = absurd cc
 entry_inside link (Some name) place opened e = by_meaning link name place (name_meaning link name) opened refl e
 
 -- ---- its piece is named
 
-pub entry_stands : (options : LinkOptions) (link : LinkView) (pieces : List Piece) → map bare pieces ≡ plan_pieces options link → All IsOpened link.modules → ForSome (entry_place link options.entry_name) (StandsNamed pieces)
+pub entry_stands : (options : LinkOptions) (link : LinkParts) (pieces : List Piece) → map bare pieces ≡ plan_pieces options link → All IsOpened link.modules → ForSome (entry_place link options.entry_name) (StandsNamed pieces)
 entry_stands options link pieces are opened = λ place e.
     let k = place.piece in
     let stands = entry_inside link options.entry_name place opened e in

@@ -9,7 +9,7 @@ use Rattle.coff_records.specs.ObjectFile.{relocation_total, relocations_of}
 use Rattle.coff_records.specs.Relocations.{relocations_from}
 use Rattle.relocate.specs.declared.fix.Fix.{Fix}
 use Rattle.relocate.specs.declared.fix.Target.{Target}
-use Rattle.symbol_names.specs.LinkView.{LinkView}
+use Rattle.link_pieces.specs.LinkParts.{LinkParts}
 use Rattle.link_plan.specs.Targets.{AreTargets}
 use Rattle.link_plan.specs.Fixes.{fix_of, fixes_from, section_fixes}
 
@@ -21,7 +21,7 @@ unfolding relocations_from
 relocations_count bytes section = length-map (range_with_len 0 (relocation_total bytes section)) _ ∙ length-range_with_len 0 (relocation_total bytes section)
 
 -- one more relocation
-pub fixes_more : (link : LinkView) (position : ℕ) (bytes : List ℕ) (index : ℕ) (before after : List Relocation) (relocation : Relocation) (was now whole : List Fix) → before ≡ relocation ∷ after → was ++ fixes_from link position bytes index before ≡ whole → now ≡ was ++ fix_of link position bytes index relocation ∷ [] → now ++ fixes_from link position bytes (index + 1) after ≡ whole
+pub fixes_more : (link : LinkParts) (position : ℕ) (bytes : List ℕ) (index : ℕ) (before after : List Relocation) (relocation : Relocation) (was now whole : List Fix) → before ≡ relocation ∷ after → was ++ fixes_from link position bytes index before ≡ whole → now ≡ was ++ fix_of link position bytes index relocation ∷ [] → now ++ fixes_from link position bytes (index + 1) after ≡ whole
 unfolding fixes_from
 fixes_more link position bytes index before after relocation was now whole is sum grown =
     ap (λ (fs : List Fix). fs ++ fixes_from link position bytes (index + 1) after) grown
@@ -29,16 +29,16 @@ fixes_more link position bytes index before after relocation was now whole is su
     ∙ ap (λ (rs : List Relocation). was ++ fixes_from link position bytes index rs) (sym is)
     ∙ sum
 
-pub no_more : (link : LinkView) (position : ℕ) (bytes : List ℕ) (index : ℕ) (rest : List Relocation) (now whole : List Fix) → rest ≡ [] → now ++ fixes_from link position bytes index rest ≡ whole → now ++ [] ≡ whole
+pub no_more : (link : LinkParts) (position : ℕ) (bytes : List ℕ) (index : ℕ) (rest : List Relocation) (now whole : List Fix) → rest ≡ [] → now ++ fixes_from link position bytes index rest ≡ whole → now ++ [] ≡ whole
 unfolding fixes_from
 no_more link position bytes index rest now whole none sum =
     ap (λ (rs : List Relocation). now ++ fixes_from link position bytes index rs) (sym none) ∙ sum
 
 -- a relocation as it was read
-pub fix_read : (link : LinkView) (position : ℕ) (bytes : List ℕ) (targets : List (Option (Result Target TargetFault))) (index : ℕ) (relocation : Relocation) (target : Option (Result Target TargetFault)) → AreTargets link position bytes targets → target ≡ get_or targets relocation.symbol None → record { index = index; at = relocation.at; kind = relocation.kind; target = target } ≡ fix_of link position bytes index relocation
+pub fix_read : (link : LinkParts) (position : ℕ) (bytes : List ℕ) (targets : List (Option (Result Target TargetFault))) (index : ℕ) (relocation : Relocation) (target : Option (Result Target TargetFault)) → AreTargets link position bytes targets → target ≡ get_or targets relocation.symbol None → record { index = index; at = relocation.at; kind = relocation.kind; target = target } ≡ fix_of link position bytes index relocation
 fix_read link position bytes targets index relocation target are read =
     ap (with_target index relocation) (read ∙ are relocation.symbol)
 
-pub no_relocations : (link : LinkView) (position : ℕ) (bytes : List ℕ) (section : ℕ) → relocation_total bytes section ≡ 0 → section_fixes link position bytes section ≡ []
+pub no_relocations : (link : LinkParts) (position : ℕ) (bytes : List ℕ) (section : ℕ) → relocation_total bytes section ≡ 0 → section_fixes link position bytes section ≡ []
 unfolding fixes_from relocations_from
 no_relocations link position bytes section none = rw none refl

@@ -17,7 +17,7 @@ use Rattle.section_group.specs.SectionOrder.{no_piece}
 use Rattle.section_group.specs.PieceContents.{piece_contents}
 use Rattle.relocate.specs.declared.fix.Fix.{Fix}
 use Rattle.relocate.specs.Judged.{AreTheFields, ArePatchable}
-use Rattle.symbol_names.specs.LinkView.{LinkView}
+use Rattle.link_pieces.specs.LinkParts.{LinkParts}
 use Rattle.link_pieces.specs.Pieces.{link_pieces, link_contents, IsPieceOf}
 use Rattle.link_pieces.proofs.CallerLemmas.{piece_is, bare_at}
 use Rattle.link_plan.specs.Fixes.{fixes_in, piece_at, piece_fixes, judged_fault, piece_fault, HaveFields, means_piece, mean_piece, is_meant_among}
@@ -32,13 +32,13 @@ none_judged piece contents large (fix ∷ fixes) none = absurd (omega (arith, no
 
 -- ---- a piece as it was read
 
-pub record IsRead (link : LinkView) (k : ℕ) (piece : Piece) : Type 0 where
+pub record IsRead (link : LinkParts) (k : ℕ) (piece : Piece) : Type 0 where
   pub within : k < length (link_pieces link)
   pub is : bare piece ≡ piece_at link k
   pub whole : IsPieceOf link (bare piece)
   pub contents : piece_contents piece ≡ get_or (link_contents link) k []
 
-pub read_piece : (link : LinkView) (pieces : List Piece) (k : ℕ) (piece : Piece) → map bare pieces ≡ link_pieces link → map piece_contents pieces ≡ link_contents link → k < length pieces → piece ≡ get_or pieces k piece → IsRead link k piece
+pub read_piece : (link : LinkParts) (pieces : List Piece) (k : ℕ) (piece : Piece) → map bare pieces ≡ link_pieces link → map piece_contents pieces ≡ link_contents link → k < length pieces → piece ≡ get_or pieces k piece → IsRead link k piece
 read_piece link pieces k piece are contents lt read =
     let within : k < length (link_pieces link) = omega (arith, length-map pieces bare, ap (λ (ps : List Piece). length ps) are) in
     let here : piece ≡ get_or pieces k no_piece = read ∙ get_or_default pieces k piece no_piece lt in
@@ -51,11 +51,11 @@ read_piece link pieces k piece are contents lt read =
     }
 
 -- its relocations are those of the link's piece
-pub fixes_read : (link : LinkView) (k : ℕ) (piece : Piece) → IsRead link k piece → fixes_in link piece ≡ piece_fixes link k
+pub fixes_read : (link : LinkParts) (k : ℕ) (piece : Piece) → IsRead link k piece → fixes_in link piece ≡ piece_fixes link k
 fixes_read link k piece read = ap (fixes_in link) read.is
 
 -- and so is their fault
-pub fault_read : (link : LinkView) (k : ℕ) (piece : Piece) (large : Bool) (fixes : List Fix) → IsRead link k piece → fixes ≡ fixes_in link piece → judged_fault piece (piece_contents piece) large fixes ≡ piece_fault link large k
+pub fault_read : (link : LinkParts) (k : ℕ) (piece : Piece) (large : Bool) (fixes : List Fix) → IsRead link k piece → fixes ≡ fixes_in link piece → judged_fault piece (piece_contents piece) large fixes ≡ piece_fault link large k
 fault_read link k piece large fixes read are =
     ap (judged_fault piece (piece_contents piece) large) (are ∙ fixes_read link k piece read)
     ∙ ap (λ (bytes : List ℕ). judged_fault piece bytes large (piece_fixes link k)) read.contents
@@ -63,14 +63,14 @@ fault_read link k piece large fixes read are =
 
 -- ---- one piece more
 
-pub fields_none : (link : LinkView) (fixups : List (List Fix)) → fixups ≡ [] → HaveFields link 0 fixups
+pub fields_none : (link : LinkParts) (fixups : List (List Fix)) → fixups ≡ [] → HaveFields link 0 fixups
 fields_none link fixups none = record {
   for_each = ap (λ (fs : List (List Fix)). length fs) none;
   fields = λ k lt. absurd (omega arith);
   patchable = λ k lt. absurd (omega arith);
 }
 
-pub fields_more : (link : LinkView) (k : ℕ) (piece : Piece) (fixes fields : List Fix) (was now : List (List Fix)) → IsRead link k piece → HaveFields link k was → now ≡ was ++ fields ∷ [] → fixes ≡ fixes_in link piece → AreTheFields fixes fields → ArePatchable (length (piece_contents piece)) fields → HaveFields link (k + 1) now
+pub fields_more : (link : LinkParts) (k : ℕ) (piece : Piece) (fixes fields : List Fix) (was now : List (List Fix)) → IsRead link k piece → HaveFields link k was → now ≡ was ++ fields ∷ [] → fixes ≡ fixes_in link piece → AreTheFields fixes fields → ArePatchable (length (piece_contents piece)) fields → HaveFields link (k + 1) now
 fields_more link k piece fixes fields was now read have grown are field patchable =
     let first_place : k - k ≡ 0 = omega arith in
     let last : get_or (was ++ fields ∷ []) k [] ≡ fields = get_or-append_right was (fields ∷ []) k k [] have.for_each (omega arith) ∙ ap (λ (i : ℕ). get_or (fields ∷ []) i []) first_place in
@@ -96,7 +96,7 @@ or_none_false : (b : Bool) → (b || false) ≡ b
 or_none_false true = refl
 or_none_false false = refl
 
-pub meant_more : (link : LinkView) (k j : ℕ) (piece : Piece) (fixes : List Fix) (was now : Bool) → IsRead link k piece → fixes ≡ fixes_in link piece → was ≡ is_meant_among link k j → now ≡ (was || list_any (means_piece j) fixes) → now ≡ is_meant_among link (k + 1) j
+pub meant_more : (link : LinkParts) (k j : ℕ) (piece : Piece) (fixes : List Fix) (was now : Bool) → IsRead link k piece → fixes ≡ fixes_in link piece → was ≡ is_meant_among link k j → now ≡ (was || list_any (means_piece j) fixes) → now ≡ is_meant_among link (k + 1) j
 meant_more link k j piece fixes was now read are before after =
     after
     ∙ ap (λ (b : Bool). b || list_any (means_piece j) fixes) before

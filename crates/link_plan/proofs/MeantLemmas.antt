@@ -11,11 +11,12 @@ use Rattle.std.proofs.lemmas.List.FromFn.{get_or-map-range_with_len, length-map-
 use Rattle.section_group.specs.declared.piece.Piece.{Piece}
 use Rattle.section_group.specs.BarePieces.{bare}
 use Rattle.section_group.specs.SectionOrder.{no_piece}
-use Rattle.symbol_names.specs.LinkView.{LinkView}
+use Rattle.link_pieces.specs.LinkParts.{LinkParts}
 use Rattle.link_pieces.specs.Pieces.{link_pieces}
 use Rattle.link_pieces.proofs.CallerLemmas.{bare_at}
-use Rattle.relocate.specs.declared.fix.Fix.{Fix}
-use Rattle.link_plan.specs.Fixes.{is_that, means_piece, meant_in, is_meant, is_entry, named_if, planned_piece, plan_pieces}
+use Rattle.link_plan.specs.Targets.{is_that}
+use Rattle.link_plan.specs.ExportTargets.{is_exported}
+use Rattle.link_plan.specs.Fixes.{is_meant, is_entry, named_if, planned_piece, plan_pieces}
 use Rattle.link_words.specs.Outcome.{LinkOptions}
 
 or_true : (b : Bool) → true ≡ (b || true)
@@ -52,19 +53,20 @@ marked_beyond marks at k ge lt =
 pub marked_none : (b : Bool) → b ≡ (b || false)
 marked_none b = or_false b
 
--- one more field
-pub marks_more : (fixes : List Fix) (i k : ℕ) (fix : Fix) (first was now : Bool) (piece : Option ℕ) → i < length fixes → fix ≡ get_or fixes i fix → piece ≡ meant_in fix → was ≡ (first || list_any (means_piece k) (take i fixes)) → now ≡ (was || is_that k piece) → now ≡ (first || list_any (means_piece k) (take (i + 1) fixes))
-marks_more fixes i k fix first was now piece lt read is before after =
+-- one more that means a piece
+pub marks_more : {X : Type 0} (piece_of : X → Option ℕ) (xs : List X) (i k : ℕ) (x : X) (first was now : Bool) (piece : Option ℕ) → i < length xs → x ≡ get_or xs i x → piece ≡ piece_of x → was ≡ (first || list_any (λ y. is_that k (piece_of y)) (take i xs)) → now ≡ (was || is_that k piece) → now ≡ (first || list_any (λ y. is_that k (piece_of y)) (take (i + 1) xs))
+marks_more {X} piece_of xs i k x first was now piece lt read is before after =
+    let means = λ (y : X). is_that k (piece_of y) in
     after
     ∙ ap (λ (b : Bool). b || is_that k piece) before
-    ∙ or_or first (list_any (means_piece k) (take i fixes)) (is_that k piece)
+    ∙ or_or first (list_any means (take i xs)) (is_that k piece)
     ∙ ap (λ (b : Bool). first || b)
-    (ap (λ o. list_any (means_piece k) (take i fixes) || is_that k o) is
-    ∙ ap (λ (b : Bool). list_any (means_piece k) (take i fixes) || b) (or_false (means_piece k fix))
-    ∙ sym (list_any-append (means_piece k) (take i fixes) (fix ∷ []))
-    ∙ ap (λ (f : Fix). list_any (means_piece k) (take i fixes ++ f ∷ [])) read
-    ∙ ap (list_any (means_piece k)) (sym (take-suc fixes i fix lt))
-    ∙ ap (λ (n : ℕ). list_any (means_piece k) (take n fixes)) (sym (add-one i)))
+    (ap (λ o. list_any means (take i xs) || is_that k o) is
+    ∙ ap (λ (b : Bool). list_any means (take i xs) || b) (or_false (means x))
+    ∙ sym (list_any-append means (take i xs) (x ∷ []))
+    ∙ ap (λ (y : X). list_any means (take i xs ++ y ∷ [])) read
+    ∙ ap (list_any means) (sym (take-suc xs i x lt))
+    ∙ ap (λ (n : ℕ). list_any means (take n xs)) (sym (add-one i)))
 
 -- ---- pieces that are named
 
@@ -118,7 +120,7 @@ named_same old meant k now are unmarked = record {
 -- ---- the pieces of a plan
 
 -- the pieces of a link, named where fields or the entry mean them
-pub planned : (options : LinkOptions) (link : LinkView) (old : List Piece) (meant : List Bool) (now : List Piece) → map bare old ≡ link_pieces link → ((k : ℕ) → k < length old → get_or meant k false ≡ (is_meant link k || is_entry options link k)) → now ≡ map (λ k. named_if (get_or meant k false) (get_or old k no_piece)) (range_with_len 0 (length old)) → map bare now ≡ plan_pieces options link
+pub planned : (options : LinkOptions) (link : LinkParts) (old : List Piece) (meant : List Bool) (now : List Piece) → map bare old ≡ link_pieces link → ((k : ℕ) → k < length old → get_or meant k false ≡ (is_meant link k || (is_entry options link k || is_exported link k))) → now ≡ map (λ k. named_if (get_or meant k false) (get_or old k no_piece)) (range_with_len 0 (length old)) → map bare now ≡ plan_pieces options link
 unfolding plan_pieces
 planned options link old meant now are marks is =
     let n : length old ≡ length (link_pieces link) = sym (length-map old bare) ∙ ap (λ (ps : List Piece). length ps) are in
@@ -130,5 +132,5 @@ planned options link old meant now are marks is =
     get_or-map bare now i no_piece
     ∙ ap bare here
     ∙ ap (λ (b : Bool). named_if b (bare (get_or old i no_piece))) (marks i within)
-    ∙ ap (named_if (is_meant link i || is_entry options link i)) (bare_at link old i are)
+    ∙ ap (named_if (is_meant link i || (is_entry options link i || is_exported link i))) (bare_at link old i are)
     ∙ sym (get_or-map-range_with_len (planned_piece options link) 0 (length (link_pieces link)) i i no_piece (omega (arith, within, n)) (omega arith)))

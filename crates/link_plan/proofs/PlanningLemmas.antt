@@ -8,25 +8,24 @@ use Rattle.link_base.specs.declared.stop.Stop.TheVariants as stop
 use Rattle.link_files.specs.Outside.{FilesView}
 use Rattle.module_view.specs.Module.{ModuleView}
 use Rattle.link_words.specs.Outcome.{LinkOptions}
-use Rattle.lib_search.specs.LinkOf.{link_of}
 use Rattle.lib_search.specs.declared.link_list.LinkList.{LinkList}
 use Rattle.lib_search.specs.Loading.{Loads}
 use Rattle.lib_search.specs.Completion.{GivesList, Completes}
 use Rattle.link_plan.specs.declared.planning.LinkPlan.{LinkPlan}
 use Rattle.link_plan.specs.PlanFaults.{plan_fault}
-use Rattle.link_plan.specs.Plan.{IsPlanOf}
+use Rattle.link_plan.specs.Plan.{link_parts, IsPlanOf}
 use Rattle.link_plan.specs.Planning.{GivesPlan, Plans}
 
 -- the modules that join have a plan
-pub gives_plan : (options : LinkOptions) (before after : FilesView) (list : LinkList) (plan : LinkPlan) → GivesList options before after list → IsPlanOf options (link_of options list.modules.items) plan → plan.modules.items ≡ list.modules.items → GivesPlan options before after plan
+pub gives_plan : (options : LinkOptions) (before after : FilesView) (list : LinkList) (plan : LinkPlan) → GivesList options before after list → IsPlanOf options (link_parts options list.modules.items) plan → plan.modules.items ≡ list.modules.items → GivesPlan options before after plan
 gives_plan options before after list plan gives planned same = record {
   files = gives.files;
-  planned = subst (λ (modules : List ModuleView). IsPlanOf options (link_of options modules) plan) (sym same) planned;
+  planned = subst (λ (modules : List ModuleView). IsPlanOf options (link_parts options modules) plan) (sym same) planned;
   told = λ store is. subst (Loads store options) (sym same) (gives.told store is);
 }
 
 -- they have a fault
-pub refuses_plan : (options : LinkOptions) (before after : FilesView) (list : LinkList) (refused : Refusal) → GivesList options before after list → RefusesFor (plan_fault options (link_of options list.modules.items)) refused → Plans options before after (Err (stop_of refused))
+pub refuses_plan : (options : LinkOptions) (before after : FilesView) (list : LinkList) (refused : Refusal) → GivesList options before after list → RefusesFor (plan_fault options (link_parts options list.modules.items)) refused → Plans options before after (Err (stop_of refused))
 refuses_plan options before after list (refusal.Fault fault) gives is = record {
   files = gives.files;
   told = λ store told. inr (record { modules = list.modules.items; joined = gives.told store told; is = is });

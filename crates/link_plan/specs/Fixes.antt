@@ -1,18 +1,15 @@
 -- The relocations of the pieces of a link, each with what its symbol means, the first that has a fault, and the pieces that
 -- stand in a section without bytes. Own.
-use Rattle.std.specs.Prelude.{◌≡◌, ℕ, ◌+◌, ◌-◌, ◌<◌, ◌==◌, ◌||◌, nat_lt, Bool, false, if◌then◌else◌, List, [], ◌∷◌, length, map, slice_index_or, Option, Some, None, option_and_then, Result, Ok, Err}
+use Rattle.std.specs.Prelude.{◌≡◌, ℕ, ◌+◌, ◌-◌, ◌<◌, ◌==◌, ◌||◌, nat_lt, Bool, if◌then◌else◌, List, [], ◌∷◌, length, map, slice_index_or, Option, Some, None, option_and_then}
 use Rattle.std.specs.List.{range_with_len, list_any}
 use Rattle.link_base.specs.Refusals.{first_refusal_below}
 use Rattle.link_base.specs.declared.fault.Fault.{Fault}
 use Rattle.link_base.specs.declared.fault.Fault.TheVariants as faults
-use Rattle.link_base.specs.declared.kinds.target.TargetFault.{TargetFault}
 use Rattle.coff_records.specs.declared.relocation.Relocation.{Relocation}
 use Rattle.coff_records.specs.ObjectFile.{relocations_of}
 use Rattle.section_group.specs.declared.piece.Piece.{Piece}
 use Rattle.section_group.specs.SectionOrder.{no_piece}
 use Rattle.relocate.specs.declared.fix.Fix.{Fix}
-use Rattle.relocate.specs.declared.fix.Target.{Target}
-use Rattle.relocate.specs.declared.fix.Target.TheVariants as target
 use Rattle.relocate.specs.declared.error.FieldError.{FieldError}
 use Rattle.relocate.specs.declared.error.FieldError.TheVariants as error
 use Rattle.relocate.specs.Field.{has_field}
@@ -20,7 +17,7 @@ use Rattle.relocate.specs.FieldFaults.{field_fault}
 use Rattle.relocate.specs.Judged.{AreTheFields, ArePatchable}
 use Rattle.relocate.specs.Value.{target_of}
 use Rattle.module_view.specs.Module.{module_at}
-use Rattle.symbol_names.specs.LinkView.{LinkView}
+use Rattle.link_pieces.specs.LinkParts.{LinkParts}
 use Rattle.link_pieces.specs.Pieces.{link_pieces, link_contents}
 use Rattle.link_pieces.specs.PieceIndex.{is_section}
 use Rattle.link_words.specs.Outcome.{LinkOptions}
@@ -28,12 +25,13 @@ use Rattle.synthetic_sections.specs.LinkerPieces.{FIRST_THUNK, FIRST_LOCAL_SLOT}
 use Rattle.synthetic_sections.specs.LinkerFields.{thunk_field, slot_field}
 use Rattle.link_pieces.specs.NameMeaning.{name_meaning}
 use Rattle.link_pieces.specs.LocalSlots.{slot_names}
-use Rattle.link_plan.specs.Targets.{record_target, import_target, meant_target}
-use Rattle.link_plan.specs.Entry.{bad_entry, entry_place, piece_of_place}
+use Rattle.link_plan.specs.Targets.{record_target, import_target, meant_target, piece_in, is_that}
+use Rattle.link_plan.specs.Entry.{entry_place, pointer_fault, piece_of_place}
+use Rattle.link_plan.specs.ExportTargets.{is_exported}
 
 -- ---- the relocations of a section of the module at a position
 
-abbrev pub fix_of : LinkView → ℕ → List ℕ → ℕ → Relocation → Fix
+abbrev pub fix_of : LinkParts → ℕ → List ℕ → ℕ → Relocation → Fix
 fix_of link position bytes index relocation = record {
   index = index;
   at = relocation.at;
@@ -42,59 +40,55 @@ fix_of link position bytes index relocation = record {
 }
 
 -- relocations from an index on
-unfoldable pub fixes_from : LinkView → ℕ → List ℕ → ℕ → List Relocation → List Fix
+unfoldable pub fixes_from : LinkParts → ℕ → List ℕ → ℕ → List Relocation → List Fix
 fixes_from link position bytes index [] = []
 fixes_from link position bytes index (relocation ∷ later) =
     fix_of link position bytes index relocation ∷ fixes_from link position bytes (index + 1) later
 
-abbrev pub section_fixes : LinkView → ℕ → List ℕ → ℕ → List Fix
+abbrev pub section_fixes : LinkParts → ℕ → List ℕ → ℕ → List Fix
 section_fixes link position bytes section = fixes_from link position bytes 0 (relocations_of bytes section)
 
 -- ---- those of a piece
 
-abbrev pub piece_at : LinkView → ℕ → Piece
+abbrev pub piece_at : LinkParts → ℕ → Piece
 piece_at link k = slice_index_or (link_pieces link) k no_piece
 
 -- a slot has one: the address of what its name means
-abbrev pub slot_fixes : LinkView → List ℕ → List Fix
+abbrev pub slot_fixes : LinkParts → List ℕ → List Fix
 slot_fixes link name = slot_field (meant_target link (name_meaning link name)) ∷ []
 
 -- the name of a slot, by the number of its piece
-abbrev pub slot_at : LinkView → ℕ → List ℕ
+abbrev pub slot_at : LinkParts → ℕ → List ℕ
 slot_at link number = slice_index_or (slot_names link) (number - FIRST_LOCAL_SLOT) []
 
 -- and so has a jump: the slot that it goes through
-abbrev pub jump_fixes : LinkView → ℕ → List Fix
+abbrev pub jump_fixes : LinkParts → ℕ → List Fix
 jump_fixes link position = thunk_field (import_target link position) ∷ []
 
 -- of a piece that the linker makes, by its number: an import table has none
-abbrev pub linker_fixes : LinkView → ℕ → List Fix
+abbrev pub linker_fixes : LinkParts → ℕ → List Fix
 linker_fixes link number =
     if nat_lt number FIRST_THUNK then []
     else (if nat_lt number FIRST_LOCAL_SLOT then jump_fixes link (number - FIRST_THUNK) else slot_fixes link (slot_at link number))
 
 -- a common has none
-abbrev pub fixes_in : LinkView → Piece → List Fix
+abbrev pub fixes_in : LinkParts → Piece → List Fix
 fixes_in link piece =
     if is_section (length link.modules) piece
     then section_fixes link piece.«module» (module_at link.modules piece.«module»).bytes piece.number
     else (if piece.«module» == length link.modules then linker_fixes link piece.number else [])
 
-abbrev pub piece_fixes : LinkView → ℕ → List Fix
+abbrev pub piece_fixes : LinkParts → ℕ → List Fix
 piece_fixes link k = fixes_in link (piece_at link k)
 
 -- ---- faults
 
 -- what a local slot points to does not come into the image: before all modules, so that no section and no relocation is named
-abbrev pub pointer_fault : Result Target TargetFault → Option Fault
-pointer_fault (Ok target) = None
-pointer_fault (Err kind) = Some (bad_entry kind)
-
-abbrev pub slot_fault : LinkView → ℕ → Option Fault
+abbrev pub slot_fault : LinkParts → ℕ → Option Fault
 slot_fault link slot = pointer_fault (meant_target link (name_meaning link (slice_index_or (slot_names link) slot [])))
 
 -- that of all local slots, in the order of their names
-abbrev pub slots_fault : LinkView → Option Fault
+abbrev pub slots_fault : LinkParts → Option Fault
 slots_fault link = first_refusal_below (length (slot_names link)) (slot_fault link)
 
 -- a relocation of a piece is refused; want of memory is no fault
@@ -112,60 +106,51 @@ abbrev pub judged_fault : Piece → List ℕ → Bool → List Fix → Option Fa
 judged_fault piece contents large fixes =
     option_and_then (refused_at piece) (field_fault (len_if piece.init contents) large false fixes)
 
-abbrev pub piece_fault : LinkView → Bool → ℕ → Option Fault
+abbrev pub piece_fault : LinkParts → Bool → ℕ → Option Fault
 piece_fault link large k =
     judged_fault (piece_at link k) (slice_index_or (link_contents link) k []) large (piece_fixes link k)
 
 -- that of all pieces, in their order
-abbrev pub fixes_fault : LinkView → Bool → Option Fault
+abbrev pub fixes_fault : LinkParts → Bool → Option Fault
 fixes_fault link large = first_refusal_below (length (link_pieces link)) (piece_fault link large)
 
 -- what the fields of the first pieces are, judged
-pub record HaveFields (link : LinkView) (count : ℕ) (fixups : List (List Fix)) : Type 0 where
+pub record HaveFields (link : LinkParts) (count : ℕ) (fixups : List (List Fix)) : Type 0 where
   pub for_each : length fixups ≡ count
   pub fields : (k : ℕ) → k < count → AreTheFields (piece_fixes link k) (slice_index_or fixups k [])
   pub patchable : (k : ℕ) → k < count → ArePatchable (length (slice_index_or (link_contents link) k [])) (slice_index_or fixups k [])
 
 -- ---- pieces that fields mean
 
-abbrev pub piece_in : Target → Option ℕ
-piece_in (target.Piece piece value) = Some piece
-piece_in (target.Absolute value) = None
-piece_in target.ImageBase = None
-
 -- the piece whose place a field depends on, where there is one
 unfoldable pub meant_in : Fix → Option ℕ
 meant_in fix = if has_field fix then piece_in (target_of fix) else None
 
-abbrev pub is_that : ℕ → Option ℕ → Bool
-is_that k None = false
-is_that k (Some piece) = piece == k
-
 abbrev pub means_piece : ℕ → Fix → Bool
 means_piece k fix = is_that k (meant_in fix)
 
-abbrev pub mean_piece : LinkView → ℕ → ℕ → Bool
+abbrev pub mean_piece : LinkParts → ℕ → ℕ → Bool
 mean_piece link k i = list_any (means_piece k) (piece_fixes link i)
 
 -- a field of one of the first pieces means a piece
-abbrev pub is_meant_among : LinkView → ℕ → ℕ → Bool
+abbrev pub is_meant_among : LinkParts → ℕ → ℕ → Bool
 is_meant_among link count k = list_any (mean_piece link k) (range_with_len 0 count)
 
-abbrev pub is_meant : LinkView → ℕ → Bool
+abbrev pub is_meant : LinkParts → ℕ → Bool
 is_meant link k = is_meant_among link (length (link_pieces link)) k
 
 -- ---- pieces that stand in a section even where they have no bytes
 
 -- the entry is there
-abbrev pub is_entry : LinkOptions → LinkView → ℕ → Bool
+abbrev pub is_entry : LinkOptions → LinkParts → ℕ → Bool
 is_entry options link k = is_that k (piece_of_place (entry_place link options.entry_name))
 
 abbrev pub named_if : Bool → Piece → Piece
 named_if meant piece = record piece { named = piece.named || meant }
 
--- a definition stands there, a field means it, or the entry is there
-abbrev pub planned_piece : LinkOptions → LinkView → ℕ → Piece
-planned_piece options link k = named_if (is_meant link k || is_entry options link k) (piece_at link k)
+-- a definition stands there, a field means it, or the entry or an export is there
+abbrev pub planned_piece : LinkOptions → LinkParts → ℕ → Piece
+planned_piece options link k = named_if (is_meant link k || (is_entry options link k || is_exported link k)) (piece_at link k)
 
-unfoldable pub plan_pieces : LinkOptions → LinkView → List Piece
+unfoldable pub plan_pieces : LinkOptions → LinkParts → List Piece
 plan_pieces options link = map (planned_piece options link) (range_with_len 0 (length (link_pieces link)))

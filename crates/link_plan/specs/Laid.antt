@@ -7,7 +7,7 @@ use Rattle.section_group.specs.SectionOrder.{no_piece}
 use Rattle.section_group.specs.BarePieces.{bare}
 use Rattle.section_group.specs.PieceContents.{piece_contents, HasItsBytes}
 use Rattle.address_layout.specs.Layout.{IsAlignment}
-use Rattle.symbol_names.specs.LinkView.{LinkView}
+use Rattle.link_pieces.specs.LinkParts.{LinkParts}
 use Rattle.module_view.specs.Opening.{IsOpened}
 use Rattle.link_pieces.specs.Pieces.{link_contents}
 use Rattle.link_pieces.specs.LinkerPieces.{is_table}
@@ -15,6 +15,7 @@ use Rattle.link_words.specs.Outcome.{LinkOptions}
 use Rattle.link_plan.specs.declared.entry.EntryPlace.{EntryPlace}
 use Rattle.link_plan.specs.declared.laid.LaidPieces.{LaidPieces}
 use Rattle.link_plan.specs.Entry.{entry_place}
+use Rattle.link_plan.specs.ExportTargets.{export_targets}
 use Rattle.link_plan.specs.Fixes.{HaveFields, plan_pieces}
 use Rattle.link_plan.specs.PlanFaults.{fields_fault}
 
@@ -24,8 +25,8 @@ pub record StandsNamed (pieces : List Piece) (place : EntryPlace) : Type 0 where
   pub named : (slice_index_or pieces place.piece no_piece).named ≡ true
   pub inside : place.value ≤ (slice_index_or pieces place.piece no_piece).size
 
--- the pieces of the modules with their fields, and the place of the entry, none of which has a fault
-pub record AreLaid (options : LinkOptions) (link : LinkView) (laid : LaidPieces) : Type 0 where
+-- the pieces of the modules with their fields, and the places of the entry and the exports, none of which has a fault
+pub record AreLaid (options : LinkOptions) (link : LinkParts) (laid : LaidPieces) : Type 0 where
   pub opened : All IsOpened link.modules
   pub pieces_are : map bare laid.pieces.items ≡ plan_pieces options link
   pub contents_are : map piece_contents laid.pieces.items ≡ link_contents link
@@ -35,4 +36,5 @@ pub record AreLaid (options : LinkOptions) (link : LinkView) (laid : LaidPieces)
   pub fields : HaveFields link (length laid.pieces.items) laid.fixes.items
   pub entry_is : laid.entry ≡ entry_place link options.entry_name
   pub stands : ForSome laid.entry (StandsNamed laid.pieces.items)
+  pub exported_are : laid.exported.items ≡ export_targets link
   pub no_fault : fields_fault options link ≡ None

@@ -3,6 +3,7 @@ pub mod Targets
 pub mod Fixes
 pub mod Laid
 pub mod Entry
+pub mod ExportTargets
 pub mod PlanFaults
 pub mod Plan
 pub mod Planning

@@ -9,24 +9,23 @@ use Rattle.link_files.specs.Outside.{FilesView, AreUntouched}
 use Rattle.module_view.specs.Module.{ModuleView}
 use Rattle.link_words.specs.Outcome.{LinkOptions}
 use Rattle.file_search.specs.Reading.{LeavesFiles}
-use Rattle.lib_search.specs.LinkOf.{link_of}
 use Rattle.lib_search.specs.Loading.{HasLoadingFault, Loads}
 use Rattle.lib_search.specs.Completion.{FailsLoading}
 use Rattle.link_plan.specs.declared.planning.LinkPlan.{LinkPlan}
 use Rattle.link_plan.specs.PlanFaults.{plan_fault}
-use Rattle.link_plan.specs.Plan.{IsPlanOf}
+use Rattle.link_plan.specs.Plan.{link_parts, IsPlanOf}
 
 -- the plan of its modules; where the store is told, these join
 pub record GivesPlan (options : LinkOptions) (before after : FilesView) (plan : LinkPlan) : Type 0 where
   pub files : AreUntouched before after
-  pub planned : IsPlanOf options (link_of options plan.modules.items) plan
+  pub planned : IsPlanOf options (link_parts options plan.modules.items) plan
   pub told : ForSome before.store (λ store. Loads store options plan.modules.items)
 
 -- modules that join, and that have a fault of the stages from mismatch to fields
 pub record JoinsBadly (store : Store) (options : LinkOptions) (fault : Fault) : Type 0 where
   pub modules : List ModuleView
   pub joined : Loads store options modules
-  pub is : plan_fault options (link_of options modules) ≡ Some fault
+  pub is : plan_fault options (link_parts options modules) ≡ Some fault
 
 -- the loading has a fault, or the modules have that join
 pub record FaultsPlan (options : LinkOptions) (before after : FilesView) (fault : Fault) : Type 0 where

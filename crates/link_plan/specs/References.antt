@@ -5,7 +5,7 @@ use Rattle.link_base.specs.Refusals.{first_standing, first_refusal_below}
 use Rattle.link_base.specs.declared.fault.Fault.{Fault}
 use Rattle.link_base.specs.declared.fault.Fault.TheVariants as faults
 use Rattle.module_view.specs.Module.{module_at}
-use Rattle.symbol_names.specs.LinkView.{LinkView}
+use Rattle.link_pieces.specs.LinkParts.{LinkParts}
 use Rattle.coff_records.specs.ObjectFile.{SymbolEntry, name_in, symbol_entries}
 use Rattle.symbol_names.specs.References.{names_by}
 use Rattle.symbol_table.specs.declared.meaning.Meaning.{Meaning}
@@ -20,38 +20,38 @@ no_meaning_fault name at (Err Undefined) = Some (faults.Undefined name at)
 no_meaning_fault name at (Err WeakCycle) = Some (faults.WeakCycle name at)
 
 -- a name, said by the module at a position or before all modules, means nothing
-abbrev pub name_fault : LinkView → List ℕ → Option ℕ → Option Fault
+abbrev pub name_fault : LinkParts → List ℕ → Option ℕ → Option Fault
 name_fault link name at = no_meaning_fault name at (name_meaning link name)
 
 -- ---- the symbols of a module whose names must mean something
 
-abbrev pub symbol_fault : LinkView → ℕ → SymbolEntry → Option Fault
+abbrev pub symbol_fault : LinkParts → ℕ → SymbolEntry → Option Fault
 symbol_fault link position entry =
     if asks link position entry.1 then name_fault link (name_in entry.1) (Some position) else None
 
 -- the first that means nothing, in the order of the symbols
-abbrev pub symbols_fault : LinkView → ℕ → List ℕ → Option Fault
+abbrev pub symbols_fault : LinkParts → ℕ → List ℕ → Option Fault
 symbols_fault link position bytes = first_standing (map (symbol_fault link position) (symbol_entries bytes))
 
--- ---- names that are included (MSVC linker reference, "/INCLUDE")
+-- ---- names that the command line and directives ask for (MSVC linker reference, "/INCLUDE" and "/EXPORT")
 
-abbrev pub included_fault : LinkView → Option ℕ → List ℕ → Option Fault
-included_fault link at name = name_fault link name at
+abbrev pub asked_fault : LinkParts → Option ℕ → List ℕ → Option Fault
+asked_fault link at name = name_fault link name at
 
 -- the first of several names that means nothing
-abbrev pub includes_fault : LinkView → Option ℕ → List (List ℕ) → Option Fault
-includes_fault link at names = first_standing (map (included_fault link at) names)
+abbrev pub names_fault : LinkParts → Option ℕ → List (List ℕ) → Option Fault
+names_fault link at names = first_standing (map (asked_fault link at) names)
 
 -- ---- all of them
 
 -- in a module its symbols come before its directives
-abbrev pub object_fault_among : LinkView → ℕ → List ℕ → Option Fault
+abbrev pub object_fault_among : LinkParts → ℕ → List ℕ → Option Fault
 object_fault_among link position bytes =
-    option_or (symbols_fault link position bytes) (includes_fault link (Some position) (names_by bytes))
+    option_or (symbols_fault link position bytes) (names_fault link (Some position) (names_by bytes))
 
-abbrev pub references_fault_at : LinkView → ℕ → Option Fault
+abbrev pub references_fault_at : LinkParts → ℕ → Option Fault
 references_fault_at link position = object_fault_among link position (module_at link.modules position).bytes
 
 -- that of all modules, in their order
-abbrev pub references_fault : LinkView → Option Fault
+abbrev pub references_fault : LinkParts → Option Fault
 references_fault link = first_refusal_below (length link.modules) (references_fault_at link)

@@ -3,10 +3,10 @@ use Rattle.std.specs.Prelude.{ℕ, List, Option, Some, None, Result}
 use Rattle.link_base.specs.declared.kinds.target.TargetFault.{TargetFault}
 use Rattle.relocate.specs.declared.fix.Target.{Target}
 use Rattle.module_view.specs.Module.{module_at}
-use Rattle.symbol_names.specs.LinkView.{LinkView}
+use Rattle.link_pieces.specs.LinkParts.{LinkParts}
 use Rattle.link_plan.specs.Targets.{AreTargets}
 
 -- where a module was read last, the list tells what its symbols mean
-abbrev pub HoldsTargets : LinkView → Option ℕ → List (Option (Result Target TargetFault)) → Type 0
+abbrev pub HoldsTargets : LinkParts → Option ℕ → List (Option (Result Target TargetFault)) → Type 0
 HoldsTargets link None targets = Unit {0}
 HoldsTargets link (Some position) targets = AreTargets link position (module_at link.modules position).bytes targets

@@ -2,7 +2,7 @@
 
 ghost use Rattle.std.specs.Prelude.{◌≡◌, ℕ, List, [], Option, None, Some, IfOk, OnOk, IfErr};
 ghost use Rattle.std.specs.List.{cons_option};
-ghost use Rattle.symbol_names.specs.LinkView.{LinkView};
+ghost use Rattle.link_pieces.specs.LinkParts.{LinkParts};
 ghost use Rattle.link_pieces.specs.LocalSlots.{with_meant};
 ghost use Rattle.link_pieces.specs.PieceIndex.{IsPieceIndex};
 ghost use Rattle.link_plan.specs.Entry.{entry_meant, entry_meaning_fault, meant_place, meant_fault};
@@ -41,7 +41,7 @@ pub(crate) fn note_entry_slot<'a>(
     slots: &mut BTreeSet<Name<'a>>,
     meaning: &Option<Meaning<'a>>,
 ) -> Result<(), Memory>
-    ensures { OnOk result ((link : LinkView) (entry : Option (List ℕ)) → meaning.now ≡ entry_meant link entry
+    ensures { OnOk result ((link : LinkParts) (entry : Option (List ℕ)) → meaning.now ≡ entry_meant link entry
         → slots.new.keys ≡ with_meant link slots.old.keys (cons_option entry [])) }
 {
     match meaning {
@@ -55,11 +55,11 @@ pub(crate) fn entry_place<'a>(
     index: &PieceIndex<'_>,
     meaning: &Option<Meaning<'a>>,
 ) -> Result<Option<EntryPlace>, Fault<'a>>
-    ensures placed { IfOk result (λ place. (link : LinkView) → IsPieceIndex link index.now
+    ensures placed { IfOk result (λ place. (link : LinkParts) → IsPieceIndex link index.now
         → place ≡ meant_place link meaning.now) }
-    ensures accepted { OnOk result ((link : LinkView) → IsPieceIndex link index.now
+    ensures accepted { OnOk result ((link : LinkParts) → IsPieceIndex link index.now
         → meant_fault link meaning.now ≡ None) }
-    ensures refused { IfErr result (λ fault. (link : LinkView) → IsPieceIndex link index.now
+    ensures refused { IfErr result (λ fault. (link : LinkParts) → IsPieceIndex link index.now
         → meant_fault link meaning.now ≡ Some fault) }
 {
     match meaning {

@@ -3,7 +3,7 @@
 ghost use Rattle.std.specs.Prelude.{◌≡◌, ◌≤◌, ℕ, [], List, Some, None, OnOk, slice_index_or};
 ghost use Rattle.coff_records.specs.ObjectFile.{section_total};
 ghost use Rattle.module_view.specs.Module.{module_at};
-ghost use Rattle.symbol_names.specs.LinkView.{LinkView};
+ghost use Rattle.link_pieces.specs.LinkParts.{LinkParts};
 ghost use Rattle.link_pieces.specs.PieceIndex.{IsPieceIndex};
 ghost use Rattle.link_plan.specs.Targets.{AreTargets};
 ghost use Rattle.link_plan.specs.Fixes.{section_fixes, linker_fixes};
@@ -104,7 +104,7 @@ fn put_fixes(
     requires empty { fixes.old.items ≡ [] }
     requires first { 1 ≤ section }
     requires last { section ≤ section_total object.now }
-    ensures { OnOk result ((link : LinkView) (position : ℕ) → AreTargets link position object.now targets.now
+    ensures { OnOk result ((link : LinkParts) (position : ℕ) → AreTargets link position object.now targets.now
         → fixes.new.items ≡ section_fixes link position object.now section) }
 {
     fixes.reserve(object.relocation_count(section) as usize)?;

@@ -6,12 +6,14 @@
 #![tactic(auto)]
 
 mod entry;
+mod export_targets;
 mod fixes;
 mod judge;
 mod laid;
 mod meanings;
 mod meant;
 mod mismatch;
+mod places;
 mod planning;
 mod references;
 mod slots;

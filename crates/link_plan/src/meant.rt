@@ -1,10 +1,12 @@
-//! The pieces that fields and the entry mean: these stand in a section even where they have no bytes.
+//! The pieces that fields, the entry and exports mean: these stand in a section even where they have no bytes.
 
-ghost use Rattle.std.specs.Prelude.{◌≡◌, ◌<◌, ◌||◌, ℕ, false, length, map, slice_index_or};
+ghost use Rattle.std.specs.Prelude.{◌≡◌, ◌<◌, ◌||◌, ℕ, false, length, map, option_and_then, slice_index_or};
 ghost use Rattle.std.specs.List.{list_any, range_with_len};
 ghost use Rattle.section_group.specs.SectionOrder.{no_piece};
 ghost use Rattle.link_plan.specs.Entry.{piece_of_place};
-ghost use Rattle.link_plan.specs.Fixes.{is_that, means_piece, meant_in, named_if};
+ghost use Rattle.link_plan.specs.ExportTargets.{exports_piece};
+ghost use Rattle.link_plan.specs.Targets.{piece_in, is_that};
+ghost use Rattle.link_plan.specs.Fixes.{means_piece, meant_in, named_if};
 
 use crate::entry::EntryPlace;
 use link_base::pe_format::{REL_AMD64_ABSOLUTE, REL_AMD64_SECREL};
@@ -31,6 +33,27 @@ pub(crate) fn mark_entry(meant: &mut Vec<bool>, entry: &Option<EntryPlace>)
     match entry {
         Some(place) => mark(meant, Some(place.piece)),
         None => {}
+    }
+}
+
+/// Marks the pieces that exports stand in.
+pub(crate) fn mark_exports(meant: &mut Vec<bool>, targets: &[Option<Target>])
+    ensures len { length meant.new.items ≡ length meant.old.items }
+    ensures marked { (k : ℕ) → k < length meant.old.items → slice_index_or meant.new.items k false
+        ≡ (slice_index_or meant.old.items k false || list_any (exports_piece k) targets.now) }
+{
+    for target in targets {
+        mark(meant, exported_piece(target));
+    }
+}
+
+/// The piece that an export stands in, where it stands in one.
+fn exported_piece(target: &Option<Target>) -> Option<u32>
+    ensures { result ≡ option_and_then piece_in target.now }
+{
+    match target {
+        Some(Target::Piece { piece, .. }) => Some(*piece),
+        _ => None,
     }
 }
 

@@ -7,7 +7,7 @@ ghost use Rattle.link_words.specs.Outcome.{options_said};
 ghost use Rattle.link_files.specs.Outside.{files_of};
 ghost use Rattle.lib_search.specs.LinkOf.{link_of};
 ghost use Rattle.link_plan.specs.PlanFaults.{plan_fault};
-ghost use Rattle.link_plan.specs.Plan.{IsPlanOf};
+ghost use Rattle.link_plan.specs.Plan.{link_parts, IsPlanOf};
 ghost use Rattle.link_plan.specs.Planning.{Plans};
 
 use crate::entry::EntryPlace;
@@ -19,11 +19,12 @@ use lib_search::{LinkList, complete};
 use link_base::{Name, Refusal, Stop};
 use link_directives::link_merges;
 use link_files::Files;
+use link_exports::link_exports;
 use link_imports::{LinkImports, link_imports};
 use link_pieces::{LinkNames, check_clash, link_names};
 use link_words::Options;
 use module_view::Module;
-use relocate::Fixups;
+use relocate::{Fixups, Target};
 use section_group::Piece;
 use std::alloc::Global;
 
@@ -45,14 +46,16 @@ pub struct LinkPlan<'a> {
     pub merges: Vec<(Name<'a>, Name<'a>)>,
     /// Where the image begins, where it begins at all.
     pub entry: Option<EntryPlace>,
+    /// What each export stands for, in the order of the exports of `names`; nothing where it is a forwarder.
+    pub exported: Vec<Option<Target>>,
 }
 
 /// The plan of a link with these options. Its inputs are read and opened, and the search of libraries joins what these ask
 /// for; what ends that ends the link. Then the input is refused for the first of: directives that give one key different values
 /// (`Mismatch`), COMDAT sections that conflict (`ComdatConflict`), two definitions of one name (`Duplicate`), an entry or
-/// another name that nothing defines (`Undefined`) or whose default or alternate leads back to it (`WeakCycle`), an entry that
-/// has no place in the image or a local slot that points to what has none (`BadTarget`), and a relocation that is malformed or whose target cannot be used (`BadReloc`,
-/// `BadTarget`).
+/// another name that nothing defines (`Undefined`) or whose default or alternate leads back to it (`WeakCycle`), an entry, an
+/// export or what a local slot points to that has no place in the image (`BadTarget`), and a relocation that is malformed or
+/// whose target cannot be used (`BadReloc`, `BadTarget`).
 pub fn plan<'a, F: Files>(
     alloc: Global,
     files: &mut F,
@@ -83,13 +86,14 @@ fn plan_of<'a>(
 ) -> Result<LinkPlan<'a>, Refusal<'a>>
     requires few { length list.modules.items ≤ MODULE_LIMIT }
     requires names { list.table ≡ link_of (options_said options.now) list.modules.items }
-    ensures planned { IfOk result (IsPlanOf (options_said options.now) (link_of (options_said options.now) list.entry.modules.items)) }
+    ensures planned { IfOk result (IsPlanOf (options_said options.now) (link_parts (options_said options.now) list.entry.modules.items)) }
     ensures modules { IfOk result (λ plan. plan.modules.items ≡ list.entry.modules.items) }
-    ensures refused { IfErr result (RefusesFor (plan_fault (options_said options.now) (link_of (options_said options.now) list.entry.modules.items))) }
+    ensures refused { IfErr result (RefusesFor (plan_fault (options_said options.now) (link_parts (options_said options.now) list.entry.modules.items))) }
 {
     let LinkList { modules, table } = list;
     check_mismatch(alloc, &modules)?;
-    let names = link_names(alloc, table, &modules)?;
+    let exports = link_exports(alloc, options, &modules)?;
+    let names = link_names(alloc, table, &modules, exports)?;
     check_clash(&names)?;
     let meant = meanings_of(alloc, &names, &modules, options)?;
     let imports = link_imports(alloc, &modules)?;
@@ -99,6 +103,7 @@ fn plan_of<'a>(
         pieces,
         fixes,
         entry,
+        exported,
     } = laid;
     Ok(LinkPlan {
         modules,
@@ -108,5 +113,6 @@ fn plan_of<'a>(
         imports,
         merges,
         entry,
+        exported,
     })
 }

@@ -9,7 +9,7 @@ ghost use Rattle.coff_records.specs.ObjectFile.{symbol_at, symbol_entries};
 ghost use Rattle.module_view.specs.Module.{module_at};
 ghost use Rattle.symbol_names.specs.References.{name_said};
 ghost use Rattle.link_pieces.specs.LocalSlots.{asks, name_asked, names_asked, modules_asked, with_meant};
-ghost use Rattle.link_plan.specs.References.{no_meaning_fault, name_fault, symbol_fault, symbols_fault, includes_fault, object_fault_among, references_fault};
+ghost use Rattle.link_plan.specs.References.{no_meaning_fault, name_fault, symbol_fault, symbols_fault, names_fault, object_fault_among, references_fault};
 
 use coff_object::{Object, SymbolRecord};
 use directives::Directive;
@@ -18,9 +18,10 @@ use link_base::{Fault, Name, Refusal};
 use link_pieces::{LinkNames, note_slot};
 use module_view::Module;
 use std::collections::BTreeSet;
+use symbol_names::asked_name;
 use symbol_table::NoMeaning;
 
-/// That each name that a symbol of a module stands for, or a directive of it includes, means something, and notes the slots
+/// That each name that a symbol of a module stands for, or a directive of it asks for, means something, and notes the slots
 /// that they mean. The first that means nothing is refused.
 pub(crate) fn check_references<'a>(
     names: &LinkNames<'a>,
@@ -39,18 +40,18 @@ pub(crate) fn check_references<'a>(
     Ok(())
 }
 
-/// That each name that the command line includes means something, and notes the slots that they mean. The first that means
+/// That each of some names, which the command line asks for, means something, and notes the slots that they mean. The first that means
 /// nothing is refused.
-pub(crate) fn check_includes<'a>(
+pub(crate) fn check_names<'a>(
     names: &LinkNames<'a>,
-    includes: &[Name<'a>],
+    asked: &[Name<'a>],
     slots: &mut BTreeSet<Name<'a>>,
 ) -> Result<(), Refusal<'a>>
-    ensures accepted { OnOk result (includes_fault names.now None includes.now ≡ None) }
-    ensures refused { IfErr result (RefusesFor (includes_fault names.now None includes.now)) }
-    ensures slots { OnOk result (slots.new.keys ≡ with_meant names.now slots.old.keys includes.now) }
+    ensures accepted { OnOk result (names_fault names.now None asked.now ≡ None) }
+    ensures refused { IfErr result (RefusesFor (names_fault names.now None asked.now)) }
+    ensures slots { OnOk result (slots.new.keys ≡ with_meant names.now slots.old.keys asked.now) }
 {
-    for name in includes {
+    for name in asked {
         check_name(names, name, None, slots)?;
     }
     Ok(())
@@ -74,15 +75,15 @@ fn check_module<'a>(
     check_directives(names, module.directives(), position, slots)
 }
 
-/// The same of the names that directives of the module at a position include.
+/// The same of the names that directives of the module at a position ask for.
 fn check_directives<'a>(
     names: &LinkNames<'a>,
     directives: &[Directive<'a>],
     position: u32,
     slots: &mut BTreeSet<Name<'a>>,
 ) -> Result<(), Refusal<'a>>
-    ensures accepted { OnOk result (includes_fault names.now (Some position) (filter_map name_said (map said directives.now)) ≡ None) }
-    ensures refused { IfErr result (RefusesFor (includes_fault names.now (Some position) (filter_map name_said (map said directives.now)))) }
+    ensures accepted { OnOk result (names_fault names.now (Some position) (filter_map name_said (map said directives.now)) ≡ None) }
+    ensures refused { IfErr result (RefusesFor (names_fault names.now (Some position) (filter_map name_said (map said directives.now)))) }
     ensures slots { OnOk result (slots.new.keys ≡ with_meant names.now slots.old.keys (filter_map name_said (map said directives.now))) }
 {
     for directive in directives {
@@ -91,20 +92,20 @@ fn check_directives<'a>(
     Ok(())
 }
 
-/// The same of a name that a directive includes.
+/// The same of a name that a directive asks for.
 fn check_directive<'a>(
     names: &LinkNames<'a>,
     directive: &Directive<'a>,
     position: u32,
     slots: &mut BTreeSet<Name<'a>>,
 ) -> Result<(), Refusal<'a>>
-    ensures accepted { OnOk result (includes_fault names.now (Some position) (filter_map name_said (said directive.now ∷ [])) ≡ None) }
-    ensures refused { IfErr result (RefusesFor (includes_fault names.now (Some position) (filter_map name_said (said directive.now ∷ [])))) }
+    ensures accepted { OnOk result (names_fault names.now (Some position) (filter_map name_said (said directive.now ∷ [])) ≡ None) }
+    ensures refused { IfErr result (RefusesFor (names_fault names.now (Some position) (filter_map name_said (said directive.now ∷ [])))) }
     ensures slots { OnOk result (slots.new.keys ≡ with_meant names.now slots.old.keys (filter_map name_said (said directive.now ∷ []))) }
 {
-    match directive {
-        Directive::Include(name) => check_name(names, name, Some(position), slots),
-        _ => Ok(()),
+    match asked_name(directive) {
+        Some(name) => check_name(names, &name, Some(position), slots),
+        None => Ok(()),
     }
 }
 

@@ -4,7 +4,7 @@ ghost use Rattle.std.specs.Prelude.{◌≡◌, ◌==◌, ◌<◌, ℕ, List, Non
 ghost use Rattle.std.specs.Option.{option_or};
 ghost use Rattle.coff_records.specs.ObjectFile.{symbol_at};
 ghost use Rattle.module_view.specs.Module.{module_at};
-ghost use Rattle.symbol_names.specs.LinkView.{LinkView};
+ghost use Rattle.link_pieces.specs.LinkParts.{LinkParts};
 ghost use Rattle.link_pieces.specs.PieceIndex.{IsPieceIndex};
 ghost use Rattle.link_plan.specs.Targets.{section_target, common_target, import_target, thunk_target, slot_target, own_target, meant_target, has_meaning, local_target, symbol_target, AreTargets};
 
@@ -96,7 +96,7 @@ pub(crate) fn meant_target<'a>(
     index: &PieceIndex<'a>,
     meaning: Result<Meaning<'a>, NoMeaning>,
 ) -> Result<Target, TargetFault>
-    ensures { (link : LinkView) → IsPieceIndex link index.now → result ≡ meant_target link meaning.entry }
+    ensures { (link : LinkParts) → IsPieceIndex link index.now → result ≡ meant_target link meaning.entry }
 {
     match meaning {
         Ok(
@@ -161,7 +161,7 @@ fn section_target(
     section: u32,
     value: u32,
 ) -> Result<Target, TargetFault>
-    ensures { (link : LinkView) → IsPieceIndex link index.now → result ≡ section_target link position section value }
+    ensures { (link : LinkParts) → IsPieceIndex link index.now → result ≡ section_target link position section value }
 {
     match index.of(position, section) {
         Some(piece) => Ok(Target::Piece { piece, value }),
@@ -171,7 +171,7 @@ fn section_target(
 
 /// A common of the module at a position, by the record of its symbol.
 fn common_target(index: &PieceIndex<'_>, position: u32, symbol: u32) -> Result<Target, TargetFault>
-    ensures { (link : LinkView) → IsPieceIndex link index.now → result ≡ common_target link position symbol }
+    ensures { (link : LinkParts) → IsPieceIndex link index.now → result ≡ common_target link position symbol }
 {
     match index.of_common(position, symbol) {
         Some(piece) => Ok(Target::Piece { piece, value: 0 }),
@@ -181,7 +181,7 @@ fn common_target(index: &PieceIndex<'_>, position: u32, symbol: u32) -> Result<T
 
 /// The slot of a name.
 fn slot_target<'a>(index: &PieceIndex<'a>, name: &Name<'a>) -> Result<Target, TargetFault>
-    ensures { (link : LinkView) → IsPieceIndex link index.now → result ≡ slot_target link name.now }
+    ensures { (link : LinkParts) → IsPieceIndex link index.now → result ≡ slot_target link name.now }
 {
     match index.of_slot(name) {
         Some(piece) => Ok(Target::Piece { piece, value: 0 }),
@@ -191,7 +191,7 @@ fn slot_target<'a>(index: &PieceIndex<'a>, name: &Name<'a>) -> Result<Target, Ta
 
 /// The slot of the import that is the module at a position, in the table of the slots.
 pub(crate) fn import_target(index: &PieceIndex<'_>, position: u32) -> Result<Target, TargetFault>
-    ensures { (link : LinkView) → IsPieceIndex link index.now → result ≡ import_target link position }
+    ensures { (link : LinkParts) → IsPieceIndex link index.now → result ≡ import_target link position }
 {
     match index.slot_table() {
         Some(piece) => Ok(Target::Piece {
@@ -204,7 +204,7 @@ pub(crate) fn import_target(index: &PieceIndex<'_>, position: u32) -> Result<Tar
 
 /// The jump of the import that is the module at a position.
 fn thunk_target(index: &PieceIndex<'_>, position: u32) -> Result<Target, TargetFault>
-    ensures { (link : LinkView) → IsPieceIndex link index.now → result ≡ thunk_target link position }
+    ensures { (link : LinkParts) → IsPieceIndex link index.now → result ≡ thunk_target link position }
 {
     match index.of_thunk(position) {
         Some(piece) => Ok(Target::Piece { piece, value: 0 }),

@@ -23,7 +23,7 @@ use Rattle.base_reloc.specs.PageBlocks.{blocks_of}
 use Rattle.image_writer.specs.ExpectedImage.{ImagePlan}
 use Rattle.image_writer.specs.WrittenImage.{written_plan}
 use Rattle.module_view.specs.Module.{ModuleView}
-use Rattle.symbol_names.specs.LinkView.{LinkView}
+use Rattle.link_pieces.specs.LinkParts.{LinkParts}
 use Rattle.lib_search.specs.LinkOf.{link_of}
 use Rattle.lib_search.proofs.OneLoading.{one_fault, fault_or_loads, one_loading}
 use Rattle.link_plan.specs.Plan.{merges_of}
@@ -55,18 +55,18 @@ one_first given first second x y = elim (cases_lt first second) [
   ]
 ]
 
-same_merge : (options : LinkOptions) (link : LinkView) (f g : Fault) → IsBadMerge options link f → IsBadMerge options link g → f ≡ g
+same_merge : (options : LinkOptions) (link : LinkParts) (f g : Fault) → IsBadMerge options link f → IsBadMerge options link g → f ≡ g
 same_merge options link f g x y =
     let place = one_first (merges_of options link) x.named.place y.named.place x.named.first y.named.first in
     let name : x.name ≡ y.name = x.named.named ∙ ap (λ (k : ℕ). (merge_at (merges_of options link) k).0) place ∙ sym y.named.named in
     x.is ∙ ap (λ (n : List ℕ). faults.BadMerge n) name ∙ sym y.is
 
-no_bad_merge : (options : LinkOptions) (link : LinkView) (pieces : List Piece) (sections : List OutSection) (fault : Fault) → IsBadMerge options link fault → AreGrouped options link pieces sections → ⊥
+no_bad_merge : (options : LinkOptions) (link : LinkParts) (pieces : List Piece) (sections : List OutSection) (fault : Fault) → IsBadMerge options link fault → AreGrouped options link pieces sections → ⊥
 no_bad_merge options link pieces sections fault x grouped = grouped.merges x.named.place x.named.first.within x.named.first.bad
 
 -- ---- one layout
 
-counts : (options : LinkOptions) (link : LinkView) (reloc : Bool) (xs ys : List OutSection) → AreGrouped options link (plan_pieces options link) xs → AreGrouped options link (plan_pieces options link) ys → section_count xs reloc ≡ section_count ys reloc
+counts : (options : LinkOptions) (link : LinkParts) (reloc : Bool) (xs ys : List OutSection) → AreGrouped options link (plan_pieces options link) xs → AreGrouped options link (plan_pieces options link) ys → section_count xs reloc ≡ section_count ys reloc
 counts options link reloc xs ys x y =
     let rows = same_rows options link xs ys x y in
     ap (λ (n : ℕ). n + cond reloc 1 0) (sym (length-map xs row_of) ∙ ap length rows ∙ length-map ys row_of)
@@ -76,32 +76,32 @@ has_size pieces sections reloc layout is =
     record { headers = layout.headers; placed = placed_at layout.sections.items; place = is.standing.place; arranged = is.standing.arranged }
 
 -- grouped in two ways, the image of the pieces has one size
-sizes : (options : LinkOptions) (link : LinkView) (reloc : Bool) (xs ys : List OutSection) (size other : ℕ) → AreGrouped options link (plan_pieces options link) xs → AreGrouped options link (plan_pieces options link) ys → HasImageSize (plan_pieces options link) xs reloc size → HasImageSize (plan_pieces options link) ys reloc other → size ≡ other
+sizes : (options : LinkOptions) (link : LinkParts) (reloc : Bool) (xs ys : List OutSection) (size other : ℕ) → AreGrouped options link (plan_pieces options link) xs → AreGrouped options link (plan_pieces options link) ys → HasImageSize (plan_pieces options link) xs reloc size → HasImageSize (plan_pieces options link) ys reloc other → size ≡ other
 sizes options link reloc xs ys size other x y has has_other =
     one_image_size (plan_pieces options link) ys reloc size other (size_same_rows (plan_pieces options link) xs ys reloc size (same_rows options link xs ys x y) has) has_other
 
 -- the pieces of a placement fit
-fits : (options : LinkOptions) (link : LinkView) (sections : List OutSection) (size : ℕ) (rows : List SectionRow) (layout : Layout) (tables : List (List ℕ)) → AreGrouped options link (plan_pieces options link) sections → HasImageSize (plan_pieces options link) sections (is_relocated options link) size → IsPlacement options link rows layout tables → size ≤ IMAGE_LIMIT
+fits : (options : LinkOptions) (link : LinkParts) (sections : List OutSection) (size : ℕ) (rows : List SectionRow) (layout : Layout) (tables : List (List ℕ)) → AreGrouped options link (plan_pieces options link) sections → HasImageSize (plan_pieces options link) sections (is_relocated options link) size → IsPlacement options link rows layout tables → size ≤ IMAGE_LIMIT
 fits options link sections size rows layout tables grouped has y =
     let same = sizes options link (is_relocated options link) sections y.sections size y.before.image grouped y.grouped has (has_size (plan_pieces options link) y.sections (is_relocated options link) y.before y.placed.layout_of) in
     omega (arith, same, y.placed.within)
 
 -- ---- one fault of what is built
 
-same_many : (options : LinkOptions) (link : LinkView) (f g : Fault) → HasTooManySections options link f → HasTooManySections options link g → f ≡ g
+same_many : (options : LinkOptions) (link : LinkParts) (f g : Fault) → HasTooManySections options link f → HasTooManySections options link g → f ≡ g
 same_many options link f g x y =
     let count = counts options link (is_relocated options link) x.sections y.sections x.grouped y.grouped in
     x.is ∙ ap (λ (n : ℕ). faults.TooManySections n) (x.refused.0 ∙ count ∙ sym y.refused.0) ∙ sym y.is
 
 -- the pieces are too large, or fit before the table does not
-pieces_or_table : (options : LinkOptions) (link : LinkView) (xs ys : List OutSection) (size other : ℕ) → AreGrouped options link (plan_pieces options link) xs → AreGrouped options link (plan_pieces options link) ys → IsPlaceRefusal (plan_pieces options link) xs (is_relocated options link) (bad.ImageTooLarge size) → HasLargeTable options link ys other → ⊥
+pieces_or_table : (options : LinkOptions) (link : LinkParts) (xs ys : List OutSection) (size other : ℕ) → AreGrouped options link (plan_pieces options link) xs → AreGrouped options link (plan_pieces options link) ys → IsPlaceRefusal (plan_pieces options link) xs (is_relocated options link) (bad.ImageTooLarge size) → HasLargeTable options link ys other → ⊥
 pieces_or_table options link xs ys size other gx gy x y =
     let has = subst (λ (r : Bool). HasImageSize (plan_pieces options link) xs r size) y.relocated x.1 in
     let same = sizes options link true xs ys size y.layout.image gx gy has (has_size (plan_pieces options link) ys true y.layout y.placed.layout_of) in
     omega (arith, same, x.2, y.placed.within)
 
 -- two sizes that are refused
-same_size : (options : LinkOptions) (link : LinkView) (xs ys : List OutSection) (size other : ℕ) → AreGrouped options link (plan_pieces options link) xs → AreGrouped options link (plan_pieces options link) ys
+same_size : (options : LinkOptions) (link : LinkParts) (xs ys : List OutSection) (size other : ℕ) → AreGrouped options link (plan_pieces options link) xs → AreGrouped options link (plan_pieces options link) ys
     → IsPlaceRefusal (plan_pieces options link) xs (is_relocated options link) (bad.ImageTooLarge size) ⊎ HasLargeTable options link xs size
     → IsPlaceRefusal (plan_pieces options link) ys (is_relocated options link) (bad.ImageTooLarge other) ⊎ HasLargeTable options link ys other → size ≡ other
 same_size options link xs ys size other gx gy (inl x) (inl y) = sizes options link (is_relocated options link) xs ys size other gx gy x.1 y.1
@@ -112,11 +112,11 @@ same_size options link xs ys size other gx gy (inr x) (inr y) =
     let fields = same_fields options link x.layout y.layout x.fields y.fields same x.based y.based in
     one_refused_size x.layout y.layout (length (blocks_of y.fields)) size other same (subst (λ (fs : List BaseField). HasGrownSize x.layout (length (blocks_of fs)) size) fields x.refused.0) y.refused.0
 
-same_large : (options : LinkOptions) (link : LinkView) (f g : Fault) → IsTooLarge options link f → IsTooLarge options link g → f ≡ g
+same_large : (options : LinkOptions) (link : LinkParts) (f g : Fault) → IsTooLarge options link f → IsTooLarge options link g → f ≡ g
 same_large options link f g x y =
     x.is ∙ ap (λ (n : ℕ). faults.ImageTooLarge n) (same_size options link x.sections y.sections x.size y.size x.grouped y.grouped x.refused y.refused) ∙ sym y.is
 
-many_or_large : (options : LinkOptions) (link : LinkView) (f g : Fault) → HasTooManySections options link f → IsTooLarge options link g → ⊥
+many_or_large : (options : LinkOptions) (link : LinkParts) (f g : Fault) → HasTooManySections options link f → IsTooLarge options link g → ⊥
 many_or_large options link f g x y =
     let count = counts options link (is_relocated options link) x.sections y.sections x.grouped y.grouped in
     by count y.refused
@@ -125,12 +125,12 @@ many_or_large options link f g x y =
     by count (inl pieces) = omega (arith, x.refused.0, x.refused.1, count, pieces.0)
     by count (inr table) = omega (arith, x.refused.0, x.refused.1, count, subst (λ (r : Bool). section_count y.sections r ≤ SECTION_LIMIT) (sym table.relocated) table.placed.few)
 
-many_or_placement : (options : LinkOptions) (link : LinkView) (f : Fault) (rows : List SectionRow) (layout : Layout) (tables : List (List ℕ)) → HasTooManySections options link f → IsPlacement options link rows layout tables → ⊥
+many_or_placement : (options : LinkOptions) (link : LinkParts) (f : Fault) (rows : List SectionRow) (layout : Layout) (tables : List (List ℕ)) → HasTooManySections options link f → IsPlacement options link rows layout tables → ⊥
 many_or_placement options link f rows layout tables x y =
     let count = counts options link (is_relocated options link) x.sections y.sections x.grouped y.grouped in
     omega (arith, x.refused.0, x.refused.1, count, y.placed.few)
 
-large_or_placement : (options : LinkOptions) (link : LinkView) (f : Fault) (rows : List SectionRow) (layout : Layout) (tables : List (List ℕ)) → IsTooLarge options link f → IsPlacement options link rows layout tables → ⊥
+large_or_placement : (options : LinkOptions) (link : LinkParts) (f : Fault) (rows : List SectionRow) (layout : Layout) (tables : List (List ℕ)) → IsTooLarge options link f → IsPlacement options link rows layout tables → ⊥
 large_or_placement options link f rows layout tables x y = by x.refused
   where
     table : (reloc : Bool) → reloc ≡ true → (large : HasLargeTable options link x.sections x.size) → ArePlaced (plan_pieces options link) y.sections reloc y.before → IsWhole reloc link (rows_of y.sections) y.before rows layout tables → ⊥
@@ -149,17 +149,17 @@ large_or_placement options link f rows layout tables x y = by x.refused
 same_permitted : (options : LinkOptions) (rows other_rows : List SectionRow) (layout other : Layout) (tables other_tables : List (List ℕ)) → SamePlacement rows other_rows layout other tables other_tables → is_permitted (base_rule options) layout.image options.base ≡ is_permitted (base_rule options) other.image options.base
 same_permitted options rows other_rows layout other tables other_tables same = ap (λ (n : ℕ). is_permitted (base_rule options) n options.base) (sym same.layouts.image)
 
-same_ranges : (options : LinkOptions) (link : LinkView) (rows other_rows : List SectionRow) (layout other : Layout) (tables other_tables : List (List ℕ)) → SamePlacement rows other_rows layout other tables other_tables → fields_range_fault link rows layout options.base ≡ fields_range_fault link other_rows other options.base
+same_ranges : (options : LinkOptions) (link : LinkParts) (rows other_rows : List SectionRow) (layout other : Layout) (tables other_tables : List (List ℕ)) → SamePlacement rows other_rows layout other tables other_tables → fields_range_fault link rows layout options.base ≡ fields_range_fault link other_rows other options.base
 same_ranges options link rows other_rows layout other tables other_tables same =
     ap (λ (r : List SectionRow). fields_range_fault link r layout options.base) same.rows_same
     ∙ range_by_places link other_rows layout other options.base (sym same.layouts.pieces) (sym same.layouts.sections)
 
-base_or_range : (options : LinkOptions) (link : LinkView) (f g : Fault) → HasBadBase options link f → HasBadRange options link g → ⊥
+base_or_range : (options : LinkOptions) (link : LinkParts) (f g : Fault) → HasBadBase options link f → HasBadRange options link g → ⊥
 base_or_range options link f g x y =
     let same = one_placement options link x.rows y.rows x.layout y.layout x.tables y.tables x.placement y.placement in
     false≢true (sym x.refused ∙ same_permitted options x.rows y.rows x.layout y.layout x.tables y.tables same ∙ y.permitted)
 
-same_range : (options : LinkOptions) (link : LinkView) (f g : Fault) → HasBadRange options link f → HasBadRange options link g → f ≡ g
+same_range : (options : LinkOptions) (link : LinkParts) (f g : Fault) → HasBadRange options link f → HasBadRange options link g → f ≡ g
 same_range options link f g x y =
     let same = one_placement options link x.rows y.rows x.layout y.layout x.tables y.tables x.placement y.placement in
     some_same (sym x.is ∙ same_ranges options link x.rows y.rows x.layout y.layout x.tables y.tables same ∙ y.is)
@@ -168,10 +168,10 @@ same_range options link f g x y =
     some_same e = cc
 
 -- no bad merge stands where the pieces are grouped
-merge_or : (options : LinkOptions) (link : LinkView) (fault : Fault) (sections : List OutSection) → IsBadMerge options link fault → AreGrouped options link (plan_pieces options link) sections → ⊥
+merge_or : (options : LinkOptions) (link : LinkParts) (fault : Fault) (sections : List OutSection) → IsBadMerge options link fault → AreGrouped options link (plan_pieces options link) sections → ⊥
 merge_or options link fault sections x grouped = no_bad_merge options link (plan_pieces options link) sections fault x grouped
 
-same_fault : (options : LinkOptions) (link : LinkView) (f g : Fault) → IsBuildFault options link f → IsBuildFault options link g → f ≡ g
+same_fault : (options : LinkOptions) (link : LinkParts) (f g : Fault) → IsBuildFault options link f → IsBuildFault options link g → f ≡ g
 same_fault options link f g (inl x) (inl y) = same_merge options link f g x y
 same_fault options link f g (inl x) (inr (inl y)) = absurd (merge_or options link f y.sections x y.grouped)
 same_fault options link f g (inl x) (inr (inr (inl y))) = absurd (merge_or options link f y.sections x y.grouped)
@@ -199,7 +199,7 @@ same_fault options link f g (inr (inr (inr (inr x)))) (inr (inr (inr (inl y)))) 
 same_fault options link f g (inr (inr (inr (inr x)))) (inr (inr (inr (inr y)))) = same_range options link f g x y
 
 -- modules have a fault, or an image
-fault_or_image : (options : LinkOptions) (link : LinkView) (f : Fault) (image : ImagePlan) → IsBuildFault options link f → IsImageOf options link image → ⊥
+fault_or_image : (options : LinkOptions) (link : LinkParts) (f : Fault) (image : ImagePlan) → IsBuildFault options link f → IsImageOf options link image → ⊥
 fault_or_image options link f image (inl x) y = merge_or options link f y.placement.sections x y.placement.grouped
 fault_or_image options link f image (inr (inl x)) y = many_or_placement options link f y.rows y.layout y.tables x y.placement
 fault_or_image options link f image (inr (inr (inl x))) y = large_or_placement options link f y.rows y.layout y.tables x y.placement
@@ -215,7 +215,7 @@ fault_or_image options link f image (inr (inr (inr (inr x)))) y =
 
 -- ---- the plan
 
-same_image : (options : LinkOptions) (link : LinkView) (a b : ImagePlan) → IsImageOf options link a → IsImageOf options link b → a ≡ b
+same_image : (options : LinkOptions) (link : LinkParts) (a b : ImagePlan) → IsImageOf options link a → IsImageOf options link b → a ≡ b
 same_image options link a b x y =
     let place = entry_place link options.entry_name in
     let same = one_placement options link x.rows y.rows x.layout y.layout x.tables y.tables x.placement y.placement in

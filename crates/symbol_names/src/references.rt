@@ -100,10 +100,23 @@ fn note_name<'a>(
     ensures noted { OnOk result ((earlier : List Asked) → AllZip (NotesAsked names.old.keys) earlier noted.old.items
         → AllZip (NotesAsked names.new.keys) (earlier ++ map asked_by_name (filter_map name_said (said directive.now ∷ []))) noted.new.items) }
 {
-    let Some(name) = asked_name(directive) else {
-        return Ok(());
-    };
-    let name = number_of(names, &name)?;
+    match asked_name(directive) {
+        Some(name) => note_one(names, noted, &name),
+        None => Ok(()),
+    }
+}
+
+/// A name that is asked for, by its number, after what was noted.
+fn note_one<'a>(
+    names: &mut IndexSet<Name<'a>>,
+    noted: &mut Vec<NotedAsked>,
+    name: &Name<'a>,
+) -> Result<(), Memory>
+    ensures kept { KeepsNumbers names.old.keys names.new.keys }
+    ensures noted { OnOk result ((earlier : List Asked) → AllZip (NotesAsked names.old.keys) earlier noted.old.items
+        → AllZip (NotesAsked names.new.keys) (earlier ++ asked_by_name name.now ∷ []) noted.new.items) }
+{
+    let name = number_of(names, name)?;
     noted.push(NotedAsked { name, search: true })?;
     Ok(())
 }

@@ -7,7 +7,7 @@ use Rattle.section_group.specs.SectionOrder.{no_piece}
 use Rattle.section_group.specs.PieceContents.{piece_contents}
 use Rattle.module_view.specs.Module.{ModuleView, no_module, module_at}
 use Rattle.module_view.specs.Opening.{IsOpened}
-use Rattle.symbol_names.specs.LinkView.{LinkView}
+use Rattle.link_pieces.specs.LinkParts.{LinkParts}
 use Rattle.link_directives.specs.Alignments.{AreAsked}
 use Rattle.link_pieces.specs.Commons.{HasFewSections}
 use Rattle.link_pieces.specs.Pieces.{pieces_in, contents_in, link_pieces, link_contents}
@@ -17,8 +17,9 @@ use Rattle.link_pieces.proofs.IndexLemmas.{all_placed}
 use Rattle.link_pieces.specs.Rows.{HasSomePlace}
 use Rattle.link_pieces.specs.LocalSlots.{slot_names}
 use Rattle.link_base.specs.Limits.{MODULE_LIMIT}
+use Rattle.link_exports.specs.Exports.{ExportsView}
 use Rattle.link_imports.specs.ImportPieces.{import_pieces, import_contents}
-use Rattle.link_pieces.specs.LinkerPieces.{slots_below, pointers_below, linker_pieces, linker_contents, is_table}
+use Rattle.link_pieces.specs.LinkerPieces.{made_pieces, made_contents, linker_pieces, linker_contents, is_table}
 use Rattle.section_group.specs.declared.piece.Piece.{Piece}
 use Rattle.link_pieces.proofs.pieces.pieces_of.Goals as goal
 
@@ -47,7 +48,7 @@ loop-position-preserved c =
       few_sections = modules_more HasFewSections modules k m lt c.index-modules-position.is c.loop-position.invariant.few_sections c.in_ok-push_module.ensures.few_sections;
     }
 
-all_opened : (k : ℕ) (modules : List ModuleView) (link : LinkView) → link.modules ≡ modules → length modules ≤ k → All IsOpened (take k modules) → All IsOpened link.modules
+all_opened : (k : ℕ) (modules : List ModuleView) (link : LinkParts) → link.modules ≡ modules → length modules ≤ k → All IsOpened (take k modules) → All IsOpened link.modules
 all_opened k modules link same whole opened =
     subst (All IsOpened) (sym same) (subst (All IsOpened) (take_all k modules whole) opened)
 
@@ -68,39 +69,43 @@ all_and_made {A} list k modules own same all items one after imports slots made 
     ∙ ap (λ (xs : List A). xs ++ (imports ++ slots)) (whole_list list k modules own same all items is)
     ∙ ap (λ (xs : List A). flat_map (λ n. list n (module_at own n).bytes) (range_with_len 0 (length own)) ++ xs) made_is
 
-pieces_whole : (link : LinkView) (modules : List ModuleView) (k position slots : ℕ) (items one after : List Piece) → link.modules ≡ modules → k ≡ length modules → position ≡ length modules → slots ≡ length (slot_names link) → items ≡ flat_map (λ n. pieces_in link n (module_at modules n).bytes) (range_with_len 0 k) → one ≡ items ++ import_pieces modules → after ≡ one ++ slots_below position slots → after ≡ link_pieces link
-pieces_whole link modules k position slots items one after same all at count is first second =
-    all_and_made (pieces_in link) k modules link.modules same all items one after (import_pieces modules) (slots_below position slots) (linker_pieces link) is first second
-    (ap (λ (ms : List ModuleView). import_pieces ms ++ slots_below position slots) (sym same)
-    ∙ ap (λ (n : ℕ). import_pieces link.modules ++ slots_below n slots) (at ∙ sym (ap length same))
-    ∙ ap (λ (n : ℕ). import_pieces link.modules ++ slots_below (length link.modules) n) count)
+pieces_whole : (link : LinkParts) (modules : List ModuleView) (k position size slots : ℕ) (items one after : List Piece) → link.modules ≡ modules → k ≡ length modules → position ≡ length modules → size ≡ link.exports.size → slots ≡ length (slot_names link) → items ≡ flat_map (λ n. pieces_in link n (module_at modules n).bytes) (range_with_len 0 k) → one ≡ items ++ import_pieces modules → after ≡ one ++ made_pieces position size slots → after ≡ link_pieces link
+pieces_whole link modules k position size slots items one after same all at sized count is first second =
+    all_and_made (pieces_in link) k modules link.modules same all items one after (import_pieces modules) (made_pieces position size slots) (linker_pieces link) is first second
+    (ap (λ (ms : List ModuleView). import_pieces ms ++ made_pieces position size slots) (sym same)
+    ∙ ap (λ (n : ℕ). import_pieces link.modules ++ made_pieces n size slots) (at ∙ sym (ap length same))
+    ∙ ap (λ (n : ℕ). import_pieces link.modules ++ made_pieces (length link.modules) n slots) sized
+    ∙ ap (λ (n : ℕ). import_pieces link.modules ++ made_pieces (length link.modules) link.exports.size n) count)
 
-contents_whole : (link : LinkView) (modules : List ModuleView) (k slots : ℕ) (items one after : List (List ℕ)) → link.modules ≡ modules → k ≡ length modules → slots ≡ length (slot_names link) → items ≡ flat_map (λ n. contents_in link n (module_at modules n).bytes) (range_with_len 0 k) → one ≡ items ++ import_contents modules → after ≡ one ++ pointers_below slots → after ≡ link_contents link
-contents_whole link modules k slots items one after same all count is first second =
-    all_and_made (contents_in link) k modules link.modules same all items one after (import_contents modules) (pointers_below slots) (linker_contents link) is first second
-    (ap (λ (ms : List ModuleView). import_contents ms ++ pointers_below slots) (sym same) ∙ ap (λ (n : ℕ). import_contents link.modules ++ pointers_below n) count)
+contents_whole : (link : LinkParts) (modules : List ModuleView) (k position size slots : ℕ) (items one after : List (List ℕ)) → link.modules ≡ modules → k ≡ length modules → position ≡ length modules → size ≡ link.exports.size → slots ≡ length (slot_names link) → items ≡ flat_map (λ n. contents_in link n (module_at modules n).bytes) (range_with_len 0 k) → one ≡ items ++ import_contents modules → after ≡ one ++ made_contents position size slots → after ≡ link_contents link
+contents_whole link modules k position size slots items one after same all at sized count is first second =
+    all_and_made (contents_in link) k modules link.modules same all items one after (import_contents modules) (made_contents position size slots) (linker_contents link) is first second
+    (ap (λ (ms : List ModuleView). import_contents ms ++ made_contents position size slots) (sym same)
+    ∙ ap (λ (n : ℕ). import_contents link.modules ++ made_contents n size slots) (at ∙ sym (ap length same))
+    ∙ ap (λ (n : ℕ). import_contents link.modules ++ made_contents (length link.modules) n slots) sized
+    ∙ ap (λ (n : ℕ). import_contents link.modules ++ made_contents (length link.modules) link.exports.size n) count)
 
 pub returns-clause-pieces : goal.returns-clause-pieces
 returns-clause-pieces c =
-    pieces_whole c.args.names.now c.args.modules.now c.loop-position.position _ c.args.slots (map bare c.loop-position.pieces.items) (map bare c.push_imports.new.pieces.items) (map bare c.push_slots.new.pieces.items) c.requires.same (omega arith) (omega arith) c.requires.slots c.loop-position.invariant.pieces c.in_ok-push_imports.ensures.pieces c.in_ok-push_slots.ensures.pieces
+    pieces_whole c.args.names.now c.args.modules.now c.loop-position.position _ _ c.args.slots (map bare c.loop-position.pieces.items) (map bare c.push_imports.new.pieces.items) (map bare c.push_made.new.pieces.items) c.requires.same (omega arith) (omega arith) (ap (λ (e : ExportsView). e.size) c.exports.ensures) c.requires.slots c.loop-position.invariant.pieces c.in_ok-push_imports.ensures.pieces c.in_ok-push_made.ensures.pieces
 
 pub returns-clause-contents : goal.returns-clause-contents
 returns-clause-contents c =
-    contents_whole c.args.names.now c.args.modules.now c.loop-position.position c.args.slots (map piece_contents c.loop-position.pieces.items) (map piece_contents c.push_imports.new.pieces.items) (map piece_contents c.push_slots.new.pieces.items) c.requires.same (omega arith) c.requires.slots c.loop-position.invariant.contents c.in_ok-push_imports.ensures.contents c.in_ok-push_slots.ensures.contents
+    contents_whole c.args.names.now c.args.modules.now c.loop-position.position _ _ c.args.slots (map piece_contents c.loop-position.pieces.items) (map piece_contents c.push_imports.new.pieces.items) (map piece_contents c.push_made.new.pieces.items) c.requires.same (omega arith) (omega arith) (ap (λ (e : ExportsView). e.size) c.exports.ensures) c.requires.slots c.loop-position.invariant.contents c.in_ok-push_imports.ensures.contents c.in_ok-push_made.ensures.contents
 
 pub returns-clause-aligned : goal.returns-clause-aligned
 returns-clause-aligned c =
     let same = c.requires.same in
-    aligned c.args.names.now c.push_slots.new.pieces.items (all_opened c.loop-position.position c.args.modules.now c.args.names.now same (omega arith) c.loop-position.invariant.opened)
-    (pieces_whole c.args.names.now c.args.modules.now c.loop-position.position _ c.args.slots (map bare c.loop-position.pieces.items) (map bare c.push_imports.new.pieces.items) (map bare c.push_slots.new.pieces.items) same (omega arith) (omega arith) c.requires.slots c.loop-position.invariant.pieces c.in_ok-push_imports.ensures.pieces c.in_ok-push_slots.ensures.pieces)
+    aligned c.args.names.now c.push_made.new.pieces.items (all_opened c.loop-position.position c.args.modules.now c.args.names.now same (omega arith) c.loop-position.invariant.opened)
+    (pieces_whole c.args.names.now c.args.modules.now c.loop-position.position _ _ c.args.slots (map bare c.loop-position.pieces.items) (map bare c.push_imports.new.pieces.items) (map bare c.push_made.new.pieces.items) same (omega arith) (omega arith) (ap (λ (e : ExportsView). e.size) c.exports.ensures) c.requires.slots c.loop-position.invariant.pieces c.in_ok-push_imports.ensures.pieces c.in_ok-push_made.ensures.pieces)
 
 pub returns-clause-bodies : goal.returns-clause-bodies
 returns-clause-bodies c = λ k lt other.
     let same = c.requires.same in
-    bodies c.args.names.now c.push_slots.new.pieces.items (all_opened c.loop-position.position c.args.modules.now c.args.names.now same (omega arith) c.loop-position.invariant.opened)
-    (pieces_whole c.args.names.now c.args.modules.now c.loop-position.position _ c.args.slots (map bare c.loop-position.pieces.items) (map bare c.push_imports.new.pieces.items) (map bare c.push_slots.new.pieces.items) same (omega arith) (omega arith) c.requires.slots c.loop-position.invariant.pieces c.in_ok-push_imports.ensures.pieces c.in_ok-push_slots.ensures.pieces)
-    (contents_whole c.args.names.now c.args.modules.now c.loop-position.position c.args.slots (map piece_contents c.loop-position.pieces.items) (map piece_contents c.push_imports.new.pieces.items) (map piece_contents c.push_slots.new.pieces.items) same (omega arith) c.requires.slots c.loop-position.invariant.contents c.in_ok-push_imports.ensures.contents c.in_ok-push_slots.ensures.contents)
-    k lt (ap (λ (ms : List ModuleView). is_table (length ms) (get_or c.push_slots.new.pieces.items k no_piece)) same ∙ other)
+    bodies c.args.names.now c.push_made.new.pieces.items (all_opened c.loop-position.position c.args.modules.now c.args.names.now same (omega arith) c.loop-position.invariant.opened)
+    (pieces_whole c.args.names.now c.args.modules.now c.loop-position.position _ _ c.args.slots (map bare c.loop-position.pieces.items) (map bare c.push_imports.new.pieces.items) (map bare c.push_made.new.pieces.items) same (omega arith) (omega arith) (ap (λ (e : ExportsView). e.size) c.exports.ensures) c.requires.slots c.loop-position.invariant.pieces c.in_ok-push_imports.ensures.pieces c.in_ok-push_made.ensures.pieces)
+    (contents_whole c.args.names.now c.args.modules.now c.loop-position.position _ _ c.args.slots (map piece_contents c.loop-position.pieces.items) (map piece_contents c.push_imports.new.pieces.items) (map piece_contents c.push_made.new.pieces.items) same (omega arith) (omega arith) (ap (λ (e : ExportsView). e.size) c.exports.ensures) c.requires.slots c.loop-position.invariant.contents c.in_ok-push_imports.ensures.contents c.in_ok-push_made.ensures.contents)
+    k lt (ap (λ (ms : List ModuleView). is_table (length ms) (get_or c.push_made.new.pieces.items k no_piece)) same ∙ other)
 
 pub returns-clause-opened : goal.returns-clause-opened
 returns-clause-opened c =
@@ -113,9 +118,9 @@ returns-clause-placed c =
     let same = c.requires.same in
     let slots = c.args.slots in
     let few = subst (All HasFewSections) (sym same) (subst (All HasFewSections) (take_all c.loop-position.position modules (omega arith)) c.loop-position.invariant.few_sections) in
-    let pieces = c.push_slots.new.pieces.items in
+    let pieces = c.push_made.new.pieces.items in
     let are =
-    pieces_whole link modules c.loop-position.position _ slots (map bare c.loop-position.pieces.items) (map bare c.push_imports.new.pieces.items) (map bare pieces) same (omega arith) (omega arith) c.requires.slots c.loop-position.invariant.pieces c.in_ok-push_imports.ensures.pieces c.in_ok-push_slots.ensures.pieces in
+    pieces_whole link modules c.loop-position.position _ _ slots (map bare c.loop-position.pieces.items) (map bare c.push_imports.new.pieces.items) (map bare pieces) same (omega arith) (omega arith) (ap (λ (e : ExportsView). e.size) c.exports.ensures) c.requires.slots c.loop-position.invariant.pieces c.in_ok-push_imports.ensures.pieces c.in_ok-push_made.ensures.pieces in
     let limit : length link.modules ≤ MODULE_LIMIT = omega (arith, ap length same, c.requires.few) in
     subst (λ (ms : List ModuleView). All (λ (piece : Piece). HasSomePlace ms slots piece.«module» piece.number) pieces) same
     (over_bare (λ (piece : Piece). HasSomePlace link.modules slots piece.«module» piece.number) pieces

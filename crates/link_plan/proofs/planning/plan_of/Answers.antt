@@ -2,7 +2,7 @@ use Rattle.std.proofs.Common.{ℕ, List, refl, sym, ap, ◌∙◌, subst}
 use Rattle.std.proofs.lemmas.Result.{err_from_is_err_and}
 use Rattle.link_base.specs.Refusals.{RefusesFor}
 use Rattle.module_view.specs.Module.{ModuleView}
-use Rattle.symbol_names.specs.LinkView.{LinkView}
+use Rattle.link_pieces.specs.LinkParts.{LinkParts}
 use Rattle.link_directives.specs.LinkDirectives.{link_merges}
 use Rattle.link_words.specs.Outcome.{options_said}
 use Rattle.lib_search.specs.LinkOf.{link_of}
@@ -43,14 +43,14 @@ returns-in_err-check_clash-clause-refused c =
     (clash_stage options link c.in_err-check_clash.field-0.0
     (ap mismatch_fault (sym c.deref.ensures.value) ∙ c.in_ok-check_mismatch.ensures.accepted)
     (ap conflict_fault (sym c.deref-2.ensures.value) ∙ c.in_ok-names.ensures.accepted)
-    (ap (λ (l : LinkView). clash_fault l.modules) (sym names_are) ∙ c.in_err-check_clash.ensures.refused))
+    (ap (λ (l : LinkParts). clash_fault l.modules) (sym names_are) ∙ c.in_err-check_clash.ensures.refused))
 
 pub meanings_of-requires-clause-same : goal.meanings_of-requires-clause-same
 meanings_of-requires-clause-same c =
-    ap (λ (l : LinkView). l.modules) (c.in_ok-names.ensures.names ∙ c.requires.names) ∙ sym c.deref-3.ensures.value
+    ap (λ (l : LinkParts). l.modules) (c.in_ok-names.ensures.names ∙ c.requires.names) ∙ sym c.deref-3.ensures.value
 
 pub meanings_of-requires-clause-words : goal.meanings_of-requires-clause-words
-meanings_of-requires-clause-words c = ap (λ (l : LinkView). l.words) (c.in_ok-names.ensures.names ∙ c.requires.names)
+meanings_of-requires-clause-words c = ap (λ (l : LinkParts). l.words) (c.in_ok-names.ensures.names ∙ c.requires.names)
 
 pub returns-in_err-meant-clause-refused : goal.returns-in_err-meant-clause-refused
 returns-in_err-meant-clause-refused c =
@@ -62,7 +62,7 @@ returns-in_err-meant-clause-refused c =
     let given = err_from_is_err_and c.from_residual-in_err-meant.result c.from_residual-in_err-meant.ensures.1 in
     rw (given.1, given.2)
     (meaning_stage options link c.in_err-meant.field-0.0 well
-    (subst (λ (l : LinkView). RefusesFor (meaning_fault options l) c.in_err-meant.field-0.0) names_are c.in_err-meant.ensures.refused))
+    (subst (λ (l : LinkParts). RefusesFor (meaning_fault options l) c.in_err-meant.field-0.0) names_are c.in_err-meant.ensures.refused))
 
 pub returns-in_err-imports-clause-refused : goal.returns-in_err-imports-clause-refused
 returns-in_err-imports-clause-refused c =
@@ -71,7 +71,7 @@ returns-in_err-imports-clause-refused c =
 
 pub lay_pieces-requires-clause-same : goal.lay_pieces-requires-clause-same
 lay_pieces-requires-clause-same c =
-    ap (λ (l : LinkView). l.modules) (c.in_ok-names.ensures.names ∙ c.requires.names) ∙ sym c.deref-5.ensures.value
+    ap (λ (l : LinkParts). l.modules) (c.in_ok-names.ensures.names ∙ c.requires.names) ∙ sym c.deref-5.ensures.value
 
 pub lay_pieces-requires-clause-imports : goal.lay_pieces-requires-clause-imports
 lay_pieces-requires-clause-imports c =
@@ -88,7 +88,7 @@ returns-in_err-laid-clause-refused c =
     let given = err_from_is_err_and c.from_residual-in_err-laid.result c.from_residual-in_err-laid.ensures.1 in
     rw (given.1, given.2)
     (fields_stage options link c.in_err-laid.field-0.0 well meant
-    (subst (λ (l : LinkView). RefusesFor (fields_fault options l) c.in_err-laid.field-0.0) names_are c.in_err-laid.ensures.refused))
+    (subst (λ (l : LinkParts). RefusesFor (fields_fault options l) c.in_err-laid.field-0.0) names_are c.in_err-laid.ensures.refused))
 
 pub returns-in_err-merges-clause-refused : goal.returns-in_err-merges-clause-refused
 returns-in_err-merges-clause-refused c =
@@ -103,7 +103,7 @@ returns-clause-planned c =
     let well =
     chosen_so link c.in_ok-names.names c.deref.result.now c.deref-2.result.now names_are c.deref.ensures.value c.in_ok-check_mismatch.ensures.accepted c.deref-2.ensures.value c.in_ok-names.ensures.accepted c.in_ok-check_clash.ensures.accepted in
     let meant = ap (meaning_fault options) (sym names_are) ∙ c.in_ok-meant.ensures.accepted in
-    let laid = subst (λ (l : LinkView). AreLaid options l c.in_ok-laid.laid) names_are c.in_ok-laid.ensures.laid in
+    let laid = subst (λ (l : LinkParts). AreLaid options l c.in_ok-laid.laid) names_are c.in_ok-laid.ensures.laid in
     record {
       opened = laid.opened;
       modules_are = refl;

@@ -7,7 +7,7 @@ use Rattle.directives.specs.declared.item.Directive.{Directive}
 use Rattle.link_base.specs.Refusals.{first_standing}
 use Rattle.symbol_names.specs.References.{name_said}
 use Rattle.link_pieces.specs.LocalSlots.{with_meant}
-use Rattle.link_plan.proofs.ReferenceLemmas.{directive_fault, directives_fault, standing_more, refuses_standing, meant_next, included_append}
+use Rattle.link_plan.proofs.ReferenceLemmas.{directive_fault, directives_fault, standing_more, refuses_standing, meant_next, asked_append}
 use Rattle.link_plan.proofs.references.check_directives.Goals as goal
 
 pub loop-directive-init : goal.loop-directive-init
@@ -31,7 +31,7 @@ loop-directive-preserved c =
       noted =
           c.in_ok-check_directive.ensures.slots
           ∙ ap (λ (before : List (List ℕ)). with_meant link before (filter_map name_said (said directive ∷ []))) c.loop-directive.invariant.noted
-          ∙ meant_next link c.args.slots.now.keys (λ (ds : List Directive). filter_map name_said (map said ds)) included_append directives k directive (omega arith) c.directive-item.is;
+          ∙ meant_next link c.args.slots.now.keys (λ (ds : List Directive). filter_map name_said (map said ds)) asked_append directives k directive (omega arith) c.directive-item.is;
     }
 
 pub returns-clause-accepted : goal.returns-clause-accepted

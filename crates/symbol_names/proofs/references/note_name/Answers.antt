@@ -1,13 +1,12 @@
-use Rattle.std.proofs.Common.{◌++◌, [], ◌∷◌, sym, subst, refl}
-use Rattle.std.specs.List.{AllZip}
-use Rattle.directives.specs.declared.item.Directive.{Directive}
+use Rattle.std.proofs.Common.{ℕ, ◌++◌, [], List, Option, map, sym, subst, ◌∙◌}
+use Rattle.std.proofs.lemmas.Result.{on_ok_weaker}
+use Rattle.std.specs.List.{AllZip, cons_option}
 use Rattle.symbol_names.specs.Interning.{NotesAsked}
 use Rattle.symbol_names.specs.References.{asked_by_name}
-use Rattle.symbol_names.proofs.NotedLemmas.{asked_last, included}
 use Rattle.symbol_names.proofs.references.note_name.Goals as goal
 
-pub returns-in_ok-push-in-Include-clause-noted : goal.returns-in_ok-push-in-Include-clause-noted
-returns-in_ok-push-in-Include-clause-noted c = λ earlier was.
-    let after = c.number_of.new.names.keys in
-    subst (λ (d : Directive). AllZip (NotesAsked after) (earlier ++ included (d ∷ [])) c.push.new.self.items) (sym c.in-Include.is)
-    (asked_last c.args.names.now.keys after c.number_of.ensures.kept earlier c.args.noted.now.items c.push.new.self.items (asked_by_name c.in-Include.name) _ was (record { named = c.in_ok-name-in-Include.ensures.numbered; search_is = refl }) c.in_ok-push-in-Include.ensures.items)
+pub returns-in-Some-clause-noted : goal.returns-in-Some-clause-noted
+returns-in-Some-clause-noted c =
+    on_ok_weaker c.note_one.result (λ noted earlier was.
+    subst (λ (o : Option (List ℕ)). AllZip (NotesAsked c.note_one.new.names.keys) (earlier ++ map asked_by_name (cons_option o [])) c.note_one.new.noted.items) (sym c.in-Some.is ∙ c.asked_name.ensures)
+    (noted earlier was)) c.note_one.ensures.noted

@@ -5,7 +5,7 @@ use Rattle.section_group.specs.declared.piece.Piece.{Piece}
 use Rattle.section_group.specs.BarePieces.{bare}
 use Rattle.link_base.specs.Bytes.{first_below}
 use Rattle.module_view.specs.Module.{ModuleView}
-use Rattle.symbol_names.specs.LinkView.{LinkView}
+use Rattle.link_pieces.specs.LinkParts.{LinkParts}
 use Rattle.link_pieces.specs.Commons.{FIRST_COMMON}
 use Rattle.link_pieces.specs.PieceIndex.{holds, is_numbered, is_section_of, is_common_of, linker_indexed, linker_index}
 use Rattle.std.specs.Option.{option_and_then}
@@ -129,7 +129,7 @@ returns c =
           ∙ each_slot (λ slot. linker_indexed c.loop-index.linker (FIRST_LOCAL_SLOT + slot)) (λ slot. linker_index link (FIRST_LOCAL_SLOT + slot)) (λ slot. linker_is link same are (FIRST_LOCAL_SLOT + slot)) (slot_number (slot_names link) name);
     }
   where
-    linker_is : (link : LinkView) → link.modules ≡ c.args.modules.now → map bare c.args.pieces.now ≡ link_pieces link → (number : ℕ) → linker_indexed c.loop-index.linker number ≡ linker_index link number
+    linker_is : (link : LinkParts) → link.modules ≡ c.args.modules.now → map bare c.args.pieces.now ≡ link_pieces link → (number : ℕ) → linker_indexed c.loop-index.linker number ≡ linker_index link number
     linker_is link same are number =
         c.loop-index.invariant.linker.noted number
         ∙ ap (λ (m : ℕ). first_below m (holds (is_numbered (length c.args.modules.now) number) (map bare c.args.pieces.now))) (omega (arith, length-map c.args.pieces.now bare))
