@@ -1,1 +1,3 @@
 mod RowLemmas
+mod NumberedLemmas
+mod SlashLemmas

@@ -1,7 +1,8 @@
 -- The exports of a link, with their ordinals, and the size of the table that names them (MSVC linker reference, "/EXPORT"; which
 -- exports count once, and the DLL's name, are own).
-use Rattle.std.specs.Prelude.{◌≡◌, ◌≤◌, ℕ, Bool, bool_eq, ◌&&◌, nat_eq, if◌then◌else◌, List, [], ◌∷◌, ◌++◌, length, map, fold, filter_map, Option, Some, None, is_some}
+use Rattle.std.specs.Prelude.{◌≡◌, ◌≤◌, ℕ, Bool, ◌&&◌, nat_eq, if◌then◌else◌, List, [], ◌∷◌, ◌++◌, length, map, fold, filter_map, Option, Some, None, is_some}
 use Rattle.std.specs.List.{All, after_last, list_any}
+use Rattle.std.specs.Bool.{beq}
 use Rattle.std.specs.Option.{option_eq}
 use Rattle.link_base.specs.Limits.{NAME_LIMIT}
 use Rattle.link_base.specs.NameText.{same_name}
@@ -43,7 +44,7 @@ all_exports given modules = given ++ filter_map export_said (all_directives modu
 abbrev pub agrees : Export → Export → Bool
 agrees row other =
     ((same_name row.name other.name && option_eq same_name row.internal other.internal) && option_eq nat_eq row.ordinal other.ordinal)
-    && bool_eq row.noname other.noname
+    && beq row.noname other.noname
 
 -- with one more behind the others, unless one of these says the same
 abbrev pub with_row : List Export → Export → List Export

@@ -1,6 +1,7 @@
 //! Exports as rows of the export table.
 
 ghost use Rattle.std.specs.Prelude.{◌≡◌, map, IfOk};
+ghost use Rattle.symbol_names.specs.Exports.{forwarder};
 ghost use Rattle.link_exports.specs.Exports.{export_to, table_row, unplaced_row, dll_name};
 
 use directives::Export;

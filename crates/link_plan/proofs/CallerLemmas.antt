@@ -31,8 +31,9 @@ use Rattle.synthetic_sections.specs.LinkerPieces.{SLOTS, FIRST_THUNK, FIRST_LOCA
 use Rattle.synthetic_sections.specs.LinkerFields.{thunk_field, slot_field}
 use Rattle.link_imports.specs.Imports.{slot_offset}
 use Rattle.link_words.specs.Outcome.{LinkOptions}
-use Rattle.link_plan.specs.Targets.{target_in, section_target, common_target, import_target, own_target, meant_target, has_meaning, local_target, symbol_target, is_record}
-use Rattle.link_plan.specs.Fixes.{fix_of, fixes_from, piece_at, piece_fixes, piece_in, meant_in, is_that, means_piece, mean_piece, is_meant, is_entry, section_fixes, slot_at, slot_fixes, jump_fixes, linker_fixes, planned_piece, plan_pieces}
+use Rattle.link_plan.specs.Targets.{target_in, section_target, common_target, import_target, own_target, meant_target, has_meaning, local_target, symbol_target, is_record, piece_in, is_that}
+use Rattle.link_plan.specs.ExportTargets.{target_of as export_target_of, export_meant, export_target, export_targets, exports_piece, is_exported}
+use Rattle.link_plan.specs.Fixes.{fix_of, fixes_from, piece_at, piece_fixes, meant_in, means_piece, mean_piece, is_meant, is_entry, section_fixes, slot_at, slot_fixes, jump_fixes, linker_fixes, planned_piece, plan_pieces}
 
 kept_one : {A : Type 0} (P : A → Type 0) (b : Bool) (x : A) (rest : List A) → (b ≡ true → P x) → All P rest → All P (cond b (x ∷ rest) rest)
 kept_one P true x rest here later = All-cons P x rest (here refl) later
@@ -193,7 +194,7 @@ field_stands link k i d within lt some = by_target (target_of (get_or (piece_fix
         let count = length-range_with_len 0 (length (link_pieces link)) in
         let at : get_or (range_with_len 0 (length (link_pieces link))) k 0 ≡ k = get_or-range_with_len 0 (length (link_pieces link)) k 0 within ∙ zero_plus k in
         let meant : is_meant link piece ≡ true = list_any_at (mean_piece link piece) (range_with_len 0 (length (link_pieces link))) k 0 (omega (arith, count)) (ap (mean_piece link piece) at ∙ of_piece) in
-        (inside, λ options. ap (λ (b : Bool). (piece_at link piece).named || (b || is_entry options link piece)) meant ∙ or_right (piece_at link piece).named true refl)
+        (inside, λ options. ap (λ (b : Bool). (piece_at link piece).named || (b || (is_entry options link piece || is_exported link piece))) meant ∙ or_right (piece_at link piece).named true refl)
       where
         zero_plus : (n : ℕ) → 0 + n ≡ n
         zero_plus n = omega arith
@@ -212,6 +213,37 @@ fields_stand link k within =
         let piece = piece_at link k in
         let bytes = (module_at link.modules piece.«module»).bytes in
         all_within link piece.«module» bytes 0 (relocations_of bytes piece.number)
+
+-- what an export stands for: the piece is there, and stands in a section
+export_within : (link : LinkParts) (name : Option (List ℕ)) (t : Target) → option_and_then export_target_of (option_map (λ n. meant_target link (name_meaning link n)) name) ≡ Some t → IsWithin link t
+export_within link None t e = absurd cc
+export_within link (Some name) t e = by_result (meant_target link (name_meaning link name)) (name_within link (name_meaning link name)) e
+  where
+    by_result : (r : Result Target TargetFault) → OkWithin link r → export_target_of r ≡ Some t → IsWithin link t
+    by_result (Ok found) within same = let is : found ≡ t = cc in subst (IsWithin link) is within
+    by_result (Err fault) within same = absurd cc
+
+pub export_stands : (link : LinkParts) (row : ℕ) (t : Target) → get_or (export_targets link) row None ≡ Some t → Stands link t
+export_stands link row t is = go (cases_lt row (length (export_targets link)))
+  where
+    by_target : (t : Target) → row < length (export_targets link) → get_or (export_targets link) row None ≡ Some t → IsWithin link t → Stands link t
+    by_target (target.Piece piece value) lt same inside =
+        let here : exports_piece piece (get_or (export_targets link) row None) ≡ true = ap (exports_piece piece) same ∙ eq-eqb piece piece refl in
+        let exported : is_exported link piece ≡ true = list_any_at (exports_piece piece) (export_targets link) row None lt here in
+        (inside, λ options.
+        or_right (piece_at link piece).named _ (or_right (is_meant link piece) _ (or_right (is_entry options link piece) (is_exported link piece) exported)))
+    by_target (target.Absolute value) lt same inside = tt
+    by_target target.ImageBase lt same inside = tt
+
+    go : (row < length (export_targets link)) ⊎ (length (export_targets link) ≤ row) → Stands link t
+    go (inl lt) =
+        let count = length-map link.exports.rows (export_target link) in
+        let own = sym (get_or-map_at (export_target link) link.exports.rows row (omega (arith, lt, count))) ∙ is in
+        by_target t lt is (export_within link (internal_name _) t own)
+    go (inr past) = absurd (none_past (sym (get_or_past (export_targets link) row None past) ∙ is))
+
+    none_past : None ≡ Some t → ⊥
+    none_past e = cc
 
 -- a piece of a plan
 pub planned_at : (options : LinkOptions) (link : LinkParts) (k : ℕ) → k < length (link_pieces link) → get_or (plan_pieces options link) k no_piece ≡ planned_piece options link k

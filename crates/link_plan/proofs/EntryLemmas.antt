@@ -3,7 +3,7 @@ use Rattle.std.proofs.Common.{◌≡◌, ℕ, ◌+◌, ◌<◌, ◌≤◌, Bool,
 use Rattle.std.specs.Prelude.{nat_le}
 use Rattle.std.specs.List.{All}
 use Rattle.std.specs.Option.{ForSome}
-use Rattle.std.proofs.lemmas.Bool.{and_parts, leb-true, or_right}
+use Rattle.std.proofs.lemmas.Bool.{and_parts, leb-true, or_left, or_right}
 use Rattle.std.proofs.lemmas.List.{length-map}
 use Rattle.std.proofs.lemmas.List.Elements.{All-contains}
 use Rattle.std.proofs.Math.ListN.{get_or-map}
@@ -13,7 +13,7 @@ use Rattle.section_group.specs.declared.piece.Piece.{Piece}
 use Rattle.section_group.specs.BarePieces.{bare}
 use Rattle.section_group.specs.SectionOrder.{no_piece}
 use Rattle.module_view.specs.Module.{module_at}
-use Rattle.link_pieces.specs.LinkParts.{LinkParts}
+use Rattle.link_pieces.specs.LinkParts.{LinkParts, names_in}
 use Rattle.module_view.specs.Opening.{IsOpened}
 use Rattle.module_view.specs.ImportModule.{module_definitions}
 use Rattle.module_view.specs.declared.definition.Definition.{Definition}
@@ -31,7 +31,9 @@ use Rattle.link_pieces.proofs.CallerLemmas.{found_piece, found_common, found_lin
 use Rattle.link_words.specs.Outcome.{LinkOptions}
 use Rattle.link_plan.specs.declared.entry.EntryPlace.{EntryPlace}
 use Rattle.link_plan.specs.Entry.{meant, place_in, meant_place, entry_place, piece_of_place}
-use Rattle.link_plan.specs.Fixes.{piece_at, is_meant, is_entry, is_that, planned_piece, plan_pieces}
+use Rattle.link_plan.specs.Targets.{is_that}
+use Rattle.link_plan.specs.ExportTargets.{is_exported}
+use Rattle.link_plan.specs.Fixes.{piece_at, is_meant, is_entry, planned_piece, plan_pieces}
 use Rattle.link_plan.specs.Laid.{StandsNamed}
 use Rattle.link_plan.proofs.CallerLemmas.{planned_at, plan_count}
 
@@ -79,7 +81,7 @@ by_piece link value place (Some piece) each e =
 
 by_meaning : (link : LinkParts) (name : List ℕ) (place : EntryPlace) (r : Result Meaning NoMeaning) → All IsOpened link.modules → name_meaning link name ≡ r → meant_place link (meant r) ≡ Some place → IsInside link place
 by_meaning link name place (Ok (meaning.Section position section value)) opened is e =
-    let inside = value_inside link (chosen_sections link.modules) position section value opened (meaning_stands link (chosen_sections link.modules) name position section value is) in
+    let inside = value_inside link (chosen_sections link.modules) position section value opened (meaning_stands (names_in link) (chosen_sections link.modules) name position section value is) in
     by_piece link value place (piece_index link position section) (λ piece found. section_inside link position section value piece inside found) e
 by_meaning link name place (Ok (meaning.Common position symbol)) opened is e =
     by_piece link 0 place (common_index link position symbol) (λ piece found. common_inside link position symbol piece found) e
@@ -107,6 +109,6 @@ entry_stands options link pieces are opened = λ place e.
     let size = ap (λ (p : Piece). p.size) here in
     record {
       within = omega (arith, stands.within, length-map pieces bare, ap (λ (ps : List Piece). length ps) are, plan_count options link);
-      named = ap (λ (p : Piece). p.named) here ∙ or_right (piece_at link k).named (is_meant link k || is_entry options link k) (or_right (is_meant link k) (is_entry options link k) entry);
+      named = ap (λ (p : Piece). p.named) here ∙ or_right (piece_at link k).named (is_meant link k || (is_entry options link k || is_exported link k)) (or_right (is_meant link k) (is_entry options link k || is_exported link k) (or_left (is_entry options link k) (is_exported link k) entry));
       inside = omega (arith, stands.inside, size);
     }

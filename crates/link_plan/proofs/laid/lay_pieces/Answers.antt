@@ -1,6 +1,9 @@
 use Rattle.std.proofs.Common.{◌<◌, ◌||◌, ℕ, Bool, false, length, get_or, map, arith, List, Option, sym, ap, ◌∙◌, subst}
 use Rattle.std.proofs.lemmas.Result.{err_from_is_err_and}
-use Rattle.std.specs.List.{All}
+use Rattle.std.specs.List.{All, list_any}
+use Rattle.link_base.specs.Refusals.{RefusesFor}
+use Rattle.relocate.specs.declared.fix.Target.{Target}
+use Rattle.symbol_table.specs.declared.meaning.Meaning.{Meaning}
 use Rattle.section_group.specs.BarePieces.{bare}
 use Rattle.section_group.specs.SectionOrder.{no_piece}
 use Rattle.section_group.specs.declared.piece.Piece.{Piece}
@@ -10,12 +13,15 @@ use Rattle.link_words.specs.Outcome.{options_said}
 use Rattle.link_pieces.specs.LinkerPieces.{is_table}
 use Rattle.link_pieces.specs.Rows.{HasSomePlace}
 use Rattle.link_plan.specs.declared.entry.EntryPlace.{EntryPlace}
-use Rattle.link_plan.specs.Entry.{meant_fault, meant_place, piece_of_place}
-use Rattle.link_plan.specs.Fixes.{HaveFields, is_meant, is_that}
+use Rattle.link_plan.specs.Entry.{meant_place, piece_of_place}
+use Rattle.link_plan.specs.ExportTargets.{exports_piece}
+use Rattle.link_plan.specs.Targets.{is_that}
+use Rattle.link_plan.specs.PlanFaults.{places_fault}
+use Rattle.link_plan.specs.Fixes.{HaveFields, is_meant, is_entry}
 use Rattle.link_plan.proofs.EntryLemmas.{entry_stands}
 use Rattle.link_plan.proofs.MeantLemmas.{planned}
 use Rattle.link_plan.proofs.NamedLemmas.{count_named, contents_named, aligned_named, bodies_named}
-use Rattle.link_plan.proofs.StageLemmas.{place_refused, slots_refused, fixes_refused, all_laid}
+use Rattle.link_plan.proofs.StageLemmas.{places_refused, fixes_refused, all_laid}
 use Rattle.link_plan.proofs.laid.lay_pieces.Goals as goal
 
 pub pieces_of-requires-clause-slots : goal.pieces_of-requires-clause-slots
@@ -37,28 +43,20 @@ returns-in_err-index-clause-refused c =
     let given = err_from_is_err_and c.from_residual-in_err-index.result c.from_residual-in_err-index.ensures.1 in
     rw (given.1, given.2) tt
 
-pub returns-in_err-entry-clause-refused : goal.returns-in_err-entry-clause-refused
-returns-in_err-entry-clause-refused c =
-    let link = c.args.names.now in
-    let given = err_from_is_err_and c.from_residual-in_err-entry.result c.from_residual-in_err-entry.ensures.1 in
-    rw (given.1, given.2)
-    (place_refused (options_said c.args.options.now) link c.in_err-entry.field-0.0
-    (ap (meant_fault link) (sym c.requires.start) ∙ c.in_err-entry.ensures.refused link (c.in_ok-index.ensures c.args.names.now c.requires.same (sym c.requires.slots) (ap (map bare) c.deref.ensures.value ∙ c.in_ok-pieces.ensures.pieces))))
-
-pub check_slots-requires-clause-indexed : goal.check_slots-requires-clause-indexed
-check_slots-requires-clause-indexed c =
+pub named_places-requires-clause-indexed : goal.named_places-requires-clause-indexed
+named_places-requires-clause-indexed c =
     c.in_ok-index.ensures c.args.names.now c.requires.same (sym c.requires.slots) (ap (map bare) c.deref.ensures.value ∙ c.in_ok-pieces.ensures.pieces)
 
-pub check_slots-requires-clause-count : goal.check_slots-requires-clause-count
-check_slots-requires-clause-count c = c.len-count.ensures.len ∙ ap (λ (slots : List (List ℕ)). length slots) c.requires.slots
+pub named_places-requires-clause-slots : goal.named_places-requires-clause-slots
+named_places-requires-clause-slots c = c.len-count.ensures.len ∙ ap (λ (slots : List (List ℕ)). length slots) c.requires.slots
 
-pub returns-in_err-check_slots-clause-refused : goal.returns-in_err-check_slots-clause-refused
-returns-in_err-check_slots-clause-refused c =
+pub returns-in_err-places-clause-refused : goal.returns-in_err-places-clause-refused
+returns-in_err-places-clause-refused c =
     let link = c.args.names.now in
-    let given = err_from_is_err_and c.from_residual-in_err-check_slots.result c.from_residual-in_err-check_slots.ensures.1 in
+    let given = err_from_is_err_and c.from_residual-in_err-places.result c.from_residual-in_err-places.ensures.1 in
     rw (given.1, given.2)
-    (slots_refused (options_said c.args.options.now) link c.in_err-check_slots.field-0.0
-    (ap (meant_fault link) (sym c.requires.start) ∙ c.in_ok-entry.ensures.accepted link (c.in_ok-index.ensures c.args.names.now c.requires.same (sym c.requires.slots) (ap (map bare) c.deref.ensures.value ∙ c.in_ok-pieces.ensures.pieces))) c.in_err-check_slots.ensures.refused)
+    (places_refused (options_said c.args.options.now) link c.in_err-places.field-0.0
+    (subst (λ (start : Option Meaning). RefusesFor (places_fault link start) c.in_err-places.field-0.0) c.requires.start c.in_err-places.ensures.refused))
 
 pub judge_pieces-requires-clause-indexed : goal.judge_pieces-requires-clause-indexed
 judge_pieces-requires-clause-indexed c =
@@ -70,25 +68,26 @@ returns-in_err-fixes-clause-refused c =
     let given = err_from_is_err_and c.from_residual-in_err-fixes.result c.from_residual-in_err-fixes.ensures.1 in
     rw (given.1, given.2)
     (fixes_refused (options_said c.args.options.now) link c.in_err-fixes.field-0.0
-    (ap (meant_fault link) (sym c.requires.start) ∙ c.in_ok-entry.ensures.accepted link (c.in_ok-index.ensures c.args.names.now c.requires.same (sym c.requires.slots) (ap (map bare) c.deref.ensures.value ∙ c.in_ok-pieces.ensures.pieces))) c.in_ok-check_slots.ensures.accepted c.in_err-fixes.ensures.refused)
+    (ap (places_fault link) (sym c.requires.start) ∙ c.in_ok-places.ensures.accepted) c.in_err-fixes.ensures.refused)
 
 pub returns-clause-laid : goal.returns-clause-laid
 returns-clause-laid c =
     let options = options_said c.args.options.now in
     let link = c.args.names.now in
-    let indexed = c.in_ok-index.ensures c.args.names.now c.requires.same (sym c.requires.slots) (ap (map bare) c.deref.ensures.value ∙ c.in_ok-pieces.ensures.pieces) in
     let old = c.in_ok-pieces.pieces.items in
     let marks = c.deref-3.result.now in
     let now = c.name_meant.new.pieces.items in
     let named = c.name_meant.ensures in
     let opened = subst (All IsOpened) (sym c.requires.same) c.in_ok-pieces.ensures.opened in
-    let entry_is = c.in_ok-entry.ensures.placed link indexed ∙ ap (meant_place link) c.requires.start in
-    let entry = c.in_ok-entry.entry in
+    let entry_is = c.in_ok-places.ensures.entry ∙ ap (meant_place link) c.requires.start in
+    let exported_are = c.in_ok-places.ensures.exported in
+    let places = c.in_ok-places.places in
     let marked = λ (k : ℕ) (lt : k < length old).
     ap (λ (ms : List Bool). get_or ms k false) c.deref-3.ensures.value
-    ∙ c.mark_entry.ensures.marked k (omega (arith, lt, ap length c.deref-2.ensures.value, c.in_ok-fixes.ensures.len))
-    ∙ ap (λ (b : Bool). b || is_that k (piece_of_place entry)) (c.in_ok-fixes.ensures.meant k (omega (arith, lt, ap length c.deref-2.ensures.value)))
-    ∙ ap (λ (place : Option EntryPlace). is_meant link k || is_that k (piece_of_place place)) entry_is in
+    ∙ c.mark_places.ensures.marked k (omega (arith, lt, ap length c.deref-2.ensures.value, c.in_ok-fixes.ensures.len))
+    ∙ ap (λ (b : Bool). b || (is_that k (piece_of_place places.entry) || list_any (exports_piece k) places.exported.items)) (c.in_ok-fixes.ensures.meant k (omega (arith, lt, ap length c.deref-2.ensures.value)))
+    ∙ ap (λ (place : Option EntryPlace). is_meant link k || (is_that k (piece_of_place place) || list_any (exports_piece k) places.exported.items)) entry_is
+    ∙ ap (λ (targets : List (Option Target)). is_meant link k || (is_entry options link k || list_any (exports_piece k) targets)) exported_are in
     let planned_are = planned options link old marks now c.in_ok-pieces.ensures.pieces marked named in
     record {
       opened = opened;
@@ -100,7 +99,7 @@ returns-clause-laid c =
       fields = subst (λ (n : ℕ). HaveFields link n c.in_ok-fixes.fixes.fixups.items) (ap length c.deref-2.ensures.value ∙ sym (count_named old marks now named)) c.in_ok-fixes.ensures.fields;
       entry_is = entry_is;
       stands = rw entry_is (entry_stands options link now planned_are opened);
+      exported_are = exported_are;
       no_fault =
-          all_laid options link
-          (ap (meant_fault link) (sym c.requires.start) ∙ c.in_ok-entry.ensures.accepted link indexed) c.in_ok-check_slots.ensures.accepted c.in_ok-fixes.ensures.accepted;
+          all_laid options link (ap (places_fault link) (sym c.requires.start) ∙ c.in_ok-places.ensures.accepted) c.in_ok-fixes.ensures.accepted;
     }

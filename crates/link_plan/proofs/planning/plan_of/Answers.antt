@@ -17,7 +17,7 @@ pub returns-in_err-check_mismatch-clause-refused :
     goal.returns-in_err-check_mismatch-clause-refused
 returns-in_err-check_mismatch-clause-refused c =
     let options = options_said c.args.options.now in
-    let link = link_of options c.args.list.modules.items in
+    let link = link_parts options c.args.list.modules.items in
     let given = err_from_is_err_and c.from_residual.result c.from_residual.ensures.1 in
     rw (given.1, given.2)
     (mismatch_stage options link c.in_err-check_mismatch.field-0.0
@@ -26,7 +26,7 @@ returns-in_err-check_mismatch-clause-refused c =
 pub returns-in_err-names-clause-refused : goal.returns-in_err-names-clause-refused
 returns-in_err-names-clause-refused c =
     let options = options_said c.args.options.now in
-    let link = link_of options c.args.list.modules.items in
+    let link = link_parts options c.args.list.modules.items in
     let given = err_from_is_err_and c.from_residual-in_err-names.result c.from_residual-in_err-names.ensures.1 in
     rw (given.1, given.2)
     (conflict_stage options link c.in_err-names.field-0.0
@@ -36,7 +36,7 @@ returns-in_err-names-clause-refused c =
 pub returns-in_err-check_clash-clause-refused : goal.returns-in_err-check_clash-clause-refused
 returns-in_err-check_clash-clause-refused c =
     let options = options_said c.args.options.now in
-    let link = link_of options c.args.list.modules.items in
+    let link = link_parts options c.args.list.modules.items in
     let names_are = c.in_ok-names.ensures.names ∙ c.requires.names in
     let given = err_from_is_err_and c.from_residual-in_err-check_clash.result c.from_residual-in_err-check_clash.ensures.1 in
     rw (given.1, given.2)
@@ -55,7 +55,7 @@ meanings_of-requires-clause-words c = ap (λ (l : LinkParts). l.words) (c.in_ok-
 pub returns-in_err-meant-clause-refused : goal.returns-in_err-meant-clause-refused
 returns-in_err-meant-clause-refused c =
     let options = options_said c.args.options.now in
-    let link = link_of options c.args.list.modules.items in
+    let link = link_parts options c.args.list.modules.items in
     let names_are = c.in_ok-names.ensures.names ∙ c.requires.names in
     let well =
     chosen_so link c.in_ok-names.names c.deref.result.now c.deref-2.result.now names_are c.deref.ensures.value c.in_ok-check_mismatch.ensures.accepted c.deref-2.ensures.value c.in_ok-names.ensures.accepted c.in_ok-check_clash.ensures.accepted in
@@ -80,7 +80,7 @@ lay_pieces-requires-clause-imports c =
 pub returns-in_err-laid-clause-refused : goal.returns-in_err-laid-clause-refused
 returns-in_err-laid-clause-refused c =
     let options = options_said c.args.options.now in
-    let link = link_of options c.args.list.modules.items in
+    let link = link_parts options c.args.list.modules.items in
     let names_are = c.in_ok-names.ensures.names ∙ c.requires.names in
     let well =
     chosen_so link c.in_ok-names.names c.deref.result.now c.deref-2.result.now names_are c.deref.ensures.value c.in_ok-check_mismatch.ensures.accepted c.deref-2.ensures.value c.in_ok-names.ensures.accepted c.in_ok-check_clash.ensures.accepted in
@@ -98,7 +98,7 @@ returns-in_err-merges-clause-refused c =
 pub returns-clause-planned : goal.returns-clause-planned
 returns-clause-planned c =
     let options = options_said c.args.options.now in
-    let link = link_of options c.args.list.modules.items in
+    let link = link_parts options c.args.list.modules.items in
     let names_are = c.in_ok-names.ensures.names ∙ c.requires.names in
     let well =
     chosen_so link c.in_ok-names.names c.deref.result.now c.deref-2.result.now names_are c.deref.ensures.value c.in_ok-check_mismatch.ensures.accepted c.deref-2.ensures.value c.in_ok-names.ensures.accepted c.in_ok-check_clash.ensures.accepted in
