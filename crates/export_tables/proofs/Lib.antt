@@ -17,3 +17,6 @@ pub mod StandLemmas
 pub mod DirectoryLemmas
 pub mod RowLemmas
 pub mod AddressLemmas
+pub mod ReadTableLemmas
+pub mod OrdinalReadLemmas
+pub mod NameReadLemmas

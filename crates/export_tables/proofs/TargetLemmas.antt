@@ -58,7 +58,7 @@ module _ {X : Type 0} (p : X → Bool) where
 
 -- ---- the least ordinal and the greatest
 
-falls : (xs : List ℕ) (most : ℕ) → fold min most xs ≤ most
+pub falls : (xs : List ℕ) (most : ℕ) → fold min most xs ≤ most
 falls [] most = omega arith
 falls (x ∷ xs) most = let rest = falls xs (min most x) in omega (arith, rest)
 

@@ -25,7 +25,10 @@ mod texts;
 pub use error::ExportError;
 pub use exported::Exported;
 pub use filling::fill;
-pub use laws::{assigned_ordinals_differ, table_has_its_size};
+pub use laws::{
+    assigned_ordinals_differ, filled_table_is_read_back, size_is_that_of_rows_without_places,
+    table_has_its_size,
+};
 pub use link_base::ExportFault;
 pub use lookup::{by_name, by_ordinal};
 pub use ordinals::assign;
