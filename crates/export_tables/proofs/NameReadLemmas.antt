@@ -1,8 +1,8 @@
 -- What is found by a name in a mapped image that holds the table of some rows.
-use Rattle.std.proofs.Common.{◌≡◌, ◌≢◌, ℕ, zero, suc, ◌+◌, ◌-◌, ◌^◌, ◌<◌, ◌≤◌, ◌⊎◌, Bool, true, false, cond, ◌&&◌, not, List, length, get_or, Option, Some, None, is_some, All, refl, sym, ap, ◌∙◌, subst, inl, inr, arith}
+use Rattle.std.proofs.Common.{◌≡◌, ◌≢◌, ℕ, zero, suc, ◌+◌, ◌-◌, ◌^◌, ◌<◌, ◌⊎◌, Bool, true, false, cond, ◌&&◌, not, List, length, get_or, Option, Some, None, is_some, All, refl, sym, ap, ◌∙◌, subst, inl, inr, arith}
 use Rattle.std.specs.List.{find}
 use Rattle.std.specs.Option.{option_or}
-use Rattle.std.proofs.lemmas.Bool.{cases_Bool, cases_lt, false≢true, and_parts}
+use Rattle.std.proofs.lemmas.Bool.{cases_Bool, cases_lt, and_parts}
 use Rattle.std.proofs.lemmas.Slice.Eq.{bytes_eq-Decides}
 use Rattle.link_base.specs.NameText.{same_name}
 use Rattle.link_base.specs.Refusals.{first_refusal_below}
@@ -10,7 +10,7 @@ use Rattle.export_tables.specs.declared.row.ExportRow.{ExportRow}
 use Rattle.export_tables.specs.declared.names.NameEntry.{NameEntry}
 use Rattle.export_tables.specs.declared.directory.Directory.{Directory}
 use Rattle.export_tables.specs.ExportDirectory.{entry_address, named_address, name_address, found, found_in, export_of_name}
-use Rattle.export_tables.specs.ExportTable.{row_at, least, named, entry_of, entry_at, names_of, table_size, export_table, AreNumbered}
+use Rattle.export_tables.specs.ExportTable.{row_at, least, named, entry_at, names_of, table_size, export_table, AreNumbered}
 use Rattle.export_tables.specs.ReadBack.{Holds, AreReadable, exported_what, exported_row, is_exported_as, exported_name}
 use Rattle.export_tables.proofs.AddressLemmas.{exported_target}
 use Rattle.export_tables.proofs.NameLemmas.{some_is}

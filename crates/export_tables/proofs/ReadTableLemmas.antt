@@ -1,15 +1,14 @@
 -- What is read in a mapped image that holds the table of some rows: its directory, its entries and its names.
-use Rattle.std.proofs.Common.{◌≡◌, ℕ, ◌+◌, ◌-◌, ◌*◌, ◌^◌, ◌<◌, ◌≤◌, Bool, cond, List, [], ◌∷◌, length, get_or, Option, Some, None, All, refl, sym, ap, ◌∙◌, subst, arith}
+use Rattle.std.proofs.Common.{◌≡◌, ℕ, ◌+◌, ◌-◌, ◌*◌, ◌^◌, ◌<◌, cond, List, length, get_or, Option, Some, None, All, sym, ap, ◌∙◌, subst, arith}
 use Rattle.std.specs.List.{sum_by}
 use Rattle.std.specs.Option.{option_and_then}
 use Rattle.link_base.specs.Bytes.{field, text_at}
 use Rattle.link_base.specs.NameText.{same_name}
 use Rattle.export_tables.specs.declared.row.ExportRow.{ExportRow}
-use Rattle.export_tables.specs.declared.row.ExportTo.{ExportTo}
 use Rattle.export_tables.specs.declared.names.NameEntry.{NameEntry}
 use Rattle.export_tables.specs.declared.directory.Directory.{Directory}
 use Rattle.export_tables.specs.ExportDirectory.{directory_in, entry_address, is_text, is_name_at, is_named, named_address}
-use Rattle.export_tables.specs.ExportTable.{no_row, row_at, least, address_count, target_in, targets_of, entry_at, names_of, text_size, name_size, target_size, text_rva, table_size, directory_of, tables_end, export_table, AreNumbered}
+use Rattle.export_tables.specs.ExportTable.{no_row, row_at, least, address_count, target_in, targets_of, names_of, text_size, name_size, text_rva, table_size, directory_of, tables_end, export_table, AreNumbered}
 use Rattle.export_tables.specs.ReadBack.{Holds, HasNoNul, AreReadable}
 use Rattle.export_tables.proofs.AddressLemmas.{IsGood, Says, entry_says}
 use Rattle.export_tables.proofs.DirectoryLemmas.{directory_read}
