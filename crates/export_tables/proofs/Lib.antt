@@ -8,6 +8,7 @@ pub mod WorkedOrdinals
 pub mod SortLemmas
 pub mod TargetLemmas
 pub mod EntryLemmas
+pub mod PlaceLemmas
 pub mod FillLemmas
 pub mod WorkedTable
 pub mod LengthLemmas
