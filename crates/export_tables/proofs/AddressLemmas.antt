@@ -1,5 +1,5 @@
 -- What an entry of the address table says, where the table and the forwarders are held.
-use Rattle.std.proofs.Common.{◌≡◌, ◌≢◌, ℕ, ◌+◌, ◌*◌, ◌^◌, ◌<◌, ◌≤◌, ◌⊎◌, Bool, true, false, cond, List, length, get_or, Option, Some, None, is_some, refl, sym, ap, ◌∙◌, subst, inl, inr, lt-ltb, le-ltb, le-leb, arith}
+use Rattle.std.proofs.Common.{◌≡◌, ◌≢◌, ℕ, ◌+◌, ◌*◌, ◌^◌, ◌<◌, ◌≤◌, ◌⊎◌, Bool, true, false, cond, List, length, get_or, Option, Some, None, is_some, refl, ap, ◌∙◌, subst, inl, inr, lt-ltb, le-ltb, le-leb, arith}
 use Rattle.std.specs.List.{sum_by, flat_map}
 use Rattle.std.proofs.lemmas.Bool.{lt-leb, ne_eqb, and_left, and_right}
 use Rattle.link_base.specs.Bytes.{number_bytes, field, text_at}
@@ -9,7 +9,7 @@ use Rattle.export_tables.specs.declared.directory.Directory.{Directory}
 use Rattle.export_tables.specs.declared.exported.Exported.{Exported}
 use Rattle.export_tables.specs.declared.exported.Exported.TheVariants as exported
 use Rattle.export_tables.specs.ExportDirectory.{is_forwarder, if_export, is_export, counted_address, entry_address, found}
-use Rattle.export_tables.specs.ExportTable.{text_size, target_size, target_address, text_rva, addresses, text_bytes, target_bytes}
+use Rattle.export_tables.specs.ExportTable.{text_size, target_size, target_address, text_rva, addresses, target_bytes}
 use Rattle.export_tables.specs.ReadBack.{Holds, HasNoNul, forward_text, IsApart, exported_what}
 use Rattle.export_tables.proofs.FillLemmas.{rva_more, rva_within}
 use Rattle.export_tables.proofs.HeldLemmas.{held_field, held_text}

@@ -1,7 +1,6 @@
 -- The names of exports in their order, and how many bytes rows have of their own.
 use Rattle.std.proofs.Common.{◌≡◌, ℕ, zero, suc, ◌+◌, ◌-◌, ◌*◌, ◌<◌, ◌≤◌, Bool, true, false, cond, List, [], ◌∷◌, ◌++◌, length, take, get_or, Option, Some, None, refl, ap, ◌∙◌, subst, arith, rules}
 use Rattle.std.specs.List.{sum_by, filter_map, range_with_len}
-use Rattle.std.specs.List.Sorted.{IsSorted, IsPermutation}
 use Rattle.std.specs.Option.{option_to_list}
 use Rattle.std.specs.Ordering.{nat_cmp, ordering_then, is_lt, is_gt, is_eq, MatchOrdering}
 use Rattle.std.specs.Cmp.{IsTotalOrder, ranks}
@@ -19,7 +18,7 @@ use Rattle.export_tables.specs.declared.row.ExportRow.{ExportRow}
 use Rattle.export_tables.specs.declared.names.NameEntry.{NameEntry}
 use Rattle.export_tables.specs.Order.{in_order}
 use Rattle.export_tables.specs.ExportTable.{no_row, row_at, least, address_count, targets_in, entry_of, entry_at, entries_before, entry_cmp, names_of, text_size, name_size, target_size, forwarder_size, row_size, rows_size, AreNumbered}
-use Rattle.export_tables.proofs.SortLemmas.{is_in_order, order_permutes}
+use Rattle.export_tables.proofs.SortLemmas.{order_permutes}
 use Rattle.export_tables.proofs.TargetLemmas.{least_below, place_within, sum_target, no_sum}
 
 -- ---- the order of names
@@ -38,16 +37,12 @@ one_number x y e = subst (λ (r : Ordering). MatchOrdering r (x < y) (x ≡ y) (
 one_text : (x y : List ℕ) → slice_cmp nat_cmp x y ≡ Equal → x ≡ y
 one_text x y e = (bytes_eq-Decides x y).0 (texts_ties x y ∙ ap is_eq e)
 
-one_entry : (a b : NameEntry) → entry_cmp a b ≡ Equal → a ≡ b
+pub one_entry : (a b : NameEntry) → entry_cmp a b ≡ Equal → a ≡ b
 one_entry a b e =
     let both = then_both (slice_cmp nat_cmp a.name b.name) _ e in
     let name = one_text a.name b.name both.0 in
     let index = one_number a.index b.index both.1 in
     λ i. record { name = name i; index = index i }
-
-pub names_are : (rows : List ExportRow) (ordinals : List ℕ) (names sorted : List NameEntry) → names ≡ entries_before rows ordinals (length rows) → IsPermutation names sorted → IsSorted entry_cmp sorted → sorted ≡ names_of rows ordinals
-unfolding names_of
-names_are rows ordinals names sorted is moved up = is_in_order entry_cmp entry_total one_entry names sorted moved up ∙ ap (in_order entry_cmp) is
 
 -- ---- one row more
 

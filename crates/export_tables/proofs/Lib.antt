@@ -8,6 +8,7 @@ pub mod WorkedOrdinals
 pub mod SortLemmas
 pub mod TargetLemmas
 pub mod EntryLemmas
+pub mod PlaceLemmas
 pub mod FillLemmas
 pub mod WorkedTable
 pub mod LengthLemmas
@@ -17,3 +18,6 @@ pub mod StandLemmas
 pub mod DirectoryLemmas
 pub mod RowLemmas
 pub mod AddressLemmas
+pub mod ReadTableLemmas
+pub mod OrdinalReadLemmas
+pub mod NameReadLemmas

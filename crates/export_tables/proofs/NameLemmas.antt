@@ -29,7 +29,7 @@ none_named memory directory name index lt none beyond =
     sym (ap (λ (n : ℕ). first_refusal_below n (named_address memory directory name)) count
     ∙ none_behind index (directory.name_count - index) (named_address memory directory name) none (λ k le. none_beyond memory directory name k (omega (arith, beyond, le))))
 
-some_is : {A : Type 0} (o : Option A) → is_some o ≡ true → (x : A) × (o ≡ Some x)
+pub some_is : {A : Type 0} (o : Option A) → is_some o ≡ true → (x : A) × (o ≡ Some x)
 some_is None e = absurd cc
 some_is (Some x) e = (x, refl)
 

@@ -1,6 +1,6 @@
 -- Targets and names, by the rows that they are of.
-use Rattle.std.proofs.Common.{◌≡◌, ◌≢◌, ℕ, zero, suc, ◌+◌, ◌-◌, ◌<◌, ◌≤◌, Bool, true, false, cond, eqb, List, [], ◌∷◌, length, map, get_or, Option, Some, None, option_map, All, refl, sym, ap, ◌∙◌, subst, inl, inr, lt-ltb, eq-eqb, arith}
-use Rattle.std.specs.List.{Contains, find, position, range_with_len}
+use Rattle.std.proofs.Common.{◌≡◌, ℕ, zero, suc, ◌+◌, ◌-◌, ◌<◌, Bool, true, false, cond, eqb, List, [], ◌∷◌, length, get_or, Option, Some, None, option_map, All, refl, sym, ap, ◌∙◌, subst, inl, inr, lt-ltb, eq-eqb, arith}
+use Rattle.std.specs.List.{Contains, find, position}
 use Rattle.std.specs.Option.{option_to_list}
 use Rattle.std.proofs.lemmas.Bool.{cases_lt, ne_eqb}
 use Rattle.std.proofs.lemmas.List.Elements.{All-nil, All-cons, All-same, All-append, Contains-append_left, Contains-append_right}

@@ -1,11 +1,10 @@
 -- Rows that differ at most in what they export take as many bytes.
-use Rattle.std.proofs.Common.{◌≡◌, ℕ, zero, suc, ◌+◌, ◌*◌, ◌<◌, ◌≤◌, Bool, cond, List, [], ◌∷◌, length, get_or, All, refl, sym, ap, ◌∙◌, subst, arith}
+use Rattle.std.proofs.Common.{◌≡◌, ℕ, ◌+◌, ◌*◌, ◌<◌, Bool, cond, List, [], ◌∷◌, length, get_or, refl, ap, ◌∙◌, arith}
 use Rattle.std.specs.List.{AllZip, sum_by}
 use Rattle.std.proofs.lemmas.List.Elements.{length_all_zip, AllZip-get_or}
 use Rattle.std.proofs.lemmas.List.Sums.{sum_by-cons}
-use Rattle.link_base.specs.Limits.{NAME_LIMIT}
 use Rattle.export_tables.specs.declared.row.ExportRow.{ExportRow}
-use Rattle.export_tables.specs.ExportTable.{no_row, address_count, text_size, forward_len, forwarder_size, row_size, rows_size, table_size, AreNumbered}
+use Rattle.export_tables.specs.ExportTable.{address_count, text_size, forwarder_size, row_size, rows_size, table_size, AreNumbered}
 use Rattle.export_tables.specs.ReadBack.{SameSize}
 
 one_row : (row other : ExportRow) → SameSize row other → row_size row ≡ row_size other

@@ -127,7 +127,8 @@ module _ {X : Type 0} (R : X → X → Ordering) where
         omega (arith, first, second, one, all)) (sorted_tail x xs up) (sorted_tail y ys up') in
         ap (λ (z : X). z ∷ xs) heads ∙ ap (λ (zs : List X). y ∷ zs) tails
 
-    pub is_in_order : ((a b : X) → R a b ≡ Equal → a ≡ b) → (xs ys : List X) → IsPermutation xs ys → IsSorted R ys → ys ≡ in_order R xs
+    -- a list that ascends is the order of one that has its items
+    pub is_in_order : ((a b : X) → R a b ≡ Equal → a ≡ b) → (xs ys : List X) → ((f : X → ℕ) → sum_by f ys ≡ sum_by f xs) → IsSorted R ys → ys ≡ in_order R xs
     unfolding HaveOneSum
-    is_in_order same xs ys moved up =
-        one_order same ys (in_order R xs) (λ f. sum_by-IsPermutation f xs ys moved ∙ sym (sum_by-IsPermutation f xs (in_order R xs) (order_permutes xs))) up (order_sorted xs)
+    is_in_order same xs ys sums up =
+        one_order same ys (in_order R xs) (λ f. sums f ∙ sym (sum_by-IsPermutation f xs (in_order R xs) (order_permutes xs))) up (order_sorted xs)

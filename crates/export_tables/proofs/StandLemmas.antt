@@ -1,5 +1,5 @@
 -- Where the parts of an export table stand in a mapped image that holds it, and the items of each part.
-use Rattle.std.proofs.Common.{◌≡◌, ℕ, ◌+◌, ◌*◌, ◌<◌, ◌≤◌, List, [], ◌∷◌, ◌++◌, length, take, map, get_or, Option, None, length-append, subst, refl, arith}
+use Rattle.std.proofs.Common.{◌≡◌, ℕ, ◌+◌, ◌*◌, ◌<◌, List, [], ◌∷◌, ◌++◌, length, take, map, get_or, Option, None, length-append, subst, arith}
 use Rattle.std.specs.List.{sum_by, flat_map, range_with_len}
 use Rattle.std.proofs.lemmas.List.{length-take-le}
 use Rattle.std.proofs.lemmas.List.FromFn.{length-map-range_with_len, get_or-map-range_with_len}
@@ -25,8 +25,8 @@ pub record Stands (memory : List ℕ) (directory : Directory) (names_rva forward
 
 pub parts_stand : (memory ordinals dll : List ℕ) (rva size : ℕ) (targets : List (Option ExportTo)) (names : List NameEntry) → length targets ≡ address_count ordinals → Holds memory rva (table_by dll (directory_of ordinals (length names) rva size) targets names)
     → Stands memory (directory_of ordinals (length names) rva size)
-      (tables_end (directory_of ordinals (length names) rva size) + text_size dll)
-      (tables_end (directory_of ordinals (length names) rva size) + text_size dll + sum_by name_size names) targets names
+    (tables_end (directory_of ordinals (length names) rva size) + text_size dll)
+    (tables_end (directory_of ordinals (length names) rva size) + text_size dll + sum_by name_size names) targets names
 unfolding tables_bytes texts_bytes
 parts_stand memory ordinals dll rva size targets names many held =
     let directory = directory_of ordinals (length names) rva size in
@@ -48,7 +48,7 @@ parts_stand memory ordinals dll rva size targets names many held =
       addresses_there = held_first memory directory.address_table (addresses forwarders_rva targets (length targets)) numbers from_addresses;
       rvas_there = held_first memory directory.name_table (name_rvas names_rva names (length names)) (flat_map index_bytes names) from_rvas;
       indexes_there =
-        held_rest memory directory.name_table directory.ordinal_table (name_rvas names_rva names (length names)) (flat_map index_bytes names) from_rvas (omega (arith, rvas_len names_rva names (length names)));
+          held_rest memory directory.name_table directory.ordinal_table (name_rvas names_rva names (length names)) (flat_map index_bytes names) from_rvas (omega (arith, rvas_len names_rva names (length names)));
       names_there = held_first memory names_rva (flat_map name_bytes names) (flat_map target_bytes targets) from_names;
       forwarders_there = held_rest memory names_rva forwarders_rva (flat_map name_bytes names) (flat_map target_bytes targets) from_names (omega (arith, names_len names));
     }

@@ -58,7 +58,7 @@ module _ {X : Type 0} (p : X → Bool) where
 
 -- ---- the least ordinal and the greatest
 
-falls : (xs : List ℕ) (most : ℕ) → fold min most xs ≤ most
+pub falls : (xs : List ℕ) (most : ℕ) → fold min most xs ≤ most
 falls [] most = omega arith
 falls (x ∷ xs) most = let rest = falls xs (min most x) in omega (arith, rest)
 
@@ -84,7 +84,7 @@ place_within ordinals i lt = omega (arith, at_least ordinals 65535 i lt, at_most
 
 -- ---- one row more
 
-same_no : (a b : ℕ) → a ≢ b → eqb a b ≡ false
+pub same_no : (a b : ℕ) → a ≢ b → eqb a b ≡ false
 same_no a b differ =
     elim (eqb_tells a b) [
       | inl same ↦ absurd (differ same.1)
@@ -108,7 +108,7 @@ module _ (rows : List ExportRow) (base : ℕ) (ordinals : List ℕ) (i : ℕ) (l
       ∙ place_of_other (eqb (base + k)) (take i ordinals) (get_or ordinals i 0) (same_no (base + k) (get_or ordinals i 0) differ))
 
   -- that of the row, which no earlier one has
-  no_earlier : (k : ℕ) → Differ ordinals → base + k ≡ get_or ordinals i 0 → position (eqb (base + k)) (take i ordinals) ≡ None
+  pub no_earlier : (k : ℕ) → Differ ordinals → base + k ≡ get_or ordinals i 0 → position (eqb (base + k)) (take i ordinals) ≡ None
   no_earlier k differ is =
       place_of_none (eqb (base + k)) (take i ordinals) (λ j d less.
       let before : j < i = omega (arith, less, length-take i ordinals) in

@@ -2,7 +2,7 @@
 -- directory, the addresses by ordinal, the RVAs of names in the order of names, the indexes of their addresses, and texts.
 -- That the texts are those of the DLL, of the names and of the forwarders, and that the ordinal base is the least ordinal, is
 -- own.
-use Rattle.std.specs.Prelude.{◌≡◌, ◌≢◌, ℕ, ◌+◌, ◌-◌, ◌*◌, ◌<◌, ◌≤◌, nat_eq, min, max, if◌then◌else◌, false, List, [], ◌∷◌, ◌++◌, length, take, map, fold, slice_index, slice_index_or, All, Option, Some, None, option_map}
+use Rattle.std.specs.Prelude.{◌≡◌, ◌≢◌, ℕ, ◌+◌, ◌-◌, ◌*◌, ◌<◌, ◌≤◌, nat_eq, min, max, if◌then◌else◌, false, List, [], ◌∷◌, ◌++◌, length, take, map, fold, slice_index, slice_index_or, All, Option, Some, None, option_map, option_and_then}
 use Rattle.std.specs.List.{filter_map, flat_map, sum_by, position, range_with_len}
 use Rattle.std.specs.Ordering.{nat_cmp, then_cmp, on}
 use Rattle.std.specs.Cmp.Lexicographic.{slice_cmp}
@@ -73,6 +73,17 @@ entry_cmp = then_cmp (on (λ entry. entry.name) (slice_cmp nat_cmp)) (on (λ ent
 
 unfoldable pub names_of : List ExportRow → List ℕ → List NameEntry
 names_of rows ordinals = in_order entry_cmp (entries_before rows ordinals (length rows))
+
+-- the entry of the number that lies so far above the least of all ordinals, where a row of these has the number and a name
+unfoldable pub place_in : List ExportRow → List ℕ → List ℕ → ℕ → Option NameEntry
+place_in rows all ordinals index = option_and_then (entry_at rows all) (position (nat_eq (least all + index)) ordinals)
+
+unfoldable pub places_in : List ExportRow → List ℕ → ℕ → List ℕ → List (Option NameEntry)
+places_in rows all count ordinals = map (place_in rows all ordinals) (range_with_len 0 count)
+
+-- those of each number from the least ordinal to the greatest
+abbrev pub places_of : List ExportRow → List ℕ → List (Option NameEntry)
+places_of rows ordinals = places_in rows ordinals (address_count ordinals) ordinals
 
 -- ---- sizes
 

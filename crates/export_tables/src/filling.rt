@@ -20,8 +20,9 @@ use std::alloc::Global;
 /// ordinal base is the least ordinal, and the address of a number that no row has is 0. The time stamp, the four bytes at 4,
 /// is 0.
 ///
-/// The rows, their ordinals and the name of the DLL are as `length` asks. For the table to be read back no name holds a NUL,
-/// and no RVA of a row is 0 or that of one of these bytes, since such an address would be that of a hole or of a forwarder.
+/// The rows, their ordinals and the name of the DLL are as `length` asks. For the table to be read back no name and no
+/// forwarder holds a NUL, names differ, and no RVA of a row is 0 or that of one of these bytes, since such an address would be
+/// that of a hole or of a forwarder (`filled_table_is_read_back`).
 ///
 /// # Errors
 ///
