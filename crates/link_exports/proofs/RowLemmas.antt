@@ -13,8 +13,9 @@ use Rattle.directives.specs.Said.{Said, said}
 use Rattle.directives.specs.declared.item.Directive.{Directive}
 use Rattle.directives.specs.declared.item.Export.{Export}
 use Rattle.module_view.specs.Module.{ModuleView}
+use Rattle.link_words.specs.Outcome.{LinkOptions}
 use Rattle.link_directives.specs.LinkDirectives.{directives_by, all_directives}
-use Rattle.link_exports.specs.Exports.{export_said, all_exports, agrees, with_row}
+use Rattle.link_exports.specs.Exports.{export_said, all_exports, agrees, with_row, export_rows}
 use Rattle.link_exports.specs.Steps.{SaidRow, said_row, row_of, says_same, with_said}
 
 -- the prefix of a name has no NUL
@@ -48,8 +49,10 @@ told_again [] = refl
 told_again (row ∷ rows) = ap (λ (rest : List Export). row ∷ rest) (told_again rows)
 
 -- the rows that are noted of all exports
-pub rows_noted : (all rows : List Export) (told : List SaidRow) → told ≡ fold with_said [] all → rows ≡ map row_of told → rows ≡ fold with_row [] all
-rows_noted all rows told noted is =
+pub rows_noted : (options : LinkOptions) (modules : List ModuleView) (rows : List Export) (told : List SaidRow) → told ≡ fold with_said [] (all_exports options.exports modules) → rows ≡ map row_of told → rows ≡ export_rows options modules
+unfolding export_rows
+rows_noted options modules rows told noted is =
+    let all = all_exports options.exports modules in
     is
     ∙ ap (map row_of) noted
     ∙ ap (map row_of) (noted_all all [])

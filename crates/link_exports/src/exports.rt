@@ -85,7 +85,7 @@ fn exports_from<'a>(
     requires told { All CanBeTold rows.items }
     requires few { length rows.items < 2 ^ 32 }
     requires dll { length dll.items ≤ DLL_LIMIT }
-    ensures exports { IfOk result (λ exports. exports ≡ exports_from rows.items dll.items) }
+    ensures exports { IfOk result (λ exports. exports ≡ exports_from rows.entry.items dll.items) }
     ensures told { IfOk result AreTold }
 {
     match assign(alloc, &rows) {

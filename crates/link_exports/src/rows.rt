@@ -36,7 +36,8 @@ pub(crate) fn export_rows<'a>(
     for module in modules {
         note_directives(&mut told, module.directives())?;
     }
-    rows_of(alloc, &told)
+    let rows = rows_of(alloc, &told)?;
+    Ok(rows)
 }
 
 /// Notes exports, each that says what no other says.
@@ -127,11 +128,16 @@ pub(crate) fn check_rows(rows: &[Export<'_>]) -> Result<(), Memory>
         return Err(Memory);
     }
     for row in rows {
-        if !can_be_told(row) {
-            return Err(Memory);
-        }
+        check_row(row)?;
     }
     Ok(())
+}
+
+/// That the name of an export and its forwarder can stand in a table.
+fn check_row(row: &Export<'_>) -> Result<(), Memory>
+    ensures { OnOk result (CanBeTold row.now) }
+{
+    if can_be_told(row) { Ok(()) } else { Err(Memory) }
 }
 
 /// Whether the name of an export and its forwarder can stand in a table.

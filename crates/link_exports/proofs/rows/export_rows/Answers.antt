@@ -1,6 +1,7 @@
 use Rattle.std.proofs.Common.{List, [], ◌++◌, fold, take, sym, ap, ◌∙◌, arith}
 use Rattle.std.proofs.lemmas.List.{append-nil, take_all}
 use Rattle.directives.specs.declared.item.Export.{Export}
+use Rattle.link_words.specs.Outcome.{options_said}
 use Rattle.module_view.specs.Module.{ModuleView}
 use Rattle.link_exports.specs.Exports.{all_exports}
 use Rattle.link_exports.specs.Steps.{SaidRow, with_said}
@@ -19,6 +20,6 @@ loop-module-preserved c =
 
 pub returns : goal.returns
 returns c =
-    rows_noted (all_exports c.args.options.now.exports.items c.args.modules.now) _ c.loop-module.told.keys
+    rows_noted (options_said c.args.options.now) c.args.modules.now _ c.loop-module.told.keys
     (c.loop-module.invariant ∙ ap (λ (modules : List ModuleView). fold with_said [] (all_exports c.args.options.now.exports.items modules)) (take_all c.loop-module.module-index c.args.modules.now (omega arith)))
-    c.in_ok-rows_of.ensures
+    c.in_ok-rows.ensures
