@@ -9,6 +9,7 @@ ghost use Rattle.module_view.specs.Opening.{import_error, is_long, RefusesToOpen
 
 use crate::definition::{Definition, Place};
 use crate::error::ModuleError;
+use coff_object::Object;
 use link_base::{Kind, Memory, NAME_LIMIT, Name, slice_in};
 use short_import::{Import, ImportKind};
 use std::alloc::Global;
@@ -86,6 +87,16 @@ pub(crate) fn no_object() -> &'static [u8]
     ensures { result.now ≡ no_object }
 {
     b"\x64\x86\x00\x00\x00\x00\x00\x00\x00\x00\x00\x00\x00\x00\x00\x00\x00\x00\x00\x00"
+}
+
+/// The object of nothing.
+pub(crate) fn nothing<'a>() -> Object<'a>
+    ensures { result ≡ no_object }
+{
+    match Object::open(no_object()) {
+        Ok(object) => object,
+        Err(_) => unreachable!(),
+    }
 }
 
 /// Whether a name is too long.

@@ -7,19 +7,13 @@ ghost use Rattle.module_view.specs.Opening.{import_error, RefusesToOpen};
 use crate::definition::Definition;
 use crate::error::ModuleError;
 use crate::import::{definitions_by, read_import};
-use link_base::Memory;
 use short_import::Import;
 use std::alloc::Global;
 use std::marker::Model;
 
-/// A short import, and what it defines. It stands apart from its module, so that the others are no larger for it.
+/// A short import, and what it defines.
 #[derive(Drop)]
 pub(crate) struct OpenImport<'a> {
-    parts: Box<ImportParts<'a>>,
-}
-
-#[derive(Drop)]
-struct ImportParts<'a> {
     import: Import<'a>,
     definitions: Vec<Definition<'a>>,
 }
@@ -31,9 +25,9 @@ impl<'a> Model for OpenImport<'a> {
 
     ghost Value = { Import };
 
-    ghost view = { λ m. m.parts.value.import };
+    ghost view = { λ m. m.import };
 
-    ghost invariant = { λ m. m.parts.value.definitions.items ≡ import_definitions m.parts.value.import };
+    ghost invariant = { λ m. m.definitions.items ≡ import_definitions m.import };
 }
 
 impl<'a> OpenImport<'a> {
@@ -48,34 +42,23 @@ impl<'a> OpenImport<'a> {
             Err(error) => return Err(error),
         };
         let definitions = definitions_by(alloc, bytes, &import)?;
-        let parts = boxed(
-            alloc,
-            ImportParts {
-                import,
-                definitions,
-            },
-        )?;
-        Ok(OpenImport { parts })
+        Ok(OpenImport {
+            import,
+            definitions,
+        })
     }
 
     /// Its fields.
     pub(crate) fn import(&self) -> &Import<'a>
         ensures { result.now ≡ self.now }
     {
-        &self.parts.import
+        &self.import
     }
 
     /// What it defines.
     pub(crate) fn definitions(&self) -> &[Definition<'a>]
         ensures { result.now ≡ import_definitions self.now }
     {
-        &self.parts.definitions
+        &self.definitions
     }
-}
-
-/// The same, apart.
-fn boxed(alloc: Global, parts: ImportParts<'_>) -> Result<Box<ImportParts<'_>>, Memory>
-    ensures { IfOk result (λ room. room.value ≡ parts.entry) }
-{
-    Ok(Box::new(alloc, parts)?)
 }

@@ -9,8 +9,8 @@ use crate::aux_faults::judge_aux;
 use crate::directive_list::read_directives;
 use crate::error::ModuleError;
 use crate::first_bytes::{form_shown, is_short_import};
-use crate::import::no_object;
-use crate::input_module::{Module, Origin};
+use crate::import::{no_object, nothing};
+use crate::input_module::{Content, Module, ObjectLists, Origin};
 use crate::open_import::OpenImport;
 use crate::sections::judge_sections;
 use crate::symbols::read_symbols;
@@ -37,7 +37,7 @@ pub fn open_module<'a>(
     if is_short_import(bytes) {
         open_import(alloc, origin, bytes)
     } else {
-        open_object(alloc, origin, bytes, None)
+        open_object(alloc, origin, bytes)
     }
 }
 
@@ -51,22 +51,25 @@ fn open_import<'a>(
     ensures accepted { OnOk result (import_error bytes.now ≡ None) }
     ensures refused { IfErr result (RefusesToOpen (import_error bytes.now)) }
 {
-    let import = match OpenImport::read(alloc, bytes) {
-        Ok(import) => import,
-        Err(error) => return Err(error),
-    };
-    open_object(alloc, origin, no_object(), Some(import))
+    match OpenImport::read(alloc, bytes) {
+        Ok(import) => Ok(Module {
+            origin,
+            bytes: no_object(),
+            object: nothing(),
+            content: Content::Import(import),
+        }),
+        Err(error) => Err(error),
+    }
 }
 
-/// The module of an object, and of the short import that goes as it, where one does.
+/// The module of an object.
 fn open_object<'a>(
     alloc: Global,
     origin: Origin<'a>,
     bytes: &'a [u8],
-    import: Option<OpenImport<'a>>,
 ) -> Result<Module<'a>, ModuleError>
     requires { length bytes.now < 2 ^ 32 - 1 }
-    ensures opened { IfOk result (λ m. m ≡ view_with origin.entry bytes.now import.entry) }
+    ensures opened { IfOk result (λ m. m ≡ view_with origin.entry bytes.now None) }
     ensures accepted { OnOk result (opening_error bytes.now ≡ None) }
     ensures refused { IfErr result (RefusesToOpen (opening_error bytes.now)) }
 {
@@ -100,11 +103,12 @@ fn open_object<'a>(
     }
     Ok(Module {
         origin,
-        import,
         bytes,
         object,
-        lists,
-        comdats,
-        directives: directives.directives,
+        content: Content::Object(ObjectLists {
+            lists,
+            comdats,
+            directives: directives.directives,
+        }),
     })
 }
