@@ -53,7 +53,7 @@ nothing_kept bytes object nothing same =
       referred = rw no_symbols refl;
       weak = rw no_symbols refl;
       common = rw no_symbols refl;
-      started = λ symbol. rw no_symbols refl;
+      started = λ some. absurd cc;
       comdats = none_kept no_object [] no_comdat;
       said_are = no_directives;
     }

@@ -1,6 +1,5 @@
 -- What a module keeps beside its bytes. Own.
-use Rattle.std.specs.Prelude.{◌≡◌, ℕ, Bool, false, List, [], map, slice_index_or, Option, None, Some}
-use Rattle.coff_records.specs.ObjectFile.{starts_symbol}
+use Rattle.std.specs.Prelude.{◌≡◌, ℕ, Bool, List, [], map, Option, None, Some}
 use Rattle.coff_aux.specs.declared.comdat.SectionSymbols.{SectionSymbols}
 use Rattle.coff_aux.specs.Steps.{KeepsSymbols}
 use Rattle.module_view.specs.declared.input_module.Origin.{Origin}
@@ -18,6 +17,7 @@ use Rattle.directives.specs.Said.{said}
 use Rattle.directives.specs.declared.item.Directive.{Directive}
 use Rattle.module_view.specs.ModuleDirectives.{module_directives}
 use Rattle.module_view.specs.Opening.{opening_error}
+use Rattle.module_view.specs.Steps.{KeepsStarts}
 
 -- a module with the object of these bytes, and this short import
 abbrev pub view_with : Origin → List ℕ → Option Import → ModuleView
@@ -41,7 +41,7 @@ pub record KeepsLists (bytes object : List ℕ) (definitions : List Definition) 
   pub referred : references ≡ references_of bytes
   pub weak : weaks ≡ weaks_of bytes
   pub common : commons ≡ commons_of bytes
-  pub started : (symbol : ℕ) → slice_index_or starts symbol false ≡ starts_symbol bytes symbol
+  pub started : KeepsStarts bytes weaks starts
   pub comdats : KeepsSymbols bytes symbols
   pub said_are : map said directives ≡ module_directives bytes
 

@@ -1,6 +1,6 @@
 //! A module, as its lists beside a view of its bytes.
 
-ghost use Rattle.std.specs.Prelude.{◌≡◌, Some, false, slice_index_or, map};
+ghost use Rattle.std.specs.Prelude.{◌≡◌, Some, map};
 ghost use Rattle.std.specs.Option.{option_copied};
 ghost use Rattle.coff_records.specs.ObjectFile.{starts_symbol};
 ghost use Rattle.module_view.specs.ImportModule.{module_definitions};
@@ -9,10 +9,12 @@ ghost use Rattle.coff_aux.specs.Comdats.{comdat_of};
 ghost use Rattle.directives.specs.Said.{said};
 ghost use Rattle.module_view.specs.ModuleDirectives.{module_directives};
 ghost use Rattle.module_view.specs.Opening.{IsOpened};
+ghost use Rattle.module_view.specs.Steps.{KeepsStarts};
 
 use crate::definition::{Common, Definition};
 use crate::open_import::OpenImport;
 use crate::reference::{Reference, Weak};
+use crate::symbol_starts::is_start;
 use crate::symbols::SymbolLists;
 use coff_aux::{Comdat, SectionSymbols, comdat_in, is_section_number};
 use coff_object::Object;
@@ -188,22 +190,27 @@ impl<'a> Module<'a> {
         }
     }
 
-    /// Whether a symbol starts at a record.
+    /// Whether a symbol starts at a record. In a module without weak externals, none of whose symbols names a record, it is
+    /// looked for from the first symbol on.
     pub fn is_symbol(&self, j: u32) -> bool
         ensures { result ≡ starts_symbol self.now.bytes j }
     {
         match &self.content {
-            Content::Object(parts) => starts_at(&parts.lists.starts, j),
-            Content::Import(_) => false,
+            Content::Object(parts) => is_symbol_in(&self.object, &parts.lists, j),
+            Content::Import(_) => is_start(&self.object, j),
         }
     }
 }
 
-/// Whether a symbol starts at a record.
-fn starts_at(starts: &[bool], j: u32) -> bool
-    ensures { result ≡ slice_index_or starts.now j false }
+/// Whether a symbol of an object starts at a record.
+fn is_symbol_in(object: &Object<'_>, lists: &SymbolLists<'_>, j: u32) -> bool
+    requires { KeepsStarts object.now lists.now.weaks.items lists.now.starts.items }
+    ensures { result ≡ starts_symbol object.now j }
 {
-    match starts.get(j as usize) {
+    if lists.weaks.is_empty() {
+        return is_start(object, j);
+    }
+    match lists.starts.get(j as usize) {
         Some(starts) => *starts,
         None => false,
     }
