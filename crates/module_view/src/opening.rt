@@ -35,23 +35,19 @@ pub fn open_module<'a>(
     ensures refused { IfErr result (RefusesToOpen (file_error bytes.now)) }
 {
     if is_short_import(bytes) {
-        open_import(alloc, origin, bytes)
+        open_import(origin, bytes)
     } else {
         open_object(alloc, origin, bytes)
     }
 }
 
 /// The module of a short import: an object of nothing, with what the import defines.
-fn open_import<'a>(
-    alloc: Global,
-    origin: Origin<'a>,
-    bytes: &'a [u8],
-) -> Result<Module<'a>, ModuleError>
+fn open_import<'a>(origin: Origin<'a>, bytes: &'a [u8]) -> Result<Module<'a>, ModuleError>
     ensures opened { IfOk result (λ m. m ≡ view_with origin.entry no_object (Some (import_in bytes.now))) }
     ensures accepted { OnOk result (import_error bytes.now ≡ None) }
     ensures refused { IfErr result (RefusesToOpen (import_error bytes.now)) }
 {
-    match OpenImport::read(alloc, bytes) {
+    match OpenImport::read(bytes) {
         Ok(import) => Ok(Module {
             origin,
             bytes: no_object(),
