@@ -1,7 +1,7 @@
 //! The header of a member, 60 bytes: its name field, its size, and where its data end (PE Format, "Archive Member
 //! Headers").
 
-ghost use Rattle.std.specs.Prelude.{◌≡◌, ◌<◌, ◌≤◌, ◌+◌, ◌^◌, length, false, IfSome};
+ghost use Rattle.std.specs.Prelude.{◌≡◌, ◌<◌, ◌≤◌, ◌+◌, ◌^◌, length, false, is_none, IfSome};
 ghost use Rattle.lib_reader.specs.ArchiveMember.{trimmed, name_text, size_number, size_of, header_is_bad, size_is_bad, data_of, next_header};
 
 use crate::constants::{ARCHIVE_END, SIZEOF_ARCHIVE_MEMBER_HDR};
@@ -51,17 +51,20 @@ fn size_number(bytes: &[u8], at: usize) -> Option<usize>
     decimal_number(trimmed(slice_in(bytes, at + 48, 10)))
 }
 
-/// Whether the size is no decimal number, or the data leave the file.
+/// How many bytes of data a member has: none where the size is no decimal number, or the data leave the file.
 #[tactic(auto, unfolding(crate::specs::ArchiveMember::size_is_bad))]
-pub(crate) fn size_is_bad(bytes: &[u8], at: usize) -> bool
+pub(crate) fn whole_size(bytes: &[u8], at: usize) -> Option<usize>
     requires small { at < 2 ^ 32 }
     requires header { at + 60 ≤ length bytes.now }
-    ensures { result ≡ size_is_bad bytes.now at }
+    ensures bad { is_none result ≡ size_is_bad bytes.now at }
+    ensures size { IfSome result (λ size. size ≡ size_of bytes.now at) }
+    ensures whole { IfSome result (λ size. at + 60 + size ≤ length bytes.now) }
 {
-    match size_number(bytes, at) {
-        Some(size) => at + SIZEOF_ARCHIVE_MEMBER_HDR + size > bytes.len(),
-        None => true,
+    let size = size_number(bytes, at)?;
+    if at + SIZEOF_ARCHIVE_MEMBER_HDR + size > bytes.len() {
+        return None;
     }
+    Some(size)
 }
 
 /// How many bytes of data a member has.

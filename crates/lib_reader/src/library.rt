@@ -8,14 +8,12 @@ ghost use Rattle.lib_reader.specs.MemberFault.{member_fault};
 ghost use Rattle.lib_reader.specs.Listing.{first_of_name};
 ghost use Rattle.lib_reader.specs.LibraryWalk.{has_magic, library_fault, listing_of, long_names_of};
 
-use crate::constants::ARCHIVE_START;
+use crate::constants::{ARCHIVE_START, SIZEOF_ARCHIVE_MEMBER_HDR};
 use crate::error::LibError;
-use crate::header::{data_in, name_text};
 use crate::listings::Listings;
-use crate::member_fault::member_fault;
-use crate::member_name::member_name;
+use crate::member_fault::read_header;
 use crate::walk::walk;
-use link_base::{LibFault, Name};
+use link_base::{LibFault, Name, slice_in};
 use std::marker::Model;
 
 /// A library that was opened. What it gives out is borrowed from the file's bytes.
@@ -129,12 +127,13 @@ impl<'a> Library<'a> {
         ensures found { is_ok result ≡ is_none (member_fault (long_names_of self.now) self.now at) }
     {
         let place = at as usize;
-        if let Some(error) = member_fault(self.long_names, self.bytes, place) {
-            return Err(error);
-        }
+        let header = match read_header(self.long_names, self.bytes, place) {
+            Ok(header) => header,
+            Err(error) => return Err(error),
+        };
         Ok(Member {
-            name: member_name(self.long_names, name_text(self.bytes, place)),
-            bytes: data_in(self.bytes, place),
+            name: header.name,
+            bytes: slice_in(self.bytes, place + SIZEOF_ARCHIVE_MEMBER_HDR, header.size),
         })
     }
 }

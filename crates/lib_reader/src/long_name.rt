@@ -1,7 +1,7 @@
 //! Long names, which stand in a member of their own and end at a NUL or a newline (PE Format, "Longnames
 //! Member").
 
-ghost use Rattle.std.specs.Prelude.{◌≡◌, ◌<◌, ◌≤◌, drop, length, is_some, IfSome};
+ghost use Rattle.std.specs.Prelude.{◌≡◌, ◌<◌, ◌≤◌, drop, length, IfSome};
 ghost use Rattle.std.specs.List.{before_first};
 ghost use Rattle.lib_reader.specs.MemberName.{ends_long_name, without_slash, long_offset, long_name};
 
@@ -48,14 +48,4 @@ pub(crate) fn long_name<'a>(long_names: &'a [u8], text: &[u8]) -> Option<Name<'a
 {
     let offset = offset_in(long_names, text)?;
     Some(Name::of(without_slash(text_from(long_names, offset))))
-}
-
-/// Whether there is one; its end is not looked for.
-#[tactic(auto, unfolding(crate::specs::MemberName::long_name_at))]
-pub(crate) fn has_long_name(long_names: &[u8], text: &[u8]) -> bool
-    requires first { 1 ≤ length text.now }
-    requires short { length text.now ≤ 16 }
-    ensures { result ≡ is_some (long_name long_names.now text.now) }
-{
-    offset_in(long_names, text).is_some()
 }

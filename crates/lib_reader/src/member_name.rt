@@ -1,7 +1,8 @@
 //! The name of a member, and which members are special (PE Format, "Archive Member Headers").
 
-ghost use Rattle.std.specs.Prelude.{◌≡◌, ◌≤◌, length, IsTrue};
+ghost use Rattle.std.specs.Prelude.{◌≡◌, ◌≤◌, length, is_none, IsTrue, IfSome};
 ghost use Rattle.lib_reader.specs.MemberName.{names_directory, names_long_names, names_special, names_an_offset, without_slash, member_name};
+ghost use Rattle.lib_reader.specs.MemberFault.{lacks_long_name};
 
 use crate::constants::{ARCHIVE_LINKER_MEMBER, ARCHIVE_LONGNAMES_MEMBER, ARCHIVE_OTHER_MEMBER};
 use crate::long_name::long_name;
@@ -50,21 +51,19 @@ pub(crate) fn without_slash(text: &[u8]) -> &[u8]
     front
 }
 
-/// The name that the text of a name field says. That of a special member stands as it is; one that refers to
-/// no long name, which is refused, is empty here.
-#[tactic(auto, unfolding(crate::specs::MemberName::member_name))]
-pub(crate) fn member_name<'a>(long_names: &'a [u8], text: &'a [u8]) -> Name<'a>
+/// The name that the text of a name field says: none where it refers to a long name that is missing. That of a special
+/// member stands as it is.
+#[tactic(auto, unfolding(crate::specs::MemberName::member_name, crate::specs::MemberFault::lacks_long_name))]
+pub(crate) fn member_name<'a>(long_names: &'a [u8], text: &'a [u8]) -> Option<Name<'a>>
     requires { length text.now ≤ 16 }
-    ensures { result ≡ member_name long_names.now text.now }
+    ensures name { IfSome result (λ name. name ≡ member_name long_names.now text.now) }
+    ensures lacks { is_none result ≡ lacks_long_name long_names.now text.now }
 {
     if names_special(text) {
-        return Name::of(text);
+        return Some(Name::of(text));
     }
     if !names_an_offset(text) {
-        return Name::of(without_slash(text));
+        return Some(Name::of(without_slash(text)));
     }
-    match long_name(long_names, text) {
-        Some(name) => name,
-        None => Name::of(&[]),
-    }
+    long_name(long_names, text)
 }

@@ -12,7 +12,7 @@ use crate::constants::ARCHIVE_START;
 use crate::error::LibError;
 use crate::header::{data_in, name_text, next_header};
 use crate::listings::Listings;
-use crate::member_fault::member_fault;
+use crate::member_fault::read_header;
 use crate::member_name::{names_directory, names_long_names, names_special};
 use link_base::LibFault;
 
@@ -123,7 +123,7 @@ fn judged<'a>(
     ensures first { IfOk result (λ all. all.first ≡ first_listed bytes.now (position + 1)) }
     ensures second { IfOk result (λ all. all.second ≡ second_listed bytes.now (position + 1)) }
 {
-    if let Some(error) = member_fault(long_names, bytes, at) {
+    if let Err(error) = read_header(long_names, bytes, at) {
         return Err(error);
     }
     match directories_behind(found, bytes, at, position) {

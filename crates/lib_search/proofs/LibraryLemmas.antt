@@ -28,56 +28,24 @@ step_of name other k at left = by_case (same_name name other) (first_of_name oth
     by_case true o = refl
     by_case false o = refl
 
--- the first of its name
-pub lists_new : (name : List ℕ) (place : MemberPlace) (left : List Entry) (libraries : List FoundFile) (old new : List ℕ → Option MemberPlace) → old name ≡ None → ((other : List ℕ) → new other ≡ cond (same_name name other) (Some place) (old other)) → ListsSoFar old place.0 ((name, place.1) ∷ left) libraries → ListsSoFar new place.0 left libraries
-lists_new name place left libraries old new none now was = record {
-  first = λ other. go other (same_name name other) refl;
+-- the first place of a name is kept
+kept_first : (o rest : Option MemberPlace) (same : Bool) (place : MemberPlace) → option_or (option_or o (cond same (Some place) None)) rest ≡ option_or o (cond same (Some place) rest)
+kept_first (Some first) rest same place = refl
+kept_first None rest true place = refl
+kept_first None rest false place = refl
+
+-- one more listing was noted
+pub lists_noted : (name : List ℕ) (place : MemberPlace) (left : List Entry) (libraries : List FoundFile) (old new : List ℕ → Option MemberPlace) → ((other : List ℕ) → new other ≡ option_or (old other) (cond (same_name name other) (Some place) None)) → ListsSoFar old place.0 ((name, place.1) ∷ left) libraries → ListsSoFar new place.0 left libraries
+lists_noted name place left libraries old new now was = record {
+  first = λ other.
+      ap (λ (o : Option MemberPlace). option_or o (rest other)) (now other)
+      ∙ kept_first (old other) (rest other) (same_name name other) place
+      ∙ ap (option_or (old other)) (sym (step_of name other place.0 place.1 left))
+      ∙ was.first other;
 }
   where
     rest : List ℕ → Option MemberPlace
     rest other = option_map (place_in place.0) (first_of_name other left)
-
-    whole : List ℕ → Option MemberPlace
-    whole other = option_or (first_refusal_below place.0 (listing_at libraries other)) (listing_at libraries other place.0)
-
-    before : (other : List ℕ) → option_or (old other) (cond (same_name name other) (Some place) (rest other)) ≡ whole other
-    before other = ap (option_or (old other)) (sym (step_of name other place.0 place.1 left)) ∙ was.first other
-
-    go : (other : List ℕ) (b : Bool) → same_name name other ≡ b → option_or (new other) (rest other) ≡ whole other
-    go other true same =
-        ap (λ (o : Option MemberPlace). option_or o (rest other)) (now other ∙ ap (λ (b : Bool). cond b (Some place) (old other)) same)
-        ∙ sym (ap (λ (o : Option MemberPlace). option_or o (Some place)) (ap old (sym (same_is name other same)) ∙ none))
-        ∙ ap (λ (b : Bool). option_or (old other) (cond b (Some place) (rest other))) (sym same)
-        ∙ before other
-    go other false differs =
-        ap (λ (o : Option MemberPlace). option_or o (rest other)) (now other ∙ ap (λ (b : Bool). cond b (Some place) (old other)) differs)
-        ∙ ap (λ (b : Bool). option_or (old other) (cond b (Some place) (rest other))) (sym differs)
-        ∙ before other
-
--- another one
-pub lists_known : (name : List ℕ) (place first : MemberPlace) (left : List Entry) (libraries : List FoundFile) (old : List ℕ → Option MemberPlace) → old name ≡ Some first → ListsSoFar old place.0 ((name, place.1) ∷ left) libraries → ListsSoFar old place.0 left libraries
-lists_known name place first left libraries old known was = record {
-  first = λ other. go other (same_name name other) refl;
-}
-  where
-    rest : List ℕ → Option MemberPlace
-    rest other = option_map (place_in place.0) (first_of_name other left)
-
-    whole : List ℕ → Option MemberPlace
-    whole other = option_or (first_refusal_below place.0 (listing_at libraries other)) (listing_at libraries other place.0)
-
-    before : (other : List ℕ) → option_or (old other) (cond (same_name name other) (Some place) (rest other)) ≡ whole other
-    before other = ap (option_or (old other)) (sym (step_of name other place.0 place.1 left)) ∙ was.first other
-
-    go : (other : List ℕ) (b : Bool) → same_name name other ≡ b → option_or (old other) (rest other) ≡ whole other
-    go other true same =
-        let there : old other ≡ Some first = ap old (sym (same_is name other same)) ∙ known in
-        ap (λ (o : Option MemberPlace). option_or o (rest other)) there
-        ∙ sym (ap (λ (o : Option MemberPlace). option_or o (cond (same_name name other) (Some place) (rest other))) there)
-        ∙ before other
-    go other false differs =
-        ap (λ (b : Bool). option_or (old other) (cond b (Some place) (rest other))) (sym differs)
-        ∙ before other
 
 -- no listing of a library was gone through
 pub lists_begin : (libraries : List FoundFile) (k : ℕ) (library : FoundFile) (place_of : List ℕ → Option MemberPlace) → library ≡ get_or libraries k no_file → ListsBelow place_of k libraries → ListsSoFar place_of k (listing_of library.bytes) libraries

@@ -1,14 +1,14 @@
 //! The libraries that are searched.
 
-ghost use Rattle.std.specs.Prelude.{◌≡◌, ◌≤◌, ◌<◌, ◌+◌, ◌++◌, ◌∷◌, [], None, List, length, slice_index_or, IfOk, OnOk, IfErr};
+ghost use Rattle.std.specs.Prelude.{◌≡◌, ◌≤◌, ◌<◌, ◌+◌, ◌++◌, ◌∷◌, [], ℕ, List, length, slice_index_or, None, Some, if◌then◌else◌, IfOk, OnOk, IfErr};
+ghost use Rattle.std.specs.Option.{option_or};
 ghost use Rattle.indexmap.specs.IndexMap.{get};
 ghost use Rattle.link_base.specs.Limits.{FILE_LIMIT as most_bytes, MODULE_LIMIT as most_modules};
 ghost use Rattle.link_base.specs.NameText.{same_name};
 ghost use Rattle.link_base.specs.Refusals.{RefusesFor};
-ghost use Rattle.lib_reader.specs.Listing.{Entry};
 ghost use Rattle.file_search.specs.FoundFiles.{FoundFile, no_file};
 ghost use Rattle.lib_search.specs.Joining.{bad_library, no_library};
-ghost use Rattle.lib_search.specs.OpenLibraries.{ListsBelow, ListsSoFar};
+ghost use Rattle.lib_search.specs.OpenLibraries.{ListsBelow};
 ghost use Rattle.lib_search.specs.SearchSteps.{library_at, first_listing, member_view, member_fault_in};
 
 use crate::join::join;
@@ -184,17 +184,11 @@ fn note_listing<'a>(
     name: Name<'a>,
     place: (usize, u32),
 ) -> Result<(), Memory>
-    ensures { OnOk result ((left : List Entry) (libraries : List FoundFile)
-        → ListsSoFar (get same_name places.old) place.0 ((name.entry, place.1) ∷ left) libraries
-        → ListsSoFar (get same_name places.new) place.0 left libraries) }
+    ensures { OnOk result ((other : List ℕ) → get same_name places.new other
+        ≡ option_or (get same_name places.old other) (if same_name name.entry other then Some place else None)) }
 {
-    match places.get(&name) {
-        None => {
-            places.insert(name, place)?;
-            Ok(())
-        }
-        Some(_) => Ok(()),
-    }
+    places.entry(name)?.or_insert(place);
+    Ok(())
 }
 
 /// Appends a library.

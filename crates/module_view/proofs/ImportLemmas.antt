@@ -1,29 +1,59 @@
--- The object of nothing, as which a short import goes, opens.
-use Rattle.std.proofs.Common.{◌≡◌, ◌<◌, ℕ, List, length, Option, None, Result, refl, sym, ap, subst, ◌∙◌, arith}
-use Rattle.std.specs.Prelude.{IfErr}
-use Rattle.module_view.specs.ModuleDirectives.{module_says}
+-- The object of nothing, as which a short import goes, opens, and has no lists.
+use Rattle.std.proofs.Common.{◌≡◌, ◌<◌, ℕ, false, List, [], length, None, refl, sym, subst, arith}
+use Rattle.module_view.specs.ModuleDirectives.{module_says, module_directives}
 use Rattle.link_base.specs.Bytes.{number_at, first_below}
 use Rattle.coff_records.specs.FileRanges.{is_truncated, table_leaves}
 use Rattle.coff_object.specs.ObjectFaults.{first_section, first_of, is_other_machine, first_torn_record, symbol_range_fault, string_table_fault, object_fault}
-use Rattle.coff_records.specs.ObjectFile.{starts_within}
+use Rattle.coff_records.specs.ObjectFile.{starts_within, symbols_of, starts_symbol}
 use Rattle.coff_records.specs.ObjectHeader.{big_object_class, is_big_object, header_size, symbol_size, machine_of, section_total, section_headers_offset, symbols_offset, record_total}
 use Rattle.coff_records.specs.StringTable.{string_table_offset, string_table_size, string_table}
-use Rattle.coff_aux.specs.Comdats.{parents_of}
+use Rattle.coff_aux.specs.Comdats.{parents_of, has_comdat}
 use Rattle.coff_aux.specs.Parents.{ancestor}
 use Rattle.coff_aux.specs.AuxFaults.{aux_place, parent_place, aux_fault}
-use Rattle.module_view.specs.declared.error.ModuleError.{ModuleError}
+use Rattle.coff_aux.proofs.CallerLemmas.{none_kept}
+use Rattle.module_view.specs.SymbolLists.{definitions_of, references_of, weaks_of, commons_of}
+use Rattle.module_view.specs.ModuleParts.{KeepsLists}
 use Rattle.module_view.specs.ImportModule.{no_object}
-use Rattle.module_view.specs.Opening.{resource_start, form_error, content_error, opening_error, RefusesToOpen}
+use Rattle.module_view.specs.Opening.{resource_start, form_error, content_error, opening_error}
+use Rattle.module_view.proofs.CallerLemmas.{opened_sound}
 
 pub nothing_opens : opening_error no_object ≡ None
 unfolding module_says number_at first_below is_truncated table_leaves first_section first_of is_other_machine first_torn_record symbol_range_fault string_table_fault object_fault starts_within big_object_class is_big_object header_size symbol_size machine_of section_total section_headers_offset symbols_offset record_total string_table_offset string_table_size string_table parents_of ancestor aux_place parent_place aux_fault no_object resource_start form_error content_error opening_error
 nothing_opens = refl
 
-pub nothing_is_short : length no_object < 4294967295
+pub nothing_is_short : length no_object < 4294967296
 unfolding no_object
 nothing_is_short = omega arith
 
--- so that it is refused as a short import without an error is: for want of memory alone
-pub only_memory : {X : Type 0} (result : Result X ModuleError) (bytes : List ℕ) (standing : Option ModuleError) → bytes ≡ no_object → standing ≡ None → IfErr result (RefusesToOpen (opening_error bytes)) → IfErr result (RefusesToOpen standing)
-only_memory result bytes standing nothing none refused =
-    subst (λ (o : Option ModuleError). IfErr result (RefusesToOpen o)) (ap opening_error nothing ∙ nothing_opens ∙ sym none) refused
+-- its object is well formed
+pub nothing_is_sound : object_fault no_object ≡ None
+nothing_is_sound = opened_sound no_object nothing_opens
+
+no_symbols : symbols_of no_object ≡ []
+unfolding number_at starts_within big_object_class is_big_object header_size symbol_size symbols_offset record_total no_object
+no_symbols = refl
+
+no_comdat : has_comdat no_object ≡ false
+unfolding number_at big_object_class is_big_object header_size section_total no_object
+no_comdat = refl
+
+no_directives : [] ≡ module_directives no_object
+unfolding module_says number_at big_object_class is_big_object header_size section_total no_object
+no_directives = refl
+
+-- it has no lists
+pub nothing_kept : (bytes object : List ℕ) → bytes ≡ no_object → object ≡ no_object → KeepsLists bytes object [] [] [] [] [] [] []
+unfolding definitions_of references_of weaks_of commons_of starts_symbol
+nothing_kept bytes object nothing same =
+    subst (λ (bs : List ℕ). KeepsLists bs object [] [] [] [] [] [] []) (sym nothing)
+    record {
+      opened = nothing_opens;
+      viewed = same;
+      defined = rw no_symbols refl;
+      referred = rw no_symbols refl;
+      weak = rw no_symbols refl;
+      common = rw no_symbols refl;
+      started = λ some. absurd cc;
+      comdats = none_kept no_object [] no_comdat;
+      said_are = no_directives;
+    }

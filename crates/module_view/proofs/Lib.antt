@@ -6,3 +6,4 @@ pub mod OpeningLemmas
 pub mod ImportLemmas
 pub mod AuxLemmas
 pub mod DirectiveLemmas
+pub mod FormLemmas

@@ -1,10 +1,14 @@
 -- What a module keeps beside its bytes. Own.
-use Rattle.std.specs.Prelude.{◌≡◌, ℕ, false, List, map, slice_index_or, Option, None}
-use Rattle.coff_records.specs.ObjectFile.{starts_symbol}
+use Rattle.std.specs.Prelude.{◌≡◌, ℕ, Bool, List, [], map, Option, None, Some}
 use Rattle.coff_aux.specs.declared.comdat.SectionSymbols.{SectionSymbols}
 use Rattle.coff_aux.specs.Steps.{KeepsSymbols}
 use Rattle.module_view.specs.declared.input_module.Origin.{Origin}
-use Rattle.module_view.specs.declared.symbols.SymbolLists.{SymbolLists}
+use Rattle.module_view.specs.declared.input_module.Content.{Content}
+use Rattle.module_view.specs.declared.input_module.Content.TheVariants as content
+use Rattle.module_view.specs.declared.definition.Definition.{Definition}
+use Rattle.module_view.specs.declared.definition.Common.{Common}
+use Rattle.module_view.specs.declared.reference.Reference.{Reference}
+use Rattle.module_view.specs.declared.reference.Weak.{Weak}
 use Rattle.module_view.specs.Module.{ModuleView}
 use Rattle.short_import.specs.declared.import.Import.{Import}
 use Rattle.module_view.specs.ImportModule.{file_view}
@@ -13,6 +17,7 @@ use Rattle.directives.specs.Said.{said}
 use Rattle.directives.specs.declared.item.Directive.{Directive}
 use Rattle.module_view.specs.ModuleDirectives.{module_directives}
 use Rattle.module_view.specs.Opening.{opening_error}
+use Rattle.module_view.specs.Steps.{KeepsStarts}
 
 -- a module with the object of these bytes, and this short import
 abbrev pub view_with : Origin → List ℕ → Option Import → ModuleView
@@ -23,14 +28,25 @@ view_with origin bytes imported =
 abbrev pub view_of : Origin → List ℕ → ModuleView
 view_of origin bytes = file_view origin.file origin.member bytes
 
+-- the short import that a module holds
+abbrev pub imported_by : Content → Option Import
+imported_by (content.Object parts) = None
+imported_by (content.Import import) = Some import
+
 -- the bytes open, and the object and the lists are those of the bytes
-pub record KeepsLists (bytes object : List ℕ) (lists : SymbolLists) (symbols : List SectionSymbols) (directives : List Directive) : Type 0 where
+pub record KeepsLists (bytes object : List ℕ) (definitions : List Definition) (references : List Reference) (weaks : List Weak) (commons : List Common) (starts : List Bool) (symbols : List SectionSymbols) (directives : List Directive) : Type 0 where
   pub opened : opening_error bytes ≡ None
   pub viewed : object ≡ bytes
-  pub defined : lists.definitions.items ≡ definitions_of bytes
-  pub referred : lists.references.items ≡ references_of bytes
-  pub weak : lists.weaks.items ≡ weaks_of bytes
-  pub common : lists.commons.items ≡ commons_of bytes
-  pub started : (symbol : ℕ) → slice_index_or lists.starts.items symbol false ≡ starts_symbol bytes symbol
+  pub defined : definitions ≡ definitions_of bytes
+  pub referred : references ≡ references_of bytes
+  pub weak : weaks ≡ weaks_of bytes
+  pub common : commons ≡ commons_of bytes
+  pub started : KeepsStarts bytes weaks starts
   pub comdats : KeepsSymbols bytes symbols
   pub said_are : map said directives ≡ module_directives bytes
+
+-- those that were read, or none where a short import goes as the object
+abbrev pub KeepsContent : List ℕ → List ℕ → Content → Type 0
+KeepsContent bytes object (content.Object parts) =
+    KeepsLists bytes object parts.lists.definitions.items parts.lists.references.items parts.lists.weaks.items parts.lists.commons.items parts.lists.starts.items parts.comdats.items parts.directives.items
+KeepsContent bytes object (content.Import import) = KeepsLists bytes object [] [] [] [] [] [] []

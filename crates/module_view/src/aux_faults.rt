@@ -8,6 +8,7 @@ ghost use Rattle.coff_aux.specs.Comdats.{has_comdat};
 ghost use Rattle.coff_aux.specs.AuxFaults.{aux_fault, is_bad_weak};
 ghost use Rattle.coff_aux.specs.Steps.{KeepsSymbols};
 ghost use Rattle.module_view.specs.SymbolLists.{weaks_of};
+ghost use Rattle.module_view.specs.Steps.{KeepsStarts};
 ghost use Rattle.module_view.specs.declared.error.ModuleError.TheVariants as error;
 ghost use Rattle.module_view.specs.Opening.{RefusesToOpen};
 
@@ -30,7 +31,7 @@ pub(crate) fn judge_aux(
     requires sound { object_fault object.now ≡ None }
     requires short { length object.now < 2 ^ 32 }
     requires weaks { lists.now.weaks.items ≡ weaks_of object.now }
-    requires starts { (j : ℕ) → slice_index_or lists.now.starts.items j false ≡ starts_symbol object.now j }
+    requires starts { KeepsStarts object.now lists.now.weaks.items lists.now.starts.items }
     requires comdat { any_comdat ≡ has_comdat object.now }
     ensures symbols { IfOk result (λ symbols. KeepsSymbols object.now symbols.items) }
     ensures accepted { OnOk result (aux_fault object.now ≡ None) }
@@ -62,7 +63,7 @@ fn aux_error(index: u32) -> ModuleError
 /// The first of the weak externals of an object whose record is malformed.
 fn weak_fault(object: &Object<'_>, weaks: &[Weak<'_>], starts: &[bool]) -> Option<u32>
     requires weaks { weaks.now ≡ weaks_of object.now }
-    requires starts { (j : ℕ) → slice_index_or starts.now j false ≡ starts_symbol object.now j }
+    requires starts { KeepsStarts object.now weaks.now starts.now }
     ensures { result ≡ first_of (is_bad_weak object.now) (symbol_entries object.now) }
 {
     if weaks.is_empty() {

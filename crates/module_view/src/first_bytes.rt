@@ -1,6 +1,6 @@
 //! The forms of files that their first bytes show.
 
-ghost use Rattle.std.specs.Prelude.{◌≡◌, option_map, Some, None};
+ghost use Rattle.std.specs.Prelude.{◌≡◌, true, option_map, Some, None};
 ghost use Rattle.module_view.specs.declared.error.ModuleError.TheVariants.{Unsupported};
 ghost use Rattle.module_view.specs.Opening.{form_error, resource_start, is_anonymous};
 ghost use Rattle.module_view.specs.ImportModule.{is_short_import};
@@ -8,9 +8,30 @@ ghost use Rattle.module_view.specs.ImportModule.{is_short_import};
 use coff_object::is_big_object;
 use link_base::{Kind, field_u16};
 
+/// The first byte of an object for x64: the low byte of its machine. None of the forms below begins with it.
+const X64_START: u8 = 0x64;
+
 /// The first form that the first bytes show, of those that are not read as an object.
-#[tactic(auto, unfolding(crate::specs::Opening::form_error))]
 pub(crate) fn form_shown(bytes: &[u8]) -> Option<Kind>
+    ensures { option_map Unsupported result ≡ form_error bytes.now }
+{
+    if begins_x64(bytes) {
+        return None;
+    }
+    other_form(bytes)
+}
+
+/// Whether the first byte is that of an object for x64.
+#[tactic(auto, using(crate::proofs::FormLemmas::no_form))]
+fn begins_x64(bytes: &[u8]) -> bool
+    ensures { result ≡ true → form_error bytes.now ≡ None }
+{
+    !bytes.is_empty() && bytes[0] == X64_START
+}
+
+/// The first form that bytes show which may begin with any byte.
+#[tactic(auto, unfolding(crate::specs::Opening::form_error))]
+fn other_form(bytes: &[u8]) -> Option<Kind>
     ensures { option_map Unsupported result ≡ form_error bytes.now }
 {
     if bytes.starts_with(b"!<thin>") {

@@ -1,6 +1,6 @@
 //! Short imports, each of which goes as an object of nothing.
 
-ghost use Rattle.std.specs.Prelude.{◌≡◌, ◌++◌, length, None, IfOk, OnOk, IfErr};
+ghost use Rattle.std.specs.Prelude.{◌≡◌, ◌≤◌, ◌++◌, length, take, None, IfOk, OnOk, IfErr};
 ghost use Rattle.link_base.specs.NameText.{import_prefix};
 ghost use Rattle.short_import.specs.ShortImport.{symbol_of};
 ghost use Rattle.short_import.specs.ImportFaults.{import_fault};
@@ -9,9 +9,10 @@ ghost use Rattle.module_view.specs.Opening.{import_error, is_long, RefusesToOpen
 
 use crate::definition::{Definition, Place};
 use crate::error::ModuleError;
-use link_base::{Kind, Memory, NAME_LIMIT, Name, slice_in};
+use arrayvec::ArrayVec;
+use coff_object::Object;
+use link_base::{Kind, NAME_LIMIT, Name, slice_in};
 use short_import::{Import, ImportKind};
-use std::alloc::Global;
 
 /// Where the symbol stands: behind the header.
 const SYMBOL_OFFSET: usize = 20;
@@ -35,29 +36,40 @@ pub(crate) fn read_import(bytes: &[u8]) -> Result<Import<'_>, ModuleError>
     Ok(import)
 }
 
-/// What the short import in these bytes defines.
+/// What the short import in these bytes defines: so many as `definition_count` says count.
 #[tactic(auto, unfolding(crate::specs::ImportModule::import_definitions))]
 pub(crate) fn definitions_by<'a>(
-    alloc: Global,
     bytes: &'a [u8],
     import: &Import<'a>,
-) -> Result<Vec<Definition<'a>>, Memory>
+) -> ArrayVec<Definition<'a>, 2>
     requires well_formed { import_fault bytes.now ≡ None }
     requires read { import.now ≡ import_in bytes.now }
-    ensures { IfOk result (λ definitions. definitions.items ≡ import_definitions import.now) }
+    ensures { take (length (import_definitions import.now)) result.items ≡ import_definitions import.now }
 {
-    let mut definitions = Vec::with_capacity(alloc, 2)?;
-    definitions.push(Definition {
+    let entry = Definition {
         name: entry_name(bytes, import.symbol.len()),
         symbol: 0,
         place: Place::Slot,
-    })?;
+    };
+    let place = match import.kind {
+        ImportKind::Code => Place::Thunk,
+        ImportKind::Data => Place::Slot,
+        ImportKind::Const => Place::Slot,
+    };
+    ArrayVec::from_array_in((), [entry, named(import, place)])
+}
+
+/// How many definitions count: of data the symbol itself is none.
+#[tactic(auto, unfolding(crate::specs::ImportModule::import_definitions))]
+pub(crate) fn definition_count(import: &Import<'_>) -> usize
+    ensures count { result ≡ length (import_definitions import.now) }
+    ensures few { result ≤ 2 }
+{
     match import.kind {
-        ImportKind::Code => definitions.push(named(import, Place::Thunk))?,
-        ImportKind::Data => {}
-        ImportKind::Const => definitions.push(named(import, Place::Slot))?,
+        ImportKind::Code => 2,
+        ImportKind::Data => 1,
+        ImportKind::Const => 2,
     }
-    Ok(definitions)
 }
 
 /// The definition of the symbol itself.
@@ -86,6 +98,16 @@ pub(crate) fn no_object() -> &'static [u8]
     ensures { result.now ≡ no_object }
 {
     b"\x64\x86\x00\x00\x00\x00\x00\x00\x00\x00\x00\x00\x00\x00\x00\x00\x00\x00\x00\x00"
+}
+
+/// The object of nothing.
+pub(crate) fn nothing<'a>() -> Object<'a>
+    ensures { result ≡ no_object }
+{
+    match Object::open(no_object()) {
+        Ok(object) => object,
+        Err(_) => unreachable!(),
+    }
 }
 
 /// Whether a name is too long.

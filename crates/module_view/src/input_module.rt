@@ -9,10 +9,12 @@ ghost use Rattle.coff_aux.specs.Comdats.{comdat_of};
 ghost use Rattle.directives.specs.Said.{said};
 ghost use Rattle.module_view.specs.ModuleDirectives.{module_directives};
 ghost use Rattle.module_view.specs.Opening.{IsOpened};
+ghost use Rattle.module_view.specs.Steps.{KeepsStarts};
 
 use crate::definition::{Common, Definition};
 use crate::open_import::OpenImport;
 use crate::reference::{Reference, Weak};
+use crate::symbol_starts::is_start;
 use crate::symbols::SymbolLists;
 use coff_aux::{Comdat, SectionSymbols, comdat_in, is_section_number};
 use coff_object::Object;
@@ -32,9 +34,21 @@ pub struct Origin<'a> {
 #[derive(Drop)]
 pub struct Module<'a> {
     pub(crate) origin: Origin<'a>,
-    pub(crate) import: Option<OpenImport<'a>>,
     pub(crate) bytes: &'a [u8],
     pub(crate) object: Object<'a>,
+    pub(crate) content: Content<'a>,
+}
+
+/// What was read of a module: the lists of its object, or the short import, whose object has none.
+#[derive(Drop)]
+pub(crate) enum Content<'a> {
+    Object(ObjectLists<'a>),
+    Import(OpenImport<'a>),
+}
+
+/// The lists of an object.
+#[derive(Drop)]
+pub(crate) struct ObjectLists<'a> {
     pub(crate) lists: SymbolLists<'a>,
     /// The first two symbols of each section, where one is a COMDAT.
     pub(crate) comdats: Vec<SectionSymbols>,
@@ -46,11 +60,11 @@ impl<'a> Model for Module<'a> {
 
     ghost Value = { ModuleView };
 
-    ghost use Rattle.module_view.specs.ModuleParts.{view_with, KeepsLists};
+    ghost use Rattle.module_view.specs.ModuleParts.{view_with, imported_by, KeepsContent};
 
-    ghost view = { λ m. view_with m.origin m.bytes.now m.import };
+    ghost view = { λ m. view_with m.origin m.bytes.now (imported_by m.content) };
 
-    ghost invariant = { λ m. KeepsLists m.bytes.now m.object m.lists m.comdats.items m.directives.items };
+    ghost invariant = { λ m. KeepsContent m.bytes.now m.object m.content };
 }
 
 impl<'a> Module<'a> {
@@ -88,9 +102,9 @@ impl<'a> Module<'a> {
     pub fn import(&self) -> Option<&Import<'a>>
         ensures { option_copied result ≡ self.now.imported }
     {
-        match &self.import {
-            Some(open) => Some(open.import()),
-            None => None,
+        match &self.content {
+            Content::Object(_) => None,
+            Content::Import(open) => Some(open.import()),
         }
     }
 
@@ -100,9 +114,9 @@ impl<'a> Module<'a> {
         ensures definitions { result.now ≡ module_definitions self.now }
         ensures opened { IsOpened self.now }
     {
-        match &self.import {
-            Some(open) => open.definitions(),
-            None => &self.lists.definitions,
+        match &self.content {
+            Content::Object(parts) => &parts.lists.definitions,
+            Content::Import(open) => open.definitions(),
         }
     }
 
@@ -111,7 +125,10 @@ impl<'a> Module<'a> {
         ensures definitions { result.now ≡ definitions_of self.now.bytes }
         ensures opened { IsOpened self.now }
     {
-        &self.lists.definitions
+        match &self.content {
+            Content::Object(parts) => &parts.lists.definitions,
+            Content::Import(_) => &[],
+        }
     }
 
     /// What it names and does not define, in the order of its symbols.
@@ -119,7 +136,10 @@ impl<'a> Module<'a> {
         ensures references { result.now ≡ references_of self.now.bytes }
         ensures opened { IsOpened self.now }
     {
-        &self.lists.references
+        match &self.content {
+            Content::Object(parts) => &parts.lists.references,
+            Content::Import(_) => &[],
+        }
     }
 
     /// Its weak externals, in the order of its symbols.
@@ -127,7 +147,10 @@ impl<'a> Module<'a> {
         ensures weaks { result.now ≡ weaks_of self.now.bytes }
         ensures opened { IsOpened self.now }
     {
-        &self.lists.weaks
+        match &self.content {
+            Content::Object(parts) => &parts.lists.weaks,
+            Content::Import(_) => &[],
+        }
     }
 
     /// Its commons, in the order of its symbols.
@@ -135,7 +158,10 @@ impl<'a> Module<'a> {
         ensures commons { result.now ≡ commons_of self.now.bytes }
         ensures opened { IsOpened self.now }
     {
-        &self.lists.commons
+        match &self.content {
+            Content::Object(parts) => &parts.lists.commons,
+            Content::Import(_) => &[],
+        }
     }
 
     /// Its directives, in the order of its sections and of their texts.
@@ -143,7 +169,10 @@ impl<'a> Module<'a> {
         ensures directives { map said result.now ≡ module_directives self.now.bytes }
         ensures opened { IsOpened self.now }
     {
-        &self.directives
+        match &self.content {
+            Content::Object(parts) => &parts.directives,
+            Content::Import(_) => &[],
+        }
     }
 
     /// As which COMDAT a section goes, by its number: none where there is no such section, or it is no COMDAT.
@@ -155,16 +184,34 @@ impl<'a> Module<'a> {
         if !is_section_number(self.object.section_count(), i) {
             return None;
         }
-        comdat_in(&self.object, i, &self.comdats)
+        match &self.content {
+            Content::Object(parts) => comdat_in(&self.object, i, &parts.comdats),
+            Content::Import(_) => comdat_in(&self.object, i, &[]),
+        }
     }
 
-    /// Whether a symbol starts at a record.
+    /// Whether a symbol starts at a record. In a module without weak externals, none of whose symbols names a record, it is
+    /// looked for from the first symbol on.
     pub fn is_symbol(&self, j: u32) -> bool
         ensures { result ≡ starts_symbol self.now.bytes j }
     {
-        match self.lists.starts.get(j as usize) {
-            Some(starts) => *starts,
-            None => false,
+        match &self.content {
+            Content::Object(parts) => is_symbol_in(&self.object, &parts.lists, j),
+            Content::Import(_) => is_start(&self.object, j),
         }
+    }
+}
+
+/// Whether a symbol of an object starts at a record.
+fn is_symbol_in(object: &Object<'_>, lists: &SymbolLists<'_>, j: u32) -> bool
+    requires { KeepsStarts object.now lists.now.weaks.items lists.now.starts.items }
+    ensures { result ≡ starts_symbol object.now j }
+{
+    if lists.weaks.is_empty() {
+        return is_start(object, j);
+    }
+    match lists.starts.get(j as usize) {
+        Some(starts) => *starts,
+        None => false,
     }
 }

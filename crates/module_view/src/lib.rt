@@ -19,6 +19,7 @@ mod opening;
 mod placed_section;
 mod reference;
 mod sections;
+mod symbol_starts;
 mod symbols;
 mod unbuilt;
 

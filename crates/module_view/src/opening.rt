@@ -9,8 +9,8 @@ use crate::aux_faults::judge_aux;
 use crate::directive_list::read_directives;
 use crate::error::ModuleError;
 use crate::first_bytes::{form_shown, is_short_import};
-use crate::import::no_object;
-use crate::input_module::{Module, Origin};
+use crate::import::{no_object, nothing};
+use crate::input_module::{Content, Module, ObjectLists, Origin};
 use crate::open_import::OpenImport;
 use crate::sections::judge_sections;
 use crate::symbols::read_symbols;
@@ -35,38 +35,37 @@ pub fn open_module<'a>(
     ensures refused { IfErr result (RefusesToOpen (file_error bytes.now)) }
 {
     if is_short_import(bytes) {
-        open_import(alloc, origin, bytes)
+        open_import(origin, bytes)
     } else {
-        open_object(alloc, origin, bytes, None)
+        open_object(alloc, origin, bytes)
     }
 }
 
 /// The module of a short import: an object of nothing, with what the import defines.
-fn open_import<'a>(
-    alloc: Global,
-    origin: Origin<'a>,
-    bytes: &'a [u8],
-) -> Result<Module<'a>, ModuleError>
+fn open_import<'a>(origin: Origin<'a>, bytes: &'a [u8]) -> Result<Module<'a>, ModuleError>
     ensures opened { IfOk result (λ m. m ≡ view_with origin.entry no_object (Some (import_in bytes.now))) }
     ensures accepted { OnOk result (import_error bytes.now ≡ None) }
     ensures refused { IfErr result (RefusesToOpen (import_error bytes.now)) }
 {
-    let import = match OpenImport::read(alloc, bytes) {
-        Ok(import) => import,
-        Err(error) => return Err(error),
-    };
-    open_object(alloc, origin, no_object(), Some(import))
+    match OpenImport::read(bytes) {
+        Ok(import) => Ok(Module {
+            origin,
+            bytes: no_object(),
+            object: nothing(),
+            content: Content::Import(import),
+        }),
+        Err(error) => Err(error),
+    }
 }
 
-/// The module of an object, and of the short import that goes as it, where one does.
+/// The module of an object.
 fn open_object<'a>(
     alloc: Global,
     origin: Origin<'a>,
     bytes: &'a [u8],
-    import: Option<OpenImport<'a>>,
 ) -> Result<Module<'a>, ModuleError>
     requires { length bytes.now < 2 ^ 32 - 1 }
-    ensures opened { IfOk result (λ m. m ≡ view_with origin.entry bytes.now import.entry) }
+    ensures opened { IfOk result (λ m. m ≡ view_with origin.entry bytes.now None) }
     ensures accepted { OnOk result (opening_error bytes.now ≡ None) }
     ensures refused { IfErr result (RefusesToOpen (opening_error bytes.now)) }
 {
@@ -100,11 +99,12 @@ fn open_object<'a>(
     }
     Ok(Module {
         origin,
-        import,
         bytes,
         object,
-        lists,
-        comdats,
-        directives: directives.directives,
+        content: Content::Object(ObjectLists {
+            lists,
+            comdats,
+            directives: directives.directives,
+        }),
     })
 }

@@ -7,12 +7,14 @@ ghost use Rattle.link_base.specs.declared.kinds.form.Kind.TheVariants as form;
 ghost use Rattle.coff_records.specs.ObjectFile.{name_in, starts_symbol, string_table, symbol_at};
 ghost use Rattle.coff_aux.specs.AuxRecords.{said_by, tag_in, characteristics_in};
 ghost use Rattle.module_view.specs.SymbolLists.{is_definition, place_of, definition_of, definitions_of, is_weak, weak_of, weaks_of, is_common, common_of, commons_of, is_undefined, is_reference, asks_for_search, reference_of, references_of};
+ghost use Rattle.module_view.specs.Steps.{KeepsStarts};
 ghost use Rattle.module_view.specs.Unbuilt.{is_unbuilt_symbol, has_unbuilt_symbol};
 ghost use Rattle.module_view.specs.Opening.{unsupported, has_long_symbol_name, RefusesToOpen};
 
 use crate::definition::{Common, Definition, Place};
 use crate::error::ModuleError;
 use crate::reference::{Reference, Weak};
+use crate::symbol_starts::symbol_starts;
 use crate::unbuilt::{is_external_name, is_loader_name};
 use coff_aux::aux_records::WEAK_EXTERN_SEARCH_LIBRARY;
 use coff_aux::{characteristics_in, first_aux, tag_in};
@@ -30,7 +32,7 @@ pub(crate) struct SymbolLists<'a> {
     pub(crate) references: Vec<Reference<'a>>,
     pub(crate) weaks: Vec<Weak<'a>>,
     pub(crate) commons: Vec<Common<'a>>,
-    /// For each symbol record, whether a symbol starts there.
+    /// For each symbol record, whether a symbol starts there: made where there are weak externals.
     pub(crate) starts: Vec<bool>,
     /// One of them has a form that is not linked yet.
     pub(crate) is_unbuilt: bool,
@@ -47,20 +49,22 @@ pub(crate) fn read_symbols<'a>(
     ensures references { IfOk result (λ lists. lists.references.items ≡ references_of object.now) }
     ensures weaks { IfOk result (λ lists. lists.weaks.items ≡ weaks_of object.now) }
     ensures commons { IfOk result (λ lists. lists.commons.items ≡ commons_of object.now) }
-    ensures starts { IfOk result (λ lists. (j : ℕ) → slice_index_or lists.starts.items j false ≡ starts_symbol object.now j) }
+    ensures starts { IfOk result (λ lists. KeepsStarts object.now lists.weaks.items lists.starts.items) }
     ensures unbuilt { IfOk result (λ lists. lists.is_unbuilt ≡ has_unbuilt_symbol object.now) }
     ensures accepted { OnOk result (has_long_symbol_name object.now ≡ false) }
     ensures refused { IfErr result (RefusesToOpen (unsupported (has_long_symbol_name object.now) form.LongName)) }
 {
     let mut lists = no_lists(alloc);
-    lists.starts = vec![in alloc; false; object.record_count() as usize]?;
     for (index, symbol) in object.symbols() {
         if texts.is_long_symbol(&symbol) {
             return Err(ModuleError::Unsupported(Kind::LongName));
         }
-        lists.starts[index as usize] = true;
         note_symbol(&mut lists, object, index, &symbol)?;
     }
+    if lists.weaks.is_empty() {
+        return Ok(lists);
+    }
+    lists.starts = symbol_starts(alloc, object)?;
     Ok(lists)
 }
 
@@ -99,7 +103,6 @@ fn note_symbol<'a>(
         ++ (if is_weak symbol.now then weak_of object.now (index, symbol.now) ∷ [] else [])) }
     ensures commons { OnOk result (lists.new.commons.items ≡ lists.old.commons.items
         ++ (if is_common symbol.now then common_of (index, symbol.now) ∷ [] else [])) }
-    ensures starts { lists.new.starts.items ≡ lists.old.starts.items }
     ensures unbuilt { OnOk result (lists.new.is_unbuilt ≡ (lists.old.is_unbuilt || is_unbuilt_symbol symbol.now)) }
 {
     if !is_external_name(symbol) {

@@ -5,7 +5,7 @@ use Rattle.lib_reader.specs.Listing.{Entry}
 use Rattle.lib_reader.specs.LibraryWalk.{listing_of}
 use Rattle.file_search.specs.FoundFiles.{FoundFile}
 use Rattle.lib_search.specs.OpenLibraries.{ListsSoFar}
-use Rattle.lib_search.proofs.LibraryLemmas.{lists_begin, lists_end}
+use Rattle.lib_search.proofs.LibraryLemmas.{lists_begin, lists_noted, lists_end}
 use Rattle.lib_search.proofs.library.note_listings.Goals as goal
 
 pub loop-name-init : goal.loop-name-init
@@ -25,7 +25,7 @@ loop-name-preserved c =
       can = tt;
       ends = tt;
       lists = λ libraries is below.
-          c.in_ok-note_listing.ensures c.next.new.self libraries
+          lists_noted c.in-Some.name (c.args.index, c.in-Some.at) c.next.new.self libraries (get same_name c.loop-name.places) (get same_name c.note_listing.new.places) c.in_ok-note_listing.ensures
           (subst (λ (left : List Entry). ListsSoFar (get same_name c.loop-name.places) c.args.index left libraries) c.in-Some.ensures.steps (c.loop-name.invariant.lists libraries is below));
     }
 

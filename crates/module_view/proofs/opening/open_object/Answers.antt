@@ -64,7 +64,7 @@ invariant_of-result c =
       referred = lists.references ∙ ap references_of same;
       weak = lists.weaks ∙ ap weaks_of same;
       common = lists.commons ∙ ap commons_of same;
-      started = λ j. lists.starts j ∙ ap (λ (bytes : List ℕ). starts_symbol bytes j) same;
+      started = λ some j. lists.starts some j ∙ ap (λ (bytes : List ℕ). starts_symbol bytes j) same;
       comdats = subst (λ (bytes : List ℕ). KeepsSymbols bytes c.in-Ok-judge_aux.comdats.items) same c.in-Ok-judge_aux.ensures.symbols;
       said_are = listed;
     }

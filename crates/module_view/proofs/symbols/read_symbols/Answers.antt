@@ -1,6 +1,5 @@
-use Rattle.std.proofs.Common.{◌<◌, List, Bool, false, eqb, ◌||◌, ◌++◌, length, map, filter, get_or, refl, sym, ap, ◌∙◌, arith}
+use Rattle.std.proofs.Common.{List, Bool, ◌||◌, ◌++◌, map, filter, refl, sym, ap, ◌∙◌}
 use Rattle.std.specs.List.{list_any}
-use Rattle.std.proofs.lemmas.List.{length-set}
 use Rattle.coff_records.specs.SymbolRecord.{name_in}
 use Rattle.coff_records.specs.ObjectFile.{SymbolEntry}
 use Rattle.coff_object.proofs.CallerLemmas.{symbols_left-all, symbols_left-step, symbol_strings}
@@ -11,8 +10,7 @@ use Rattle.module_view.specs.declared.reference.Weak.{Weak}
 use Rattle.module_view.specs.SymbolLists.{defines, definition_of, definitions_in, definitions_of, refers, reference_of, references_of, is_weak, weak_of, weaks_of, is_common, common_of, commons_in, commons_of}
 use Rattle.module_view.specs.Unbuilt.{is_unbuilt_symbol}
 use Rattle.module_view.specs.Opening.{is_long}
-use Rattle.module_view.proofs.SymbolLemmas.{still_none, one_noted, listed_more, marks_more}
-use Rattle.coff_aux.proofs.CallerLemmas.{starts_among, unmarked}
+use Rattle.module_view.proofs.SymbolLemmas.{still_none, one_noted, listed_more}
 use Rattle.module_view.proofs.symbols.read_symbols.Goals as goal
 
 abbrev weak_entry : SymbolEntry → Bool
@@ -37,10 +35,6 @@ loop-index-init c =
       references = ap (λ (rs : List Reference). rs ++ map (reference_of bytes) (filter refers entries)) c.no_lists-lists.ensures.references ∙ ap (λ (es : List SymbolEntry). map (reference_of bytes) (filter refers es)) all;
       weaks = ap (λ (ws : List Weak). ws ++ map (weak_of bytes) (filter weak_entry entries)) c.no_lists-lists.ensures.weaks ∙ ap (λ (es : List SymbolEntry). map (weak_of bytes) (filter weak_entry es)) all;
       commons = ap (λ (cs : List Common). cs ++ commons_in entries) c.no_lists-lists.ensures.commons ∙ ap commons_in all;
-      count = omega (arith, c.in_ok-lists.ensures.len, c.record_count.ensures);
-      starts = λ j.
-          ap (λ (b : Bool). b || list_any (λ (e : SymbolEntry). eqb e.0 j) entries) (unmarked c.in_ok-lists.field-0.items _ j (c.in_ok-lists.ensures.items_if_clones_equal (λ y e. e)))
-          ∙ ap (list_any (λ (e : SymbolEntry). eqb e.0 j)) all ∙ starts_among bytes j;
     }
 
 pub is_long_symbol-requires : goal.is_long_symbol-requires
@@ -48,11 +42,6 @@ is_long_symbol-requires c =
     let bytes = c.args.object.now in
     let step = symbols_left-step bytes c.loop-index.index-iterator c.next.new.self c.in-Some.index c.in-Some.symbol c.loop-index.invariant.left c.in-Some.ensures.steps in
     symbol_strings bytes c.in-Some.index c.in-Some.symbol step.is ∙ sym c.requires
-
-pub index_mut-requires : goal.index_mut-requires
-index_mut-requires c =
-    let step = symbols_left-step c.args.object.now c.loop-index.index-iterator c.next.new.self c.in-Some.index c.in-Some.symbol c.loop-index.invariant.left c.in-Some.ensures.steps in
-    omega (arith, step.below, c.loop-index.invariant.count)
 
 pub note_symbol-requires-clause-start : goal.note_symbol-requires-clause-start
 note_symbol-requires-clause-start c =
@@ -70,9 +59,7 @@ loop-index-preserved c =
     let entry : SymbolEntry = (c.in-Some.index, c.in-Some.symbol) in
     let steps = c.in-Some.ensures.steps in
     let step = symbols_left-step bytes before after c.in-Some.index c.in-Some.symbol c.loop-index.invariant.left steps in
-    let marks = c.loop-index.lists.starts.items in
     let told = c.in_ok-note_symbol.ensures in
-    let within : c.in-Some.index < length marks = omega (arith, step.below, c.loop-index.invariant.count) in
     record {
       can = tt;
       ends = tt;
@@ -85,8 +72,4 @@ loop-index-preserved c =
       references = listed_more refers (reference_of bytes) before after entry c.loop-index.lists.references.items c.note_symbol.new.lists.references.items (references_of bytes) steps c.loop-index.invariant.references told.references;
       weaks = listed_more weak_entry (weak_of bytes) before after entry c.loop-index.lists.weaks.items c.note_symbol.new.lists.weaks.items (weaks_of bytes) steps c.loop-index.invariant.weaks told.weaks;
       commons = listed_more common_entry common_of before after entry c.loop-index.lists.commons.items c.note_symbol.new.lists.commons.items (commons_of bytes) steps c.loop-index.invariant.commons told.commons;
-      count = ap (λ (bs : List Bool). length bs) told.starts ∙ length-set marks c.in-Some.index _ ∙ c.loop-index.invariant.count;
-      starts = λ j.
-          ap (λ (bs : List Bool). get_or bs j false || list_any (λ (e : SymbolEntry). eqb e.0 j) after) told.starts
-          ∙ marks_more before after entry marks j _ steps within (c.loop-index.invariant.starts j);
     }

@@ -1,6 +1,6 @@
-use Rattle.std.proofs.Common.{◌≡◌, ◌++◌, ℕ, false, ◌||◌, eqb, length, map, filter, get_or}
+use Rattle.std.proofs.Common.{◌≡◌, ◌++◌, ◌||◌, map, filter}
 use Rattle.std.specs.List.{list_any}
-use Rattle.coff_records.specs.ObjectFile.{record_total, starts_symbol, name_in}
+use Rattle.coff_records.specs.ObjectFile.{name_in}
 use Rattle.coff_object.proofs.CallerLemmas.{SymbolsLeft}
 use Rattle.module_view.specs.SymbolLists.{definitions_in, definitions_of, refers, reference_of, references_of, is_weak, weak_of, weaks_of, commons_in, commons_of}
 use Rattle.module_view.specs.Unbuilt.{is_unbuilt_symbol, has_unbuilt_symbol}
@@ -18,6 +18,4 @@ invariant-loop-index l = record {
   references : l.lists.references.items ++ map (reference_of l.object) (filter refers l.index-iterator) ≡ references_of l.object;
   weaks : l.lists.weaks.items ++ map (weak_of l.object) (filter (λ entry. is_weak entry.1) l.index-iterator) ≡ weaks_of l.object;
   commons : l.lists.commons.items ++ commons_in l.index-iterator ≡ commons_of l.object;
-  count : length l.lists.starts.items ≡ record_total l.object;
-  starts : (j : ℕ) → (get_or l.lists.starts.items j false || list_any (λ entry. eqb entry.0 j) l.index-iterator) ≡ starts_symbol l.object j;
 }
