@@ -2,7 +2,7 @@
 use Rattle.std.proofs.Common.{◌≡◌, ℕ, ◌+◌, ◌-◌, ◌<◌, ◌≤◌, Bool, true, false, cond, ◌&&◌, eqb, leb, ltb, List, [], drop, length, slice_index, max, Option, Some, None, ◌*◌, ◌∷◌, ◌++◌, get_or, replicate, refl, sym, ap, ◌∙◌, subst, ◌⊎◌, inl, inr, le-ltb, lt-ltb, le-leb, arith}
 use Rattle.std.specs.Prelude.{unwrap_or, option_and_then}
 use Rattle.std.specs.List.{position_or_len, before_first}
-use Rattle.std.proofs.lemmas.Bool.{cases_lt, lt-leb}
+use Rattle.std.proofs.lemmas.Bool.{cases_lt, lt-leb, ltb-true}
 use Rattle.std.proofs.lemmas.List.{length-take, length-take-le, length-drop, length-append, length-replicate, get_or-drop, get_or-take, get_or-append-add, get_or_append_left, get_or-replicate}
 use Rattle.std.proofs.lemmas.List.Sums.{passes_at_first}
 use Rattle.link_base.specs.Bytes.{u32_at, is_nul, text_at, bytes_at}
@@ -54,6 +54,28 @@ near_is_short table offset k le near nul =
     small : (b : Bool) (p : ℕ) → p ≤ 32000 → ltb 32000 (cond b p 0) ≡ false
     small true p le = le-ltb 32000 p le
     small false p le = refl
+
+-- none is longer than the table
+short_table : (table : List ℕ) (offset : ℕ) → length table ≤ 32000 → is_long_text table offset ≡ false
+short_table table offset le =
+    elim (cases_lt offset 4) [
+      | inl lt ↦ early table offset lt
+      | inr from ↦
+          let p = position_or_len is_nul (drop offset table) in
+          long_by table offset _ from (text_length table offset p refl) ∙ small (ltb p (length (drop offset table))) p refl
+    ]
+  where
+    small : (b : Bool) (p : ℕ) → ltb p (length (drop offset table)) ≡ b → ltb 32000 (cond b p 0) ≡ false
+    small true p lt = le-ltb 32000 p (omega (arith, ltb-true p _ lt, length-drop offset table))
+    small false p lt = refl
+
+pub short_holds : (table : List ℕ) (spans : List LongSpan) → length table ≤ 32000 → spans ≡ [] → HoldsSpans table spans
+short_holds table spans le none =
+    subst (λ (ss : List LongSpan). HoldsSpans table ss) (sym none)
+    record {
+      each = λ index span lt. absurd (omega arith);
+      beyond = λ offset from. short_table table offset le;
+    }
 
 -- up to the next NUL it is as long as that is away; without one it is none
 next_tells : (table : List ℕ) (offset nul : ℕ) → 4 ≤ offset → offset ≤ nul → nul ≤ length table → ((k : ℕ) → offset ≤ k → k < nul → is_nul (slice_index table k) ≡ true → ⊥) → (nul < length table → is_nul (slice_index table nul) ≡ true) → is_long_text table offset ≡ cond (ltb nul (length table)) (ltb 32000 (nul - offset)) false

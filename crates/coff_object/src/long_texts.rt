@@ -48,12 +48,33 @@ impl<'a> Model for LongTexts<'a> {
 }
 
 impl<'a> LongTexts<'a> {
-    /// The long texts of a string table, by one pass over it that stops at few bytes of a block where no text is long.
+    /// The long texts of a string table. In a table of no more bytes than a name may have, none is long.
     ///
     /// # Errors
     ///
     /// `Memory` alone.
     pub fn of(alloc: Global, strings: &'a [u8]) -> Result<LongTexts<'a>, Memory>
+        ensures { IfOk result (λ texts. texts ≡ strings.now) }
+    {
+        if strings.len() <= NAME_LIMIT {
+            return Ok(LongTexts::none(alloc, strings));
+        }
+        LongTexts::by_blocks(alloc, strings)
+    }
+
+    /// Those of a short table: none.
+    fn none(alloc: Global, strings: &'a [u8]) -> LongTexts<'a>
+        requires { length strings.now ≤ NAME_LIMIT }
+        ensures { result ≡ strings.now }
+    {
+        LongTexts {
+            strings,
+            spans: Vec::new(alloc),
+        }
+    }
+
+    /// Those of any table, by one pass over it that stops at few bytes of a block where no text is long.
+    fn by_blocks(alloc: Global, strings: &'a [u8]) -> Result<LongTexts<'a>, Memory>
         ensures { IfOk result (λ texts. texts ≡ strings.now) }
     {
         let mut spans = Vec::new(alloc);

@@ -1,6 +1,6 @@
 use Rattle.std.proofs.Common.{arith}
 use Rattle.coff_object.proofs.LongTextLemmas.{next_at, more_blocks, all_blocks}
-use Rattle.coff_object.proofs.long_texts.LongTexts.of.Goals as goal
+use Rattle.coff_object.proofs.long_texts.LongTexts.by_blocks.Goals as goal
 
 pub loop-index-preserved : goal.loop-index-preserved
 loop-index-preserved c = record {

@@ -1,6 +1,6 @@
 use Rattle.std.proofs.Common.{◌*◌}
 use Rattle.coff_object.specs.LongText.{IsNextNul, HoldsBlocks}
-use Rattle.coff_object.proofs.long_texts.LongTexts.of.Given as goal
+use Rattle.coff_object.proofs.long_texts.LongTexts.by_blocks.Given as goal
 
 abbrev pub invariant-loop-index : goal.invariant-loop-index
 invariant-loop-index l = record {
