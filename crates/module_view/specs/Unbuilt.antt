@@ -1,5 +1,5 @@
 -- Forms of files that are not linked yet. Own.
-use Rattle.std.specs.Prelude.{ℕ, Bool, true, false, ◌&&◌, ◌||◌, ◌==◌, List, codes}
+use Rattle.std.specs.Prelude.{ℕ, Bool, false, ◌&&◌, ◌||◌, ◌==◌, List, codes}
 use Rattle.std.specs.List.{list_any}
 use Rattle.link_base.specs.NameText.{same_name}
 use Rattle.link_base.specs.SectionName.{base_name}

@@ -58,14 +58,13 @@ const ROWS: [(&str, &[Section], &str); 8] = [
     ),
     (
         "a malformed one before one that is not linked yet",
-        &[(b".drectve", b"/export:api"), (b".drectve", b"  /merge:.b")],
+        &[(b".drectve", b"/include:_tls_used"), (b".drectve", b"  /merge:.b")],
         "2",
     ),
 ];
 
 /// Directives that are not linked yet.
-const UNBUILT: [&str; 4] = [
-    "/include:a /export:api",
+const UNBUILT: [&str; 3] = [
     "/include:_tls_used",
     "/include:_load_config_used",
     "/alternatename:x=_tls_used",
