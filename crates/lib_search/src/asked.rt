@@ -13,10 +13,7 @@ use std::alloc::Global;
 use symbol_names::internal_name;
 
 /// The names that the command line asks for: the entry, where there is one, and the others.
-pub(crate) fn asked_words<'a>(
-    alloc: Global,
-    options: &Options<'a>,
-) -> Result<Vec<Name<'a>>, Memory>
+pub(crate) fn asked_words<'a>(alloc: Global, options: &Options<'a>) -> Result<Vec<Name<'a>>, Memory>
     ensures { IfOk result (λ words. words.items ≡ asked_words (options_said options.now)) }
 {
     let mut words = entry_word(alloc, &options.entry)?;

@@ -137,7 +137,11 @@ pub(crate) fn check_rows(rows: &[Export<'_>]) -> Result<(), Memory>
 fn check_row(row: &Export<'_>) -> Result<(), Memory>
     ensures { OnOk result (CanBeTold row.now) }
 {
-    if can_be_told(row) { Ok(()) } else { Err(Memory) }
+    if can_be_told(row) {
+        Ok(())
+    } else {
+        Err(Memory)
+    }
 }
 
 /// Whether the name of an export and its forwarder can stand in a table.

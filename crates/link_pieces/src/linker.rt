@@ -26,11 +26,7 @@ pub(crate) fn push_made(
 }
 
 /// Appends so many local slots, as pieces of the module at a position.
-fn push_slots(
-    pieces: &mut Vec<Piece<'_>>,
-    position: u32,
-    slots: usize,
-) -> Result<(), Memory>
+fn push_slots(pieces: &mut Vec<Piece<'_>>, position: u32, slots: usize) -> Result<(), Memory>
     requires { numbers_below slots ≤ FIRST_COMMON }
     ensures pieces { OnOk result (map bare pieces.new.items ≡ map bare pieces.old.items ++ slots_below position slots) }
     ensures contents { OnOk result (map piece_contents pieces.new.items ≡ map piece_contents pieces.old.items ++ pointers_below slots) }

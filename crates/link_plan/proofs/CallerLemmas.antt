@@ -229,9 +229,11 @@ export_stands link row t is = go (cases_lt row (length (export_targets link)))
     by_target : (t : Target) → row < length (export_targets link) → get_or (export_targets link) row None ≡ Some t → IsWithin link t → Stands link t
     by_target (target.Piece piece value) lt same inside =
         let here : exports_piece piece (get_or (export_targets link) row None) ≡ true = ap (exports_piece piece) same ∙ eq-eqb piece piece refl in
-        let exported : is_exported link piece ≡ true = list_any_at (exports_piece piece) (export_targets link) row None lt here in
-        (inside, λ options.
-        or_right (piece_at link piece).named _ (or_right (is_meant link piece) _ (or_right (is_entry options link piece) (is_exported link piece) exported)))
+        let exported : is_exported link piece ≡ true = list_any_at (exports_piece piece) (export_targets link) row None lt here in (
+          inside,
+          λ options.
+              or_right (piece_at link piece).named _ (or_right (is_meant link piece) _ (or_right (is_entry options link piece) (is_exported link piece) exported)),
+        )
     by_target (target.Absolute value) lt same inside = tt
     by_target target.ImageBase lt same inside = tt
 

@@ -58,7 +58,10 @@ const ROWS: [(&str, &[Section], &str); 8] = [
     ),
     (
         "a malformed one before one that is not linked yet",
-        &[(b".drectve", b"/include:_tls_used"), (b".drectve", b"  /merge:.b")],
+        &[
+            (b".drectve", b"/include:_tls_used"),
+            (b".drectve", b"  /merge:.b"),
+        ],
         "2",
     ),
 ];
