@@ -7,6 +7,7 @@ use Rattle.std.specs.Option.{option_eq}
 use Rattle.link_base.specs.Limits.{NAME_LIMIT}
 use Rattle.link_base.specs.NameText.{same_name}
 use Rattle.link_base.specs.declared.fault.Fault.{Fault}
+use Rattle.link_base.specs.declared.kinds.export.ExportFault.{ExportFault}
 use Rattle.link_base.specs.declared.fault.Fault.TheVariants as faults
 use Rattle.directives.specs.Said.{Said}
 use Rattle.directives.specs.Said as says
@@ -56,9 +57,12 @@ export_rows options modules = fold with_row [] (all_exports options.exports modu
 
 -- ---- their ordinals
 
--- what is wrong with the export of an index
+-- what is wrong, and with the export of which name
+abbrev pub bad_export : ExportFault × List ℕ → Fault
+bad_export refused = faults.BadExport refused.0 refused.1
+
 abbrev pub refused_row : List Export → ExportError → Option Fault
-refused_row rows (error.Bad row kind) = Some (faults.BadExport kind (row_at rows row).name)
+refused_row rows (error.Bad row kind) = Some (bad_export (kind, (row_at rows row).name))
 refused_row rows error.Memory = None
 
 abbrev pub refused_rows : List Export → Option ExportError → Option Fault

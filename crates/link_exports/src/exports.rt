@@ -24,27 +24,67 @@ const MOST_ROWS: usize = 65_535;
 /// The name of a DLL is at most so long: that of an image, with an extension behind a name that has none.
 const DLL_LIMIT: usize = NAME_LIMIT + 4;
 
-/// The exports of a link.
+/// The exports of a link, with their ordinals and the size of the table that names them.
 #[derive(Drop)]
 pub struct LinkExports<'a> {
-    /// Each export once, in the order in which they first stand: those of the command line, then those of the modules.
-    pub rows: Vec<Export<'a>>,
-    /// The ordinal of each; none where something is wrong with them.
-    pub ordinals: Vec<u16>,
-    /// What is wrong with the ordinals, where something is.
-    pub fault: Option<Fault<'a>>,
-    /// The name of the image as a DLL.
-    pub dll: Vec<u8>,
-    /// The size of the export table; 0 where there is none, or something is wrong with the ordinals.
-    pub size: u32,
+    rows: Vec<Export<'a>>,
+    ordinals: Vec<u16>,
+    /// What is wrong with the ordinals, and the name of the export that has it.
+    refused: Option<(ExportFault, Name<'a>)>,
+    dll: Vec<u8>,
+    size: u32,
 }
 
 impl<'a> Model for LinkExports<'a> {
-    ghost use Rattle.link_exports.specs.Exports.{ExportsView};
+    ghost use Rattle.std.specs.Prelude.{option_map};
+    ghost use Rattle.link_exports.specs.Exports.{ExportsView, bad_export};
 
     ghost Value = { ExportsView };
 
-    ghost view = { λ exports. record { rows = exports.rows.items; ordinals = exports.ordinals.items; fault = exports.fault; dll = exports.dll.items; size = exports.size } };
+    ghost view = { λ exports. record { rows = exports.rows.items; ordinals = exports.ordinals.items; fault = option_map bad_export exports.refused; dll = exports.dll.items; size = exports.size } };
+}
+
+impl<'a> LinkExports<'a> {
+    /// Each export once, in the order in which they first stand: those of the command line, then those of the modules.
+    pub fn rows(&self) -> &[Export<'a>]
+        ensures { result.now ≡ self.now.rows }
+    {
+        &self.rows
+    }
+
+    /// The ordinal of each; none where something is wrong with them.
+    pub fn ordinals(&self) -> &[u16]
+        ensures { result.now ≡ self.now.ordinals }
+    {
+        &self.ordinals
+    }
+
+    /// What is wrong with the ordinals, where something is.
+    pub fn fault(&self) -> Option<Fault<'a>>
+        ensures { result ≡ self.now.fault }
+    {
+        match &self.refused {
+            Some((kind, name)) => Some(Fault::BadExport {
+                kind: *kind,
+                name: name.again(),
+            }),
+            None => None,
+        }
+    }
+
+    /// The name of the image as a DLL.
+    pub fn dll(&self) -> Name<'_>
+        ensures { result ≡ self.now.dll }
+    {
+        Name::of(&self.dll)
+    }
+
+    /// The size of the export table; 0 where there is none, or something is wrong with the ordinals.
+    pub fn size(&self) -> u32
+        ensures { result ≡ self.now.size }
+    {
+        self.size
+    }
 }
 
 /// The exports of a link with these options. A name of more than 32,000 bytes or with a NUL, which words and modules do not
@@ -94,13 +134,13 @@ fn exports_from<'a>(
             Ok(LinkExports {
                 rows,
                 ordinals,
-                fault: None,
+                refused: None,
                 dll,
                 size,
             })
         }
         Err(ExportError::Bad { row, kind }) => Ok(LinkExports {
-            fault: Some(bad_export(&rows, row, kind)),
+            refused: Some((kind, row_name(&rows, row))),
             rows,
             ordinals: Vec::new(alloc),
             dll,
@@ -110,15 +150,14 @@ fn exports_from<'a>(
     }
 }
 
-/// What is wrong with the export of an index.
-fn bad_export<'a>(rows: &[Export<'a>], row: u32, kind: ExportFault) -> Fault<'a>
-    ensures { result ≡ Fault.BadExport kind (row_at rows.now row).name }
+/// The name of the export of an index.
+fn row_name<'a>(rows: &[Export<'a>], index: u32) -> Name<'a>
+    ensures { result ≡ (row_at rows.now index).name }
 {
-    let name = match rows.get(row as usize) {
+    match rows.get(index as usize) {
         Some(row) => row.name.again(),
         None => Name::of(b""),
-    };
-    Fault::BadExport { kind, name }
+    }
 }
 
 /// The size of the table of exports that have these ordinals: without exports there is none. More of them than there are

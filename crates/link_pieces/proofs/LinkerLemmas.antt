@@ -233,8 +233,11 @@ export_made count size some =
     found_in (is_numbered count EXPORTS) (eqb size 0) (table_piece count EXPORTS (codes ".edata") 4 size) (none_false size some) (rw (eq-eqb count count refl) refl)
   where
     none_false : (size : ℕ) → 0 < size → eqb size 0 ≡ false
-    none_false zero some = absurd (omega (arith, some))
-    none_false (suc size) some = refl
+    none_false size some =
+        elim (eqb_tells size 0) [
+          | inl same ↦ absurd (omega (arith, some, same.1))
+          | inr other ↦ other.0
+        ]
 
 -- among the pieces that the linker makes
 pub made_there : (link : LinkParts) (number : ℕ) → number < 6 → 0 < size_at (table_sizes link) number → list_any (is_numbered (length link.modules) number) (linker_pieces link) ≡ true

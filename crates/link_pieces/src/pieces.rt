@@ -74,7 +74,7 @@ pub fn pieces_of<'a>(
         )?;
     }
     push_imports(&mut pieces, modules, imports)?;
-    let size = names.exports().size;
+    let size = names.exports().size();
     push_made(&mut pieces, modules.len() as u32, size, slots)?;
     if pieces.len() >= PIECE_LIMIT {
         return Err(Memory);

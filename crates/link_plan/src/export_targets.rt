@@ -26,7 +26,7 @@ pub(crate) fn export_targets<'a>(
     ensures accepted { OnOk result (exports_fault names.now ≡ None) }
     ensures refused { IfErr result (RefusesFor (exports_fault names.now)) }
 {
-    let rows = &names.exports().rows;
+    let rows = names.exports().rows();
     let mut targets = Vec::with_capacity(alloc, rows.len())?;
     for row in rows {
         let target = export_target(names, index, row)?;

@@ -87,24 +87,24 @@ contents_whole link modules k position size slots items one after same all at si
 
 pub returns-clause-pieces : goal.returns-clause-pieces
 returns-clause-pieces c =
-    pieces_whole c.args.names.now c.args.modules.now c.loop-position.position _ _ c.args.slots (map bare c.loop-position.pieces.items) (map bare c.push_imports.new.pieces.items) (map bare c.push_made.new.pieces.items) c.requires.same (omega arith) (omega arith) (ap (λ (e : ExportsView). e.size) c.exports.ensures) c.requires.slots c.loop-position.invariant.pieces c.in_ok-push_imports.ensures.pieces c.in_ok-push_made.ensures.pieces
+    pieces_whole c.args.names.now c.args.modules.now c.loop-position.position _ _ c.args.slots (map bare c.loop-position.pieces.items) (map bare c.push_imports.new.pieces.items) (map bare c.push_made.new.pieces.items) c.requires.same (omega arith) (omega arith) (c.size-size.ensures ∙ ap (λ (e : ExportsView). e.size) c.exports.ensures) c.requires.slots c.loop-position.invariant.pieces c.in_ok-push_imports.ensures.pieces c.in_ok-push_made.ensures.pieces
 
 pub returns-clause-contents : goal.returns-clause-contents
 returns-clause-contents c =
-    contents_whole c.args.names.now c.args.modules.now c.loop-position.position _ _ c.args.slots (map piece_contents c.loop-position.pieces.items) (map piece_contents c.push_imports.new.pieces.items) (map piece_contents c.push_made.new.pieces.items) c.requires.same (omega arith) (omega arith) (ap (λ (e : ExportsView). e.size) c.exports.ensures) c.requires.slots c.loop-position.invariant.contents c.in_ok-push_imports.ensures.contents c.in_ok-push_made.ensures.contents
+    contents_whole c.args.names.now c.args.modules.now c.loop-position.position _ _ c.args.slots (map piece_contents c.loop-position.pieces.items) (map piece_contents c.push_imports.new.pieces.items) (map piece_contents c.push_made.new.pieces.items) c.requires.same (omega arith) (omega arith) (c.size-size.ensures ∙ ap (λ (e : ExportsView). e.size) c.exports.ensures) c.requires.slots c.loop-position.invariant.contents c.in_ok-push_imports.ensures.contents c.in_ok-push_made.ensures.contents
 
 pub returns-clause-aligned : goal.returns-clause-aligned
 returns-clause-aligned c =
     let same = c.requires.same in
     aligned c.args.names.now c.push_made.new.pieces.items (all_opened c.loop-position.position c.args.modules.now c.args.names.now same (omega arith) c.loop-position.invariant.opened)
-    (pieces_whole c.args.names.now c.args.modules.now c.loop-position.position _ _ c.args.slots (map bare c.loop-position.pieces.items) (map bare c.push_imports.new.pieces.items) (map bare c.push_made.new.pieces.items) same (omega arith) (omega arith) (ap (λ (e : ExportsView). e.size) c.exports.ensures) c.requires.slots c.loop-position.invariant.pieces c.in_ok-push_imports.ensures.pieces c.in_ok-push_made.ensures.pieces)
+    (pieces_whole c.args.names.now c.args.modules.now c.loop-position.position _ _ c.args.slots (map bare c.loop-position.pieces.items) (map bare c.push_imports.new.pieces.items) (map bare c.push_made.new.pieces.items) same (omega arith) (omega arith) (c.size-size.ensures ∙ ap (λ (e : ExportsView). e.size) c.exports.ensures) c.requires.slots c.loop-position.invariant.pieces c.in_ok-push_imports.ensures.pieces c.in_ok-push_made.ensures.pieces)
 
 pub returns-clause-bodies : goal.returns-clause-bodies
 returns-clause-bodies c = λ k lt other.
     let same = c.requires.same in
     bodies c.args.names.now c.push_made.new.pieces.items (all_opened c.loop-position.position c.args.modules.now c.args.names.now same (omega arith) c.loop-position.invariant.opened)
-    (pieces_whole c.args.names.now c.args.modules.now c.loop-position.position _ _ c.args.slots (map bare c.loop-position.pieces.items) (map bare c.push_imports.new.pieces.items) (map bare c.push_made.new.pieces.items) same (omega arith) (omega arith) (ap (λ (e : ExportsView). e.size) c.exports.ensures) c.requires.slots c.loop-position.invariant.pieces c.in_ok-push_imports.ensures.pieces c.in_ok-push_made.ensures.pieces)
-    (contents_whole c.args.names.now c.args.modules.now c.loop-position.position _ _ c.args.slots (map piece_contents c.loop-position.pieces.items) (map piece_contents c.push_imports.new.pieces.items) (map piece_contents c.push_made.new.pieces.items) same (omega arith) (omega arith) (ap (λ (e : ExportsView). e.size) c.exports.ensures) c.requires.slots c.loop-position.invariant.contents c.in_ok-push_imports.ensures.contents c.in_ok-push_made.ensures.contents)
+    (pieces_whole c.args.names.now c.args.modules.now c.loop-position.position _ _ c.args.slots (map bare c.loop-position.pieces.items) (map bare c.push_imports.new.pieces.items) (map bare c.push_made.new.pieces.items) same (omega arith) (omega arith) (c.size-size.ensures ∙ ap (λ (e : ExportsView). e.size) c.exports.ensures) c.requires.slots c.loop-position.invariant.pieces c.in_ok-push_imports.ensures.pieces c.in_ok-push_made.ensures.pieces)
+    (contents_whole c.args.names.now c.args.modules.now c.loop-position.position _ _ c.args.slots (map piece_contents c.loop-position.pieces.items) (map piece_contents c.push_imports.new.pieces.items) (map piece_contents c.push_made.new.pieces.items) same (omega arith) (omega arith) (c.size-size.ensures ∙ ap (λ (e : ExportsView). e.size) c.exports.ensures) c.requires.slots c.loop-position.invariant.contents c.in_ok-push_imports.ensures.contents c.in_ok-push_made.ensures.contents)
     k lt (ap (λ (ms : List ModuleView). is_table (length ms) (get_or c.push_made.new.pieces.items k no_piece)) same ∙ other)
 
 pub returns-clause-opened : goal.returns-clause-opened
@@ -120,7 +120,7 @@ returns-clause-placed c =
     let few = subst (All HasFewSections) (sym same) (subst (All HasFewSections) (take_all c.loop-position.position modules (omega arith)) c.loop-position.invariant.few_sections) in
     let pieces = c.push_made.new.pieces.items in
     let are =
-    pieces_whole link modules c.loop-position.position _ _ slots (map bare c.loop-position.pieces.items) (map bare c.push_imports.new.pieces.items) (map bare pieces) same (omega arith) (omega arith) (ap (λ (e : ExportsView). e.size) c.exports.ensures) c.requires.slots c.loop-position.invariant.pieces c.in_ok-push_imports.ensures.pieces c.in_ok-push_made.ensures.pieces in
+    pieces_whole link modules c.loop-position.position _ _ slots (map bare c.loop-position.pieces.items) (map bare c.push_imports.new.pieces.items) (map bare pieces) same (omega arith) (omega arith) (c.size-size.ensures ∙ ap (λ (e : ExportsView). e.size) c.exports.ensures) c.requires.slots c.loop-position.invariant.pieces c.in_ok-push_imports.ensures.pieces c.in_ok-push_made.ensures.pieces in
     let limit : length link.modules ≤ MODULE_LIMIT = omega (arith, ap length same, c.requires.few) in
     subst (λ (ms : List ModuleView). All (λ (piece : Piece). HasSomePlace ms slots piece.«module» piece.number) pieces) same
     (over_bare (λ (piece : Piece). HasSomePlace link.modules slots piece.«module» piece.number) pieces
