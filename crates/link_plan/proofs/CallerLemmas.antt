@@ -1,7 +1,10 @@
 -- What callers may cite of the fields of a plan: the pieces that they mean are named, and each relocation has its number.
-use Rattle.std.proofs.Common.{◌≡◌, ℕ, zero, suc, ◌+◌, ◌-◌, ◌<◌, Bool, true, false, cond, ◌||◌, eqb, ltb, List, [], ◌∷◌, length, filter, get_or, Option, Some, None, option_map, Result, Ok, Err, refl, sym, ap, subst, ◌∙◌, eq-eqb, arith}
+use Rattle.std.proofs.Common.{◌≡◌, ◌⊎◌, ℕ, zero, suc, ◌+◌, ◌-◌, ◌<◌, ◌≤◌, Bool, true, false, cond, ◌||◌, eqb, ltb, List, [], ◌∷◌, length, filter, get_or, Option, Some, None, option_map, option_and_then, Result, Ok, Err, inl, inr, refl, sym, ap, subst, ◌∙◌, eq-eqb, arith}
 use Rattle.std.specs.List.{All, range_with_len, find}
-use Rattle.std.proofs.lemmas.Bool.{or_right}
+use Rattle.std.proofs.lemmas.Bool.{cases_lt, or_right}
+use Rattle.std.proofs.lemmas.List.{get_or-map, get_or_past, length-map}
+use Rattle.symbol_names.specs.Exports.{internal_name}
+use Rattle.export_tables.specs.Ordinals.{no_export}
 use Rattle.std.proofs.lemmas.List.Elements.{All-nil, All-cons, All-head, All-tail}
 use Rattle.std.proofs.lemmas.List.Folds.{list_any_at}
 use Rattle.std.proofs.lemmas.List.FromFn.{get_or-range_with_len, length-range_with_len, get_or-map-range_with_len, length-map-range_with_len}
@@ -237,15 +240,15 @@ export_stands link row t is = go (cases_lt row (length (export_targets link)))
     by_target (target.Absolute value) lt same inside = tt
     by_target target.ImageBase lt same inside = tt
 
+    none_past : None ≡ Some t → ⊥
+    none_past e = cc
+
     go : (row < length (export_targets link)) ⊎ (length (export_targets link) ≤ row) → Stands link t
     go (inl lt) =
         let count = length-map link.exports.rows (export_target link) in
-        let own = sym (get_or-map_at (export_target link) link.exports.rows row (omega (arith, lt, count))) ∙ is in
-        by_target t lt is (export_within link (internal_name _) t own)
+        let own = sym (get_or-map (export_target link) link.exports.rows row no_export None (omega (arith, lt, count))) ∙ is in
+        by_target t lt is (export_within link (internal_name (get_or link.exports.rows row no_export)) t own)
     go (inr past) = absurd (none_past (sym (get_or_past (export_targets link) row None past) ∙ is))
-
-    none_past : None ≡ Some t → ⊥
-    none_past e = cc
 
 -- a piece of a plan
 pub planned_at : (options : LinkOptions) (link : LinkParts) (k : ℕ) → k < length (link_pieces link) → get_or (plan_pieces options link) k no_piece ≡ planned_piece options link k

@@ -1,5 +1,5 @@
 -- From what the search of libraries says, and what the modules say, to what planning says.
-use Rattle.std.proofs.Common.{◌≡◌, List, Err, sym, subst, inl, inr}
+use Rattle.std.proofs.Common.{◌≡◌, List, Err, sym, ap, ◌∙◌, subst, inl, inr}
 use Rattle.link_base.specs.Refusals.{RefusesFor, stop_of}
 use Rattle.link_base.specs.declared.stop.Refusal.{Refusal}
 use Rattle.link_base.specs.declared.stop.Refusal.TheVariants as refusal
@@ -8,6 +8,10 @@ use Rattle.link_base.specs.declared.stop.Stop.TheVariants as stop
 use Rattle.link_files.specs.Outside.{FilesView}
 use Rattle.module_view.specs.Module.{ModuleView}
 use Rattle.link_words.specs.Outcome.{LinkOptions}
+use Rattle.symbol_names.specs.LinkView.{LinkView}
+use Rattle.lib_search.specs.LinkOf.{link_of}
+use Rattle.link_exports.specs.Exports.{ExportsView, exports_of}
+use Rattle.link_pieces.specs.LinkParts.{LinkParts, parts_of}
 use Rattle.lib_search.specs.declared.link_list.LinkList.{LinkList}
 use Rattle.lib_search.specs.Loading.{Loads}
 use Rattle.lib_search.specs.Completion.{GivesList, Completes}
@@ -15,6 +19,13 @@ use Rattle.link_plan.specs.declared.planning.LinkPlan.{LinkPlan}
 use Rattle.link_plan.specs.PlanFaults.{plan_fault}
 use Rattle.link_plan.specs.Plan.{link_parts, IsPlanOf}
 use Rattle.link_plan.specs.Planning.{GivesPlan, Plans}
+
+-- what names mean, with the exports, is what takes part in the link
+pub names_so : (options : LinkOptions) (modules own : List ModuleView) (table : LinkView) (exports : ExportsView) (names : LinkParts) → names ≡ parts_of table exports → table ≡ link_of options modules → exports ≡ exports_of options own → own ≡ modules → names ≡ link_parts options modules
+names_so options modules own table exports names is tables exported same =
+    is
+    ∙ ap (λ (l : LinkView). parts_of l exports) tables
+    ∙ ap (parts_of (link_of options modules)) (exported ∙ ap (exports_of options) same)
 
 -- the modules that join have a plan
 pub gives_plan : (options : LinkOptions) (before after : FilesView) (list : LinkList) (plan : LinkPlan) → GivesList options before after list → IsPlanOf options (link_parts options list.modules.items) plan → plan.modules.items ≡ list.modules.items → GivesPlan options before after plan

@@ -1,6 +1,6 @@
 -- The relocations of the pieces of a link, each with what its symbol means, the first that has a fault, and the pieces that
 -- stand in a section without bytes. Own.
-use Rattle.std.specs.Prelude.{◌≡◌, ℕ, ◌+◌, ◌-◌, ◌<◌, ◌==◌, ◌||◌, nat_lt, Bool, if◌then◌else◌, List, [], ◌∷◌, length, map, slice_index_or, Option, Some, None, option_and_then}
+use Rattle.std.specs.Prelude.{◌≡◌, ℕ, ◌+◌, ◌-◌, ◌<◌, ◌==◌, ◌||◌, nat_lt, Bool, false, if◌then◌else◌, List, [], ◌∷◌, length, map, slice_index_or, Option, Some, None, option_and_then}
 use Rattle.std.specs.List.{range_with_len, list_any}
 use Rattle.link_base.specs.Refusals.{first_refusal_below}
 use Rattle.link_base.specs.declared.fault.Fault.{Fault}

@@ -1,6 +1,6 @@
 //! What the exports of a link stand for.
 
-ghost use Rattle.std.specs.Prelude.{◌≡◌, None, Some, IfOk, OnOk, IfErr};
+ghost use Rattle.std.specs.Prelude.{◌≡◌, ◌++◌, ◌∷◌, [], None, Some, IfOk, OnOk, IfErr};
 ghost use Rattle.link_base.specs.Refusals.{RefusesFor};
 ghost use Rattle.link_pieces.specs.PieceIndex.{IsPieceIndex};
 ghost use Rattle.link_plan.specs.ExportTargets.{export_target, export_targets, export_fault, exports_fault};
@@ -8,7 +8,7 @@ ghost use Rattle.link_plan.specs.ExportTargets.{export_target, export_targets, e
 use crate::entry::bad_entry;
 use crate::targets::meant_target;
 use directives::Export;
-use link_base::{Fault, Refusal};
+use link_base::{Fault, Memory, Refusal};
 use link_pieces::{LinkNames, PieceIndex};
 use relocate::Target;
 use std::alloc::Global;
@@ -27,12 +27,20 @@ pub(crate) fn export_targets<'a>(
     ensures refused { IfErr result (RefusesFor (exports_fault names.now)) }
 {
     let rows = names.exports().rows();
-    let mut targets = Vec::with_capacity(alloc, rows.len())?;
+    let mut targets = Vec::new(alloc);
     for row in rows {
         let target = export_target(names, index, row)?;
-        targets.push(target)?;
+        push(&mut targets, target)?;
     }
     Ok(targets)
+}
+
+/// Appends what an export stands for.
+fn push(targets: &mut Vec<Option<Target>>, target: Option<Target>) -> Result<(), Memory>
+    ensures { OnOk result (targets.new.items ≡ targets.old.items ++ target ∷ []) }
+{
+    targets.push(target)?;
+    Ok(())
 }
 
 /// What an export stands for.

@@ -5,6 +5,6 @@ use Rattle.link_plan.proofs.export_targets.export_targets.Given as goal
 
 abbrev pub invariant-loop-row : goal.invariant-loop-row
 invariant-loop-row l = record {
-  targets : l.targets.items ≡ map (export_target l.names) (take l.row-index l.rows.items);
-  none : first_standing (map (export_fault l.names) (take l.row-index l.rows.items)) ≡ None;
+  targets : l.targets.items ≡ map (export_target l.names) (take l.row-index l.rows);
+  none : first_standing (map (export_fault l.names) (take l.row-index l.rows)) ≡ None;
 }

@@ -5,11 +5,13 @@ use Rattle.module_view.specs.Module.{ModuleView}
 use Rattle.link_pieces.specs.LinkParts.{LinkParts}
 use Rattle.link_directives.specs.LinkDirectives.{link_merges}
 use Rattle.link_words.specs.Outcome.{options_said}
-use Rattle.lib_search.specs.LinkOf.{link_of}
 use Rattle.link_imports.specs.Imports.{AreImports}
 use Rattle.link_pieces.specs.ChoiceFaults.{conflict_fault, clash_fault}
 use Rattle.link_plan.specs.PlanFaults.{mismatch_fault, meaning_fault, fields_fault}
+use Rattle.link_exports.specs.Exports.{exports_of, AreTold}
 use Rattle.link_plan.specs.Laid.{AreLaid}
+use Rattle.link_plan.specs.Plan.{link_parts}
+use Rattle.link_plan.proofs.PlanningLemmas.{names_so}
 use Rattle.link_plan.proofs.StageLemmas.{mismatch_stage, conflict_stage, clash_stage, meaning_stage, fields_stage, no_stage, chosen_so}
 use Rattle.link_plan.proofs.planning.plan_of.Goals as goal
 
@@ -31,34 +33,39 @@ returns-in_err-names-clause-refused c =
     rw (given.1, given.2)
     (conflict_stage options link c.in_err-names.field-0.0
     (ap mismatch_fault (sym c.deref.ensures.value) ∙ c.in_ok-check_mismatch.ensures.accepted)
-    (subst (λ (ms : List ModuleView). RefusesFor (conflict_fault ms) c.in_err-names.field-0.0) c.deref-2.ensures.value c.in_err-names.ensures.refused))
+    (subst (λ (ms : List ModuleView). RefusesFor (conflict_fault ms) c.in_err-names.field-0.0) c.deref-3.ensures.value c.in_err-names.ensures.refused))
 
 pub returns-in_err-check_clash-clause-refused : goal.returns-in_err-check_clash-clause-refused
 returns-in_err-check_clash-clause-refused c =
     let options = options_said c.args.options.now in
     let link = link_parts options c.args.list.modules.items in
-    let names_are = c.in_ok-names.ensures.names ∙ c.requires.names in
+    let names_are = names_so (options_said c.args.options.now) c.args.list.modules.items c.deref-2.result.now _ _ c.in_ok-names.names c.in_ok-names.ensures.names c.requires.names c.in_ok-exports.ensures.exports c.deref-2.ensures.value in
     let given = err_from_is_err_and c.from_residual-in_err-check_clash.result c.from_residual-in_err-check_clash.ensures.1 in
     rw (given.1, given.2)
     (clash_stage options link c.in_err-check_clash.field-0.0
     (ap mismatch_fault (sym c.deref.ensures.value) ∙ c.in_ok-check_mismatch.ensures.accepted)
-    (ap conflict_fault (sym c.deref-2.ensures.value) ∙ c.in_ok-names.ensures.accepted)
+    (ap conflict_fault (sym c.deref-3.ensures.value) ∙ c.in_ok-names.ensures.accepted)
     (ap (λ (l : LinkParts). clash_fault l.modules) (sym names_are) ∙ c.in_err-check_clash.ensures.refused))
+
+pub returns-in_err-exports-clause-refused : goal.returns-in_err-exports-clause-refused
+returns-in_err-exports-clause-refused c =
+    let given = err_from_is_err_and c.from_residual-in_err-exports.result c.from_residual-in_err-exports.ensures.1 in
+    rw (given.1, given.2) tt
 
 pub meanings_of-requires-clause-same : goal.meanings_of-requires-clause-same
 meanings_of-requires-clause-same c =
-    ap (λ (l : LinkParts). l.modules) (c.in_ok-names.ensures.names ∙ c.requires.names) ∙ sym c.deref-3.ensures.value
+    ap (λ (l : LinkParts). l.modules) (names_so (options_said c.args.options.now) c.args.list.modules.items c.deref-2.result.now _ _ c.in_ok-names.names c.in_ok-names.ensures.names c.requires.names c.in_ok-exports.ensures.exports c.deref-2.ensures.value) ∙ sym c.deref-4.ensures.value
 
 pub meanings_of-requires-clause-words : goal.meanings_of-requires-clause-words
-meanings_of-requires-clause-words c = ap (λ (l : LinkParts). l.words) (c.in_ok-names.ensures.names ∙ c.requires.names)
+meanings_of-requires-clause-words c = ap (λ (l : LinkParts). l.words) (names_so (options_said c.args.options.now) c.args.list.modules.items c.deref-2.result.now _ _ c.in_ok-names.names c.in_ok-names.ensures.names c.requires.names c.in_ok-exports.ensures.exports c.deref-2.ensures.value)
 
 pub returns-in_err-meant-clause-refused : goal.returns-in_err-meant-clause-refused
 returns-in_err-meant-clause-refused c =
     let options = options_said c.args.options.now in
     let link = link_parts options c.args.list.modules.items in
-    let names_are = c.in_ok-names.ensures.names ∙ c.requires.names in
+    let names_are = names_so (options_said c.args.options.now) c.args.list.modules.items c.deref-2.result.now _ _ c.in_ok-names.names c.in_ok-names.ensures.names c.requires.names c.in_ok-exports.ensures.exports c.deref-2.ensures.value in
     let well =
-    chosen_so link c.in_ok-names.names c.deref.result.now c.deref-2.result.now names_are c.deref.ensures.value c.in_ok-check_mismatch.ensures.accepted c.deref-2.ensures.value c.in_ok-names.ensures.accepted c.in_ok-check_clash.ensures.accepted in
+    chosen_so link c.in_ok-names.names c.deref.result.now c.deref-3.result.now names_are c.deref.ensures.value c.in_ok-check_mismatch.ensures.accepted c.deref-3.ensures.value c.in_ok-names.ensures.accepted c.in_ok-check_clash.ensures.accepted in
     let given = err_from_is_err_and c.from_residual-in_err-meant.result c.from_residual-in_err-meant.ensures.1 in
     rw (given.1, given.2)
     (meaning_stage options link c.in_err-meant.field-0.0 well
@@ -71,19 +78,19 @@ returns-in_err-imports-clause-refused c =
 
 pub lay_pieces-requires-clause-same : goal.lay_pieces-requires-clause-same
 lay_pieces-requires-clause-same c =
-    ap (λ (l : LinkParts). l.modules) (c.in_ok-names.ensures.names ∙ c.requires.names) ∙ sym c.deref-5.ensures.value
+    ap (λ (l : LinkParts). l.modules) (names_so (options_said c.args.options.now) c.args.list.modules.items c.deref-2.result.now _ _ c.in_ok-names.names c.in_ok-names.ensures.names c.requires.names c.in_ok-exports.ensures.exports c.deref-2.ensures.value) ∙ sym c.deref-6.ensures.value
 
 pub lay_pieces-requires-clause-imports : goal.lay_pieces-requires-clause-imports
 lay_pieces-requires-clause-imports c =
-    subst (λ (ms : List ModuleView). AreImports ms c.in_ok-imports.imports) (c.deref-4.ensures.value ∙ sym c.deref-5.ensures.value) c.in_ok-imports.ensures
+    subst (λ (ms : List ModuleView). AreImports ms c.in_ok-imports.imports) (c.deref-5.ensures.value ∙ sym c.deref-6.ensures.value) c.in_ok-imports.ensures
 
 pub returns-in_err-laid-clause-refused : goal.returns-in_err-laid-clause-refused
 returns-in_err-laid-clause-refused c =
     let options = options_said c.args.options.now in
     let link = link_parts options c.args.list.modules.items in
-    let names_are = c.in_ok-names.ensures.names ∙ c.requires.names in
+    let names_are = names_so (options_said c.args.options.now) c.args.list.modules.items c.deref-2.result.now _ _ c.in_ok-names.names c.in_ok-names.ensures.names c.requires.names c.in_ok-exports.ensures.exports c.deref-2.ensures.value in
     let well =
-    chosen_so link c.in_ok-names.names c.deref.result.now c.deref-2.result.now names_are c.deref.ensures.value c.in_ok-check_mismatch.ensures.accepted c.deref-2.ensures.value c.in_ok-names.ensures.accepted c.in_ok-check_clash.ensures.accepted in
+    chosen_so link c.in_ok-names.names c.deref.result.now c.deref-3.result.now names_are c.deref.ensures.value c.in_ok-check_mismatch.ensures.accepted c.deref-3.ensures.value c.in_ok-names.ensures.accepted c.in_ok-check_clash.ensures.accepted in
     let meant = ap (meaning_fault options) (sym names_are) ∙ c.in_ok-meant.ensures.accepted in
     let given = err_from_is_err_and c.from_residual-in_err-laid.result c.from_residual-in_err-laid.ensures.1 in
     rw (given.1, given.2)
@@ -99,9 +106,9 @@ pub returns-clause-planned : goal.returns-clause-planned
 returns-clause-planned c =
     let options = options_said c.args.options.now in
     let link = link_parts options c.args.list.modules.items in
-    let names_are = c.in_ok-names.ensures.names ∙ c.requires.names in
+    let names_are = names_so (options_said c.args.options.now) c.args.list.modules.items c.deref-2.result.now _ _ c.in_ok-names.names c.in_ok-names.ensures.names c.requires.names c.in_ok-exports.ensures.exports c.deref-2.ensures.value in
     let well =
-    chosen_so link c.in_ok-names.names c.deref.result.now c.deref-2.result.now names_are c.deref.ensures.value c.in_ok-check_mismatch.ensures.accepted c.deref-2.ensures.value c.in_ok-names.ensures.accepted c.in_ok-check_clash.ensures.accepted in
+    chosen_so link c.in_ok-names.names c.deref.result.now c.deref-3.result.now names_are c.deref.ensures.value c.in_ok-check_mismatch.ensures.accepted c.deref-3.ensures.value c.in_ok-names.ensures.accepted c.in_ok-check_clash.ensures.accepted in
     let meant = ap (meaning_fault options) (sym names_are) ∙ c.in_ok-meant.ensures.accepted in
     let laid = subst (λ (l : LinkParts). AreLaid options l c.in_ok-laid.laid) names_are c.in_ok-laid.ensures.laid in
     record {
@@ -114,9 +121,11 @@ returns-clause-planned c =
       bodies = laid.bodies;
       few = laid.few;
       fields = laid.fields;
-      imports = subst (λ (ms : List ModuleView). AreImports ms c.in_ok-imports.imports) c.deref-4.ensures.value c.in_ok-imports.ensures;
-      merges_are = c.in_ok-merges.ensures ∙ ap (λ (given : List (List ℕ × List ℕ)). link_merges given c.deref-7.result.now) c.deref-6.ensures.value ∙ ap (link_merges options.merges) c.deref-7.ensures.value;
+      imports = subst (λ (ms : List ModuleView). AreImports ms c.in_ok-imports.imports) c.deref-5.ensures.value c.in_ok-imports.ensures;
+      told = subst AreTold (c.in_ok-exports.ensures.exports ∙ ap (exports_of options) c.deref-2.ensures.value) c.in_ok-exports.ensures.told;
+      merges_are = c.in_ok-merges.ensures ∙ ap (λ (given : List (List ℕ × List ℕ)). link_merges given c.deref-8.result.now) c.deref-7.ensures.value ∙ ap (link_merges options.merges) c.deref-8.ensures.value;
       entry_is = laid.entry_is;
       stands = laid.stands;
+      exported_are = laid.exported_are;
       no_fault = no_stage options link well meant laid.no_fault;
     }
