@@ -1,11 +1,11 @@
 -- Why the pieces of modules make no image: the faults of the stages from tables to range, in their order. Own.
-use Rattle.std.specs.Prelude.{◌≡◌, ℕ, true, false, List, length, Some, ◌⊎◌}
+use Rattle.std.specs.Prelude.{◌≡◌, ℕ, true, false, List, length, Some, None, ◌⊎◌}
 use Rattle.link_base.specs.declared.fault.Fault.{Fault}
 use Rattle.link_base.specs.declared.fault.Fault.TheVariants as faults
 use Rattle.link_base.specs.declared.stop.Refusal.{Refusal}
 use Rattle.link_base.specs.declared.stop.Refusal.TheVariants as refusal
 use Rattle.section_group.specs.declared.piece.OutSection.{OutSection}
-use Rattle.section_group.specs.Merging.{NamesFirstBad}
+use Rattle.section_group.specs.Merging.{HasNoBadMerge, NamesFirstBad}
 use Rattle.section_group.specs.Uniqueness.{SectionRow}
 use Rattle.address_layout.specs.declared.layout.Layout.{Layout}
 use Rattle.address_layout.specs.declared.layout.LayoutError.TheVariants as bad
@@ -20,6 +20,7 @@ use Rattle.link_plan.specs.Plan.{merges_of}
 use Rattle.link_plan.specs.Fixes.{plan_pieces}
 use Rattle.link_image.specs.BaseFields.{is_relocated, AreBaseFields}
 use Rattle.link_image.specs.LinkedBytes.{fields_range_fault}
+use Rattle.link_image.specs.ExportFaults.{export_fault, in_table_fault}
 use Rattle.link_image.specs.LinkedImage.{AreGrouped, ArePlaced, IsPlacement, base_rule}
 
 -- a merge is bad, and no earlier one
@@ -27,6 +28,11 @@ pub record IsBadMerge (options : LinkOptions) (link : LinkParts) (fault : Fault)
   pub name : List ℕ
   pub named : NamesFirstBad (merges_of options link) name
   pub is : fault ≡ faults.BadMerge name
+
+-- an export is bad: its ordinal, or that it stands for no place
+pub record IsBadExport (options : LinkOptions) (link : LinkParts) (fault : Fault) : Type 0 where
+  pub merges : HasNoBadMerge (merges_of options link)
+  pub is : export_fault link ≡ Some fault
 
 -- there are too many sections, that of base relocations counted
 pub record HasTooManySections (options : LinkOptions) (link : LinkParts) (fault : Fault) : Type 0 where
@@ -62,6 +68,15 @@ pub record HasBadBase (options : LinkOptions) (link : LinkParts) (fault : Fault)
   pub refused : is_permitted (base_rule options) layout.image options.base ≡ false
   pub is : fault ≡ faults.BaseRange options.base
 
+-- an export lies in the export table itself
+pub record HasExportInTable (options : LinkOptions) (link : LinkParts) (fault : Fault) : Type 0 where
+  pub rows : List SectionRow
+  pub layout : Layout
+  pub tables : List (List ℕ)
+  pub placement : IsPlacement options link rows layout tables
+  pub permitted : is_permitted (base_rule options) layout.image options.base ≡ true
+  pub is : in_table_fault link layout.pieces.items ≡ Some fault
+
 -- the value of a field does not fit, and that of no earlier one
 pub record HasBadRange (options : LinkOptions) (link : LinkParts) (fault : Fault) : Type 0 where
   pub rows : List SectionRow
@@ -69,14 +84,17 @@ pub record HasBadRange (options : LinkOptions) (link : LinkParts) (fault : Fault
   pub tables : List (List ℕ)
   pub placement : IsPlacement options link rows layout tables
   pub permitted : is_permitted (base_rule options) layout.image options.base ≡ true
+  pub outside : in_table_fault link layout.pieces.items ≡ None
   pub is : fields_range_fault link rows layout options.base ≡ Some fault
 
 -- the fault is the one that stands
 abbrev pub IsBuildFault : LinkOptions → LinkParts → Fault → Type 0
 IsBuildFault options link fault =
     IsBadMerge options link fault
+    ⊎ (IsBadExport options link fault
     ⊎ (HasTooManySections options link fault
-    ⊎ (IsTooLarge options link fault ⊎ (HasBadBase options link fault ⊎ HasBadRange options link fault)))
+    ⊎ (IsTooLarge options link fault
+    ⊎ (HasBadBase options link fault ⊎ (HasExportInTable options link fault ⊎ HasBadRange options link fault)))))
 
 -- of want of memory nothing is said
 abbrev pub RefusesBuild : LinkOptions → LinkParts → Refusal → Type 0

@@ -1,6 +1,6 @@
--- What the pieces of a link hold in its image, and the first field whose value does not fit (PE Format, "The .idata Section" and
+-- What the pieces of a link hold in its image, and the first field whose value does not fit (PE Format, "The .idata Section", "The .edata Section (Image Only)" and
 -- "Type Indicators", x64 Processors; the order is own).
-use Rattle.std.specs.Prelude.{ℕ, Bool, if◌then◌else◌, List, [], ◌++◌, length, map, slice_index, slice_index_or, Option, Some, None, option_map, unwrap_or, ◌==◌}
+use Rattle.std.specs.Prelude.{ℕ, ◌+◌, Bool, if◌then◌else◌, List, [], ◌∷◌, ◌++◌, length, map, slice_index, slice_index_or, Option, Some, None, option_map, unwrap_or, ◌==◌}
 use Rattle.std.specs.List.{list_any, range_with_len}
 use Rattle.link_base.specs.Bytes.{first_below}
 use Rattle.link_base.specs.Refusals.{first_refusal_below}
@@ -11,12 +11,20 @@ use Rattle.section_group.specs.Uniqueness.{SectionRow}
 use Rattle.address_layout.specs.declared.layout.Layout.{Layout}
 use Rattle.relocate.specs.declared.range.RelocRange.{RelocRange}
 use Rattle.relocate.specs.PatchedBytes.{patched_bytes, range_fault}
+use Rattle.directives.specs.declared.item.Export.{Export}
+use Rattle.relocate.specs.declared.fix.Target.{Target}
+use Rattle.relocate.specs.declared.fix.Target.TheVariants as target
+use Rattle.export_tables.specs.declared.row.ExportRow.{ExportRow}
+use Rattle.export_tables.specs.ExportTable.{export_table}
+use Rattle.synthetic_sections.specs.LinkerPieces.{EXPORTS}
+use Rattle.link_exports.specs.Exports.{table_row}
 use Rattle.import_tables.specs.ImportTables.{tables_of as import_tables_of}
 use Rattle.link_pieces.specs.LinkParts.{LinkParts}
 use Rattle.link_imports.specs.Imports.{import_rows}
 use Rattle.link_pieces.specs.LinkerPieces.{is_table}
 use Rattle.link_pieces.specs.PieceIndex.{linker_index}
 use Rattle.link_pieces.specs.Pieces.{link_pieces, link_contents}
+use Rattle.link_plan.specs.ExportTargets.{export_target}
 use Rattle.link_plan.specs.Fixes.{piece_at, piece_fixes}
 
 -- ---- the section of a piece
@@ -53,18 +61,44 @@ table_rva link layout number = rva_of layout.pieces.items (linker_index link num
 unfoldable pub table_rvas : LinkParts → Layout → List ℕ
 table_rvas link layout = map (table_rva link layout) (range_with_len 0 5)
 
--- their bytes
+-- the bytes of the import tables
 unfoldable pub import_tables_at : LinkParts → Layout → List (List ℕ)
 import_tables_at link layout = import_tables_of (import_rows link.modules) (table_rvas link layout)
 
+-- ---- the export table
+
+-- the RVA of what an export stands for; without a place in a piece it is not looked at
+abbrev pub target_rva : List ℕ → Option Target → ℕ
+target_rva rvas None = 0
+target_rva rvas (Some (target.Piece piece value)) = slice_index rvas piece + value
+target_rva rvas (Some (target.Absolute value)) = 0
+target_rva rvas (Some target.ImageBase) = 0
+
+abbrev pub exported_row : LinkParts → List ℕ → Export → ExportRow
+exported_row link rvas row = table_row row (target_rva rvas (export_target link row))
+
+-- the exports as rows of the table, where pieces have these RVAs
+unfoldable pub exported_rows : LinkParts → List ℕ → List ExportRow
+exported_rows link rvas = map (exported_row link rvas) link.exports.rows
+
+-- the bytes of the table; without exports there are none
+unfoldable pub export_table_at : LinkParts → Layout → List ℕ
+export_table_at link layout =
+    if link.exports.size == 0 then []
+    else export_table (exported_rows link layout.pieces.items) link.exports.ordinals link.exports.dll (table_rva link layout EXPORTS)
+
+-- those of all tables, by their numbers
+abbrev pub tables_at : LinkParts → Layout → List (List ℕ)
+tables_at link layout = import_tables_at link layout ++ export_table_at link layout ∷ []
+
 -- ---- the bytes
 
--- what a piece holds before its fields are patched: an import table its bytes by the places of all of them, any other piece
+-- what a piece holds before its fields are patched: a table of imports or exports its bytes by their places, any other piece
 -- what it has without a place
 unfoldable pub contents_at : LinkParts → Layout → ℕ → List ℕ
 contents_at link layout k =
     if is_table (length link.modules) (piece_at link k)
-    then slice_index_or (import_tables_at link layout) (piece_at link k).number []
+    then slice_index_or (tables_at link layout) (piece_at link k).number []
     else slice_index_or (link_contents link) k []
 
 unfoldable pub placed_contents : LinkParts → Layout → List (List ℕ)

@@ -1,7 +1,7 @@
 -- The image of modules: their pieces in sections, the places of these, and what they make. Own.
 use Rattle.std.specs.Prelude.{◌≡◌, ◌<◌, ◌≤◌, ℕ, ◌+◌, ◌-◌, Bool, true, false, List, [], ◌∷◌, ◌++◌, length, replicate, slice_index, slice_index_or, Option, Some, None, codes}
 use Rattle.link_base.specs.Limits.{SECTION_LIMIT, IMAGE_LIMIT}
-use Rattle.link_base.specs.PeFormat.{SCN_CNT_INITIALIZED_DATA, SCN_MEM_DISCARDABLE, SCN_MEM_READ, DIRECTORY_ENTRY_IMPORT}
+use Rattle.link_base.specs.PeFormat.{SCN_CNT_INITIALIZED_DATA, SCN_MEM_DISCARDABLE, SCN_MEM_READ, DIRECTORY_ENTRY_EXPORT, DIRECTORY_ENTRY_IMPORT}
 use Rattle.section_group.specs.declared.piece.Piece.{Piece}
 use Rattle.section_group.specs.declared.piece.OutSection.{OutSection}
 use Rattle.section_group.specs.SectionOrder.{Input, input_from, no_piece}
@@ -16,13 +16,15 @@ use Rattle.address_layout.specs.Layout.{IsLayout}
 use Rattle.address_layout.specs.Growth.{CanGrow, Appends}
 use Rattle.base_reloc.specs.declared.field.BaseField.{BaseField}
 use Rattle.base_reloc.specs.PageBlocks.{blocks_of}
-use Rattle.pe_loader.specs.LoadedImage.{loaded, directory_rva}
+use Rattle.pe_loader.specs.LoadedImage.{loaded, directory_rva, directory_size}
 use Rattle.import_tables.specs.ImportDirectory.{Imports, imports_of}
 use Rattle.import_tables.specs.ReadBack.{found_of}
+use Rattle.export_tables.specs.ExportDirectory.{export_of_name, export_of_ordinal}
+use Rattle.export_tables.specs.ReadBack.{exported_name, exported_ordinal}
 use Rattle.image_writer.specs.ExpectedImage.{ImagePlan, MeansPlan, image_file}
 use Rattle.image_writer.specs.WrittenImage.{written_plan}
 use Rattle.link_pieces.specs.LinkParts.{LinkParts}
-use Rattle.synthetic_sections.specs.LinkerPieces.{SLOTS}
+use Rattle.synthetic_sections.specs.LinkerPieces.{SLOTS, EXPORTS}
 use Rattle.link_imports.specs.Imports.{import_rows}
 use Rattle.link_pieces.specs.PieceIndex.{linker_index}
 use Rattle.link_pieces.specs.Pieces.{link_pieces}
@@ -35,7 +37,8 @@ use Rattle.link_image.specs.declared.headers.Directories.{Directories}
 use Rattle.link_image.specs.declared.make.Built.{Built}
 use Rattle.link_image.specs.BaseFields.{is_relocated, AreBaseFields}
 use Rattle.link_image.specs.ImageHeaders.{headers_of}
-use Rattle.link_image.specs.LinkedBytes.{table_rvas, image_contents, fields_range_fault}
+use Rattle.link_image.specs.LinkedBytes.{table_rvas, exported_rows, image_contents, fields_range_fault}
+use Rattle.link_image.specs.ExportFaults.{export_fault, in_table_fault}
 
 -- ---- sections
 
@@ -43,9 +46,10 @@ use Rattle.link_image.specs.LinkedBytes.{table_rvas, image_contents, fields_rang
 abbrev pub link_input : LinkOptions → LinkParts → List Piece → Input
 link_input options link pieces = input_from pieces (replicate (length pieces) true) (merges_of options link)
 
--- the sections that pieces stand in, by merges of which none is bad
+-- the sections that pieces stand in, by merges of which none is bad; and no export is
 pub record AreGrouped (options : LinkOptions) (link : LinkParts) (pieces : List Piece) (sections : List OutSection) : Type 0 where
   pub merges : HasNoBadMerge (merges_of options link)
+  pub exports : export_fault link ≡ None
   pub grouping : IsGrouping (link_input options link pieces) sections
 
 -- ---- places
@@ -109,14 +113,15 @@ extent_of pieces rvas (Some k) = (slice_index rvas k, (slice_index_or pieces k n
 abbrev pub DIRECTORY : ℕ
 DIRECTORY = 0
 
--- those of the import table of a number
-abbrev pub import_extent : LinkParts → Layout → ℕ → ℕ × ℕ
-import_extent link layout number = extent_of (link_pieces link) layout.pieces.items (linker_index link number)
+-- those of the table of a number
+abbrev pub table_extent : LinkParts → Layout → ℕ → ℕ × ℕ
+table_extent link layout number = extent_of (link_pieces link) layout.pieces.items (linker_index link number)
 
 abbrev pub directories_of : LinkParts → Layout → List (List ℕ) → Directories
 directories_of link layout tables = record {
-  imports = import_extent link layout DIRECTORY;
-  slots = import_extent link layout SLOTS;
+  exports = table_extent link layout EXPORTS;
+  imports = table_extent link layout DIRECTORY;
+  slots = table_extent link layout SLOTS;
   relocations = table_directory layout tables;
 }
 
@@ -129,6 +134,7 @@ pub record IsImageOf (options : LinkOptions) (link : LinkParts) (image : ImagePl
   pub tables : List (List ℕ)
   pub placement : IsPlacement options link rows layout tables
   pub permitted : is_permitted (base_rule options) layout.image options.base ≡ true
+  pub outside : in_table_fault link layout.pieces.items ≡ None
   pub in_range : fields_range_fault link rows layout options.base ≡ None
   pub is : image ≡ written_plan (headers_of options (entry_rva layout.pieces.items (entry_place link options.entry_name)) (directories_of link layout tables)) rows layout.sections.items layout.pieces.items layout.image (image_contents link rows layout tables)
 
@@ -140,14 +146,23 @@ HoldsImports link layout image =
     (base : ℕ) (memory : List ℕ) → loaded image base ≡ Some memory
     → imports_of memory (directory_rva image DIRECTORY_ENTRY_IMPORT) ≡ Imports (found_of (import_rows link.modules) (table_rvas link layout))
 
+-- ---- its exports
+
+-- at each base that a file is loaded at, its export directory says of each name and of each number what the exports of the link
+-- say, and of no other
+pub record HoldsExports (link : LinkParts) (layout : Layout) (image : List ℕ) : Type 0 where
+  pub by_name : (base : ℕ) (memory name : List ℕ) → loaded image base ≡ Some memory → export_of_name memory (directory_rva image DIRECTORY_ENTRY_EXPORT) (directory_size image DIRECTORY_ENTRY_EXPORT) name ≡ exported_name (exported_rows link layout.pieces.items) name
+  pub by_ordinal : (base : ℕ) (memory : List ℕ) (ordinal : ℕ) → loaded image base ≡ Some memory → export_of_ordinal memory (directory_rva image DIRECTORY_ENTRY_EXPORT) (directory_size image DIRECTORY_ENTRY_EXPORT) ordinal ≡ exported_ordinal (exported_rows link layout.pieces.items) link.exports.ordinals ordinal
+
 -- ---- what is made
 
 -- what was made is the file of the image of the modules, which loads as planned at every permitted base, and then holds their
--- imports
+-- imports and exports
 pub record IsBuilt (options : LinkOptions) (link : LinkParts) (built : Built) : Type 0 where
   pub image : ImagePlan
   pub is_image : IsImageOf options link image
   pub file : built.image.items ≡ image_file image
   pub means : MeansPlan image built.image.items
   pub imports : HoldsImports link is_image.layout built.image.items
+  pub exports : HoldsExports link is_image.layout built.image.items
   pub count : built.sections ≡ length image.rows

@@ -6,7 +6,7 @@ ghost use Rattle.link_image.specs.ImageHeaders.{headers_of, dll_characteristics}
 
 use image_writer::Headers;
 use link_base::pe_format::{
-    DIRECTORY_ENTRY_BASERELOC, DIRECTORY_ENTRY_IAT, DIRECTORY_ENTRY_IMPORT,
+    DIRECTORY_ENTRY_BASERELOC, DIRECTORY_ENTRY_EXPORT, DIRECTORY_ENTRY_IAT, DIRECTORY_ENTRY_IMPORT,
     DLLCHARACTERISTICS_DYNAMIC_BASE, DLLCHARACTERISTICS_HIGH_ENTROPY_VA,
     DLLCHARACTERISTICS_NX_COMPAT,
 };
@@ -15,6 +15,7 @@ use link_words::Options;
 /// The directories of an image: the RVA and the size of each, or zeros where there is none.
 #[derive(Clone, Copy)]
 pub(crate) struct Directories {
+    pub(crate) exports: (u32, u32),
     pub(crate) imports: (u32, u32),
     /// The slots of the imports.
     pub(crate) slots: (u32, u32),
@@ -26,6 +27,7 @@ pub(crate) fn headers_of(options: &Options<'_>, entry: u32, tables: Directories)
     ensures { result ≡ headers_of (options_said options.now) entry tables }
 {
     let mut directories = [(0, 0); 16];
+    directories[DIRECTORY_ENTRY_EXPORT] = tables.exports;
     directories[DIRECTORY_ENTRY_IMPORT] = tables.imports;
     directories[DIRECTORY_ENTRY_BASERELOC] = tables.relocations;
     directories[DIRECTORY_ENTRY_IAT] = tables.slots;

@@ -43,6 +43,7 @@ pub record IsPlanOf (options : LinkOptions) (link : LinkParts) (plan : LinkPlan)
   pub few : length plan.pieces.items < 2 ^ 31
   pub fields : HaveFields link (length plan.pieces.items) plan.fixes.items
   pub imports : AreImports link.modules plan.imports
+  pub exports_are : link.exports ≡ exports_of options link.modules
   pub told : AreTold link.exports
   pub merges_are : plan.merges.items ≡ merges_of options link
   pub entry_is : plan.entry ≡ entry_place link options.entry_name

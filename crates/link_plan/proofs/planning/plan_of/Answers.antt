@@ -122,6 +122,7 @@ returns-clause-planned c =
       few = laid.few;
       fields = laid.fields;
       imports = subst (λ (ms : List ModuleView). AreImports ms c.in_ok-imports.imports) c.deref-5.ensures.value c.in_ok-imports.ensures;
+      exports_are = refl;
       told = subst AreTold (c.in_ok-exports.ensures.exports ∙ ap (exports_of options) c.deref-2.ensures.value) c.in_ok-exports.ensures.told;
       merges_are = c.in_ok-merges.ensures ∙ ap (λ (given : List (List ℕ × List ℕ)). link_merges given c.deref-8.result.now) c.deref-7.ensures.value ∙ ap (link_merges options.merges) c.deref-8.ensures.value;
       entry_is = laid.entry_is;
