@@ -23,7 +23,7 @@ use Rattle.link_plan.specs.declared.planning.LinkPlan.{LinkPlan}
 use Rattle.link_plan.specs.Fixes.{piece_at}
 use Rattle.link_plan.specs.Plan.{IsPlanOf}
 use Rattle.link_image.specs.declared.placement.Placement.{Placement}
-use Rattle.link_image.specs.LinkedBytes.{import_tables_at, contents_at, placed_contents}
+use Rattle.link_image.specs.LinkedBytes.{tables_at, contents_at, placed_contents}
 use Rattle.link_image.specs.Steps.{HoldTables, CanBeGiven, AreWhole, IsPlaced, IsWritten, given_contents, reloc_tables}
 use Rattle.link_image.proofs.HeldLemmas.{piece_count, planned_is, same_test, held_at, other_is, table_contents, all_held, length-placed, placed_read, placed_held}
 
@@ -128,7 +128,7 @@ module _ (options : LinkOptions) (plan : LinkPlan) (planned : IsPlanOf options p
           }
 
   -- what the pieces are given is what they hold
-  given_is : (layout : Layout) (k : ℕ) → k < length plan.pieces.items → given_contents (length plan.names.modules) (import_tables_at plan.names layout) (get_or plan.pieces.items k no_piece) ≡ contents_at plan.names layout k
+  given_is : (layout : Layout) (k : ℕ) → k < length plan.pieces.items → given_contents (length plan.names.modules) (tables_at plan.names layout) (get_or plan.pieces.items k no_piece) ≡ contents_at plan.names layout k
   given_is layout k lt = by (is_table (length plan.names.modules) (piece_at plan.names k)) refl
     where
       test : is_table (length plan.names.modules) (get_or plan.pieces.items k no_piece) ≡ is_table (length plan.names.modules) (piece_at plan.names k)
@@ -137,18 +137,18 @@ module _ (options : LinkOptions) (plan : LinkPlan) (planned : IsPlanOf options p
       number : (get_or plan.pieces.items k no_piece).number ≡ (piece_at plan.names k).number
       number = ap (λ (p : Piece). p.number) (planned_is options plan planned k lt)
 
-      by : (b : Bool) → is_table (length plan.names.modules) (piece_at plan.names k) ≡ b → given_contents (length plan.names.modules) (import_tables_at plan.names layout) (get_or plan.pieces.items k no_piece) ≡ contents_at plan.names layout k
+      by : (b : Bool) → is_table (length plan.names.modules) (piece_at plan.names k) ≡ b → given_contents (length plan.names.modules) (tables_at plan.names layout) (get_or plan.pieces.items k no_piece) ≡ contents_at plan.names layout k
       by true table =
-          ap (λ (b : Bool). cond b (get_or (import_tables_at plan.names layout) (get_or plan.pieces.items k no_piece).number []) (piece_contents (get_or plan.pieces.items k no_piece))) (test ∙ table)
-          ∙ ap (λ (n : ℕ). get_or (import_tables_at plan.names layout) n []) number
+          ap (λ (b : Bool). cond b (get_or (tables_at plan.names layout) (get_or plan.pieces.items k no_piece).number []) (piece_contents (get_or plan.pieces.items k no_piece))) (test ∙ table)
+          ∙ ap (λ (n : ℕ). get_or (tables_at plan.names layout) n []) number
           ∙ sym (table_contents plan.names layout k table)
       by false other =
-          ap (λ (b : Bool). cond b (get_or (import_tables_at plan.names layout) (get_or plan.pieces.items k no_piece).number []) (piece_contents (get_or plan.pieces.items k no_piece))) (test ∙ other)
+          ap (λ (b : Bool). cond b (get_or (tables_at plan.names layout) (get_or plan.pieces.items k no_piece).number []) (piece_contents (get_or plan.pieces.items k no_piece))) (test ∙ other)
           ∙ sym (other_is options plan planned layout k other)
 
-  all_given : (layout : Layout) → map (given_contents (length plan.names.modules) (import_tables_at plan.names layout)) plan.pieces.items ≡ placed_contents plan.names layout
+  all_given : (layout : Layout) → map (given_contents (length plan.names.modules) (tables_at plan.names layout)) plan.pieces.items ≡ placed_contents plan.names layout
   all_given layout =
-      let given = given_contents (length plan.names.modules) (import_tables_at plan.names layout) in
+      let given = given_contents (length plan.names.modules) (tables_at plan.names layout) in
       let same = piece_count options plan planned in
       let placed = length-placed plan.names layout in
       let mapped = length-map plan.pieces.items given in
@@ -158,7 +158,7 @@ module _ (options : LinkOptions) (plan : LinkPlan) (planned : IsPlanOf options p
       ∙ given_is layout k within
       ∙ sym (placed_read plan.names layout k (omega (arith, within, same))))
 
-  module _ (placement : Placement) (placed : IsPlaced options plan placement) (whole : List Piece) (are : AreWhole (length plan.names.modules) (import_tables_at plan.names placement.layout) (reloc_tables placement.table) plan.pieces.items whole) where
+  module _ (placement : Placement) (placed : IsPlaced options plan placement) (whole : List Piece) (are : AreWhole (length plan.names.modules) (tables_at plan.names placement.layout) (reloc_tables placement.table) plan.pieces.items whole) where
     abbrev contents : List (List ℕ)
     contents = placed_contents plan.names placement.layout
 

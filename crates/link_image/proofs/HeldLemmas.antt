@@ -17,13 +17,9 @@ use Rattle.address_layout.specs.Layout.{all_pieces}
 use Rattle.relocate.specs.declared.fix.Fix.{Fix}
 use Rattle.relocate.specs.Field.{has_field}
 use Rattle.relocate.specs.Judged.{IsPatchable, ArePatchable}
-use Rattle.import_tables.specs.ImportShape.{sizes_of}
-use Rattle.import_tables.specs.ImportTables.{tables_of as import_tables_of}
-use Rattle.import_tables.proofs.SizeLemmas.{sizes_kept}
 use Rattle.image_writer.specs.WrittenImage.{HaveRoom}
-use Rattle.synthetic_sections.specs.LinkerPieces.{FIRST_THUNK, size_at}
+use Rattle.synthetic_sections.specs.LinkerPieces.{FIRST_THUNK}
 use Rattle.link_pieces.specs.LinkParts.{LinkParts}
-use Rattle.link_imports.specs.Imports.{import_rows, import_sizes}
 use Rattle.link_pieces.specs.LinkerPieces.{is_table}
 use Rattle.link_pieces.specs.Pieces.{link_pieces, link_contents}
 use Rattle.link_pieces.proofs.CallerLemmas.{table_is}
@@ -32,37 +28,29 @@ use Rattle.link_plan.specs.declared.planning.LinkPlan.{LinkPlan}
 use Rattle.link_plan.specs.Fixes.{piece_at, piece_fixes, planned_piece, HaveFields}
 use Rattle.link_plan.specs.Plan.{IsPlanOf}
 use Rattle.link_plan.proofs.CallerLemmas.{planned_at, plan_count}
-use Rattle.link_image.specs.LinkedBytes.{table_rvas, import_tables_at, contents_at, placed_contents}
+use Rattle.link_exports.specs.Exports.{export_rows, dll_name}
+use Rattle.link_image.specs.LinkedBytes.{tables_at, contents_at, placed_contents}
+use Rattle.link_image.proofs.ExportLemmas.{length-tables}
 use Rattle.link_image.specs.Steps.{HoldTables, IsHeld}
 
 -- ---- by what a piece is
 
-pub table_contents : (link : LinkParts) (layout : Layout) (k : ℕ) → is_table (length link.modules) (piece_at link k) ≡ true → contents_at link layout k ≡ get_or (import_tables_at link layout) (piece_at link k).number []
+pub table_contents : (link : LinkParts) (layout : Layout) (k : ℕ) → is_table (length link.modules) (piece_at link k) ≡ true → contents_at link layout k ≡ get_or (tables_at link layout) (piece_at link k).number []
 unfolding contents_at
 table_contents link layout k table =
-    ap (λ (b : Bool). cond b (get_or (import_tables_at link layout) (piece_at link k).number []) (get_or (link_contents link) k [])) table
+    ap (λ (b : Bool). cond b (get_or (tables_at link layout) (piece_at link k).number []) (get_or (link_contents link) k [])) table
 
 pub other_contents : (link : LinkParts) (layout : Layout) (k : ℕ) → is_table (length link.modules) (piece_at link k) ≡ false → contents_at link layout k ≡ get_or (link_contents link) k []
 unfolding contents_at
 other_contents link layout k other =
-    ap (λ (b : Bool). cond b (get_or (import_tables_at link layout) (piece_at link k).number []) (get_or (link_contents link) k [])) other
-
--- ---- the length of a table
-
-pub length-table : (link : LinkParts) (layout : Layout) (number : ℕ) → length (get_or (import_tables_at link layout) number []) ≡ size_at (import_sizes link.modules) number
-unfolding import_tables_at
-length-table link layout number =
-    let rows = import_rows link.modules in
-    let rvas = table_rvas link layout in
-    sym (get_or-map length (import_tables_of rows rvas) number [])
-    ∙ ap (λ (sizes : List ℕ). get_or sizes number 0) (sizes_kept rows rvas (import_tables_of rows rvas) (sizes_of rows) refl refl)
+    ap (λ (b : Bool). cond b (get_or (tables_at link layout) (piece_at link k).number []) (get_or (link_contents link) k [])) other
 
 -- ---- fields
 
 not_below : (n : ℕ) → ltb n n ≡ false
 not_below n = grind arith
 
--- an import table has none
+-- a table has none
 pub table_fixes : (link : LinkParts) (k : ℕ) → is_table (length link.modules) (piece_at link k) ≡ true → piece_fixes link k ≡ []
 table_fixes link k table =
     let piece = piece_at link k in
@@ -112,7 +100,7 @@ module _ (options : LinkOptions) (plan : LinkPlan) (planned : IsPlanOf options p
   pub same_size : (k : ℕ) → k < length plan.pieces.items → (get_or plan.pieces.items k no_piece).size ≡ (piece_at plan.names k).size
   same_size k lt = ap (λ (p : Piece). p.size) (planned_is k lt)
 
-  -- what one that is no import table has
+  -- what one that is no table has
   pub other_is : (layout : Layout) (k : ℕ) → is_table (length plan.names.modules) (piece_at plan.names k) ≡ false → contents_at plan.names layout k ≡ piece_contents (get_or plan.pieces.items k no_piece)
   other_is layout k other =
       other_contents plan.names layout k other
@@ -127,7 +115,7 @@ module _ (options : LinkOptions) (plan : LinkPlan) (planned : IsPlanOf options p
           let is = table_is plan.names k (omega (arith, lt, piece_count)) table in
           let init : (get_or plan.pieces.items k no_piece).init ≡ true = ap (λ (p : Piece). p.init) (planned_is k lt) ∙ is.init in
           record {
-            filled = λ on. ap length (table_contents plan.names layout k table) ∙ length-table plan.names layout (piece_at plan.names k).number ∙ sym is.size ∙ sym (same_size k lt);
+            filled = λ on. ap length (table_contents plan.names layout k table) ∙ length-tables plan.names layout (export_rows options plan.names.modules) (dll_name options.out) planned.exports_are planned.told (piece_at plan.names k).number ∙ sym is.size ∙ sym (same_size k lt);
             empty = λ off. absurd (false≢true (sym off ∙ init));
           }
       by false other =

@@ -1,6 +1,10 @@
 -- The imports of the modules, read back from the memory that an image of theirs is loaded to.
 use Rattle.std.proofs.Common.{◌≡◌, ℕ, ◌+◌, ◌*◌, ◌^◌, ◌<◌, ◌≤◌, ◌⊎◌, Bool, true, false, cond, eqb, List, [], ◌∷◌, ◌++◌, length, get_or, slice_index, slice_get, Option, Some, None, refl, sym, ap, ◌∙◌, subst, inl, inr, arith}
-use Rattle.std.specs.List.{list_any}
+use Rattle.std.specs.List.{All, list_any}
+use Rattle.link_exports.specs.Exports.{export_rows, dll_name}
+use Rattle.export_tables.specs.declared.row.ExportRow.{ExportRow}
+use Rattle.export_tables.specs.ExportDirectory.{export_of_name, export_of_ordinal}
+use Rattle.export_tables.specs.ReadBack.{exported_name, exported_ordinal, AreReadable as AreReadableExports}
 use Rattle.std.proofs.lemmas.Bool.{cases_lt, eqb-true, false≢true}
 use Rattle.std.proofs.lemmas.List.FromFn.{get_or-map-range_with_len}
 use Rattle.link_base.specs.Bytes.{bytes_at}
@@ -9,13 +13,13 @@ use Rattle.section_group.specs.declared.piece.OutSection.{OutSection}
 use Rattle.section_group.specs.SectionOrder.{no_piece}
 use Rattle.section_group.specs.Uniqueness.{rows_of}
 use Rattle.address_layout.specs.declared.layout.Layout.{Layout}
-use Rattle.pe_loader.specs.LoadedImage.{loaded, directory_rva}
+use Rattle.pe_loader.specs.LoadedImage.{loaded, directory_rva, directory_size}
 use Rattle.relocate.specs.declared.fix.Fix.{Fix}
 use Rattle.relocate.specs.PatchedBytes.{patched_bytes}
 use Rattle.relocate.proofs.CallerLemmas.{nothing_patched}
 use Rattle.import_tables.specs.declared.row.ImportRow.{ImportRow}
 use Rattle.import_tables.specs.ImportDirectory.{Imports, imports_of}
-use Rattle.import_tables.specs.ImportShape.{same_name, dlls_of, directory_size, dll_at, extent_of as shape_extent, sizes_of}
+use Rattle.import_tables.specs.ImportShape.{same_name, dlls_of, directory_size as import_directory_size, dll_at, extent_of as shape_extent, sizes_of}
 use Rattle.import_tables.specs.ImportTables.{EndBelow4G, tables_of as import_tables_of}
 use Rattle.import_tables.specs.ReadBack.{Holds, HoldsTables, StandAboveZero, AreReadable, found_of}
 use Rattle.import_tables.proofs.ApartLemmas.{listed, table_within}
@@ -24,9 +28,10 @@ use Rattle.image_writer.specs.declared.headers.Headers.{Headers}
 use Rattle.image_writer.specs.ExpectedImage.{ImagePlan, MeansPlan, permits, expected_image, image_file}
 use Rattle.image_writer.specs.HeaderTable.{size_of_headers}
 use Rattle.image_writer.specs.WrittenImage.{written_plan, layout_plan}
-use Rattle.synthetic_sections.specs.LinkerPieces.{size_at}
+use Rattle.synthetic_sections.specs.LinkerPieces.{EXPORTS, size_at}
 use Rattle.link_pieces.specs.LinkParts.{LinkParts}
 use Rattle.link_imports.specs.Imports.{import_rows, import_sizes}
+use Rattle.link_pieces.specs.LinkerPieces.{table_sizes}
 use Rattle.link_pieces.specs.PieceIndex.{linker_index}
 use Rattle.link_pieces.proofs.CallerLemmas.{table_there}
 use Rattle.link_pieces.specs.Pieces.{link_pieces}
@@ -36,21 +41,24 @@ use Rattle.link_plan.specs.Fixes.{piece_at}
 use Rattle.link_plan.specs.Plan.{IsPlanOf}
 use Rattle.link_image.specs.declared.placement.Placement.{Placement}
 use Rattle.link_image.specs.ImageHeaders.{headers_of}
-use Rattle.link_image.specs.LinkedBytes.{section_of, owners_in, rva_of, table_rva, table_rvas, import_tables_at, contents_at, image_contents}
-use Rattle.link_image.specs.LinkedImage.{extent_of, import_extent, directories_of, HoldsImports}
-use Rattle.link_image.specs.Steps.{reloc_tables, IsPlaced, IsReady}
-use Rattle.link_image.proofs.HeldLemmas.{piece_count, same_size, table_contents, table_fixes, length-table}
-use Rattle.link_image.proofs.MemoryLemmas.{directory_reads, above_headers, in_memory}
+use Rattle.link_image.specs.LinkedBytes.{section_of, owners_in, rva_of, table_rva, table_rvas, import_tables_at, exported_rows, export_table_at, tables_at, contents_at, image_contents}
+use Rattle.link_image.specs.ExportFaults.{in_table_fault}
+use Rattle.link_image.specs.LinkedImage.{extent_of, table_extent, directories_of, HoldsImports, HoldsExports}
+use Rattle.link_image.specs.Steps.{reloc_tables, IsGiven, IsPlaced, IsReady}
+use Rattle.link_image.proofs.HeldLemmas.{piece_count, same_size, table_contents, table_fixes}
+use Rattle.link_image.proofs.ExportLemmas.{HasTable, has_table, length-tables, import_size, import_table, export_size, export_table_is}
+use Rattle.link_image.proofs.ExportReadLemmas.{readable, exports_read, exports_read_by_ordinal, none_read as none_read_name, none_read_by_ordinal as none_read_ordinal, no_rows}
+use Rattle.link_image.proofs.MemoryLemmas.{directory_reads, directory_sized, above_headers, in_memory}
 use Rattle.link_image.proofs.MoveLemmas.{contents_room}
 use Rattle.link_image.proofs.PieceMoves.{piece_read}
 use Rattle.link_image.proofs.StandsLemmas.{OwnerAt, owner_at}
 use Rattle.link_image.proofs.TableLemmas.{IsTableAt, found_table}
 
--- ---- every import table that has bytes is made
+-- ---- every table that has bytes is made
 
 abbrev AreMade : LinkParts → Type 0
 AreMade link =
-    (number : ℕ) → number < 5 → 0 < size_at (import_sizes link.modules) number → (k : ℕ) × (linker_index link number ≡ Some k)
+    (number : ℕ) → number < 6 → 0 < size_at (table_sizes link) number → (k : ℕ) × (linker_index link number ≡ Some k)
 
 pub are_made : (link : LinkParts) → AreMade link
 are_made link number few sized = by (linker_index link number) refl
@@ -93,10 +101,10 @@ some_listed : (name : List ℕ) (dlls : List (List ℕ)) → list_any (same_name
 some_listed name [] any = absurd (false≢true any)
 some_listed name (dll ∷ dlls) any = omega arith
 
-some_directory : (dlls : ℕ) → 0 < dlls → 0 < directory_size dlls
+some_directory : (dlls : ℕ) → 0 < dlls → 0 < import_directory_size dlls
 some_directory dlls some = by (eqb dlls 0) refl
   where
-    by : (b : Bool) → eqb dlls 0 ≡ b → 0 < directory_size dlls
+    by : (b : Bool) → eqb dlls 0 ≡ b → 0 < import_directory_size dlls
     by true none = absurd (omega (arith, some, eqb-true dlls 0 none))
     by false any = subst (λ (b : Bool). 0 < cond b 0 (20 * (dlls + 1))) (sym any) (omega arith)
 
@@ -158,10 +166,14 @@ module _ (options : LinkOptions) (plan : LinkPlan) (placement : Placement) (owne
   image = layout_plan headers placement.sections.items placement.layout contents
 
   abbrev table : ℕ → List ℕ
-  table number = get_or (import_tables_at plan.names placement.layout) number []
+  table number = get_or (tables_at plan.names placement.layout) number []
 
   abbrev size : ℕ → ℕ
-  size number = size_at (import_sizes plan.names.modules) number
+  size number = size_at (table_sizes plan.names) number
+
+  long : (number : ℕ) → length (table number) ≡ size number
+  long number =
+      length-tables plan.names placement.layout (export_rows options plan.names.modules) (dll_name options.out) planned.exports_are planned.told number
 
   -- a table in the memory at a base
   record Stands (base number : ℕ) : Type 0 where
@@ -193,7 +205,7 @@ module _ (options : LinkOptions) (plan : LinkPlan) (placement : Placement) (owne
       let i = section_of (rows_of placement.sections.items) k in
       let room = contents_room plan.names plan.pieces.items plan.fixes.items placement.sections.items placement.layout owner (reloc_tables placement.table) ready base in
       let linked = table_linked base number k at in
-      let len : length (get_or (contents base) k []) ≡ size number = ap length linked ∙ length-table plan.names placement.layout number in
+      let len : length (get_or (contents base) k []) ≡ size number = ap length linked ∙ long number in
       let there = in_memory headers (plan.pieces.items ++ ready.rest) placement.sections.items placement.layout contents base ready.laid room i own.number own.there own.within in
       let here = subst (λ (n : ℕ). bytes_at (expected_image image base) (get_or placement.layout.pieces.items n 0) (length (get_or (contents base) n [])) ≡ get_or (contents base) n []) own.is there in
       let low = subst (λ (n : ℕ). 0 < length (get_or (contents base) n []) → placement.layout.headers ≤ get_or placement.layout.pieces.items n 0) own.is
@@ -208,10 +220,10 @@ module _ (options : LinkOptions) (plan : LinkPlan) (placement : Placement) (owne
       }
 
   module _ (made : AreMade plan.names) where
-    none_stands : (base number : ℕ) → number < 5 → linker_index plan.names number ≡ None → table_rva plan.names placement.layout number ≡ 0 → Stands base number
+    none_stands : (base number : ℕ) → number < 6 → linker_index plan.names number ≡ None → table_rva plan.names placement.layout number ≡ 0 → Stands base number
     none_stands base number few none rva =
         let nothing : size number ≡ 0 = by (cases_lt 0 (size number)) in
-        let empty : table number ≡ [] = empty_is (table number) (length-table plan.names placement.layout number ∙ nothing) in
+        let empty : table number ≡ [] = empty_is (table number) (long number ∙ nothing) in
         record {
           held = subst (λ (bytes : List ℕ). Holds (expected_image image base) (table_rva plan.names placement.layout number) bytes) (sym empty) refl;
           ends = omega (arith, rva, nothing);
@@ -225,7 +237,7 @@ module _ (options : LinkOptions) (plan : LinkPlan) (placement : Placement) (owne
         by (inl some) = absurd (let there = made number few some in nowhere there.0 there.1)
         by (inr zero) = omega arith
 
-    stands : (base number : ℕ) → number < 5 → Stands base number
+    stands : (base number : ℕ) → number < 6 → Stands base number
     stands base number few = by (linker_index plan.names number) refl
       where
         by : (place : Option ℕ) → linker_index plan.names number ≡ place → Stands base number
@@ -244,9 +256,9 @@ module _ (options : LinkOptions) (plan : LinkPlan) (placement : Placement) (owne
         let memory = expected_image image base in
         ap (imports_of memory) (sym (rva_is 0 (omega arith)))
         ∙ tables_read_back rows rvas memory some readable
-        (end_all rows rvas (λ number few. let rva = rva_is number few in let end = (stands base number few).ends in omega (arith, rva, end)))
-        (above_all rows rvas some (λ number few any. let rva = rva_is number few in let above = (stands base number few).above any in omega (arith, rva, above)))
-        (held_all memory rows rvas (λ number few. subst (λ (r : ℕ). Holds memory r (table number)) (sym (rva_is number few)) (stands base number few).held))
+        (end_all rows rvas (λ number few. let rva = rva_is number few in let end = (stands base number (omega (arith, few))).ends in omega (arith, rva, end, import_size plan.names number few)))
+        (above_all rows rvas some (λ number few any. let rva = rva_is number few in let above = (stands base number (omega (arith, few))).above (omega (arith, any, import_size plan.names number few)) in omega (arith, rva, above)))
+        (held_all memory rows rvas (λ number few. subst (λ (bytes : List ℕ). Holds memory (slice_index rvas number) bytes) (import_table plan.names placement.layout number few) (subst (λ (r : ℕ). Holds memory r (table number)) (sym (rva_is number few)) (stands base number (omega (arith, few))).held)))
 
     none_read_here : (base : ℕ) → import_rows plan.names.modules ≡ [] → imports_of (expected_image image base) (table_rva plan.names placement.layout 0) ≡ Imports (found_of (import_rows plan.names.modules) (table_rvas plan.names placement.layout))
     none_read_here base none =
@@ -258,7 +270,7 @@ module _ (options : LinkOptions) (plan : LinkPlan) (placement : Placement) (owne
         by None nowhere = ap (rva_of placement.layout.pieces.items) nowhere
         by (Some k) found =
             let at = found_table plan.names 0 k (omega arith) found in
-            absurd (omega (arith, at.is.some, table_size 0 k at, no_size (import_rows plan.names.modules) none))
+            absurd (omega (arith, at.is.some, table_size 0 k at, import_size plan.names 0 (omega arith), no_size (import_rows plan.names.modules) none))
 
     imports_read : (base : ℕ) → AreReadable (import_rows plan.names.modules) → imports_of (expected_image image base) (table_rva plan.names placement.layout 0) ≡ Imports (found_of (import_rows plan.names.modules) (table_rvas plan.names placement.layout))
     imports_read base readable =
@@ -273,7 +285,7 @@ module _ (options : LinkOptions) (plan : LinkPlan) (placement : Placement) (owne
     directory_is entry is =
         let rva = extent_rva (link_pieces plan.names) placement.layout.pieces.items (linker_index plan.names 0) in
         let end = (stands 0 0 (omega arith)).ends in
-        directory_reads image 1 (import_extent plan.names placement.layout 0) (ap (λ (h : Headers). slice_get h.directories 1) is) (omega (arith, rva, end))
+        directory_reads image 1 (table_extent plan.names placement.layout 0) (ap (λ (h : Headers). slice_get h.directories 1) is) (omega (arith, rva, end))
         ∙ rva
 
     pub imports_there : (entry : ℕ) (file : List ℕ) → headers ≡ headers_of options entry (directories_of plan.names placement.layout (reloc_tables placement.table)) → file ≡ image_file image → MeansPlan image file → AreReadable (import_rows plan.names.modules) → HoldsImports plan.names placement.layout file
@@ -281,3 +293,101 @@ module _ (options : LinkOptions) (plan : LinkPlan) (placement : Placement) (owne
         ap (λ (m : List ℕ). imports_of m (directory_rva file 1)) (loaded_is image file means base memory loads)
         ∙ ap (imports_of (expected_image image base)) (ap (λ (bytes : List ℕ). directory_rva bytes 1) written ∙ directory_is entry is)
         ∙ imports_read base readable
+
+    -- ---- exports
+
+    export_ends : table_rva plan.names placement.layout EXPORTS + plan.names.exports.size < 2 ^ 32
+    export_ends = let end = (stands 0 EXPORTS (omega arith)).ends in omega (arith, end, export_size plan.names)
+
+    exports_directory : (entry : ℕ) → headers ≡ headers_of options entry (directories_of plan.names placement.layout (reloc_tables placement.table)) → (directory_rva (image_file image) 0 ≡ (table_extent plan.names placement.layout EXPORTS).0) × (directory_size (image_file image) 0 ≡ (table_extent plan.names placement.layout EXPORTS).1)
+    unfolding written_plan
+    exports_directory entry is =
+        let rva = extent_rva (link_pieces plan.names) placement.layout.pieces.items (linker_index plan.names EXPORTS) in
+        let sized = by (linker_index plan.names EXPORTS) refl in
+        let first = ap (λ (h : Headers). slice_get h.directories 0) is in
+        (directory_reads image 0 (table_extent plan.names placement.layout EXPORTS) first (omega (arith, rva, export_ends)), directory_sized image 0 (table_extent plan.names placement.layout EXPORTS) first (omega (arith, sized, export_ends)))
+      where
+        by : (place : Option ℕ) → linker_index plan.names EXPORTS ≡ place → (extent_of (link_pieces plan.names) placement.layout.pieces.items (linker_index plan.names EXPORTS)).1 ≤ plan.names.exports.size
+        by None none = omega (arith, ap (λ (place : Option ℕ). (extent_of (link_pieces plan.names) placement.layout.pieces.items place).1) none)
+        by (Some k) found =
+            let at = found_table plan.names EXPORTS k (omega arith) found in
+            omega (arith, ap (λ (place : Option ℕ). (extent_of (link_pieces plan.names) placement.layout.pieces.items place).1) found, table_size EXPORTS k at, export_size plan.names)
+
+    module _ (outside : in_table_fault plan.names placement.layout.pieces.items ≡ None) (given : 0 < plan.names.exports.size → All (λ row. IsGiven row.what) (exported_rows plan.names placement.layout.pieces.items)) where
+      abbrev rows : List ExportRow
+      rows = exported_rows plan.names placement.layout.pieces.items
+
+      held_exports : (base : ℕ) → bytes_at (expected_image image base) (table_rva plan.names placement.layout EXPORTS) (length (export_table_at plan.names placement.layout)) ≡ export_table_at plan.names placement.layout
+      held_exports base = subst (Holds (expected_image image base) (table_rva plan.names placement.layout EXPORTS)) (export_table_is plan.names placement.layout) (stands base EXPORTS (omega arith)).held
+
+      table_has : 0 < plan.names.exports.size → HasTable plan.names
+      table_has some = has_table plan.names (export_rows options plan.names.modules) (dll_name options.out) planned.exports_are planned.told some
+
+      are_readable : 0 < plan.names.exports.size → AreReadableExports rows (table_rva plan.names placement.layout EXPORTS) plan.names.exports.size
+      are_readable some = readable plan.names placement.layout.pieces.items (table_has some) planned.told (given some) outside
+
+      without : plan.names.exports.size ≡ 0 → length plan.names.exports.rows ≡ 0
+      without none = ap length (no_rows plan.names (export_rows options plan.names.modules) (dll_name options.out) planned.exports_are placed.means.grouped.exports none)
+
+      record Extends : Type 0 where
+        rva_zero : plan.names.exports.size ≡ 0 → (table_extent plan.names placement.layout EXPORTS) ≡ (0, 0)
+        extent_is : 0 < plan.names.exports.size → (table_extent plan.names placement.layout EXPORTS) ≡ (table_rva plan.names placement.layout EXPORTS, plan.names.exports.size)
+
+      extends : Extends
+      extends = by (linker_index plan.names EXPORTS) refl
+        where
+          by : (place : Option ℕ) → linker_index plan.names EXPORTS ≡ place → Extends
+          by None none = record {
+            rva_zero = λ zero. ap (extent_of (link_pieces plan.names) placement.layout.pieces.items) none;
+            extent_is = λ some. absurd (let there = made EXPORTS (omega arith) (omega (arith, some, export_size plan.names)) in nothing_some there.0 (sym none ∙ there.1));
+          }
+          by (Some k) found =
+              let at = found_table plan.names EXPORTS k (omega arith) found in
+              let size : (get_or (link_pieces plan.names) k no_piece).size ≡ plan.names.exports.size = table_size EXPORTS k at ∙ export_size plan.names in
+              record {
+                rva_zero = λ zero. absurd (omega (arith, at.is.some, size, zero));
+                extent_is = λ some.
+                    ap (extent_of (link_pieces plan.names) placement.layout.pieces.items) found
+                    ∙ ap (λ (n : ℕ). (get_or placement.layout.pieces.items k 0, n)) size
+                    ∙ ap (λ (r : ℕ). (r, plan.names.exports.size)) (sym (ap (rva_of placement.layout.pieces.items) found));
+              }
+
+      name_read : (base : ℕ) (name : List ℕ) → export_of_name (expected_image image base) (table_extent plan.names placement.layout EXPORTS).0 (table_extent plan.names placement.layout EXPORTS).1 name ≡ exported_name rows name
+      name_read base name =
+          elim (cases_lt 0 plan.names.exports.size) [
+            | inl some ↦
+                ap (λ (e : ℕ × ℕ). export_of_name (expected_image image base) e.0 e.1 name) (extends.extent_is some)
+                ∙ exports_read plan.names placement.layout (expected_image image base) (table_has some) (are_readable some) export_ends (held_exports base) name
+            | inr none ↦
+                ap (λ (e : ℕ × ℕ). export_of_name (expected_image image base) e.0 e.1 name) (extends.rva_zero (omega (arith, none)))
+                ∙ none_read_name plan.names (expected_image image base) placement.layout.pieces.items name (without (omega (arith, none)))
+          ]
+
+      ordinal_read : (base ordinal : ℕ) → export_of_ordinal (expected_image image base) (table_extent plan.names placement.layout EXPORTS).0 (table_extent plan.names placement.layout EXPORTS).1 ordinal ≡ exported_ordinal rows plan.names.exports.ordinals ordinal
+      ordinal_read base ordinal =
+          elim (cases_lt 0 plan.names.exports.size) [
+            | inl some ↦
+                ap (λ (e : ℕ × ℕ). export_of_ordinal (expected_image image base) e.0 e.1 ordinal) (extends.extent_is some)
+                ∙ exports_read_by_ordinal plan.names placement.layout (expected_image image base) (table_has some) (are_readable some) export_ends (held_exports base) ordinal
+            | inr none ↦
+                ap (λ (e : ℕ × ℕ). export_of_ordinal (expected_image image base) e.0 e.1 ordinal) (extends.rva_zero (omega (arith, none)))
+                ∙ none_read_ordinal plan.names (export_rows options plan.names.modules) (dll_name options.out) (expected_image image base) placement.layout.pieces.items ordinal planned.exports_are (without (omega (arith, none)))
+          ]
+
+      pub exports_there : (entry : ℕ) (file : List ℕ) → headers ≡ headers_of options entry (directories_of plan.names placement.layout (reloc_tables placement.table)) → file ≡ image_file image → MeansPlan image file → HoldsExports plan.names placement.layout file
+      exports_there entry file is written means =
+          let at = exports_directory entry is in
+          let rva = ap (λ (bytes : List ℕ). directory_rva bytes 0) written ∙ at.0 in
+          let size = ap (λ (bytes : List ℕ). directory_size bytes 0) written ∙ at.1 in
+          record {
+            by_name = λ base memory name loads.
+                ap (λ (m : List ℕ). export_of_name m (directory_rva file 0) (directory_size file 0) name) (loaded_is image file means base memory loads)
+                ∙ ap (λ (r : ℕ). export_of_name (expected_image image base) r (directory_size file 0) name) rva
+                ∙ ap (λ (s : ℕ). export_of_name (expected_image image base) (table_extent plan.names placement.layout EXPORTS).0 s name) size
+                ∙ name_read base name;
+            by_ordinal = λ base memory ordinal loads.
+                ap (λ (m : List ℕ). export_of_ordinal m (directory_rva file 0) (directory_size file 0) ordinal) (loaded_is image file means base memory loads)
+                ∙ ap (λ (r : ℕ). export_of_ordinal (expected_image image base) r (directory_size file 0) ordinal) rva
+                ∙ ap (λ (s : ℕ). export_of_ordinal (expected_image image base) (table_extent plan.names placement.layout EXPORTS).0 s ordinal) size
+                ∙ ordinal_read base ordinal;
+          }

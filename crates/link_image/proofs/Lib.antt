@@ -18,3 +18,5 @@ pub mod MeansLemmas
 pub mod MemoryLemmas
 pub mod PlanLemmas
 pub mod OnePlacement
+pub mod ExportLemmas
+pub mod ExportReadLemmas

@@ -1,6 +1,6 @@
 -- The file of a plan that is placed and patched loads as planned at every permitted base.
 use Rattle.std.proofs.Common.{◌≡◌, ℕ, ◌+◌, ◌-◌, ◌%◌, ◌^◌, ◌<◌, ◌≤◌, Bool, true, false, cond, ◌&&◌, ◌||◌, not, eqb, leb, List, [], ◌∷◌, ◌++◌, length, get_or, slice_get, Option, Some, None, refl, sym, ap, ◌∙◌, subst, length-append, arith}
-use Rattle.std.specs.List.{flat_map}
+use Rattle.std.specs.List.{All, flat_map}
 use Rattle.std.proofs.Math.Seq.{get_or-append_seam}
 use Rattle.std.proofs.lemmas.Bool.{and_parts, leb-true, eqb-true}
 use Rattle.std.proofs.lemmas.List.{length-map, get_or_append_left, get_or-append_right}
@@ -38,11 +38,12 @@ use Rattle.link_image.specs.declared.make.Built.{Built}
 use Rattle.link_image.specs.declared.placement.Placement.{Placement}
 use Rattle.link_image.specs.BaseFields.{holds_address, is_relocated, base_field, IsBaseField, AreBaseFields}
 use Rattle.link_image.specs.ImageHeaders.{directory_list, headers_of}
-use Rattle.link_image.specs.LinkedBytes.{linked_contents, image_contents, fields_range_fault}
+use Rattle.link_image.specs.LinkedBytes.{exported_rows, linked_contents, image_contents, fields_range_fault}
+use Rattle.link_image.specs.ExportFaults.{in_table_fault}
 use Rattle.link_image.specs.LinkedImage.{base_rule, entry_rva, table_row, directories_of, HasTable, IsWhole, IsBuilt}
-use Rattle.link_image.specs.Steps.{reloc_tables, file_of, IsPlaced, IsReady}
+use Rattle.link_image.specs.Steps.{reloc_tables, file_of, IsGiven, IsPlaced, IsReady}
 use Rattle.link_image.proofs.FieldLemmas.{total_is}
-use Rattle.link_image.proofs.ImportLemmas.{are_made, imports_there}
+use Rattle.link_image.proofs.ImportLemmas.{are_made, imports_there, exports_there}
 use Rattle.link_image.proofs.MoveLemmas.{one_length, contents_room, contents_stay, contents_moved}
 use Rattle.link_image.proofs.PieceMoves.{length_linked}
 
@@ -213,10 +214,10 @@ module _ (options : LinkOptions) (plan : LinkPlan) (placement : Placement) (owne
           (stays alone same.2)
 
   -- what is written of the plan means it
-  pub built : (made : Built) → is_permitted (base_rule options) placement.layout.image options.base ≡ true → fields_range_fault plan.names (rows_of placement.sections.items) placement.layout options.base ≡ None
+  pub built : (made : Built) → is_permitted (base_rule options) placement.layout.image options.base ≡ true → in_table_fault plan.names placement.layout.pieces.items ≡ None → (0 < plan.names.exports.size → All (λ row. IsGiven row.what) (exported_rows plan.names placement.layout.pieces.items)) → fields_range_fault plan.names (rows_of placement.sections.items) placement.layout options.base ≡ None
       → made.image.items ≡ file_of headers placement.sections.items placement.layout (linked_contents plan.names (rows_of placement.sections.items) placement.layout options.base) (reloc_tables placement.table) → made.sections ≡ length placement.sections.items → IsBuilt options plan.names made
   unfolding written_plan
-  built made permitted in_range is count =
+  built made permitted outside given in_range is count =
       let file : made.image.items ≡ image_file image = is ∙ same_file headers placement.sections.items placement.layout (at_each_base (contents options.base)) contents refl in
       record {
         image = image;
@@ -226,6 +227,7 @@ module _ (options : LinkOptions) (plan : LinkPlan) (placement : Placement) (owne
           tables = reloc_tables placement.table;
           placement = placed.means;
           permitted = permitted;
+          outside = outside;
           in_range = in_range;
           is = ap (λ (place : Option EntryPlace). layout_plan (headers_of options (entry_rva placement.layout.pieces.items place) (directories_of plan.names placement.layout (reloc_tables placement.table))) placement.sections.items placement.layout contents) planned.entry_is;
         };
@@ -233,5 +235,7 @@ module _ (options : LinkOptions) (plan : LinkPlan) (placement : Placement) (owne
         means = subst (MeansPlan image) (sym file) (means permitted);
         imports =
             imports_there options plan placement owner planned placed ready headers (are_made plan.names) (entry_rva placement.layout.pieces.items plan.entry) made.image.items refl file (subst (MeansPlan image) (sym file) (means permitted)) planned.imports.readable;
+        exports =
+            exports_there options plan placement owner planned placed ready headers (are_made plan.names) outside given (entry_rva placement.layout.pieces.items plan.entry) made.image.items refl file (subst (MeansPlan image) (sym file) (means permitted));
         count = count ∙ sym (length-section_rows (plan.pieces.items ++ ready.rest) placement.sections.items placement.layout ready.laid);
       }

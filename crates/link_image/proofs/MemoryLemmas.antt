@@ -1,9 +1,9 @@
 -- The bytes of a piece in the memory that a layout means, and the directories in its file.
-use Rattle.std.proofs.Common.{◌≡◌, ℕ, zero, suc, ◌+◌, ◌*◌, ◌^◌, ◌<◌, ◌≤◌, nat_lt, false, List, [], ◌∷◌, length, get_or, slice_index, slice_get, Some, refl, sym, ap, ◌∙◌, subst, le-ltb, arith}
+use Rattle.std.proofs.Common.{◌≡◌, ℕ, zero, suc, ◌+◌, ◌*◌, ◌^◌, ◌<◌, ◌≤◌, nat_lt, false, List, [], ◌∷◌, ◌++◌, length, get_or, slice_index, slice_get, Some, refl, sym, ap, ◌∙◌, subst, le-ltb, arith}
 use Rattle.std.proofs.lemmas.Bool.{cond-false}
 use Rattle.std.proofs.lemmas.List.{length-map}
 use Rattle.std.proofs.lemmas.List.FromFn.{get_or-map-range_with_len, length-map-range_with_len}
-use Rattle.link_base.specs.Bytes.{bytes_at}
+use Rattle.link_base.specs.Bytes.{bytes_at, number_bytes}
 use Rattle.section_group.specs.declared.piece.Piece.{Piece}
 use Rattle.section_group.specs.declared.piece.OutSection.{OutSection}
 use Rattle.section_group.specs.Uniqueness.{SectionRow as OutRow, row_of, rows_of}
@@ -11,7 +11,7 @@ use Rattle.address_layout.specs.declared.layout.Placed.{Placed}
 use Rattle.address_layout.specs.declared.layout.Layout.{Layout}
 use Rattle.address_layout.specs.Layout.{placed_at}
 use Rattle.address_layout.specs.Places.{row_at}
-use Rattle.pe_loader.specs.LoadedImage.{directory_rva}
+use Rattle.pe_loader.specs.LoadedImage.{directory_rva, directory_size}
 use Rattle.image_writer.specs.declared.headers.Headers.{Headers}
 use Rattle.image_writer.specs.ExpectedImage.{ImagePlan, PlacedBytes, piece_byte, expected_byte, expected_image, image_file}
 use Rattle.image_writer.specs.HeaderTable.{size_of_headers, directory_fields}
@@ -26,7 +26,7 @@ use Rattle.image_writer.proofs.PatchLemmas.{bytes_are}
 use Rattle.image_writer.proofs.PieceInFileLemmas.{pieces_link}
 use Rattle.image_writer.proofs.PieceLemmas.{lies_in, low_in, owner}
 use Rattle.image_writer.proofs.PlanBytes.{written_bytes}
-use Rattle.image_writer.proofs.StandsAt.{StandsAt, part_at, reads}
+use Rattle.image_writer.proofs.StandsAt.{StandsAt, part_at, reads, behind}
 use Rattle.image_writer.proofs.TableLemmas.{length-section_rows}
 
 -- ---- a directory
@@ -36,6 +36,13 @@ unfolding directory_rva
 directory_reads plan number directory is fits =
     let here : StandsAt (directory_fields directory) (200 + 8 * number) (image_file plan) = part_at directory_fields 8 length-directory_fields plan.headers.directories number directory 200 (image_file plan) (parts_stand plan).directories_at is in
     rw (signature_place plan) (reads _ _ _ (200 + 8 * number) here refl fits)
+
+pub directory_sized : (plan : ImagePlan) (number : ℕ) (directory : ℕ × ℕ) → slice_get plan.headers.directories number ≡ Some directory → directory.1 < 2 ^ 32 → directory_size (image_file plan) number ≡ directory.1
+unfolding directory_size
+directory_sized plan number directory is fits =
+    let here : StandsAt (directory_fields directory) (200 + 8 * number) (image_file plan) = part_at directory_fields 8 length-directory_fields plan.headers.directories number directory 200 (image_file plan) (parts_stand plan).directories_at is in
+    let at : 200 + 8 * number + 4 ≡ 204 + 8 * number = omega arith in
+    rw (signature_place plan) (reads _ _ _ (204 + 8 * number) (subst (λ (o : ℕ). StandsAt (number_bytes 4 directory.1 ++ []) o (image_file plan)) at (behind _ _ _ here)) refl fits)
 
 -- ---- a section ends inside the image
 

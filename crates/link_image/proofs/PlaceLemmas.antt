@@ -1,5 +1,5 @@
 -- What layouts say of the fields of a link: the places of pieces and of sections decide it.
-use Rattle.std.proofs.Common.{◌≡◌, ℕ, ◌-◌, cond, List, [], ◌∷◌, length, map, get_or, Option, option_map, ap, ◌∙◌}
+use Rattle.std.proofs.Common.{◌≡◌, ℕ, ◌-◌, cond, eqb, List, [], ◌∷◌, ◌++◌, length, map, get_or, Option, option_map, ap, ◌∙◌}
 use Rattle.std.specs.List.{range_with_len}
 use Rattle.std.proofs.Math.Path.{fun_ext}
 use Rattle.link_base.specs.Refusals.{first_refusal_below}
@@ -15,18 +15,21 @@ use Rattle.import_tables.specs.ReadBack.{found_of}
 use Rattle.import_tables.specs.ImportTables.{tables_of as import_tables_of}
 use Rattle.link_imports.specs.Imports.{import_rows}
 use Rattle.link_pieces.specs.LinkerPieces.{is_table}
+use Rattle.synthetic_sections.specs.LinkerPieces.{EXPORTS}
+use Rattle.export_tables.specs.ExportTable.{export_table}
+use Rattle.export_tables.specs.ReadBack.{exported_name, exported_ordinal}
 use Rattle.link_pieces.specs.PieceIndex.{linker_index}
 use Rattle.link_pieces.specs.Pieces.{link_pieces, link_contents}
 use Rattle.link_plan.specs.Fixes.{piece_at, piece_fixes}
 use Rattle.link_image.specs.declared.headers.Directories.{Directories}
-use Rattle.link_image.specs.LinkedImage.{extent_of, directories_of, HoldsImports}
-use Rattle.link_image.specs.LinkedBytes.{owners, owners_in, rva_of, table_rvas, import_tables_at, contents_at, linked_bytes, linked_contents, out_of_range, piece_range_fault, fields_range_fault}
+use Rattle.link_image.specs.LinkedImage.{extent_of, directories_of, HoldsImports, HoldsExports}
+use Rattle.link_image.specs.LinkedBytes.{owners, owners_in, rva_of, table_rvas, import_tables_at, exported_rows, export_table_at, contents_at, linked_bytes, linked_contents, out_of_range, piece_range_fault, fields_range_fault}
 
 module _ (layout other : Layout) (pieces : layout.pieces.items ≡ other.pieces.items) (sections : layout.sections.items ≡ other.sections.items) where
   held_same : (link : LinkParts) (k : ℕ) → contents_at link layout k ≡ contents_at link other k
-  unfolding contents_at import_tables_at table_rvas
+  unfolding contents_at import_tables_at export_table_at table_rvas
   held_same link k =
-      ap (λ (rvas : List ℕ). cond (is_table (length link.modules) (piece_at link k)) (get_or (import_tables_of (import_rows link.modules) (map (λ number. rva_of rvas (linker_index link number)) (range_with_len 0 5))) (piece_at link k).number []) (get_or (link_contents link) k [])) pieces
+      ap (λ (rvas : List ℕ). cond (is_table (length link.modules) (piece_at link k)) (get_or (import_tables_of (import_rows link.modules) (map (λ number. rva_of rvas (linker_index link number)) (range_with_len 0 5)) ++ cond (eqb link.exports.size 0) [] (export_table (exported_rows link rvas) link.exports.ordinals link.exports.dll (rva_of rvas (linker_index link EXPORTS))) ∷ []) (piece_at link k).number []) (get_or (link_contents link) k [])) pieces
 
   piece_same : (link : LinkParts) (rows : List SectionRow) (base k : ℕ) → linked_bytes link rows layout base k ≡ linked_bytes link rows other base k
   piece_same link rows base k =
@@ -54,6 +57,7 @@ range_by_places link rows layout other base pieces sections =
 -- the directories, by the RVAs of the pieces and the one of the base relocations
 directories : LinkParts → ℕ × ℕ → List ℕ → Directories
 directories link relocations rvas = record {
+  exports = extent_of (link_pieces link) rvas (linker_index link EXPORTS);
   imports = extent_of (link_pieces link) rvas (linker_index link 0);
   slots = extent_of (link_pieces link) rvas (linker_index link 2);
   relocations = relocations;
@@ -74,3 +78,10 @@ rvas_by_places link layout other pieces =
 pub imports_by_places : (link : LinkParts) (layout other : Layout) (image : List ℕ) → layout.pieces.items ≡ other.pieces.items → HoldsImports link layout image → HoldsImports link other image
 imports_by_places link layout other image pieces holds base memory loads =
     holds base memory loads ∙ ap (λ (rvas : List ℕ). Imports (found_of (import_rows link.modules) rvas)) (rvas_by_places link layout other pieces)
+
+-- and its exports
+pub exports_by_places : (link : LinkParts) (layout other : Layout) (image : List ℕ) → layout.pieces.items ≡ other.pieces.items → HoldsExports link layout image → HoldsExports link other image
+exports_by_places link layout other image pieces holds = record {
+  by_name = λ base memory name loads. holds.by_name base memory name loads ∙ ap (λ (rvas : List ℕ). exported_name (exported_rows link rvas) name) pieces;
+  by_ordinal = λ base memory ordinal loads. holds.by_ordinal base memory ordinal loads ∙ ap (λ (rvas : List ℕ). exported_ordinal (exported_rows link rvas) link.exports.ordinals ordinal) pieces;
+}

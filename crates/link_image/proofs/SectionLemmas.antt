@@ -1,5 +1,5 @@
 -- From what grouping and placing say of the pieces of a plan to what they say of the modules.
-use Rattle.std.proofs.Common.{◌≡◌, ℕ, suc, ◌+◌, ◌<◌, ◌^◌, ◌⊎◌, Bool, true, false, ◌≤◌, List, [], ◌∷◌, ◌++◌, length, length-append, map, replicate, get_or, Some, refl, sym, ap, ◌∙◌, subst, inl, inr, arith}
+use Rattle.std.proofs.Common.{◌≡◌, ℕ, suc, ◌+◌, ◌<◌, ◌^◌, ◌⊎◌, Bool, true, false, ◌≤◌, List, [], ◌∷◌, ◌++◌, length, length-append, map, replicate, get_or, Some, None, refl, sym, ap, ◌∙◌, subst, inl, inr, arith}
 use Rattle.std.specs.List.{All, Contains}
 use Rattle.std.proofs.lemmas.Bool.{lt-ltb, and_from, or_left, or_right}
 use Rattle.std.proofs.lemmas.List.{length-map, map-append, append-nil, get_or-replicate, get_or_append_left}
@@ -11,7 +11,7 @@ use Rattle.section_group.specs.declared.piece.OutSection.{OutSection}
 use Rattle.section_group.specs.BarePieces.{bare}
 use Rattle.section_group.specs.Placement.{IsGrouping, needs_place}
 use Rattle.section_group.specs.SectionOrder.{Input, no_piece, input_from, is_used}
-use Rattle.section_group.specs.Merging.{NamesFirstBad}
+use Rattle.section_group.specs.Merging.{HasNoBadMerge, NamesFirstBad}
 use Rattle.section_group.specs.Uniqueness.{SectionRow as OutRow, row_of, rows_of}
 use Rattle.section_group.proofs.CallerLemmas.{grouping_bare}
 use Rattle.address_layout.specs.declared.base.BaseRule.{BaseRule}
@@ -43,6 +43,7 @@ use Rattle.link_base.specs.Limits.{IMAGE_LIMIT}
 use Rattle.link_image.specs.declared.placement.Placement.{Placement}
 use Rattle.link_image.specs.BaseFields.{is_relocated, AreBaseFields}
 use Rattle.link_image.specs.LinkedBytes.{owners_in, fields_range_fault}
+use Rattle.link_image.specs.ExportFaults.{export_fault, in_table_fault}
 use Rattle.link_image.specs.Steps.{reloc_tables, EndsWithTable, IsPlaced, IsReady, IsWritten}
 use Rattle.link_image.specs.LinkedImage.{link_input, base_rule, table_row, AreGrouped, ArePlaced, IsWhole, IsPlacement}
 use Rattle.link_image.specs.BuildFaults.{IsBuildFault}
@@ -57,6 +58,7 @@ grouped_modules options link pieces sections are grouped =
     let bared = subst (λ (u : List Bool). IsGrouping (input_from (map bare pieces) u (merges_of options link)) sections) used (grouping_bare pieces (replicate (length pieces) true) (merges_of options link) sections grouped.grouping) in
     record {
       merges = grouped.merges;
+      exports = grouped.exports;
       grouping = subst (λ (ps : List Piece). IsGrouping (link_input options link ps) sections) are bared;
     }
 
@@ -80,28 +82,28 @@ bad_merge options link name named = inl (record { name = name; named = named; is
 
 pub too_many : (options : LinkOptions) (link : LinkParts) (pieces : List Piece) (sections : List OutSection) (reloc : Bool) (count : ℕ) → map bare pieces ≡ plan_pieces options link → AreGrouped options link pieces sections → reloc ≡ is_relocated options link → IsPlaceRefusal pieces sections reloc (bad.TooManySections count) → IsBuildFault options link (faults.TooManySections count)
 too_many options link pieces sections reloc count are grouped same refused =
-    inr (inl (record {
+    inr (inr (inl (record {
       sections = sections;
       grouped = grouped_modules options link pieces sections are grouped;
       count = count;
       refused = subst (λ (r : Bool). IsPlaceRefusal (plan_pieces options link) sections r (bad.TooManySections count)) same refused;
       is = refl;
-    }))
+    })))
 
 pub too_large : (options : LinkOptions) (link : LinkParts) (pieces : List Piece) (sections : List OutSection) (reloc : Bool) (size : ℕ) → map bare pieces ≡ plan_pieces options link → AreGrouped options link pieces sections → reloc ≡ is_relocated options link → IsPlaceRefusal pieces sections reloc (bad.ImageTooLarge size) → IsBuildFault options link (faults.ImageTooLarge size)
 too_large options link pieces sections reloc size are grouped same refused =
     let bared : IsPlaceRefusal (map bare pieces) sections reloc (bad.ImageTooLarge size) = (refused.0, size_bare pieces sections reloc size refused.1, refused.2) in
-    inr (inr (inl (record {
+    inr (inr (inr (inl (record {
       sections = sections;
       grouped = grouped_modules options link pieces sections are grouped;
       size = size;
       refused = inl (subst (λ (r : Bool). IsPlaceRefusal (plan_pieces options link) sections r (bad.ImageTooLarge size)) same (subst (λ (ps : List Piece). IsPlaceRefusal ps sections reloc (bad.ImageTooLarge size)) are bared));
       is = refl;
-    })))
+    }))))
 
 pub large_table : (options : LinkOptions) (link : LinkParts) (pieces : List Piece) (sections : List OutSection) (layout : Layout) (fields : List BaseField) (size : ℕ) → map bare pieces ≡ plan_pieces options link → AreGrouped options link pieces sections → ArePlaced pieces sections true layout → is_relocated options link ≡ true → AreBaseFields link layout.pieces.items fields → IsGrowRefusal layout (length (blocks_of fields)) (bad.ImageTooLarge size) → IsBuildFault options link (faults.ImageTooLarge size)
 large_table options link pieces sections layout fields size are grouped placed relocated based refused =
-    inr (inr (inl (record {
+    inr (inr (inr (inl (record {
       sections = sections;
       grouped = grouped_modules options link pieces sections are grouped;
       size = size;
@@ -114,16 +116,25 @@ large_table options link pieces sections layout fields size are grouped placed r
         refused = refused;
       });
       is = refl;
-    })))
+    }))))
 
 pub bad_base : (options : LinkOptions) (link : LinkParts) (rows : List OutRow) (layout : Layout) (tables : List (List ℕ)) → IsPlacement options link rows layout tables → is_permitted (base_rule options) layout.image options.base ≡ false → IsBuildFault options link (faults.BaseRange options.base)
 bad_base options link rows layout tables placement refused =
-    inr (inr (inr (inl (record { rows = rows; layout = layout; tables = tables; placement = placement; refused = refused; is = refl }))))
+    inr (inr (inr (inr (inl (record { rows = rows; layout = layout; tables = tables; placement = placement; refused = refused; is = refl })))))
 
 -- a value that does not fit
-pub bad_range : (options : LinkOptions) (link : LinkParts) (rows : List OutRow) (layout : Layout) (tables : List (List ℕ)) (fault : Fault) → IsPlacement options link rows layout tables → is_permitted (base_rule options) layout.image options.base ≡ true → fields_range_fault link rows layout options.base ≡ Some fault → IsBuildFault options link fault
-bad_range options link rows layout tables fault placement permitted is =
-    inr (inr (inr (inr (record { rows = rows; layout = layout; tables = tables; placement = placement; permitted = permitted; is = is }))))
+pub bad_range : (options : LinkOptions) (link : LinkParts) (rows : List OutRow) (layout : Layout) (tables : List (List ℕ)) (fault : Fault) → IsPlacement options link rows layout tables → is_permitted (base_rule options) layout.image options.base ≡ true → in_table_fault link layout.pieces.items ≡ None → fields_range_fault link rows layout options.base ≡ Some fault → IsBuildFault options link fault
+bad_range options link rows layout tables fault placement permitted outside is =
+    inr (inr (inr (inr (inr (inr (record { rows = rows; layout = layout; tables = tables; placement = placement; permitted = permitted; outside = outside; is = is }))))))
+
+-- a bad export
+pub bad_export : (options : LinkOptions) (link : LinkParts) (fault : Fault) → HasNoBadMerge (merges_of options link) → export_fault link ≡ Some fault → IsBuildFault options link fault
+bad_export options link fault merges is = inr (inl (record { merges = merges; is = is }))
+
+-- one that lies in the table
+pub export_in_table : (options : LinkOptions) (link : LinkParts) (rows : List OutRow) (layout : Layout) (tables : List (List ℕ)) (fault : Fault) → IsPlacement options link rows layout tables → is_permitted (base_rule options) layout.image options.base ≡ true → in_table_fault link layout.pieces.items ≡ Some fault → IsBuildFault options link fault
+export_in_table options link rows layout tables fault placement permitted is =
+    inr (inr (inr (inr (inr (inl (record { rows = rows; layout = layout; tables = tables; placement = placement; permitted = permitted; is = is }))))))
 
 pub used_there : (options : LinkOptions) (link : LinkParts) (pieces : List Piece) (k : ℕ) → k < length pieces → is_used (link_input options link pieces) k ≡ true
 used_there options link pieces k lt = and_from _ _ (lt-ltb k (length pieces) lt) (get_or-replicate (length pieces) k true false lt)

@@ -1,5 +1,5 @@
 -- The pieces of the import tables, where they stand, and that they end below 4 GiB.
-use Rattle.std.proofs.Common.{◌≡◌, ℕ, zero, suc, ◌+◌, ◌^◌, ◌<◌, ◌≤◌, Bool, true, cond, eqb, ltb, List, length, map, get_or, slice_index, Option, Some, None, IfSome, refl, sym, ap, ◌∙◌, subst, lt-ltb, arith}
+use Rattle.std.proofs.Common.{◌≡◌, ℕ, zero, suc, ◌+◌, ◌^◌, ◌<◌, ◌≤◌, Bool, true, cond, eqb, ltb, List, length, map, take, get_or, slice_index, Option, Some, None, IfSome, refl, sym, ap, ◌∙◌, subst, lt-ltb, arith}
 use Rattle.std.specs.List.{All, range_with_len}
 use Rattle.std.specs.Option.{option_or}
 use Rattle.std.proofs.Math.Path.{fun_ext}
@@ -16,7 +16,7 @@ use Rattle.synthetic_sections.specs.LinkerPieces.{FIRST_THUNK, size_at}
 use Rattle.module_view.specs.Module.{ModuleView}
 use Rattle.link_pieces.specs.LinkParts.{LinkParts}
 use Rattle.link_imports.specs.Imports.{import_sizes}
-use Rattle.link_pieces.specs.LinkerPieces.{is_table, IsImportTable}
+use Rattle.link_pieces.specs.LinkerPieces.{is_table, table_sizes, IsLinkTable}
 use Rattle.link_pieces.specs.PieceIndex.{is_numbered, holds, linker_index}
 use Rattle.link_pieces.specs.Pieces.{link_pieces}
 use Rattle.link_pieces.proofs.CallerLemmas.{table_is}
@@ -29,6 +29,7 @@ use Rattle.link_image.specs.LinkedBytes.{rva_of, table_rva, table_rvas}
 use Rattle.link_image.specs.LinkedImage.{extent_of}
 use Rattle.link_image.specs.Steps.{numbered_index, numbered_indexes, IsPlaced}
 use Rattle.link_image.proofs.HeldLemmas.{piece_count, planned_is, same_size}
+use Rattle.link_image.proofs.ExportLemmas.{import_size}
 
 -- ---- the first piece of a number
 
@@ -49,12 +50,12 @@ noted_more position number k pieces piece old new lt read was is =
     ∙ ap (λ (n : ℕ). first_below n (holds (is_numbered position number) pieces)) next
 
 -- all of them
-pub all_noted : (position : ℕ) (pieces : List Piece) (places : List (Option ℕ)) → length places ≡ 5 → ((number : ℕ) → number < 5 → get_or places number None ≡ numbered_index position pieces number) → places ≡ numbered_indexes position pieces
+pub all_noted : (position : ℕ) (pieces : List Piece) (places : List (Option ℕ)) → length places ≡ 6 → ((number : ℕ) → number < 6 → get_or places number None ≡ numbered_index position pieces number) → places ≡ numbered_indexes position pieces
 all_noted position pieces places count each =
-    let indexes = length-map-range_with_len (numbered_index position pieces) 0 5 in
+    let indexes = length-map-range_with_len (numbered_index position pieces) 0 6 in
     ext_get_or None places (numbered_indexes position pieces) (count ∙ sym indexes) (λ number lt.
-    let within : number < 5 = omega (arith, lt, count) in
-    each number within ∙ sym (get_or-map-range_with_len (numbered_index position pieces) 0 5 number number None within (omega arith)))
+    let within : number < 6 = omega (arith, lt, count) in
+    each number within ∙ sym (get_or-map-range_with_len (numbered_index position pieces) 0 6 number number None within (omega arith)))
 
 -- ---- the pieces of a link
 
@@ -62,7 +63,7 @@ pub record IsTableAt (link : LinkParts) (number k : ℕ) : Type 0 where
   pub there : k < length (link_pieces link)
   pub table : is_table (length link.modules) (piece_at link k) ≡ true
   pub number_is : (piece_at link k).number ≡ number
-  pub is : IsImportTable link (piece_at link k)
+  pub is : IsLinkTable link (piece_at link k)
 
 pub found_table : (link : LinkParts) (number k : ℕ) → number < FIRST_THUNK → linker_index link number ≡ Some k → IsTableAt link number k
 found_table link number k few found =
@@ -80,20 +81,20 @@ module _ (options : LinkOptions) (plan : LinkPlan) (planned : IsPlanOf options p
       ∙ first_same (length plan.pieces.items) (holds (is_numbered (length plan.names.modules) number) plan.pieces.items) (holds (is_numbered (length plan.names.modules) number) (link_pieces plan.names)) (λ k lt. ap (is_numbered (length plan.names.modules) number) (planned_is options plan planned k lt))
       ∙ ap (λ (n : ℕ). first_below n (holds (is_numbered (length plan.names.modules) number) (link_pieces plan.names))) (piece_count options plan planned)
 
-  pub places_are : (places : List (Option ℕ)) → places ≡ numbered_indexes (length plan.modules.items) plan.pieces.items → places ≡ map (linker_index plan.names) (range_with_len 0 5)
-  places_are places is = is ∙ ap (λ (f : ℕ → Option ℕ). map f (range_with_len 0 5)) (fun_ext numbered_is)
+  pub places_are : (places : List (Option ℕ)) → places ≡ numbered_indexes (length plan.modules.items) plan.pieces.items → places ≡ map (linker_index plan.names) (range_with_len 0 6)
+  places_are places is = is ∙ ap (λ (f : ℕ → Option ℕ). map f (range_with_len 0 6)) (fun_ext numbered_is)
 
   -- each is a piece of the plan
-  place_there : (number : ℕ) → number < 5 → IfSome (linker_index plan.names number) (λ k. k < length plan.pieces.items)
+  pub place_there : (number : ℕ) → number < 6 → IfSome (linker_index plan.names number) (λ k. k < length plan.pieces.items)
   place_there number few = by (linker_index plan.names number) refl
     where
       by : (place : Option ℕ) → linker_index plan.names number ≡ place → IfSome place (λ k. k < length plan.pieces.items)
       by None none = tt
       by (Some k) found = let at = found_table plan.names number k (omega (arith, few)) found in omega (arith, at.there, piece_count options plan planned)
 
-  pub place_within : (places : List (Option ℕ)) (number bound : ℕ) → places ≡ numbered_indexes (length plan.modules.items) plan.pieces.items → number < 5 → length plan.pieces.items ≤ bound → IfSome (get_or places number None) (λ k. k < bound)
+  pub place_within : (places : List (Option ℕ)) (number bound : ℕ) → places ≡ numbered_indexes (length plan.modules.items) plan.pieces.items → number < 6 → length plan.pieces.items ≤ bound → IfSome (get_or places number None) (λ k. k < bound)
   place_within places number bound is few room =
-      subst (λ (place : Option ℕ). IfSome place (λ k. k < bound)) (sym (ap (λ (ps : List (Option ℕ)). get_or ps number None) (places_are places is) ∙ get_or-map-range_with_len (linker_index plan.names) 0 5 number number None few (omega arith)))
+      subst (λ (place : Option ℕ). IfSome place (λ k. k < bound)) (sym (ap (λ (ps : List (Option ℕ)). get_or ps number None) (places_are places is) ∙ get_or-map-range_with_len (linker_index plan.names) 0 6 number number None few (omega arith)))
       (wider (linker_index plan.names number) (place_there number few))
     where
       wider : (place : Option ℕ) → IfSome place (λ k. k < length plan.pieces.items) → IfSome place (λ k. k < bound)
@@ -102,18 +103,18 @@ module _ (options : LinkOptions) (plan : LinkPlan) (planned : IsPlanOf options p
 
   pub places_within : (places : List (Option ℕ)) (bound : ℕ) → places ≡ numbered_indexes (length plan.modules.items) plan.pieces.items → length plan.pieces.items ≤ bound → All (λ place. IfSome place (λ k. k < bound)) places
   places_within places bound is room = λ number d lt.
-      let count : length places ≡ 5 = ap (λ (ps : List (Option ℕ)). length ps) is ∙ length-map-range_with_len (numbered_index (length plan.modules.items) plan.pieces.items) 0 5 in
+      let count : length places ≡ 6 = ap (λ (ps : List (Option ℕ)). length ps) is ∙ length-map-range_with_len (numbered_index (length plan.modules.items) plan.pieces.items) 0 6 in
       subst (λ (place : Option ℕ). IfSome place (λ k. k < bound)) (get_or_default places number None d lt) (place_within places number bound is (omega (arith, lt, count)) room)
 
   -- their RVAs
-  pub rvas_are : (layout : Layout) (places : List (Option ℕ)) (rvas : List ℕ) → places ≡ numbered_indexes (length plan.modules.items) plan.pieces.items → rvas ≡ map (rva_of layout.pieces.items) places → rvas ≡ table_rvas plan.names layout
+  pub rvas_are : (layout : Layout) (places : List (Option ℕ)) (rvas : List ℕ) → places ≡ numbered_indexes (length plan.modules.items) plan.pieces.items → rvas ≡ map (rva_of layout.pieces.items) (take 5 places) → rvas ≡ table_rvas plan.names layout
   unfolding table_rvas
-  rvas_are layout places rvas is read = read ∙ ap (map (rva_of layout.pieces.items)) (places_are places is)
+  rvas_are layout places rvas is read = read ∙ ap (λ (ps : List (Option ℕ)). map (rva_of layout.pieces.items) (take 5 ps)) (places_are places is)
 
   -- and sizes
-  pub extent_is : (rvas : List ℕ) (places : List (Option ℕ)) (number : ℕ) → number < 5 → places ≡ numbered_indexes (length plan.modules.items) plan.pieces.items → extent_of plan.pieces.items rvas (get_or places number None) ≡ extent_of (link_pieces plan.names) rvas (linker_index plan.names number)
+  pub extent_is : (rvas : List ℕ) (places : List (Option ℕ)) (number : ℕ) → number < 6 → places ≡ numbered_indexes (length plan.modules.items) plan.pieces.items → extent_of plan.pieces.items rvas (get_or places number None) ≡ extent_of (link_pieces plan.names) rvas (linker_index plan.names number)
   extent_is rvas places number few is =
-      ap (extent_of plan.pieces.items rvas) (ap (λ (ps : List (Option ℕ)). get_or ps number None) (places_are places is) ∙ get_or-map-range_with_len (linker_index plan.names) 0 5 number number None few (omega arith))
+      ap (extent_of plan.pieces.items rvas) (ap (λ (ps : List (Option ℕ)). get_or ps number None) (places_are places is) ∙ get_or-map-range_with_len (linker_index plan.names) 0 6 number number None few (omega arith))
       ∙ by (linker_index plan.names number) (place_there number few)
     where
       by : (place : Option ℕ) → IfSome place (λ k. k < length plan.pieces.items) → extent_of plan.pieces.items rvas place ≡ extent_of (link_pieces plan.names) rvas place
@@ -132,7 +133,7 @@ module _ (options : LinkOptions) (plan : LinkPlan) (planned : IsPlanOf options p
             let at = found_table plan.names number k (omega (arith, few)) found in
             let lt : k < length plan.pieces.items = omega (arith, at.there, piece_count options plan planned) in
             let same = same_size options plan planned k lt in
-            let size : (piece_at plan.names k).size ≡ size_at (import_sizes plan.names.modules) number = at.is.size ∙ ap (size_at (import_sizes plan.names.modules)) at.number_is in
+            let size : (piece_at plan.names k).size ≡ size_at (import_sizes plan.names.modules) number = at.is.size ∙ ap (size_at (table_sizes plan.names)) at.number_is ∙ import_size plan.names number few in
             let end = placed.ends k lt (omega (arith, same, at.is.some)) in
             omega (arith, end, same, size)
 

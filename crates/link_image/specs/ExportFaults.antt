@@ -8,6 +8,7 @@ use Rattle.link_base.specs.declared.kinds.export.ExportFault.TheVariants.{Absolu
 use Rattle.directives.specs.declared.item.Export.{Export}
 use Rattle.relocate.specs.declared.fix.Target.{Target}
 use Rattle.relocate.specs.declared.fix.Target.TheVariants as target
+use Rattle.export_tables.specs.declared.row.ExportRow.{ExportRow}
 use Rattle.export_tables.specs.declared.row.ExportTo.{ExportTo}
 use Rattle.export_tables.specs.declared.row.ExportTo.TheVariants.{Rva, Forward}
 use Rattle.synthetic_sections.specs.LinkerPieces.{EXPORTS}
@@ -39,9 +40,11 @@ abbrev pub lies_in : ℕ → ℕ → ExportTo → Bool
 lies_in rva size (Rva address) = nat_le rva address && nat_lt address (rva + size)
 lies_in rva size (Forward text) = false
 
+abbrev pub inside_of : ℕ → ℕ → ExportRow → Option Fault
+inside_of rva size row = if lies_in rva size row.what then Some (faults.BadExport InTable row.name) else None
+
 abbrev pub inside_fault : LinkParts → List ℕ → ℕ → Export → Option Fault
-inside_fault link rvas rva row =
-    if lies_in rva link.exports.size (exported_row link rvas row).what then Some (faults.BadExport InTable row.name) else None
+inside_fault link rvas rva row = inside_of rva link.exports.size (exported_row link rvas row)
 
 -- the first export that lies in the export table itself, where pieces have these RVAs
 unfoldable pub in_table_fault : LinkParts → List ℕ → Option Fault

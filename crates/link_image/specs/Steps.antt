@@ -1,5 +1,5 @@
 -- What the steps of the code promise one another. It decides nothing.
-use Rattle.std.specs.Prelude.{◌≡◌, ◌<◌, ◌≤◌, ◌⊎◌, ℕ, ◌+◌, ◌^◌, true, false, nat_lt, if◌then◌else◌, List, [], ◌∷◌, ◌++◌, length, map, slice_index, slice_index_or, Option, Some, None}
+use Rattle.std.specs.Prelude.{◌≡◌, ◌≢◌, ◌<◌, ◌≤◌, ◌⊎◌, ℕ, ◌+◌, ◌^◌, true, false, nat_lt, if◌then◌else◌, List, [], ◌∷◌, ◌++◌, length, map, slice_index, slice_index_or, Option, Some, None}
 use Rattle.std.specs.List.{All, Contains, filter, flat_map, range_with_len}
 use Rattle.std.specs.declared.vec.Vec.{Vec}
 use Rattle.link_base.specs.Bytes.{first_below}
@@ -34,7 +34,12 @@ use Rattle.link_plan.specs.Laid.{StandsNamed}
 use Rattle.link_image.specs.declared.placement.Placement.{Placement}
 use Rattle.link_image.specs.BaseFields.{base_field, AreBaseFields}
 use Rattle.link_image.specs.LinkedBytes.{owners_in, contents_at, placed_contents, linked_bytes, out_of_range}
-use Rattle.link_image.specs.LinkedImage.{table_row, IsPlacement}
+use Rattle.link_image.specs.LinkedImage.{link_input, table_row, IsPlacement}
+use Rattle.section_group.specs.Merging.{HasNoBadMerge}
+use Rattle.section_group.specs.Placement.{IsGrouping}
+use Rattle.link_plan.specs.Plan.{merges_of}
+use Rattle.export_tables.specs.declared.row.ExportTo.{ExportTo}
+use Rattle.export_tables.specs.declared.row.ExportTo.TheVariants.{Rva, Forward}
 
 -- the fault says which value of a piece is out of range
 pub record RefusesRange (base rva : ℕ) (layout : Layout) (owner : List ℕ) (fixups : List Fix) (bytes : List ℕ) (piece : Piece) (fault : Fault) : Type 0 where
@@ -95,7 +100,7 @@ pub record IsPlaced (options : LinkOptions) (plan : LinkPlan) (placement : Place
   pub few : length placement.sections.items ≤ SECTION_LIMIT
   pub small : All (λ table. length table < 2 ^ 32) (reloc_tables placement.table)
 
--- ---- the import tables
+-- ---- the tables of imports and exports
 
 -- the piece of a number in the module at a position, among these
 abbrev pub numbered_index : ℕ → List Piece → ℕ → Option ℕ
@@ -103,18 +108,28 @@ numbered_index position pieces number = first_below (length pieces) (holds (is_n
 
 -- the pieces of the tables, where they are made
 abbrev pub numbered_indexes : ℕ → List Piece → List (Option ℕ)
-numbered_indexes position pieces = map (numbered_index position pieces) (range_with_len 0 5)
+numbered_indexes position pieces = map (numbered_index position pieces) (range_with_len 0 6)
+
+-- an export stands for another image, or for an address that is not 0 and has four bytes
+abbrev pub IsGiven : ExportTo → Type 0
+IsGiven (Rva address) = (address ≢ 0) × (address < 2 ^ 32)
+IsGiven (Forward text) = Unit {0}
+
+-- the sections that pieces stand in, by merges of which none is bad
+pub record AreMerged (options : LinkOptions) (link : LinkParts) (pieces : List Piece) (sections : List OutSection) : Type 0 where
+  pub merges : HasNoBadMerge (merges_of options link)
+  pub grouping : IsGrouping (link_input options link pieces) sections
 
 -- ---- pieces with their bytes
 
--- what a piece is given: an import table its bytes, and any other what it has
+-- what a piece is given: a table its bytes, and any other what it has
 abbrev pub given_contents : ℕ → List (List ℕ) → Piece → List ℕ
 given_contents position tables piece =
     if is_table position piece then slice_index_or tables piece.number [] else piece_contents piece
 
--- an import table can be given its bytes
+-- a table can be given its bytes
 pub record CanBeGiven (piece : Piece) : Type 0 where
-  pub few : piece.number < 5
+  pub few : piece.number < 6
   pub init : piece.init ≡ true
 
 -- the pieces with what they are given, and after them what holds the table of base relocations, where there is one

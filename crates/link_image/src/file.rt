@@ -1,13 +1,13 @@
 //! The file of the image, before its fields are patched.
 
-ghost use Rattle.std.specs.Prelude.{◌≡◌, ◌<◌, ◌^◌, ◌∷◌, [], true, false, Some, length, map, slice_index_or, option_copied, IfOk};
+ghost use Rattle.std.specs.Prelude.{◌≡◌, ◌<◌, ◌^◌, ◌∷◌, ◌++◌, [], true, false, Some, length, map, slice_index_or, option_copied, IfOk};
 ghost use Rattle.std.specs.List.{All};
 ghost use Rattle.section_group.specs.BarePieces.{bare};
 ghost use Rattle.section_group.specs.PieceContents.{piece_contents};
 ghost use Rattle.link_pieces.specs.LinkerPieces.{is_table};
 ghost use Rattle.link_words.specs.Outcome.{options_said};
 ghost use Rattle.link_plan.specs.Plan.{IsPlanOf};
-ghost use Rattle.link_image.specs.LinkedBytes.{import_tables_at};
+ghost use Rattle.link_image.specs.LinkedBytes.{tables_at};
 ghost use Rattle.link_image.specs.Steps.{AreWhole, CanBeGiven, HoldTables, IsPlaced, IsWritten, given_contents, reloc_tables};
 
 use crate::placement::{Placement, TABLE_FLAGS};
@@ -17,10 +17,10 @@ use link_plan::LinkPlan;
 use link_words::Options;
 use section_group::Piece;
 use std::alloc::Global;
-use synthetic_sections::FIRST_THUNK;
+use synthetic_sections::{EXPORTS, FIRST_THUNK};
 
-/// The file of the image with these headers, of the pieces of a plan at their places, of which the import tables have these
-/// bytes, and the table of base relocations after them.
+/// The file of the image with these headers, of the pieces of a plan at their places, of which the tables of imports and
+/// exports have these bytes, and the table of base relocations after them.
 pub(crate) fn write_file<'a>(
     alloc: Global,
     plan: &LinkPlan<'a>,
@@ -28,14 +28,22 @@ pub(crate) fn write_file<'a>(
     headers: &Headers,
     placement: &Placement<'a>,
     tables: &[Vec<u8>; 5],
+    exports: &[u8],
 ) -> Result<Vec<u8>, Memory>
     requires plan { IsPlanOf (options_said options.now) plan.now.names plan.now }
     requires placed { IsPlaced (options_said options.now) plan.now placement.now }
-    requires tables { map (λ table. table.items) tables.now ≡ import_tables_at plan.now.names placement.now.layout }
+    requires tables { map (λ table. table.items) tables.now ++ exports.now ∷ [] ≡ tables_at plan.now.names placement.now.layout }
     ensures { IfOk result (λ image. IsWritten headers.now placement.now plan.now.names image.items) }
 {
     let position = plan.modules.len();
-    let pieces = whole_pieces(alloc, position, &plan.pieces, tables, &placement.table)?;
+    let pieces = whole_pieces(
+        alloc,
+        position,
+        &plan.pieces,
+        tables,
+        exports,
+        &placement.table,
+    )?;
     image(
         alloc,
         headers,
@@ -45,21 +53,22 @@ pub(crate) fn write_file<'a>(
     )
 }
 
-/// The pieces with the bytes of the import tables, whose module is at a position, and the table of base relocations as the last.
+/// The pieces with the bytes of the tables of imports and exports, whose module is at a position, and the table of base relocations as the last.
 fn whole_pieces<'b, 'a: 'b>(
     alloc: Global,
     position: usize,
     pieces: &[Piece<'a>],
     tables: &'b [Vec<u8>; 5],
+    exports: &'b [u8],
     table: &'b Option<Vec<u8>>,
 ) -> Result<Vec<Piece<'b>>, Memory>
     requires given { All (λ piece. is_table position piece ≡ true → CanBeGiven piece) pieces.now }
     requires small { All (λ table. length table < 2 ^ 32) (reloc_tables table.now) }
-    ensures { IfOk result (λ whole. AreWhole position (map (λ table. table.items) tables.now) (reloc_tables table.now) pieces.now whole.items) }
+    ensures { IfOk result (λ whole. AreWhole position (map (λ table. table.items) tables.now ++ exports.now ∷ []) (reloc_tables table.now) pieces.now whole.items) }
 {
     let mut whole = Vec::with_capacity(alloc, pieces.len() + 1)?;
     for piece in pieces {
-        whole.push(with_table(position, piece, tables))?;
+        whole.push(with_table(position, piece, tables, exports))?;
     }
     let Some(table) = table else {
         return Ok(whole);
@@ -68,11 +77,16 @@ fn whole_pieces<'b, 'a: 'b>(
     Ok(whole)
 }
 
-/// The piece once more, with its bytes where it is an import table.
-fn with_table<'b, 'a: 'b>(position: usize, piece: &Piece<'a>, tables: &'b [Vec<u8>; 5]) -> Piece<'b>
+/// The piece once more, with its bytes where it is a table.
+fn with_table<'b, 'a: 'b>(
+    position: usize,
+    piece: &Piece<'a>,
+    tables: &'b [Vec<u8>; 5],
+    exports: &'b [u8],
+) -> Piece<'b>
     requires { is_table position piece.now ≡ true → CanBeGiven piece.now }
     ensures same { bare result ≡ bare piece.now }
-    ensures contents { piece_contents result ≡ given_contents position (map (λ table. table.items) tables.now) piece.now }
+    ensures contents { piece_contents result ≡ given_contents position (map (λ table. table.items) tables.now ++ exports.now ∷ []) piece.now }
 {
     Piece {
         module: piece.module,
@@ -81,26 +95,30 @@ fn with_table<'b, 'a: 'b>(position: usize, piece: &Piece<'a>, tables: &'b [Vec<u
         flags: piece.flags,
         size: piece.size,
         align: piece.align,
-        body: given_body(position, piece, tables),
+        body: given_body(position, piece, tables, exports),
         init: piece.init,
         named: piece.named,
     }
 }
 
-/// The bytes of an import table, or those that another piece has.
+/// The bytes of a table of imports or exports, or those that another piece has.
 fn given_body<'b, 'a: 'b>(
     position: usize,
     piece: &Piece<'a>,
     tables: &'b [Vec<u8>; 5],
+    exports: &'b [u8],
 ) -> Option<&'b [u8]>
     requires { is_table position piece.now ≡ true → CanBeGiven piece.now }
-    ensures table { is_table position piece.now ≡ true → option_copied result ≡ Some (slice_index_or (map (λ table. table.items) tables.now) piece.now.number []) }
+    ensures table { is_table position piece.now ≡ true → option_copied result ≡ Some (slice_index_or (map (λ table. table.items) tables.now ++ exports.now ∷ []) piece.now.number []) }
     ensures other { is_table position piece.now ≡ false → result ≡ piece.now.body }
 {
-    if piece.module as usize == position && piece.number < FIRST_THUNK {
-        return Some(&tables[piece.number as usize]);
+    if piece.module as usize != position || piece.number >= FIRST_THUNK {
+        return piece.body;
     }
-    piece.body
+    if piece.number == EXPORTS {
+        return Some(exports);
+    }
+    Some(&tables[piece.number as usize])
 }
 
 /// The piece that holds the table of base relocations.

@@ -6,6 +6,7 @@
 #![tactic(auto)]
 
 mod base_fields;
+mod exports;
 mod file;
 mod headers;
 mod laws;

@@ -6,6 +6,7 @@ ghost use Rattle.link_plan.specs.Plan.{IsPlanOf};
 ghost use Rattle.link_image.specs.LinkedImage.{IsBuilt};
 ghost use Rattle.link_image.specs.BuildFaults.{RefusesBuild};
 
+use crate::exports::export_table;
 use crate::file::write_file;
 use crate::headers::headers_of;
 use crate::owners::owners_of;
@@ -26,9 +27,9 @@ pub struct Built {
     pub sections: u32,
 }
 
-/// The image of a plan. The input is refused for the first of: a bad merge (`BadMerge`), too many sections
-/// (`TooManySections`), an image that is too large (`ImageTooLarge`), a base at which it may not stand (`BaseRange`), and a
-/// field whose value does not fit (`RelocRange`).
+/// The image of a plan. The input is refused for the first of: a bad merge (`BadMerge`), a bad export (`BadExport`), too many
+/// sections (`TooManySections`), an image that is too large (`ImageTooLarge`), a base at which it may not stand (`BaseRange`),
+/// an export that lies in the export table (`BadExport`), and a field whose value does not fit (`RelocRange`).
 pub fn build<'a>(
     alloc: Global,
     plan: &LinkPlan<'a>,
@@ -44,10 +45,11 @@ pub fn build<'a>(
     let entry = entry_rva(plan, options, &placement);
     let position = plan.modules.len();
     let places = table_places(position, &plan.pieces);
+    let exports = export_table(alloc, plan, options, &placement, &places)?;
     let tables = import_tables(alloc, plan, options, &placement, &places)?;
     let directories = directories_of(plan, options, &placement, &places);
     let headers = headers_of(options, entry, directories);
-    let mut image = write_file(alloc, plan, options, &headers, &placement, &tables)?;
+    let mut image = write_file(alloc, plan, options, &headers, &placement, &tables, &exports)?;
     let owner = owners_of(alloc, &placement.sections, placement.layout.pieces.len())?;
     patch_pieces(&mut image, plan, &headers, &placement, &owner)?;
     Ok(Built {

@@ -6,7 +6,9 @@ ghost use Rattle.link_plan.specs.Plan.{IsPlanOf};
 ghost use Rattle.link_image.specs.BaseFields.{is_relocated};
 ghost use Rattle.link_image.specs.LinkedImage.{AreGrouped, ArePlaced};
 ghost use Rattle.link_image.specs.BuildFaults.{RefusesBuild};
+ghost use Rattle.link_image.specs.Steps.{AreMerged};
 
+use crate::exports::check_exports;
 use address_layout::{Layout, LayoutError, place};
 use link_base::{Fault, Refusal};
 use link_plan::LinkPlan;
@@ -14,7 +16,7 @@ use link_words::Options;
 use section_group::{GroupError, OutSection, group};
 use std::alloc::Global;
 
-/// The pieces in sections, by their names and the merges of the link. Every piece is used.
+/// The pieces in sections, by their names and the merges of the link; and that no export is bad.
 pub(crate) fn group_pieces<'a>(
     alloc: Global,
     plan: &LinkPlan<'a>,
@@ -22,6 +24,21 @@ pub(crate) fn group_pieces<'a>(
 ) -> Result<Vec<OutSection<'a>>, Refusal<'a>>
     requires { IsPlanOf (options_said options.now) plan.now.names plan.now }
     ensures grouped { IfOk result (λ sections. AreGrouped (options_said options.now) plan.now.names plan.now.pieces.items sections.items) }
+    ensures refused { IfErr result (RefusesBuild (options_said options.now) plan.now.names) }
+{
+    let sections = merge_pieces(alloc, plan, options)?;
+    check_exports(plan)?;
+    Ok(sections)
+}
+
+/// The pieces in sections, by their names and the merges of the link. Every piece is used.
+fn merge_pieces<'a>(
+    alloc: Global,
+    plan: &LinkPlan<'a>,
+    options: &Options<'a>,
+) -> Result<Vec<OutSection<'a>>, Refusal<'a>>
+    requires { IsPlanOf (options_said options.now) plan.now.names plan.now }
+    ensures merged { IfOk result (λ sections. AreMerged (options_said options.now) plan.now.names plan.now.pieces.items sections.items) }
     ensures refused { IfErr result (RefusesBuild (options_said options.now) plan.now.names) }
 {
     let used = vec![in alloc; true; plan.pieces.len()]?;

@@ -1,6 +1,6 @@
-//! The import tables, once their pieces have places.
+//! The import tables, once their pieces have places, and the directories.
 
-ghost use Rattle.std.specs.Prelude.{◌≡◌, ◌<◌, ◌^◌, ℕ, Some, None, length, map, slice_index, slice_index_or, if◌then◌else◌, All, IfSome, IfOk};
+ghost use Rattle.std.specs.Prelude.{◌≡◌, ◌<◌, ◌^◌, ℕ, Some, None, length, map, take, slice_index, slice_index_or, if◌then◌else◌, All, IfSome, IfOk};
 ghost use Rattle.std.specs.Option.{option_or};
 ghost use Rattle.link_pieces.specs.PieceIndex.{is_numbered};
 ghost use Rattle.link_words.specs.Outcome.{options_said};
@@ -17,26 +17,26 @@ use link_plan::LinkPlan;
 use link_words::Options;
 use section_group::Piece;
 use std::alloc::Global;
-use synthetic_sections::SLOTS;
+use synthetic_sections::{EXPORTS, SLOTS};
 
 /// The number of the import directory among the import tables.
 const DIRECTORY: usize = 0;
 
-/// The index of the piece of each import table, where the table is made. The pieces that the linker makes are those of the
+/// The index of the piece of each table of imports or exports, by its number, where the table is made. The pieces that the linker makes are those of the
 /// module at a position.
-pub(crate) fn table_places(position: usize, pieces: &[Piece<'_>]) -> [Option<usize>; 5]
+pub(crate) fn table_places(position: usize, pieces: &[Piece<'_>]) -> [Option<usize>; 6]
     ensures { result ≡ numbered_indexes position pieces.now }
 {
-    let mut places = [None; 5];
+    let mut places = [None; 6];
     for k in 0..pieces.len() {
         note_table(&mut places, position, &pieces[k], k);
     }
     places
 }
 
-/// Notes the index of a piece, where it is an import table of which no piece is noted.
-fn note_table(places: &mut [Option<usize>; 5], position: usize, piece: &Piece<'_>, k: usize)
-    ensures { (number : ℕ) → number < 5 → slice_index_or places.new number None
+/// Notes the index of a piece, where it is a table of which no piece is noted.
+fn note_table(places: &mut [Option<usize>; 6], position: usize, piece: &Piece<'_>, k: usize)
+    ensures { (number : ℕ) → number < 6 → slice_index_or places.new number None
         ≡ option_or (slice_index_or places.old number None) (if is_numbered position number piece.now then Some k else None) }
 {
     let number = piece.number as usize;
@@ -54,7 +54,7 @@ pub(crate) fn import_tables<'a>(
     plan: &LinkPlan<'a>,
     options: &Options<'a>,
     placement: &Placement<'a>,
-    places: &[Option<usize>; 5],
+    places: &[Option<usize>; 6],
 ) -> Result<[Vec<u8>; 5], Memory>
     requires plan { IsPlanOf (options_said options.now) plan.now.names plan.now }
     requires placed { IsPlaced (options_said options.now) plan.now placement.now }
@@ -71,12 +71,12 @@ fn are_words(sizes: &[u32])
     ensures { (number : ℕ) → slice_index sizes.now number < 2 ^ 32 }
 {}
 
-/// The directories of the image, in which the import tables are these pieces.
+/// The directories of the image, in which the tables of imports and exports are these pieces.
 pub(crate) fn directories_of<'a>(
     plan: &LinkPlan<'a>,
     options: &Options<'a>,
     placement: &Placement<'a>,
-    places: &[Option<usize>; 5],
+    places: &[Option<usize>; 6],
 ) -> Directories
     requires plan { IsPlanOf (options_said options.now) plan.now.names plan.now }
     requires placed { IsPlaced (options_said options.now) plan.now placement.now }
@@ -85,16 +85,17 @@ pub(crate) fn directories_of<'a>(
 {
     let rvas = &placement.layout.pieces;
     Directories {
+        exports: extent_of(&plan.pieces, rvas, places[EXPORTS as usize]),
         imports: extent_of(&plan.pieces, rvas, places[DIRECTORY]),
         slots: extent_of(&plan.pieces, rvas, places[SLOTS as usize]),
         relocations: table_directory(placement),
     }
 }
 
-/// The RVAs of these pieces.
-fn table_rvas(rvas: &[u32], places: &[Option<usize>; 5]) -> [u32; 5]
+/// The RVAs of the import tables, which are the first of these pieces.
+fn table_rvas(rvas: &[u32], places: &[Option<usize>; 6]) -> [u32; 5]
     requires { All (λ place. IfSome place (λ k. k < length rvas.now)) places.now }
-    ensures { result ≡ map (rva_of rvas.now) places.now }
+    ensures { result ≡ map (rva_of rvas.now) (take 5 places.now) }
 {
     [
         rva_of(rvas, places[0]),

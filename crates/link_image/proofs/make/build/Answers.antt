@@ -63,7 +63,7 @@ returns-in_err-patch_pieces-clause-refused c =
     let fault : Fault = c.in_err-patch_pieces.field-0.0 in
     let refused : fields_range_fault plan.names (rows_of placement.sections.items) placement.layout options.base ≡ Some fault =
     ap (fields_range_fault plan.names (rows_of placement.sections.items) placement.layout) (sym own) ∙ c.in_err-patch_pieces.ensures.refused in
-    rw (given.1, given.2) (bad_range options plan.names (rows_of placement.sections.items) placement.layout (reloc_tables placement.table) fault placed.means c.in_ok-check_own_base.ensures.permitted refused)
+    rw (given.1, given.2) (bad_range options plan.names (rows_of placement.sections.items) placement.layout (reloc_tables placement.table) fault placed.means c.in_ok-check_own_base.ensures.permitted c.in_ok-exports.ensures.outside refused)
 
 pub returns-clause-built : goal.returns-clause-built
 returns-clause-built c =
@@ -84,7 +84,7 @@ returns-clause-built c =
     let file : c.patch_pieces.new.image.items ≡ file_of (headers_of options (entry_rva placement.layout.pieces.items plan.entry) (directories_of plan.names placement.layout (reloc_tables placement.table))) placement.sections.items placement.layout (linked_contents plan.names (rows_of placement.sections.items) placement.layout options.base) (reloc_tables placement.table) =
     c.in_ok-patch_pieces.ensures.patched
     ∙ ap (λ (h : Headers). file_of h placement.sections.items placement.layout (linked_contents plan.names (rows_of placement.sections.items) placement.layout h.base) (reloc_tables placement.table)) begins in
-    built options plan placement c.in_ok-owner.owner.items c.requires placed all (record { image = c.patch_pieces.new.image; sections = c.len-count.result }) c.in_ok-check_own_base.ensures.permitted in_range file (c.len-count.ensures ∙ placement.sections.ok.0)
+    built options plan placement c.in_ok-owner.owner.items c.requires placed all (record { image = c.patch_pieces.new.image; sections = c.len-count.result }) c.in_ok-check_own_base.ensures.permitted c.in_ok-exports.ensures.outside c.in_ok-exports.ensures.given in_range file (c.len-count.ensures ∙ placement.sections.ok.0)
 
 pub overflow_cast-count : goal.overflow_cast-count
 overflow_cast-count c =

@@ -1,4 +1,4 @@
-use Rattle.std.proofs.Common.{ℕ, length, map, List, ap, ◌∙◌, arith}
+use Rattle.std.proofs.Common.{ℕ, length, map, take, List, ap, ◌∙◌, arith}
 use Rattle.std.proofs.lemmas.Result.{IfOk-weaker}
 use Rattle.import_tables.specs.declared.row.ImportRow.{ImportRow}
 use Rattle.import_tables.specs.ImportTables.{tables_of}
@@ -13,13 +13,13 @@ table_rvas-rvas-requires c = places_within (options_said c.args.options.now) c.a
 
 pub fill-requires-clause-below : goal.fill-requires-clause-below
 fill-requires-clause-below c =
-    let rvas = rvas_are (options_said c.args.options.now) c.args.plan.now c.requires.plan c.args.placement.now.layout c.args.places.now c.table_rvas-rvas.result c.requires.places (c.table_rvas-rvas.ensures ∙ ap (λ (rs : List ℕ). map (rva_of rs) c.args.places.now) c.deref.ensures.value) in
+    let rvas = rvas_are (options_said c.args.options.now) c.args.plan.now c.requires.plan c.args.placement.now.layout c.args.places.now c.table_rvas-rvas.result c.requires.places (c.table_rvas-rvas.ensures ∙ ap (λ (rs : List ℕ). map (rva_of rs) (take 5 c.args.places.now)) c.deref.ensures.value) in
     tables_end (options_said c.args.options.now) c.args.plan.now c.requires.plan c.args.placement.now c.requires.placed c.table_rvas-rvas.result c.args.plan.now.imports.shape.lengths rvas c.requires.plan.imports.lengths (λ number lt. c.are_words.ensures number)
 
 pub returns : goal.returns
 unfolding import_tables_at
 returns c =
-    let rvas = rvas_are (options_said c.args.options.now) c.args.plan.now c.requires.plan c.args.placement.now.layout c.args.places.now c.table_rvas-rvas.result c.requires.places (c.table_rvas-rvas.ensures ∙ ap (λ (rs : List ℕ). map (rva_of rs) c.args.places.now) c.deref.ensures.value) in
+    let rvas = rvas_are (options_said c.args.options.now) c.args.plan.now c.requires.plan c.args.placement.now.layout c.args.places.now c.table_rvas-rvas.result c.requires.places (c.table_rvas-rvas.ensures ∙ ap (λ (rs : List ℕ). map (rva_of rs) (take 5 c.args.places.now)) c.deref.ensures.value) in
     IfOk-weaker c.fill.result _ _ (λ tables are. are
     ∙ ap (λ (rows : List ImportRow). tables_of rows c.table_rvas-rvas.result) (c.deref-2.ensures.value ∙ c.requires.plan.imports.rows)
     ∙ ap (tables_of (import_rows c.args.plan.now.names.modules)) rvas) c.fill.ensures.bytes
