@@ -1,14 +1,13 @@
 -- Rows that ordinals are given to are numbered as a table asks.
-use Rattle.std.proofs.Common.{◌≡◌, ℕ, ◌<◌, ◌≤◌, List, length, map, get_or, Option, Some, None, refl, sym, ap, ◌∙◌, subst, arith}
+use Rattle.std.proofs.Common.{◌≡◌, ℕ, ◌<◌, ◌≤◌, List, length, map, get_or, Option, Some, None, refl, sym, ap, ◌∙◌, arith}
 use Rattle.std.specs.List.{All}
 use Rattle.std.proofs.lemmas.List.{length-map}
 use Rattle.std.proofs.lemmas.List.Elements.{All-map, All-weaker}
 use Rattle.link_base.specs.Limits.{NAME_LIMIT}
 use Rattle.directives.specs.declared.item.Export.{Export}
 use Rattle.symbol_names.specs.Exports.{forwarder}
-use Rattle.export_tables.specs.declared.row.ExportRow.{ExportRow}
 use Rattle.export_tables.specs.ExportTable.{AreNumbered, forward_len}
-use Rattle.export_tables.specs.Ordinals.{ordinal_of, ordinals_of, ordinal_fault}
+use Rattle.export_tables.specs.Ordinals.{ordinal_of, ordinals_of}
 use Rattle.link_exports.specs.Exports.{export_to, unplaced_row, text_of, CanBeTold}
 
 text_len : (text : Option (List ℕ)) (rva : ℕ) → forward_len (export_to text rva) ≡ length (text_of text)

@@ -20,3 +20,4 @@ pub mod PlanLemmas
 pub mod OnePlacement
 pub mod ExportLemmas
 pub mod ExportReadLemmas
+pub mod ExportTableLemmas

@@ -4,7 +4,9 @@ ghost use Rattle.std.specs.Prelude.{◌≡◌, ◌≤◌, ◌<◌, ◌^◌, ◌+
 ghost use Rattle.std.specs.List.{All};
 ghost use Rattle.link_base.specs.Refusals.{first_standing};
 ghost use Rattle.address_layout.specs.PermittedBase.{is_permitted};
+ghost use Rattle.synthetic_sections.specs.LinkerPieces as linker;
 ghost use Rattle.link_pieces.specs.LinkParts.{LinkParts};
+ghost use Rattle.link_pieces.specs.PieceIndex.{linker_index};
 ghost use Rattle.link_words.specs.Outcome.{options_said};
 ghost use Rattle.link_plan.specs.ExportTargets.{export_target, export_targets};
 ghost use Rattle.link_plan.specs.Plan.{IsPlanOf};
@@ -93,10 +95,30 @@ pub(crate) fn export_table<'a>(
     ensures given { OnOk result (0 < plan.now.names.exports.size → All (λ row. IsGiven row.what) (exported_rows plan.now.names placement.now.layout.pieces.items)) }
     ensures refused { IfErr result (RefusesBuild (options_said options.now) plan.now.names) }
 {
+    match places[EXPORTS as usize] {
+        None => Ok(Vec::new(alloc)),
+        Some(k) => table_at(alloc, plan, options, placement, k),
+    }
+}
+
+/// The export table of the image, which is the piece of an index.
+fn table_at<'a>(
+    alloc: Global,
+    plan: &LinkPlan<'a>,
+    options: &Options<'a>,
+    placement: &Placement<'a>,
+    k: usize,
+) -> Result<Vec<u8>, Refusal<'a>>
+    requires plan { IsPlanOf (options_said options.now) plan.now.names plan.now }
+    requires placed { IsPlaced (options_said options.now) plan.now placement.now }
+    requires permitted { is_permitted (base_rule (options_said options.now)) placement.now.layout.image options.now.base ≡ true }
+    requires found { linker_index plan.now.names linker.EXPORTS ≡ Some k }
+    ensures table { IfOk result (λ table. table.items ≡ export_table_at plan.now.names placement.now.layout) }
+    ensures outside { OnOk result (in_table_fault plan.now.names placement.now.layout.pieces.items ≡ None) }
+    ensures given { OnOk result (All (λ row. IsGiven row.what) (exported_rows plan.now.names placement.now.layout.pieces.items)) }
+    ensures refused { IfErr result (RefusesBuild (options_said options.now) plan.now.names) }
+{
     let exports = plan.names.exports();
-    let Some(k) = places[EXPORTS as usize] else {
-        return Ok(Vec::new(alloc));
-    };
     let rvas = &placement.layout.pieces;
     let rva = rvas[k];
     let rows = placed_rows(alloc, exports.rows(), &plan.exported, rvas)?;

@@ -35,7 +35,7 @@ use Rattle.synthetic_sections.specs.LinkerFields.{thunk_field, slot_field}
 use Rattle.link_imports.specs.Imports.{slot_offset}
 use Rattle.link_words.specs.Outcome.{LinkOptions}
 use Rattle.link_plan.specs.Targets.{target_in, section_target, common_target, import_target, own_target, meant_target, has_meaning, local_target, symbol_target, is_record, piece_in, is_that}
-use Rattle.link_plan.specs.ExportTargets.{target_of as export_target_of, export_meant, export_target, export_targets, exports_piece, is_exported}
+use Rattle.link_plan.specs.ExportTargets.{target_of as export_target_of, export_target, export_targets, exports_piece, is_exported}
 use Rattle.link_plan.specs.Fixes.{fix_of, fixes_from, piece_at, piece_fixes, meant_in, means_piece, mean_piece, is_meant, is_entry, section_fixes, slot_at, slot_fixes, jump_fixes, linker_fixes, planned_piece, plan_pieces}
 
 kept_one : {A : Type 0} (P : A → Type 0) (b : Bool) (x : A) (rest : List A) → (b ≡ true → P x) → All P rest → All P (cond b (x ∷ rest) rest)

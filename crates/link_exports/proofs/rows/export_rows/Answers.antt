@@ -1,4 +1,4 @@
-use Rattle.std.proofs.Common.{List, [], ◌++◌, fold, take, sym, ap, ◌∙◌, arith}
+use Rattle.std.proofs.Common.{List, [], fold, sym, ap, ◌∙◌, arith}
 use Rattle.std.proofs.lemmas.List.{append-nil, take_all}
 use Rattle.directives.specs.declared.item.Export.{Export}
 use Rattle.link_words.specs.Outcome.{options_said}

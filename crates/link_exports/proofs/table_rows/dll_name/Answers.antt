@@ -1,5 +1,4 @@
-use Rattle.std.proofs.Common.{sym, ap, ◌∙◌}
-use Rattle.link_words.specs.Extension.{is_slash}
+use Rattle.std.proofs.Common.{sym, ◌∙◌}
 use Rattle.link_exports.proofs.SlashLemmas.{behind_last, behind_none}
 use Rattle.link_exports.proofs.table_rows.dll_name.Goals as goal
 

@@ -26,7 +26,7 @@ owners_of-requires-clause-within c =
     let written : IsWritten c.headers_of-headers.result placement plan.names c.in_ok-image.image.items = c.in_ok-image.ensures in
     let count : c.len.result ≡ length placement.layout.pieces.items = c.len.ensures ∙ placement.layout.pieces.ok.0 in
     let laid = placed.laid written.rest written.holds in
-    subst (λ (ss : List OutSection). All (λ k. k < c.len.result) (all_pieces ss)) (sym c.deref-2.ensures.value)
+    subst (λ (ss : List OutSection). All (λ k. k < c.len.result) (all_pieces ss)) (sym c.deref-3.ensures.value)
     (subst (λ (n : ℕ). All (λ k. k < n) (all_pieces placement.sections.items)) (sym (count ∙ laid.rva_for_each)) laid.within)
 
 pub patch_pieces-requires-clause-ready : goal.patch_pieces-requires-clause-ready
@@ -38,8 +38,8 @@ patch_pieces-requires-clause-ready c =
     let written : IsWritten c.headers_of-headers.result placement plan.names c.in_ok-image.image.items = c.in_ok-image.ensures in
     let count : c.len.result ≡ length placement.layout.pieces.items = c.len.ensures ∙ placement.layout.pieces.ok.0 in
     let owner_is : c.in_ok-owner.owner.items ≡ owners_in (rows_of placement.sections.items) placement.layout =
-    c.in_ok-owner.ensures ∙ ap (λ (ss : List OutSection). owners (rows_of ss) c.len.result) c.deref-2.ensures.value ∙ ap (owners (rows_of placement.sections.items)) count in
-    rw (c.deref-3.ensures.value) (ready options plan placement c.headers_of-headers.result c.in_ok-image.image.items c.in_ok-owner.owner.items c.requires placed written owner_is)
+    c.in_ok-owner.ensures ∙ ap (λ (ss : List OutSection). owners (rows_of ss) c.len.result) c.deref-3.ensures.value ∙ ap (owners (rows_of placement.sections.items)) count in
+    rw (c.deref-4.ensures.value) (ready options plan placement c.headers_of-headers.result c.in_ok-image.image.items c.in_ok-owner.owner.items c.requires placed written owner_is)
 
 pub patch_pieces-requires-clause-file : goal.patch_pieces-requires-clause-file
 patch_pieces-requires-clause-file c =
@@ -74,7 +74,7 @@ returns-clause-built c =
     let written : IsWritten c.headers_of-headers.result placement plan.names c.in_ok-image.image.items = c.in_ok-image.ensures in
     let count : c.len.result ≡ length placement.layout.pieces.items = c.len.ensures ∙ placement.layout.pieces.ok.0 in
     let owner_is : c.in_ok-owner.owner.items ≡ owners_in (rows_of placement.sections.items) placement.layout =
-    c.in_ok-owner.ensures ∙ ap (λ (ss : List OutSection). owners (rows_of ss) c.len.result) c.deref-2.ensures.value ∙ ap (owners (rows_of placement.sections.items)) count in
+    c.in_ok-owner.ensures ∙ ap (λ (ss : List OutSection). owners (rows_of ss) c.len.result) c.deref-3.ensures.value ∙ ap (owners (rows_of placement.sections.items)) count in
     let begins : c.headers_of-headers.result ≡ headers_of options (entry_rva placement.layout.pieces.items plan.entry) (directories_of plan.names placement.layout (reloc_tables placement.table)) =
     c.headers_of-headers.ensures ∙ ap (λ (e : ℕ). headers_of options e c.directories_of-directories.result) c.entry_rva-entry.ensures ∙ ap (headers_of options (entry_rva placement.layout.pieces.items plan.entry)) c.directories_of-directories.ensures in
     let own : c.headers_of-headers.result.base ≡ options.base = ap (λ (h : Headers). h.base) begins in

@@ -1,0 +1,135 @@
+-- The export table of a plan whose pieces have places.
+use Rattle.std.proofs.Common.{◌≡◌, ℕ, ◌+◌, ◌<◌, ◌≤◌, ◌^◌, cond, eqb, false, List, [], ◌∷◌, length, map, get_or, Option, Some, None, refl, sym, ap, ◌∙◌, subst, inl, inr, arith}
+use Rattle.std.specs.List.{All}
+use Rattle.std.proofs.lemmas.Bool.{cases_lt}
+use Rattle.std.proofs.lemmas.Bool.Decides.{eqb_tells}
+use Rattle.link_base.specs.Limits.{IMAGE_LIMIT}
+use Rattle.link_base.specs.Refusals.{first_standing}
+use Rattle.link_base.specs.declared.fault.Fault.{Fault}
+use Rattle.directives.specs.declared.item.Export.{Export}
+use Rattle.section_group.specs.SectionOrder.{no_piece}
+use Rattle.address_layout.specs.declared.layout.Layout.{Layout}
+use Rattle.export_tables.specs.declared.row.ExportRow.{ExportRow}
+use Rattle.export_tables.specs.ExportTable.{AreNumbered, table_size, export_table}
+use Rattle.synthetic_sections.specs.LinkerPieces.{EXPORTS, size_at}
+use Rattle.link_exports.specs.Exports.{ExportsView, export_rows, dll_name}
+use Rattle.link_pieces.specs.LinkParts.{LinkParts}
+use Rattle.link_pieces.specs.LinkerPieces.{table_sizes}
+use Rattle.link_pieces.specs.PieceIndex.{linker_index}
+use Rattle.link_words.specs.Outcome.{LinkOptions}
+use Rattle.link_plan.specs.declared.planning.LinkPlan.{LinkPlan}
+use Rattle.link_plan.specs.ExportTargets.{export_target, export_targets}
+use Rattle.link_plan.specs.Fixes.{piece_at}
+use Rattle.link_plan.specs.Plan.{IsPlanOf}
+use Rattle.link_image.specs.declared.placement.Placement.{Placement}
+use Rattle.link_image.specs.LinkedBytes.{rva_of, table_rva, exported_row, exported_rows, export_table_at}
+use Rattle.link_image.specs.ExportFaults.{inside_of, inside_fault, in_table_fault}
+use Rattle.link_image.specs.Steps.{numbered_indexes, IsGiven, IsPlaced}
+use Rattle.link_image.proofs.HeldLemmas.{piece_count, same_size}
+use Rattle.link_image.proofs.TableLemmas.{IsTableAt, found_table, places_are}
+use Rattle.link_image.proofs.ExportLemmas.{HasTable, has_table, placed_numbered, placed_size, export_size, export_table_some}
+use Rattle.link_image.proofs.ImportLemmas.{are_made}
+
+-- ---- without a table
+
+none_zero : (link : LinkParts) → linker_index link EXPORTS ≡ None → link.exports.size ≡ 0
+none_zero link none =
+    elim (cases_lt 0 link.exports.size) [
+      | inl some ↦ absurd (let there = are_made link EXPORTS (omega arith) (omega (arith, some, export_size link)) in nowhere there.0 (sym none ∙ there.1))
+      | inr zero ↦ omega (arith, zero)
+    ]
+  where
+    nowhere : (k : ℕ) → None ≡ Some k → ⊥
+    nowhere k e = absurd cc
+
+pub nothing_held : (link : LinkParts) (layout : Layout) → linker_index link EXPORTS ≡ None → export_table_at link layout ≡ []
+unfolding export_table_at
+nothing_held link layout none = rw (none_zero link none) refl
+
+pub nothing_inside : (link : LinkParts) (rvas : List ℕ) → linker_index link EXPORTS ≡ None → in_table_fault link rvas ≡ None
+unfolding in_table_fault
+nothing_inside link rvas none = rw (none_zero link none) refl
+
+pub nothing_given : (link : LinkParts) (rvas : List ℕ) → linker_index link EXPORTS ≡ None → 0 < link.exports.size → All (λ row. IsGiven row.what) (exported_rows link rvas)
+nothing_given link rvas none some = absurd (omega (arith, some, none_zero link none))
+
+-- ---- rows
+
+pub rows_placed : (link : LinkParts) (placed : List ExportRow) (rvas own : List ℕ) (rows : List Export) → placed ≡ map (exported_row link rvas) rows → rvas ≡ own → rows ≡ link.exports.rows → placed ≡ exported_rows link own
+unfolding exported_rows
+rows_placed link placed rvas own rows is same all =
+    is ∙ ap (λ (rs : List ℕ). map (exported_row link rs) rows) same ∙ ap (map (exported_row link own)) all
+
+not_zero : (size : ℕ) → 0 < size → eqb size 0 ≡ false
+not_zero size some =
+    elim (eqb_tells size 0) [
+      | inl same ↦ absurd (omega (arith, some, same.1))
+      | inr other ↦ other.0
+    ]
+
+inside_all : (link : LinkParts) (rvas : List ℕ) (rva : ℕ) (rows : List Export) → map (inside_of rva link.exports.size) (map (exported_row link rvas) rows) ≡ map (inside_fault link rvas rva) rows
+inside_all link rvas rva [] = refl
+inside_all link rvas rva (row ∷ rows) = ap (λ (rest : List (Option Fault)). inside_fault link rvas rva row ∷ rest) (inside_all link rvas rva rows)
+
+pub inside_told : (link : LinkParts) (rvas : List ℕ) → 0 < link.exports.size → first_standing (map (inside_of (rva_of rvas (linker_index link EXPORTS)) link.exports.size) (exported_rows link rvas)) ≡ in_table_fault link rvas
+unfolding in_table_fault exported_rows
+inside_told link rvas some =
+    let rva = rva_of rvas (linker_index link EXPORTS) in
+    rw (not_zero link.exports.size some) (ap first_standing (inside_all link rvas rva link.exports.rows))
+
+-- ---- where it stands
+
+module _ (options : LinkOptions) (plan : LinkPlan) (placement : Placement) (k : ℕ) (planned : IsPlanOf options plan.names plan) (placed : IsPlaced options plan placement) (found : linker_index plan.names EXPORTS ≡ Some k) where
+  at : IsTableAt plan.names EXPORTS k
+  at = found_table plan.names EXPORTS k (omega arith) found
+
+  size_is : (piece_at plan.names k).size ≡ plan.names.exports.size
+  size_is = at.is.size ∙ ap (size_at (table_sizes plan.names)) at.number_is ∙ export_size plan.names
+
+  pub some : 0 < plan.names.exports.size
+  some = omega (arith, at.is.some, size_is)
+
+  pub within : k < length placement.layout.pieces.items
+  within = omega (arith, at.there, piece_count options plan planned, placed.room)
+
+  pub ends : get_or placement.layout.pieces.items k 0 + plan.names.exports.size ≤ IMAGE_LIMIT
+  ends =
+      let lt : k < length plan.pieces.items = omega (arith, at.there, piece_count options plan planned) in
+      let same = same_size options plan planned k lt in
+      let end = placed.ends k lt (omega (arith, same, at.is.some)) in
+      omega (arith, end, same, size_is)
+
+  pub rva_is : table_rva plan.names placement.layout EXPORTS ≡ get_or placement.layout.pieces.items k 0
+  rva_is = ap (rva_of placement.layout.pieces.items) found
+
+  has : HasTable plan.names
+  has = has_table plan.names (export_rows options plan.names.modules) (dll_name options.out) planned.exports_are planned.told some
+
+  pub numbered_so : (rows : List ExportRow) (ordinals : List ℕ) → rows ≡ exported_rows plan.names placement.layout.pieces.items → ordinals ≡ plan.names.exports.ordinals → AreNumbered rows ordinals
+  numbered_so rows ordinals are numbers =
+      subst (λ (rs : List ExportRow). AreNumbered rs ordinals) (sym are)
+      (subst (AreNumbered (exported_rows plan.names placement.layout.pieces.items)) (sym numbers) (placed_numbered plan.names placement.layout.pieces.items has))
+
+  pub size_so : (rows : List ExportRow) (ordinals dll : List ℕ) → rows ≡ exported_rows plan.names placement.layout.pieces.items → ordinals ≡ plan.names.exports.ordinals → dll ≡ plan.names.exports.dll → table_size rows ordinals dll ≡ plan.names.exports.size
+  size_so rows ordinals dll are numbers named =
+      ap (λ (rs : List ExportRow). table_size rs ordinals dll) are
+      ∙ ap (λ (os : List ℕ). table_size (exported_rows plan.names placement.layout.pieces.items) os dll) numbers
+      ∙ ap (table_size (exported_rows plan.names placement.layout.pieces.items) plan.names.exports.ordinals) named
+      ∙ placed_size plan.names placement.layout.pieces.items has
+
+  pub table_so : (rows : List ExportRow) (ordinals dll table : List ℕ) (rva : ℕ) → rows ≡ exported_rows plan.names placement.layout.pieces.items → ordinals ≡ plan.names.exports.ordinals → dll ≡ plan.names.exports.dll → rva ≡ get_or placement.layout.pieces.items k 0 → table ≡ export_table rows ordinals dll rva → table ≡ export_table_at plan.names placement.layout
+  table_so rows ordinals dll table rva are numbers named stands is =
+      is
+      ∙ ap (λ (rs : List ExportRow). export_table rs ordinals dll rva) are
+      ∙ ap (λ (os : List ℕ). export_table (exported_rows plan.names placement.layout.pieces.items) os dll rva) numbers
+      ∙ ap (λ (d : List ℕ). export_table (exported_rows plan.names placement.layout.pieces.items) plan.names.exports.ordinals d rva) named
+      ∙ ap (export_table (exported_rows plan.names placement.layout.pieces.items) plan.names.exports.ordinals plan.names.exports.dll) (stands ∙ sym rva_is)
+      ∙ sym (export_table_some plan.names placement.layout (not_zero plan.names.exports.size some))
+
+  pub inside_so : (rows : List ExportRow) (rva size : ℕ) (told : Option Fault) → rows ≡ exported_rows plan.names placement.layout.pieces.items → rva ≡ get_or placement.layout.pieces.items k 0 → size ≡ plan.names.exports.size → first_standing (map (inside_of rva size) rows) ≡ told → in_table_fault plan.names placement.layout.pieces.items ≡ told
+  inside_so rows rva size told are stands sized is =
+      sym (inside_told plan.names placement.layout.pieces.items some)
+      ∙ ap (λ (r : ℕ). first_standing (map (inside_of r plan.names.exports.size) (exported_rows plan.names placement.layout.pieces.items))) (rva_is ∙ sym stands)
+      ∙ ap (λ (s : ℕ). first_standing (map (inside_of rva s) (exported_rows plan.names placement.layout.pieces.items))) (sym sized)
+      ∙ ap (λ (rs : List ExportRow). first_standing (map (inside_of rva size) rs)) (sym are)
+      ∙ is
