@@ -1,5 +1,5 @@
 -- The export table of a plan whose pieces have places.
-use Rattle.std.proofs.Common.{◌≡◌, ℕ, ◌+◌, ◌<◌, ◌≤◌, ◌^◌, cond, eqb, false, List, [], ◌∷◌, length, map, get_or, Option, Some, None, refl, sym, ap, ◌∙◌, subst, inl, inr, arith}
+use Rattle.std.proofs.Common.{◌≡◌, ℕ, ◌+◌, ◌<◌, ◌≤◌, eqb, false, List, [], ◌∷◌, length, map, get_or, Option, Some, None, refl, sym, ap, ◌∙◌, subst, inl, inr, arith}
 use Rattle.std.specs.List.{All}
 use Rattle.std.proofs.lemmas.Bool.{cases_lt}
 use Rattle.std.proofs.lemmas.Bool.Decides.{eqb_tells}
@@ -7,26 +7,24 @@ use Rattle.link_base.specs.Limits.{IMAGE_LIMIT}
 use Rattle.link_base.specs.Refusals.{first_standing}
 use Rattle.link_base.specs.declared.fault.Fault.{Fault}
 use Rattle.directives.specs.declared.item.Export.{Export}
-use Rattle.section_group.specs.SectionOrder.{no_piece}
 use Rattle.address_layout.specs.declared.layout.Layout.{Layout}
 use Rattle.export_tables.specs.declared.row.ExportRow.{ExportRow}
 use Rattle.export_tables.specs.ExportTable.{AreNumbered, table_size, export_table}
 use Rattle.synthetic_sections.specs.LinkerPieces.{EXPORTS, size_at}
-use Rattle.link_exports.specs.Exports.{ExportsView, export_rows, dll_name}
+use Rattle.link_exports.specs.Exports.{export_rows, dll_name}
 use Rattle.link_pieces.specs.LinkParts.{LinkParts}
 use Rattle.link_pieces.specs.LinkerPieces.{table_sizes}
 use Rattle.link_pieces.specs.PieceIndex.{linker_index}
 use Rattle.link_words.specs.Outcome.{LinkOptions}
 use Rattle.link_plan.specs.declared.planning.LinkPlan.{LinkPlan}
-use Rattle.link_plan.specs.ExportTargets.{export_target, export_targets}
 use Rattle.link_plan.specs.Fixes.{piece_at}
 use Rattle.link_plan.specs.Plan.{IsPlanOf}
 use Rattle.link_image.specs.declared.placement.Placement.{Placement}
 use Rattle.link_image.specs.LinkedBytes.{rva_of, table_rva, exported_row, exported_rows, export_table_at}
 use Rattle.link_image.specs.ExportFaults.{inside_of, inside_fault, in_table_fault}
-use Rattle.link_image.specs.Steps.{numbered_indexes, IsGiven, IsPlaced}
+use Rattle.link_image.specs.Steps.{IsGiven, IsPlaced}
 use Rattle.link_image.proofs.HeldLemmas.{piece_count, same_size}
-use Rattle.link_image.proofs.TableLemmas.{IsTableAt, found_table, places_are}
+use Rattle.link_image.proofs.TableLemmas.{IsTableAt, found_table}
 use Rattle.link_image.proofs.ExportLemmas.{HasTable, has_table, placed_numbered, placed_size, export_size, export_table_some}
 use Rattle.link_image.proofs.ImportLemmas.{are_made}
 

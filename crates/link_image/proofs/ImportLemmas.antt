@@ -30,7 +30,7 @@ use Rattle.image_writer.specs.HeaderTable.{size_of_headers}
 use Rattle.image_writer.specs.WrittenImage.{written_plan, layout_plan}
 use Rattle.synthetic_sections.specs.LinkerPieces.{EXPORTS, size_at}
 use Rattle.link_pieces.specs.LinkParts.{LinkParts}
-use Rattle.link_imports.specs.Imports.{import_rows, import_sizes}
+use Rattle.link_imports.specs.Imports.{import_rows}
 use Rattle.link_pieces.specs.LinkerPieces.{table_sizes}
 use Rattle.link_pieces.specs.PieceIndex.{linker_index}
 use Rattle.link_pieces.proofs.CallerLemmas.{table_there}

@@ -49,7 +49,9 @@ pub fn build<'a>(
     let tables = import_tables(alloc, plan, options, &placement, &places)?;
     let directories = directories_of(plan, options, &placement, &places);
     let headers = headers_of(options, entry, directories);
-    let mut image = write_file(alloc, plan, options, &headers, &placement, &tables, &exports)?;
+    let mut image = write_file(
+        alloc, plan, options, &headers, &placement, &tables, &exports,
+    )?;
     let owner = owners_of(alloc, &placement.sections, placement.layout.pieces.len())?;
     patch_pieces(&mut image, plan, &headers, &placement, &owner)?;
     Ok(Built {

@@ -24,9 +24,8 @@ use Rattle.image_writer.specs.ExpectedImage.{ImagePlan}
 use Rattle.image_writer.specs.WrittenImage.{written_plan}
 use Rattle.module_view.specs.Module.{ModuleView}
 use Rattle.link_pieces.specs.LinkParts.{LinkParts}
-use Rattle.lib_search.specs.LinkOf.{link_of}
 use Rattle.lib_search.proofs.OneLoading.{one_fault, fault_or_loads, one_loading}
-use Rattle.link_plan.specs.Plan.{merges_of}
+use Rattle.link_plan.specs.Plan.{link_parts, merges_of}
 use Rattle.link_plan.specs.PlanFaults.{plan_fault}
 use Rattle.link_plan.specs.Fixes.{plan_pieces}
 use Rattle.link_words.specs.Outcome.{LinkOptions, CommandSaid, Link, At, Show, Gen, Refused as RefusedWord}
@@ -37,7 +36,8 @@ use Rattle.image_writer.specs.declared.headers.Headers.{Headers}
 use Rattle.link_image.specs.ImageHeaders.{headers_of}
 use Rattle.link_image.specs.LinkedImage.{base_rule, entry_rva, directories_of, AreGrouped, ArePlaced, IsWhole, IsPlacement, IsImageOf}
 use Rattle.link_image.specs.LinkedBytes.{linked_contents, image_contents, fields_range_fault}
-use Rattle.link_image.specs.BuildFaults.{IsBadMerge, HasTooManySections, HasLargeTable, IsTooLarge, HasBadBase, HasBadRange, IsBuildFault}
+use Rattle.link_image.specs.ExportFaults.{in_table_fault}
+use Rattle.link_image.specs.BuildFaults.{IsBadMerge, IsBadExport, HasExportInTable, HasTooManySections, HasLargeTable, IsTooLarge, HasBadBase, HasBadRange, IsBuildFault}
 use Rattle.link_image.proofs.PlaceLemmas.{range_by_places, contents_by_places, directories_by_places}
 use Rattle.link_image.proofs.OnePlacement.{same_rows, same_layout, same_fields, one_refused_size, one_grown_size, SamePlacement, one_placement}
 use Rattle.linker_program.specs.Unbuilt.{is_unbuilt_link}
@@ -167,51 +167,109 @@ same_range options link f g x y =
     some_same : Some f ≡ Some g → f ≡ g
     some_same e = cc
 
+-- a bad export
+some_fault : (f g : Fault) → Some f ≡ Some g → f ≡ g
+some_fault f g e = cc
+
+none_fault : (f : Fault) → None ≡ Some f → ⊥
+none_fault f e = cc
+
+same_export : (options : LinkOptions) (link : LinkParts) (f g : Fault) → IsBadExport options link f → IsBadExport options link g → f ≡ g
+same_export options link f g x y = some_fault f g (sym x.is ∙ y.is)
+
+merge_or_export : (options : LinkOptions) (link : LinkParts) (f g : Fault) → IsBadMerge options link f → IsBadExport options link g → ⊥
+merge_or_export options link f g x y = y.merges x.named.place x.named.first.within x.named.first.bad
+
+export_or : (options : LinkOptions) (link : LinkParts) (fault : Fault) (sections : List OutSection) → IsBadExport options link fault → AreGrouped options link (plan_pieces options link) sections → ⊥
+export_or options link fault sections x grouped = none_fault fault (sym grouped.exports ∙ x.is)
+
+-- one that lies in the table
+same_inside : (link : LinkParts) (rows other_rows : List SectionRow) (layout other : Layout) (tables other_tables : List (List ℕ)) → SamePlacement rows other_rows layout other tables other_tables → in_table_fault link layout.pieces.items ≡ in_table_fault link other.pieces.items
+same_inside link rows other_rows layout other tables other_tables same = ap (in_table_fault link) (sym same.layouts.pieces)
+
+same_in_table : (options : LinkOptions) (link : LinkParts) (f g : Fault) → HasExportInTable options link f → HasExportInTable options link g → f ≡ g
+same_in_table options link f g x y =
+    let same = one_placement options link x.rows y.rows x.layout y.layout x.tables y.tables x.placement y.placement in
+    some_fault f g (sym x.is ∙ same_inside link x.rows y.rows x.layout y.layout x.tables y.tables same ∙ y.is)
+
+base_or_inside : (options : LinkOptions) (link : LinkParts) (f g : Fault) → HasBadBase options link f → HasExportInTable options link g → ⊥
+base_or_inside options link f g x y =
+    let same = one_placement options link x.rows y.rows x.layout y.layout x.tables y.tables x.placement y.placement in
+    false≢true (sym x.refused ∙ same_permitted options x.rows y.rows x.layout y.layout x.tables y.tables same ∙ y.permitted)
+
+inside_or : (options : LinkOptions) (link : LinkParts) (f : Fault) (rows : List SectionRow) (layout : Layout) (tables : List (List ℕ)) → HasExportInTable options link f → IsPlacement options link rows layout tables → in_table_fault link layout.pieces.items ≡ None → ⊥
+inside_or options link f rows layout tables x placement outside =
+    let same = one_placement options link x.rows rows x.layout layout x.tables tables x.placement placement in
+    none_fault f (sym outside ∙ sym (same_inside link x.rows rows x.layout layout x.tables tables same) ∙ x.is)
+
 -- no bad merge stands where the pieces are grouped
 merge_or : (options : LinkOptions) (link : LinkParts) (fault : Fault) (sections : List OutSection) → IsBadMerge options link fault → AreGrouped options link (plan_pieces options link) sections → ⊥
 merge_or options link fault sections x grouped = no_bad_merge options link (plan_pieces options link) sections fault x grouped
 
 same_fault : (options : LinkOptions) (link : LinkParts) (f g : Fault) → IsBuildFault options link f → IsBuildFault options link g → f ≡ g
 same_fault options link f g (inl x) (inl y) = same_merge options link f g x y
-same_fault options link f g (inl x) (inr (inl y)) = absurd (merge_or options link f y.sections x y.grouped)
+same_fault options link f g (inl x) (inr (inl y)) = absurd (merge_or_export options link f g x y)
 same_fault options link f g (inl x) (inr (inr (inl y))) = absurd (merge_or options link f y.sections x y.grouped)
-same_fault options link f g (inl x) (inr (inr (inr (inl y)))) = absurd (merge_or options link f y.placement.sections x y.placement.grouped)
-same_fault options link f g (inl x) (inr (inr (inr (inr y)))) = absurd (merge_or options link f y.placement.sections x y.placement.grouped)
-same_fault options link f g (inr (inl x)) (inl y) = absurd (merge_or options link g x.sections y x.grouped)
-same_fault options link f g (inr (inl x)) (inr (inl y)) = same_many options link f g x y
-same_fault options link f g (inr (inl x)) (inr (inr (inl y))) = absurd (many_or_large options link f g x y)
-same_fault options link f g (inr (inl x)) (inr (inr (inr (inl y)))) = absurd (many_or_placement options link f y.rows y.layout y.tables x y.placement)
-same_fault options link f g (inr (inl x)) (inr (inr (inr (inr y)))) = absurd (many_or_placement options link f y.rows y.layout y.tables x y.placement)
+same_fault options link f g (inl x) (inr (inr (inr (inl y)))) = absurd (merge_or options link f y.sections x y.grouped)
+same_fault options link f g (inl x) (inr (inr (inr (inr (inl y))))) = absurd (merge_or options link f y.placement.sections x y.placement.grouped)
+same_fault options link f g (inl x) (inr (inr (inr (inr (inr (inl y)))))) = absurd (merge_or options link f y.placement.sections x y.placement.grouped)
+same_fault options link f g (inl x) (inr (inr (inr (inr (inr (inr (y))))))) = absurd (merge_or options link f y.placement.sections x y.placement.grouped)
+same_fault options link f g (inr (inl x)) (inl y) = absurd (merge_or_export options link g f y x)
+same_fault options link f g (inr (inl x)) (inr (inl y)) = same_export options link f g x y
+same_fault options link f g (inr (inl x)) (inr (inr (inl y))) = absurd (export_or options link f y.sections x y.grouped)
+same_fault options link f g (inr (inl x)) (inr (inr (inr (inl y)))) = absurd (export_or options link f y.sections x y.grouped)
+same_fault options link f g (inr (inl x)) (inr (inr (inr (inr (inl y))))) = absurd (export_or options link f y.placement.sections x y.placement.grouped)
+same_fault options link f g (inr (inl x)) (inr (inr (inr (inr (inr (inl y)))))) = absurd (export_or options link f y.placement.sections x y.placement.grouped)
+same_fault options link f g (inr (inl x)) (inr (inr (inr (inr (inr (inr (y))))))) = absurd (export_or options link f y.placement.sections x y.placement.grouped)
 same_fault options link f g (inr (inr (inl x))) (inl y) = absurd (merge_or options link g x.sections y x.grouped)
-same_fault options link f g (inr (inr (inl x))) (inr (inl y)) = absurd (many_or_large options link g f y x)
-same_fault options link f g (inr (inr (inl x))) (inr (inr (inl y))) = same_large options link f g x y
-same_fault options link f g (inr (inr (inl x))) (inr (inr (inr (inl y)))) = absurd (large_or_placement options link f y.rows y.layout y.tables x y.placement)
-same_fault options link f g (inr (inr (inl x))) (inr (inr (inr (inr y)))) = absurd (large_or_placement options link f y.rows y.layout y.tables x y.placement)
-same_fault options link f g (inr (inr (inr (inl x)))) (inl y) = absurd (merge_or options link g x.placement.sections y x.placement.grouped)
-same_fault options link f g (inr (inr (inr (inl x)))) (inr (inl y)) = absurd (many_or_placement options link g x.rows x.layout x.tables y x.placement)
-same_fault options link f g (inr (inr (inr (inl x)))) (inr (inr (inl y))) = absurd (large_or_placement options link g x.rows x.layout x.tables y x.placement)
-same_fault options link f g (inr (inr (inr (inl x)))) (inr (inr (inr (inl y)))) = x.is ∙ sym y.is
-same_fault options link f g (inr (inr (inr (inl x)))) (inr (inr (inr (inr y)))) = absurd (base_or_range options link f g x y)
-same_fault options link f g (inr (inr (inr (inr x)))) (inl y) = absurd (merge_or options link g x.placement.sections y x.placement.grouped)
-same_fault options link f g (inr (inr (inr (inr x)))) (inr (inl y)) = absurd (many_or_placement options link g x.rows x.layout x.tables y x.placement)
-same_fault options link f g (inr (inr (inr (inr x)))) (inr (inr (inl y))) = absurd (large_or_placement options link g x.rows x.layout x.tables y x.placement)
-same_fault options link f g (inr (inr (inr (inr x)))) (inr (inr (inr (inl y)))) = absurd (base_or_range options link g f y x)
-same_fault options link f g (inr (inr (inr (inr x)))) (inr (inr (inr (inr y)))) = same_range options link f g x y
+same_fault options link f g (inr (inr (inl x))) (inr (inl y)) = absurd (export_or options link g x.sections y x.grouped)
+same_fault options link f g (inr (inr (inl x))) (inr (inr (inl y))) = same_many options link f g x y
+same_fault options link f g (inr (inr (inl x))) (inr (inr (inr (inl y)))) = absurd (many_or_large options link f g x y)
+same_fault options link f g (inr (inr (inl x))) (inr (inr (inr (inr (inl y))))) = absurd (many_or_placement options link f y.rows y.layout y.tables x y.placement)
+same_fault options link f g (inr (inr (inl x))) (inr (inr (inr (inr (inr (inl y)))))) = absurd (many_or_placement options link f y.rows y.layout y.tables x y.placement)
+same_fault options link f g (inr (inr (inl x))) (inr (inr (inr (inr (inr (inr (y))))))) = absurd (many_or_placement options link f y.rows y.layout y.tables x y.placement)
+same_fault options link f g (inr (inr (inr (inl x)))) (inl y) = absurd (merge_or options link g x.sections y x.grouped)
+same_fault options link f g (inr (inr (inr (inl x)))) (inr (inl y)) = absurd (export_or options link g x.sections y x.grouped)
+same_fault options link f g (inr (inr (inr (inl x)))) (inr (inr (inl y))) = absurd (many_or_large options link g f y x)
+same_fault options link f g (inr (inr (inr (inl x)))) (inr (inr (inr (inl y)))) = same_large options link f g x y
+same_fault options link f g (inr (inr (inr (inl x)))) (inr (inr (inr (inr (inl y))))) = absurd (large_or_placement options link f y.rows y.layout y.tables x y.placement)
+same_fault options link f g (inr (inr (inr (inl x)))) (inr (inr (inr (inr (inr (inl y)))))) = absurd (large_or_placement options link f y.rows y.layout y.tables x y.placement)
+same_fault options link f g (inr (inr (inr (inl x)))) (inr (inr (inr (inr (inr (inr (y))))))) = absurd (large_or_placement options link f y.rows y.layout y.tables x y.placement)
+same_fault options link f g (inr (inr (inr (inr (inl x))))) (inl y) = absurd (merge_or options link g x.placement.sections y x.placement.grouped)
+same_fault options link f g (inr (inr (inr (inr (inl x))))) (inr (inl y)) = absurd (export_or options link g x.placement.sections y x.placement.grouped)
+same_fault options link f g (inr (inr (inr (inr (inl x))))) (inr (inr (inl y))) = absurd (many_or_placement options link g x.rows x.layout x.tables y x.placement)
+same_fault options link f g (inr (inr (inr (inr (inl x))))) (inr (inr (inr (inl y)))) = absurd (large_or_placement options link g x.rows x.layout x.tables y x.placement)
+same_fault options link f g (inr (inr (inr (inr (inl x))))) (inr (inr (inr (inr (inl y))))) = x.is ∙ sym y.is
+same_fault options link f g (inr (inr (inr (inr (inl x))))) (inr (inr (inr (inr (inr (inl y)))))) = absurd (base_or_inside options link f g x y)
+same_fault options link f g (inr (inr (inr (inr (inl x))))) (inr (inr (inr (inr (inr (inr (y))))))) = absurd (base_or_range options link f g x y)
+same_fault options link f g (inr (inr (inr (inr (inr (inl x)))))) (inl y) = absurd (merge_or options link g x.placement.sections y x.placement.grouped)
+same_fault options link f g (inr (inr (inr (inr (inr (inl x)))))) (inr (inl y)) = absurd (export_or options link g x.placement.sections y x.placement.grouped)
+same_fault options link f g (inr (inr (inr (inr (inr (inl x)))))) (inr (inr (inl y))) = absurd (many_or_placement options link g x.rows x.layout x.tables y x.placement)
+same_fault options link f g (inr (inr (inr (inr (inr (inl x)))))) (inr (inr (inr (inl y)))) = absurd (large_or_placement options link g x.rows x.layout x.tables y x.placement)
+same_fault options link f g (inr (inr (inr (inr (inr (inl x)))))) (inr (inr (inr (inr (inl y))))) = absurd (base_or_inside options link g f y x)
+same_fault options link f g (inr (inr (inr (inr (inr (inl x)))))) (inr (inr (inr (inr (inr (inl y)))))) = same_in_table options link f g x y
+same_fault options link f g (inr (inr (inr (inr (inr (inl x)))))) (inr (inr (inr (inr (inr (inr (y))))))) = absurd (inside_or options link f y.rows y.layout y.tables x y.placement y.outside)
+same_fault options link f g (inr (inr (inr (inr (inr (inr (x))))))) (inl y) = absurd (merge_or options link g x.placement.sections y x.placement.grouped)
+same_fault options link f g (inr (inr (inr (inr (inr (inr (x))))))) (inr (inl y)) = absurd (export_or options link g x.placement.sections y x.placement.grouped)
+same_fault options link f g (inr (inr (inr (inr (inr (inr (x))))))) (inr (inr (inl y))) = absurd (many_or_placement options link g x.rows x.layout x.tables y x.placement)
+same_fault options link f g (inr (inr (inr (inr (inr (inr (x))))))) (inr (inr (inr (inl y)))) = absurd (large_or_placement options link g x.rows x.layout x.tables y x.placement)
+same_fault options link f g (inr (inr (inr (inr (inr (inr (x))))))) (inr (inr (inr (inr (inl y))))) = absurd (base_or_range options link g f y x)
+same_fault options link f g (inr (inr (inr (inr (inr (inr (x))))))) (inr (inr (inr (inr (inr (inl y)))))) = absurd (inside_or options link g x.rows x.layout x.tables y x.placement x.outside)
+same_fault options link f g (inr (inr (inr (inr (inr (inr (x))))))) (inr (inr (inr (inr (inr (inr (y))))))) = same_range options link f g x y
 
 -- modules have a fault, or an image
 fault_or_image : (options : LinkOptions) (link : LinkParts) (f : Fault) (image : ImagePlan) → IsBuildFault options link f → IsImageOf options link image → ⊥
 fault_or_image options link f image (inl x) y = merge_or options link f y.placement.sections x y.placement.grouped
-fault_or_image options link f image (inr (inl x)) y = many_or_placement options link f y.rows y.layout y.tables x y.placement
-fault_or_image options link f image (inr (inr (inl x))) y = large_or_placement options link f y.rows y.layout y.tables x y.placement
-fault_or_image options link f image (inr (inr (inr (inl x)))) y =
+fault_or_image options link f image (inr (inl x)) y = export_or options link f y.placement.sections x y.placement.grouped
+fault_or_image options link f image (inr (inr (inl x))) y = many_or_placement options link f y.rows y.layout y.tables x y.placement
+fault_or_image options link f image (inr (inr (inr (inl x)))) y = large_or_placement options link f y.rows y.layout y.tables x y.placement
+fault_or_image options link f image (inr (inr (inr (inr (inl x))))) y =
     let same = one_placement options link x.rows y.rows x.layout y.layout x.tables y.tables x.placement y.placement in
     false≢true (sym x.refused ∙ same_permitted options x.rows y.rows x.layout y.layout x.tables y.tables same ∙ y.permitted)
-fault_or_image options link f image (inr (inr (inr (inr x)))) y =
+fault_or_image options link f image (inr (inr (inr (inr (inr (inl x)))))) y = inside_or options link f y.rows y.layout y.tables x y.placement y.outside
+fault_or_image options link f image (inr (inr (inr (inr (inr (inr (x))))))) y =
     let same = one_placement options link y.rows x.rows y.layout x.layout y.tables x.tables y.placement x.placement in
-    absurd (none_some (sym y.in_range ∙ same_ranges options link y.rows x.rows y.layout x.layout y.tables x.tables same ∙ x.is))
-  where
-    none_some : None ≡ Some f → ⊥
-    none_some e = cc
+    absurd (none_fault f (sym y.in_range ∙ same_ranges options link y.rows x.rows y.layout x.layout y.tables x.tables same ∙ x.is))
 
 -- ---- the plan
 
@@ -251,20 +309,20 @@ same_parts p q options modules image =
 
 same_plan : (options : LinkOptions) (modules : List ModuleView) (p q : Plan) → IsPlan options modules p → IsPlan options modules q → p ≡ q
 same_plan options modules p q x y =
-    same_parts p q (x.options_are ∙ sym y.options_are) (x.modules_are ∙ sym y.modules_are) (same_image options (link_of options modules) p.image q.image x.image_is y.image_is)
+    same_parts p q (x.options_are ∙ sym y.options_are) (x.modules_are ∙ sym y.modules_are) (same_image options (link_parts options modules) p.image q.image x.image_is y.image_is)
 
 -- ---- the outcome
 
 same_built : (options : LinkOptions) (modules : List ModuleView) (a b : Outcome) → BuildOutcome options modules a → BuildOutcome options modules b → a ≡ b
 same_built options modules (Usage index kind) b x y = absurd x
 same_built options modules (Refused f) (Usage index kind) x y = absurd y
-same_built options modules (Refused f) (Refused g) x y = ap (λ (h : Fault). Refused h) (same_fault options (link_of options modules) f g x y)
-same_built options modules (Refused f) (Linked q) x y = absurd (fault_or_image options (link_of options modules) f q.image x y.image_is)
+same_built options modules (Refused f) (Refused g) x y = ap (λ (h : Fault). Refused h) (same_fault options (link_parts options modules) f g x y)
+same_built options modules (Refused f) (Linked q) x y = absurd (fault_or_image options (link_parts options modules) f q.image x y.image_is)
 same_built options modules (Refused f) (Shown line) x y = absurd y
 same_built options modules (Shown line) b x y = absurd x
 same_built options modules (Linked p) (Shown line) x y = absurd y
 same_built options modules (Linked p) (Usage index kind) x y = absurd y
-same_built options modules (Linked p) (Refused g) x y = absurd (fault_or_image options (link_of options modules) g p.image y x.image_is)
+same_built options modules (Linked p) (Refused g) x y = absurd (fault_or_image options (link_parts options modules) g p.image y x.image_is)
 same_built options modules (Linked p) (Linked q) x y = ap (λ (r : Plan). Linked r) (same_plan options modules p q x y)
 
 -- a stage before a later one that has one outcome
@@ -274,7 +332,7 @@ same_after (Some f) later a b one x y = x ∙ sym y
 
 same_modules : (options : LinkOptions) (modules : List ModuleView) (a b : Outcome) → ModulesOutcome options modules a → ModulesOutcome options modules b → a ≡ b
 same_modules options modules a b x y =
-    same_after (plan_fault options (link_of options modules)) (BuildOutcome options modules) a b (same_built options modules) x y
+    same_after (plan_fault options (link_parts options modules)) (BuildOutcome options modules) a b (same_built options modules) x y
 
 same_link : (options : LinkOptions) (store : Store) (a b : Outcome) → LinkOutcome options store a → LinkOutcome options store b → a ≡ b
 same_link options store a b (AtLoading f x is) (AtLoading g y same) =

@@ -15,14 +15,14 @@ use Rattle.link_words.specs.UsageWord.{usage_word}
 use Rattle.link_words.specs.Commands.{words_say}
 use Rattle.link_plan.specs.PlanFaults.{plan_fault}
 use Rattle.file_search.specs.Reading.{LeavesFiles}
-use Rattle.lib_search.specs.LinkOf.{link_of}
+use Rattle.link_plan.specs.Plan.{link_parts}
 use Rattle.lib_search.specs.Loading.{HasLoadingFault}
 use Rattle.lib_search.specs.Completion.{FailsLoading}
 use Rattle.link_plan.specs.declared.planning.LinkPlan.{LinkPlan}
 use Rattle.link_plan.specs.Planning.{GivesPlan, JoinsBadly, FaultsPlan}
 use Rattle.link_image.specs.declared.make.Built.{Built}
 use Rattle.link_image.specs.LinkedImage.{IsBuilt}
-use Rattle.link_image.proofs.PlaceLemmas.{imports_by_places}
+use Rattle.link_image.proofs.PlaceLemmas.{imports_by_places, exports_by_places}
 use Rattle.link_image.proofs.OnePlacement.{one_placement}
 use Rattle.link_image.specs.BuildFaults.{RefusesBuild}
 use Rattle.linker_program.specs.declared.answer.Answer.{Answer}
@@ -68,6 +68,7 @@ made_later has later files plan image follows made = record {
   outcome = expects_later has later files (Linked plan) follows made.outcome;
   means = made.means;
   imports = made.imports;
+  exports = made.exports;
 }
 
 answers_later : (has later : Store → Outcome → Type 0) (tries : Option Store → List ℕ → Type 0) (before after : FilesView) (answer : Status) (line : List ℕ) → Follows has later before → LinkAnswers has tries before after answer line → LinkAnswers later tries before after answer line
@@ -116,7 +117,7 @@ written_answers options modules tries before after linked status.Done line is wr
   (
     linked.image.items,
     record {
-      made = record { outcome = record { told = λ store told. is.outcome }; means = is.means; imports = is.imports };
+      made = record { outcome = record { told = λ store told. is.outcome }; means = is.means; imports = is.imports; exports = is.exports };
       files = rw is.asked wrote.files;
       says = rw (is.asked, ← is.modules_are, ← is.sections_are) wrote.says;
     },
@@ -129,7 +130,7 @@ written_answers options modules tries before after linked status.WriteFailed lin
     (
       wrote.0,
       record {
-        made = record { outcome = record { told = λ store told. is.outcome }; means = is.means; imports = is.imports };
+        made = record { outcome = record { told = λ store told. is.outcome }; means = is.means; imports = is.imports; exports = is.exports };
         files = rw is.asked wrote.1.files;
         says = subst (λ (o : LinkOptions). line ≡ write_failure_line (output_at (linked_outputs o.out linked) wrote.0).name) (sym is.asked) wrote.1.says;
       },
@@ -159,7 +160,7 @@ on_left (Err error) options modules before after linked is left = elim left [
     (
       linked.image.items,
       record {
-        made = record { outcome = record { told = λ store told. is.outcome }; means = is.means; imports = is.imports };
+        made = record { outcome = record { told = λ store told. is.outcome }; means = is.means; imports = is.imports; exports = is.exports };
         count = some.0;
         files = rw is.asked some.1;
       },
@@ -224,12 +225,12 @@ left_alone has before after leaves = inl (record { store = leaves.store; writes 
 -- ---- the image of a plan
 
 -- pieces that make no image
-pub refused_build : (options : LinkOptions) (modules : List ModuleView) (r : Refusal) → plan_fault options (link_of options modules) ≡ None → RefusesBuild options (link_of options modules) r → RefusesModules options modules r
+pub refused_build : (options : LinkOptions) (modules : List ModuleView) (r : Refusal) → plan_fault options (link_parts options modules) ≡ None → RefusesBuild options (link_parts options modules) r → RefusesModules options modules r
 refused_build options modules (refusal.Fault fault) planned is = rw planned is
 refused_build options modules refusal.Memory planned is = tt
 
 -- an image that is made
-pub linked : (options : LinkOptions) (modules : List ModuleView) (built : Built) (made : LinkedBytes) → plan_fault options (link_of options modules) ≡ None → IsBuilt options (link_of options modules) built → made.image ≡ built.image → made.sections ≡ built.sections → made.modules ≡ length modules → IsLinked options modules made
+pub linked : (options : LinkOptions) (modules : List ModuleView) (built : Built) (made : LinkedBytes) → plan_fault options (link_parts options modules) ≡ None → IsBuilt options (link_parts options modules) built → made.image ≡ built.image → made.sections ≡ built.sections → made.modules ≡ length modules → IsLinked options modules made
 linked options modules built made planned is image sections count =
     let plan : Plan = record { options = options; modules = modules; image = is.image } in
     let made_plan : IsPlan options modules plan = record { options_are = refl; modules_are = refl; image_is = is.is_image } in
@@ -239,9 +240,13 @@ linked options modules built made planned is image sections count =
       outcome = rw planned made_plan;
       means = rw image is.means;
       imports = λ other.
-          let link = link_of options modules in
+          let link = link_parts options modules in
           let same = one_placement options link is.is_image.rows other.rows is.is_image.layout other.layout is.is_image.tables other.tables is.is_image.placement other.placement in
           rw image (imports_by_places link is.is_image.layout other.layout built.image.items (sym same.layouts.pieces) is.imports);
+      exports = λ other.
+          let link = link_parts options modules in
+          let same = one_placement options link is.is_image.rows other.rows is.is_image.layout other.layout is.is_image.tables other.tables is.is_image.placement other.placement in
+          rw image (exports_by_places link is.is_image.layout other.layout built.image.items (sym same.layouts.pieces) is.exports);
       modules_are = count;
       sections_are = sections ∙ is.count;
     }

@@ -15,7 +15,7 @@ use Rattle.link_words.specs.Commands.{words_say}
 use Rattle.link_plan.specs.Fixes.{fixes_from}
 use Rattle.link_plan.specs.Entry.{entry_place}
 use Rattle.file_search.specs.FoundFiles.{FoundFile}
-use Rattle.lib_search.specs.LinkOf.{link_of}
+use Rattle.link_plan.specs.Plan.{link_parts}
 use Rattle.link_directives.specs.LinkDirectives.{mismatch_of}
 use Rattle.module_view.specs.ModuleDirectives.{module_says}
 use Rattle.link_base.specs.Bytes.{number_at, first_below}
@@ -35,7 +35,9 @@ use Rattle.module_view.specs.SymbolLists.{is_definition, definitions_of, is_comm
 use Rattle.symbol_table.specs.LinkerNames.{linker_meaning}
 use Rattle.symbol_table.specs.Resolution.{step, meaning_within, meaning_of}
 use Rattle.comdat.specs.Chains.{chain_end}
-use Rattle.synthetic_sections.specs.LinkerPieces.{table_pieces}
+use Rattle.synthetic_sections.specs.LinkerPieces.{table_pieces, export_table_pieces}
+use Rattle.export_tables.specs.Ordinals.{ordinal_fault}
+use Rattle.link_exports.specs.Exports.{export_rows, numbers_of, numbers_fault, size_if}
 use Rattle.import_tables.specs.ImportShape.{dlls_of, entry_count, names_size, extent_of, hints_size, sizes_of}
 use Rattle.link_pieces.specs.LocalSlots.{asks, slot_names}
 use Rattle.coff_aux.specs.Comdats.{stands_in, section_symbols_of, said_by_symbol, comdat_record_of, leader_name, comdat_of, parent_in, parents_of}
@@ -97,22 +99,22 @@ modules : List ModuleView
 modules = record { file = codes "a.obj"; member = None; bytes = object; imported = None } ∷ []
 
 -- no stage before the tables has a fault
-accepted : plan_fault options (link_of options modules) ≡ None
-unfolding module_says mismatch_of settings options_of word_says known is_word is_text object file_header section_header code symbol_record string_row number_at first_below decimal_number first_refusal_below first_section first_of is_truncated is_other_machine body_leaves counted_leave relocations_leave first_torn_record symbol_range_fault table_leaves lacks_section_name lacks_symbol_name string_table_fault has_no_alignment has_no_section value_exceeds object_fault section_at record_offset record_at symbol_at starts_within big_object_class is_big_object header_size symbol_size machine_of section_total section_headers_offset symbols_offset record_total relocations_place relocation_count_in relocations_from short_name_in name_offset long_section_name section_name_in is_uninitialised_in has_overflow_count_in string_table_offset string_table_size string_table text_in long_name_offset_in name_in section_number_in class_in aux_count_in resource_start form_error is_linker_section content_error file_error opening_error comes_in is_definition definitions_of is_common is_undefined is_reference references_of stands_in section_symbols_of said_by_symbol leader_name comdat_of chain_end weaks_of commons_of linker_meaning step meaning_within meaning_of asks is_bad_weak comdat_record_of parent_in parents_of ancestor aux_place parent_place aux_fault is_unbuilt_form is_named fixes_from plan_fault modules slot_names table_pieces sizes_of extent_of dlls_of entry_count hints_size names_size
+accepted : plan_fault options (link_parts options modules) ≡ None
+unfolding module_says mismatch_of settings options_of word_says known is_word is_text object file_header section_header code symbol_record string_row number_at first_below decimal_number first_refusal_below first_section first_of is_truncated is_other_machine body_leaves counted_leave relocations_leave first_torn_record symbol_range_fault table_leaves lacks_section_name lacks_symbol_name string_table_fault has_no_alignment has_no_section value_exceeds object_fault section_at record_offset record_at symbol_at starts_within big_object_class is_big_object header_size symbol_size machine_of section_total section_headers_offset symbols_offset record_total relocations_place relocation_count_in relocations_from short_name_in name_offset long_section_name section_name_in is_uninitialised_in has_overflow_count_in string_table_offset string_table_size string_table text_in long_name_offset_in name_in section_number_in class_in aux_count_in resource_start form_error is_linker_section content_error file_error opening_error comes_in is_definition definitions_of is_common is_undefined is_reference references_of stands_in section_symbols_of said_by_symbol leader_name comdat_of chain_end weaks_of commons_of linker_meaning step meaning_within meaning_of asks is_bad_weak comdat_record_of parent_in parents_of ancestor aux_place parent_place aux_fault is_unbuilt_form is_named fixes_from plan_fault modules slot_names export_rows numbers_of numbers_fault size_if ordinal_fault export_table_pieces table_pieces sizes_of extent_of dlls_of entry_count hints_size names_size
 accepted = refl
 
 -- what is laid out
-pieces : link_pieces (link_of options modules) ≡ record { «module» = 0; number = 1; name = codes ".text"; flags = 0x60500020; size = 3; align = 16; body = None; init = true; named = true } ∷ []
-unfolding module_says mismatch_of settings options_of word_says known is_word is_text object file_header section_header code symbol_record string_row number_at first_below decimal_number first_refusal_below first_section first_of is_truncated is_other_machine body_leaves counted_leave relocations_leave first_torn_record symbol_range_fault table_leaves lacks_section_name lacks_symbol_name string_table_fault has_no_alignment has_no_section value_exceeds object_fault section_at record_offset record_at symbol_at starts_within big_object_class is_big_object header_size symbol_size machine_of section_total section_headers_offset symbols_offset record_total relocations_place relocation_count_in relocations_from short_name_in name_offset long_section_name section_name_in is_uninitialised_in has_overflow_count_in string_table_offset string_table_size string_table text_in long_name_offset_in name_in section_number_in class_in aux_count_in resource_start form_error is_linker_section content_error file_error opening_error comes_in is_definition definitions_of is_common is_undefined is_reference references_of is_bad_weak comdat_record_of parent_in parents_of ancestor aux_place parent_place aux_fault is_unbuilt_form is_named plan_fault modules stands_in section_symbols_of said_by_symbol leader_name comdat_of chain_end weaks_of commons_of linker_meaning step meaning_within meaning_of asks slot_names table_pieces sizes_of extent_of dlls_of entry_count hints_size names_size
+pieces : link_pieces (link_parts options modules) ≡ record { «module» = 0; number = 1; name = codes ".text"; flags = 0x60500020; size = 3; align = 16; body = None; init = true; named = true } ∷ []
+unfolding module_says mismatch_of settings options_of word_says known is_word is_text object file_header section_header code symbol_record string_row number_at first_below decimal_number first_refusal_below first_section first_of is_truncated is_other_machine body_leaves counted_leave relocations_leave first_torn_record symbol_range_fault table_leaves lacks_section_name lacks_symbol_name string_table_fault has_no_alignment has_no_section value_exceeds object_fault section_at record_offset record_at symbol_at starts_within big_object_class is_big_object header_size symbol_size machine_of section_total section_headers_offset symbols_offset record_total relocations_place relocation_count_in relocations_from short_name_in name_offset long_section_name section_name_in is_uninitialised_in has_overflow_count_in string_table_offset string_table_size string_table text_in long_name_offset_in name_in section_number_in class_in aux_count_in resource_start form_error is_linker_section content_error file_error opening_error comes_in is_definition definitions_of is_common is_undefined is_reference references_of is_bad_weak comdat_record_of parent_in parents_of ancestor aux_place parent_place aux_fault is_unbuilt_form is_named plan_fault modules stands_in section_symbols_of said_by_symbol leader_name comdat_of chain_end weaks_of commons_of linker_meaning step meaning_within meaning_of asks slot_names export_rows numbers_of numbers_fault size_if ordinal_fault export_table_pieces table_pieces sizes_of extent_of dlls_of entry_count hints_size names_size
 pieces = refl
 
-contents : link_contents (link_of options modules) ≡ code ∷ []
-unfolding module_says mismatch_of settings options_of word_says known is_word is_text object file_header section_header code symbol_record string_row number_at first_below decimal_number first_refusal_below first_section first_of is_truncated is_other_machine body_leaves counted_leave relocations_leave first_torn_record symbol_range_fault table_leaves lacks_section_name lacks_symbol_name string_table_fault has_no_alignment has_no_section value_exceeds object_fault section_at record_offset record_at symbol_at starts_within big_object_class is_big_object header_size symbol_size machine_of section_total section_headers_offset symbols_offset record_total relocations_place relocation_count_in relocations_from short_name_in name_offset long_section_name section_name_in is_uninitialised_in has_overflow_count_in string_table_offset string_table_size string_table text_in long_name_offset_in name_in section_number_in class_in aux_count_in resource_start form_error is_linker_section content_error file_error opening_error comes_in is_definition definitions_of is_common is_undefined is_reference references_of is_bad_weak comdat_record_of parent_in parents_of ancestor aux_place parent_place aux_fault is_unbuilt_form is_named plan_fault modules stands_in section_symbols_of said_by_symbol leader_name comdat_of chain_end weaks_of commons_of linker_meaning step meaning_within meaning_of asks slot_names table_pieces sizes_of extent_of dlls_of entry_count hints_size names_size
+contents : link_contents (link_parts options modules) ≡ code ∷ []
+unfolding module_says mismatch_of settings options_of word_says known is_word is_text object file_header section_header code symbol_record string_row number_at first_below decimal_number first_refusal_below first_section first_of is_truncated is_other_machine body_leaves counted_leave relocations_leave first_torn_record symbol_range_fault table_leaves lacks_section_name lacks_symbol_name string_table_fault has_no_alignment has_no_section value_exceeds object_fault section_at record_offset record_at symbol_at starts_within big_object_class is_big_object header_size symbol_size machine_of section_total section_headers_offset symbols_offset record_total relocations_place relocation_count_in relocations_from short_name_in name_offset long_section_name section_name_in is_uninitialised_in has_overflow_count_in string_table_offset string_table_size string_table text_in long_name_offset_in name_in section_number_in class_in aux_count_in resource_start form_error is_linker_section content_error file_error opening_error comes_in is_definition definitions_of is_common is_undefined is_reference references_of is_bad_weak comdat_record_of parent_in parents_of ancestor aux_place parent_place aux_fault is_unbuilt_form is_named plan_fault modules stands_in section_symbols_of said_by_symbol leader_name comdat_of chain_end weaks_of commons_of linker_meaning step meaning_within meaning_of asks slot_names export_rows numbers_of numbers_fault size_if ordinal_fault export_table_pieces table_pieces sizes_of extent_of dlls_of entry_count hints_size names_size
 contents = refl
 
 -- where the image begins
-entry : entry_place (link_of options modules) options.entry_name ≡ Some (record { piece = 0; value = 0 })
-unfolding module_says mismatch_of settings options_of word_says known is_word is_text object file_header section_header code symbol_record string_row number_at first_below decimal_number first_refusal_below first_section first_of is_truncated is_other_machine body_leaves counted_leave relocations_leave first_torn_record symbol_range_fault table_leaves lacks_section_name lacks_symbol_name string_table_fault has_no_alignment has_no_section value_exceeds object_fault section_at record_offset record_at symbol_at starts_within big_object_class is_big_object header_size symbol_size machine_of section_total section_headers_offset symbols_offset record_total relocations_place relocation_count_in relocations_from short_name_in name_offset long_section_name section_name_in is_uninitialised_in has_overflow_count_in string_table_offset string_table_size string_table text_in long_name_offset_in name_in section_number_in class_in aux_count_in resource_start form_error is_linker_section content_error file_error opening_error comes_in is_definition definitions_of is_common is_undefined is_reference references_of stands_in section_symbols_of said_by_symbol leader_name comdat_of chain_end weaks_of commons_of linker_meaning step meaning_within meaning_of asks is_bad_weak comdat_record_of parent_in parents_of ancestor aux_place parent_place aux_fault is_unbuilt_form is_named plan_fault modules slot_names table_pieces sizes_of extent_of dlls_of entry_count hints_size names_size
+entry : entry_place (link_parts options modules) options.entry_name ≡ Some (record { piece = 0; value = 0 })
+unfolding module_says mismatch_of settings options_of word_says known is_word is_text object file_header section_header code symbol_record string_row number_at first_below decimal_number first_refusal_below first_section first_of is_truncated is_other_machine body_leaves counted_leave relocations_leave first_torn_record symbol_range_fault table_leaves lacks_section_name lacks_symbol_name string_table_fault has_no_alignment has_no_section value_exceeds object_fault section_at record_offset record_at symbol_at starts_within big_object_class is_big_object header_size symbol_size machine_of section_total section_headers_offset symbols_offset record_total relocations_place relocation_count_in relocations_from short_name_in name_offset long_section_name section_name_in is_uninitialised_in has_overflow_count_in string_table_offset string_table_size string_table text_in long_name_offset_in name_in section_number_in class_in aux_count_in resource_start form_error is_linker_section content_error file_error opening_error comes_in is_definition definitions_of is_common is_undefined is_reference references_of stands_in section_symbols_of said_by_symbol leader_name comdat_of chain_end weaks_of commons_of linker_meaning step meaning_within meaning_of asks is_bad_weak comdat_record_of parent_in parents_of ancestor aux_place parent_place aux_fault is_unbuilt_form is_named plan_fault modules slot_names export_rows numbers_of numbers_fault size_if ordinal_fault export_table_pieces table_pieces sizes_of extent_of dlls_of entry_count hints_size names_size
 entry = refl
 
 -- ---- the one input, once it is read, opens as that module, and nothing else joins

@@ -13,8 +13,8 @@ use Rattle.link_words.specs.Outcome.{LinkOptions, CommandSaid, Link, At}
 use Rattle.link_words.specs.Commands.{words_say}
 use Rattle.file_search.specs.Reading.{TriesInput}
 use Rattle.lib_search.specs.Loading.{TriesDefault}
-use Rattle.lib_search.specs.LinkOf.{link_of}
-use Rattle.link_image.specs.LinkedImage.{IsImageOf, HoldsImports}
+use Rattle.link_plan.specs.Plan.{link_parts}
+use Rattle.link_image.specs.LinkedImage.{IsImageOf, HoldsImports, HoldsExports}
 use Rattle.linker_program.specs.declared.status.Status.{Status}
 use Rattle.linker_program.specs.declared.status.Status.TheVariants as status
 use Rattle.linker_program.specs.Ending.{Outcome, Usage, Refused, Linked, Shown, Plan}
@@ -44,14 +44,21 @@ pub record Expects (has : Store → Outcome → Type 0) (files : FilesView) (out
 -- it, and no other
 abbrev pub HasImports : Plan → List ℕ → Type 0
 HasImports plan image =
-    let link = link_of plan.options plan.modules in
+    let link = link_parts plan.options plan.modules in
     (is : IsImageOf plan.options link plan.image) → HoldsImports link is.layout image
 
--- the plan is the outcome, and the image means it and has the imports
+-- and its export directory says of each name and of each number what the exports of the link say, and of no other
+abbrev pub HasExports : Plan → List ℕ → Type 0
+HasExports plan image =
+    let link = link_parts plan.options plan.modules in
+    (is : IsImageOf plan.options link plan.image) → HoldsExports link is.layout image
+
+-- the plan is the outcome, and the image means it and has the imports and exports
 pub record IsMade (has : Store → Outcome → Type 0) (files : FilesView) (plan : Plan) (image : List ℕ) : Type 0 where
   pub outcome : Expects has files (Linked plan)
   pub means : MeansPlan plan.image image
   pub imports : HasImports plan image
+  pub exports : HasExports plan image
 
 -- every output is whole
 pub record LinkDone (has : Store → Outcome → Type 0) (before after : FilesView) (plan : Plan) (image line : List ℕ) : Type 0 where

@@ -8,7 +8,7 @@ use Rattle.link_words.specs.Outcome.{Refused as RefusedWord}
 use Rattle.link_words.specs.Outcome.{LinkOptions, CommandSaid, Link, At}
 use Rattle.link_words.specs.Commands.{words_say}
 use Rattle.link_words.specs.UsageWord.{usage_word}
-use Rattle.lib_search.specs.LinkOf.{link_of}
+use Rattle.link_plan.specs.Plan.{link_parts}
 use Rattle.lib_search.specs.Loading.{HasLoadingFault, Loads}
 use Rattle.link_plan.specs.PlanFaults.{plan_fault}
 use Rattle.link_image.specs.LinkedImage.{IsImageOf}
@@ -23,12 +23,12 @@ use Rattle.linker_program.specs.Unbuilt.{is_unbuilt_link}
 pub record IsPlan (options : LinkOptions) (modules : List ModuleView) (plan : Plan) : Type 0 where
   pub options_are : plan.options ≡ options
   pub modules_are : plan.modules ≡ modules
-  pub image_is : IsImageOf options (link_of options modules) plan.image
+  pub image_is : IsImageOf options (link_parts options modules) plan.image
 
 -- modules that come to the tables have a fault there or later, or a plan
 abbrev pub BuildOutcome : LinkOptions → List ModuleView → Outcome → Type 0
 BuildOutcome options modules (Usage index kind) = ⊥
-BuildOutcome options modules (Refused fault) = IsBuildFault options (link_of options modules) fault
+BuildOutcome options modules (Refused fault) = IsBuildFault options (link_parts options modules) fault
 BuildOutcome options modules (Linked plan) = IsPlan options modules plan
 BuildOutcome options modules (Shown line) = ⊥
 
@@ -40,7 +40,7 @@ OutcomeAfter None later outcome = later outcome
 -- the outcome of modules: the first fault of the stages from mismatch to fields, else what they come to
 abbrev pub ModulesOutcome : LinkOptions → List ModuleView → Outcome → Type 0
 ModulesOutcome options modules outcome =
-    OutcomeAfter (plan_fault options (link_of options modules)) (BuildOutcome options modules) outcome
+    OutcomeAfter (plan_fault options (link_parts options modules)) (BuildOutcome options modules) outcome
 
 -- ---- the whole
 

@@ -17,7 +17,7 @@ use Rattle.linker_program.specs.declared.status.Status.TheVariants as status
 use Rattle.linker_program.specs.Ending.{Outcome, Usage, Refused, Linked, Shown, Plan}
 use Rattle.linker_program.specs.Outcome.{ModulesOutcome}
 use Rattle.linker_program.specs.RunLines.{usage_line, read_failure_line, write_failure_line}
-use Rattle.linker_program.specs.LinkRun.{NothingWritten, HasImports}
+use Rattle.linker_program.specs.LinkRun.{NothingWritten, HasImports, HasExports}
 
 -- ---- answers
 
@@ -56,6 +56,7 @@ pub record IsLinked (options : LinkOptions) (modules : List ModuleView) (linked 
   pub outcome : ModulesOutcome options modules (Linked plan)
   pub means : MeansPlan plan.image linked.image.items
   pub imports : HasImports plan linked.image.items
+  pub exports : HasExports plan linked.image.items
   pub modules_are : linked.modules ≡ length plan.modules
   pub sections_are : linked.sections ≡ length plan.image.rows
 

@@ -1,5 +1,5 @@
 -- Commands and options that are read and not carried out yet. Own; each goes as it is built.
-use Rattle.std.specs.Prelude.{ℕ, Bool, false, ◌||◌, not, ◌==◌, List, length, Option, Some, None, is_some}
+use Rattle.std.specs.Prelude.{ℕ, Bool, false, ◌||◌, not, List, Option, Some, None, is_some}
 use Rattle.std.specs.List.{list_any}
 use Rattle.module_view.specs.Unbuilt.{is_loader_name}
 use Rattle.link_words.specs.Outcome.{LinkOptions}
@@ -13,17 +13,10 @@ abbrev pub asks_for_loader_names : LinkOptions → Bool
 asks_for_loader_names options =
     list_any is_loader_name options.includes || list_any is_unbuilt_alternate options.alternates
 
-abbrev pub is_some_text : {A : Type 0} → List A → Bool
-is_some_text texts = not (length texts == 0)
-
 -- unreferenced sections are to be dropped
 abbrev pub drops_sections : Option Bool → Bool
 drops_sections None = false
 drops_sections (Some refs) = refs
-
--- exports, and a DLL
-abbrev pub asks_for_exports : LinkOptions → Bool
-asks_for_exports options = is_some_text options.exports || (options.dll || options.noentry)
 
 -- a program database, by itself or by its name, or a map
 abbrev pub asks_for_outputs : LinkOptions → Bool
@@ -31,5 +24,4 @@ asks_for_outputs options = options.debug || (not (has_default_pdb options) || is
 
 unfoldable pub is_unbuilt_link : LinkOptions → Bool
 is_unbuilt_link options =
-    asks_for_exports options
-    || (asks_for_outputs options || (drops_sections options.refs || asks_for_loader_names options))
+    asks_for_outputs options || (drops_sections options.refs || asks_for_loader_names options)

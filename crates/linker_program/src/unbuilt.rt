@@ -4,7 +4,7 @@ ghost use Rattle.std.specs.Prelude.{◌≡◌};
 ghost use Rattle.std.specs.List.{list_any};
 ghost use Rattle.module_view.specs.Unbuilt.{is_loader_name};
 ghost use Rattle.link_words.specs.Outcome.{options_said};
-ghost use Rattle.linker_program.specs.Unbuilt.{is_unbuilt_alternate, drops_sections, asks_for_exports, asks_for_loader_names, asks_for_outputs, is_unbuilt_link};
+ghost use Rattle.linker_program.specs.Unbuilt.{is_unbuilt_alternate, drops_sections, asks_for_loader_names, asks_for_outputs, is_unbuilt_link};
 
 use link_base::Name;
 use link_words::{Options, has_default_pdb};
@@ -15,17 +15,7 @@ use module_view::is_loader_name;
 pub(crate) fn is_unbuilt_link(options: &Options<'_>) -> bool
     ensures { result ≡ is_unbuilt_link (options_said options.now) }
 {
-    asks_for_exports(options)
-        || asks_for_outputs(options)
-        || drops_sections(options.refs)
-        || asks_for_loader_names(options)
-}
-
-/// Exports, and a DLL.
-fn asks_for_exports(options: &Options<'_>) -> bool
-    ensures { result ≡ asks_for_exports (options_said options.now) }
-{
-    !options.exports.is_empty() || options.dll || options.noentry
+    asks_for_outputs(options) || drops_sections(options.refs) || asks_for_loader_names(options)
 }
 
 /// A program database, by itself or by its name, or a map.

@@ -1,4 +1,4 @@
-use Rattle.std.proofs.Common.{List, None, map, ap, ◌∙◌, sym, arith}
+use Rattle.std.proofs.Common.{List, map, ap, ◌∙◌, sym, arith}
 use Rattle.std.proofs.lemmas.Result.{err_from_is_err_and}
 use Rattle.std.proofs.lemmas.List.{take_all}
 use Rattle.link_base.specs.Refusals.{first_standing}

@@ -1,4 +1,4 @@
-use Rattle.std.proofs.Common.{◌≡◌, List, None, map, take}
+use Rattle.std.proofs.Common.{◌≡◌, None, map, take}
 use Rattle.link_base.specs.Refusals.{first_standing}
 use Rattle.link_pieces.specs.LinkParts.{LinkParts}
 use Rattle.link_plan.specs.ExportTargets.{export_target}

@@ -1,4 +1,4 @@
-use Rattle.std.proofs.Common.{◌≡◌, ℕ, List, Option, None, get_or, sym, ap, ◌∙◌}
+use Rattle.std.proofs.Common.{ℕ, List, Option, None, get_or, sym, ap, ◌∙◌}
 use Rattle.link_words.specs.Outcome.{options_said}
 use Rattle.link_image.proofs.TableLemmas.{places_are}
 use Rattle.link_image.proofs.ExportTableLemmas.{nothing_held, nothing_inside, nothing_given}
