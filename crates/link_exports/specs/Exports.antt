@@ -106,19 +106,20 @@ size_if rows dll = if is_some (ordinal_fault rows) then 0 else size_of rows (num
 
 -- ---- all of them
 
--- the exports of a link, the ordinal of each, what is wrong with these, the DLL's name, and the size of the table
+-- the exports of a link, the ordinal of each, what is wrong with these, the DLL's name, the size of the table and its time
 pub record ExportsView : Type 0 where
   pub rows : List Export
   pub ordinals : List ℕ
   pub fault : Option Fault
   pub dll : List ℕ
   pub size : ℕ
+  pub time : ℕ
 
-abbrev pub exports_from : List Export → List ℕ → ExportsView
-exports_from rows dll = record { rows = rows; ordinals = numbers_of rows; fault = numbers_fault rows; dll = dll; size = size_if rows dll }
+abbrev pub exports_from : List Export → List ℕ → ℕ → ExportsView
+exports_from rows dll time = record { rows = rows; ordinals = numbers_of rows; fault = numbers_fault rows; dll = dll; size = size_if rows dll; time = time }
 
 abbrev pub exports_of : LinkOptions → List ModuleView → ExportsView
-exports_of options modules = exports_from (export_rows options modules) (dll_name options.out)
+exports_of options modules = exports_from (export_rows options modules) (dll_name options.out) options.time
 
 -- ---- what is known of them
 

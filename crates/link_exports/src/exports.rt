@@ -33,6 +33,7 @@ pub struct LinkExports<'a> {
     refused: Option<(ExportFault, Name<'a>)>,
     dll: Vec<u8>,
     size: u32,
+    time: u32,
 }
 
 impl<'a> Model for LinkExports<'a> {
@@ -41,7 +42,7 @@ impl<'a> Model for LinkExports<'a> {
 
     ghost Value = { ExportsView };
 
-    ghost view = { λ exports. record { rows = exports.rows.items; ordinals = exports.ordinals.items; fault = option_map bad_export exports.refused; dll = exports.dll.items; size = exports.size } };
+    ghost view = { λ exports. record { rows = exports.rows.items; ordinals = exports.ordinals.items; fault = option_map bad_export exports.refused; dll = exports.dll.items; size = exports.size; time = exports.time } };
 }
 
 impl<'a> LinkExports<'a> {
@@ -79,6 +80,13 @@ impl<'a> LinkExports<'a> {
         Name::of(&self.dll)
     }
 
+    /// The time of the image, which its export directory has too.
+    pub fn time(&self) -> u32
+        ensures { result ≡ self.now.time }
+    {
+        self.time
+    }
+
     /// The size of the export table; 0 where there is none, or something is wrong with the ordinals.
     pub fn size(&self) -> u32
         ensures { result ≡ self.now.size }
@@ -100,7 +108,7 @@ pub fn link_exports<'a>(
     let rows = export_rows(alloc, options, modules)?;
     check_rows(&rows)?;
     let dll = dll_of(alloc, options)?;
-    exports_from(alloc, rows, dll)
+    exports_from(alloc, rows, dll, options.time)
 }
 
 /// The name of the image as a DLL.
@@ -121,11 +129,12 @@ fn exports_from<'a>(
     alloc: Global,
     rows: Vec<Export<'a>>,
     dll: Vec<u8>,
+    time: u32,
 ) -> Result<LinkExports<'a>, Memory>
     requires told { All CanBeTold rows.items }
     requires few { length rows.items < 2 ^ 32 }
     requires dll { length dll.items ≤ DLL_LIMIT }
-    ensures exports { IfOk result (λ exports. exports ≡ exports_from rows.entry.items dll.items) }
+    ensures exports { IfOk result (λ exports. exports ≡ exports_from rows.entry.items dll.items time) }
     ensures told { IfOk result AreTold }
 {
     match assign(alloc, &rows) {
@@ -137,6 +146,7 @@ fn exports_from<'a>(
                 refused: None,
                 dll,
                 size,
+                time,
             })
         }
         Err(ExportError::Bad { row, kind }) => Ok(LinkExports {
@@ -145,6 +155,7 @@ fn exports_from<'a>(
             ordinals: Vec::new(alloc),
             dll,
             size: 0,
+            time,
         }),
         Err(ExportError::Memory) => Err(Memory),
     }

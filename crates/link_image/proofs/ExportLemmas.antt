@@ -65,8 +65,8 @@ size_of_some : (rows : List Export) (ordinals dll : List ℕ) → 0 < length row
 size_of_some [] ordinals dll some = absurd (omega (arith, some))
 size_of_some (row ∷ rows) ordinals dll some = refl
 
-pub has_table : (link : LinkParts) (rows : List Export) (dll : List ℕ) → link.exports ≡ exports_from rows dll → AreTold link.exports → 0 < link.exports.size → HasTable link
-has_table link rows dll is told sized =
+pub has_table : (link : LinkParts) (rows : List Export) (dll : List ℕ) (time : ℕ) → link.exports ≡ exports_from rows dll time → AreTold link.exports → 0 < link.exports.size → HasTable link
+has_table link rows dll time is told sized =
     let above : 0 < size_if rows dll = subst (λ (exports : ExportsView). 0 < exports.size) is sized in
     let none = sized_none rows dll above in
     let given = size_given rows dll none in
@@ -121,29 +121,29 @@ placed_size link rvas has =
 -- ---- the bytes of the table
 
 -- where it has a size
-pub export_table_some : (link : LinkParts) (layout : Layout) → eqb link.exports.size 0 ≡ false → export_table_at link layout ≡ export_table (exported_rows link layout.pieces.items) link.exports.ordinals link.exports.dll (table_rva link layout EXPORTS)
+pub export_table_some : (link : LinkParts) (layout : Layout) → eqb link.exports.size 0 ≡ false → export_table_at link layout ≡ export_table (exported_rows link layout.pieces.items) link.exports.ordinals link.exports.dll link.exports.time (table_rva link layout EXPORTS)
 unfolding export_table_at
 export_table_some link layout some =
-    ap (λ (b : Bool). cond b [] (export_table (exported_rows link layout.pieces.items) link.exports.ordinals link.exports.dll (table_rva link layout EXPORTS))) some
+    ap (λ (b : Bool). cond b [] (export_table (exported_rows link layout.pieces.items) link.exports.ordinals link.exports.dll link.exports.time (table_rva link layout EXPORTS))) some
 
 export_table_none : (link : LinkParts) (layout : Layout) → eqb link.exports.size 0 ≡ true → export_table_at link layout ≡ []
 unfolding export_table_at
 export_table_none link layout none =
-    ap (λ (b : Bool). cond b [] (export_table (exported_rows link layout.pieces.items) link.exports.ordinals link.exports.dll (table_rva link layout EXPORTS))) none
+    ap (λ (b : Bool). cond b [] (export_table (exported_rows link layout.pieces.items) link.exports.ordinals link.exports.dll link.exports.time (table_rva link layout EXPORTS))) none
 
 above_zero : (size : ℕ) → eqb size 0 ≡ false → 0 < size
 above_zero size some = grind (arith, some)
 
-pub export_length : (link : LinkParts) (layout : Layout) (rows : List Export) (dll : List ℕ) → link.exports ≡ exports_from rows dll → AreTold link.exports → length (export_table_at link layout) ≡ link.exports.size
-export_length link layout rows dll is told = go (eqb link.exports.size 0) refl
+pub export_length : (link : LinkParts) (layout : Layout) (rows : List Export) (dll : List ℕ) (time : ℕ) → link.exports ≡ exports_from rows dll time → AreTold link.exports → length (export_table_at link layout) ≡ link.exports.size
+export_length link layout rows dll time is told = go (eqb link.exports.size 0) refl
   where
     go : (b : Bool) → eqb link.exports.size 0 ≡ b → length (export_table_at link layout) ≡ link.exports.size
     go true none = ap length (export_table_none link layout none) ∙ sym (eqb-true link.exports.size 0 none)
     go false some =
-        let has = has_table link rows dll is told (above_zero link.exports.size some) in
+        let has = has_table link rows dll time is told (above_zero link.exports.size some) in
         let placed = exported_rows link layout.pieces.items in
         ap length (export_table_some link layout some)
-        ∙ size_of_table placed link.exports.ordinals link.exports.dll (table_rva link layout EXPORTS) (placed_numbered link layout.pieces.items has)
+        ∙ size_of_table placed link.exports.ordinals link.exports.dll link.exports.time (table_rva link layout EXPORTS) (placed_numbered link layout.pieces.items has)
         ∙ placed_size link layout.pieces.items has
 
 -- ---- all tables
@@ -155,12 +155,12 @@ import_lengths link layout =
     let rvas = table_rvas link layout in
     sizes_kept rows rvas (import_tables_of rows rvas) (sizes_of rows) refl refl
 
-pub length-tables : (link : LinkParts) (layout : Layout) (rows : List Export) (dll : List ℕ) → link.exports ≡ exports_from rows dll → AreTold link.exports → (number : ℕ) → length (get_or (tables_at link layout) number []) ≡ size_at (table_sizes link) number
-length-tables link layout rows dll is told number =
+pub length-tables : (link : LinkParts) (layout : Layout) (rows : List Export) (dll : List ℕ) (time : ℕ) → link.exports ≡ exports_from rows dll time → AreTold link.exports → (number : ℕ) → length (get_or (tables_at link layout) number []) ≡ size_at (table_sizes link) number
+length-tables link layout rows dll time is told number =
     sym (get_or-map length (tables_at link layout) number [])
     ∙ ap (λ (sizes : List ℕ). get_or sizes number 0) (map-append length (import_tables_at link layout) (export_table_at link layout ∷ []))
     ∙ ap (λ (sizes : List ℕ). get_or (sizes ++ length (export_table_at link layout) ∷ []) number 0) (import_lengths link layout)
-    ∙ ap (λ (size : ℕ). get_or (import_sizes link.modules ++ size ∷ []) number 0) (export_length link layout rows dll is told)
+    ∙ ap (λ (size : ℕ). get_or (import_sizes link.modules ++ size ∷ []) number 0) (export_length link layout rows dll time is told)
 
 -- ---- by their numbers
 

@@ -160,7 +160,7 @@ exports_read link layout memory has read below held name =
     let rva = table_rva link layout EXPORTS in
     let size = placed_size link layout.pieces.items has in
     subst (λ (n : ℕ). export_of_name memory rva n name ≡ exported_name rows name) size
-    (name_read_back rows link.exports.ordinals link.exports.dll rva memory name (placed_numbered link layout.pieces.items has) (small_numbers link has) (subst (AreReadable rows rva) (sym size) read) (omega (arith, below, size)) (subst (Holds memory rva) (export_table_some link layout (not_zero link has)) held))
+    (name_read_back rows link.exports.ordinals link.exports.dll link.exports.time rva memory name (placed_numbered link layout.pieces.items has) (small_numbers link has) (subst (AreReadable rows rva) (sym size) read) (omega (arith, below, size)) (subst (Holds memory rva) (export_table_some link layout (not_zero link has)) held))
 
 pub exports_read_by_ordinal : (link : LinkParts) (layout : Layout) (memory : List ℕ) → HasTable link → AreReadable (exported_rows link layout.pieces.items) (table_rva link layout EXPORTS) link.exports.size → table_rva link layout EXPORTS + link.exports.size < 2 ^ 32
     → bytes_at memory (table_rva link layout EXPORTS) (length (export_table_at link layout)) ≡ export_table_at link layout
@@ -170,7 +170,7 @@ exports_read_by_ordinal link layout memory has read below held ordinal =
     let rva = table_rva link layout EXPORTS in
     let size = placed_size link layout.pieces.items has in
     subst (λ (n : ℕ). export_of_ordinal memory rva n ordinal ≡ exported_ordinal rows link.exports.ordinals ordinal) size
-    (ordinal_read_back rows link.exports.ordinals link.exports.dll rva memory ordinal (placed_numbered link layout.pieces.items has) (small_numbers link has) (subst (AreReadable rows rva) (sym size) read) (omega (arith, below, size)) (subst (Holds memory rva) (export_table_some link layout (not_zero link has)) held))
+    (ordinal_read_back rows link.exports.ordinals link.exports.dll link.exports.time rva memory ordinal (placed_numbered link layout.pieces.items has) (small_numbers link has) (subst (AreReadable rows rva) (sym size) read) (omega (arith, below, size)) (subst (Holds memory rva) (export_table_some link layout (not_zero link has)) held))
 
 -- ---- no exports
 
@@ -190,10 +190,10 @@ no_numbers : (rows : List Export) → rows ≡ [] → numbers_of rows ≡ []
 unfolding ordinal_fault first_below
 no_numbers rows none = ap numbers_of none ∙ numbers_given [] refl
 
-pub none_read_by_ordinal : (link : LinkParts) (rows : List Export) (dll : List ℕ) (memory rvas : List ℕ) (ordinal : ℕ) → link.exports ≡ exports_from rows dll → length link.exports.rows ≡ 0
+pub none_read_by_ordinal : (link : LinkParts) (rows : List Export) (dll : List ℕ) (time : ℕ) (memory rvas : List ℕ) (ordinal : ℕ) → link.exports ≡ exports_from rows dll time → length link.exports.rows ≡ 0
     → export_of_ordinal memory 0 0 ordinal ≡ exported_ordinal (exported_rows link rvas) link.exports.ordinals ordinal
 unfolding export_of_ordinal directory_in exported_ordinal
-none_read_by_ordinal link rows dll memory rvas ordinal is none =
+none_read_by_ordinal link rows dll time memory rvas ordinal is none =
     let empty = sym (ap (λ (exports : ExportsView). exports.rows) is) ∙ no_items link.exports.rows none in
     let numbers = ap (λ (exports : ExportsView). exports.ordinals) is ∙ no_numbers rows empty in
     ap (λ (rows : List ExportRow). exported_ordinal rows [] ordinal) (sym (none_exported link rvas none))
@@ -228,8 +228,8 @@ unfolding export_fault
 no_fault link none =
     (both_none link.exports.fault (first_standing (map (absolute_fault link) link.exports.rows)) none).0
 
-pub no_rows : (link : LinkParts) (rows : List Export) (dll : List ℕ) → link.exports ≡ exports_from rows dll → export_fault link ≡ None → link.exports.size ≡ 0 → link.exports.rows ≡ []
-no_rows link rows dll is faultless none =
+pub no_rows : (link : LinkParts) (rows : List Export) (dll : List ℕ) (time : ℕ) → link.exports ≡ exports_from rows dll time → export_fault link ≡ None → link.exports.size ≡ 0 → link.exports.rows ≡ []
+no_rows link rows dll time is faultless none =
     let right = nothing_wrong rows (sym (ap (λ (exports : ExportsView). exports.fault) is) ∙ no_fault link faultless) in
     let size : size_of rows (numbers_of rows) dll ≡ 0 =
     sym (size_given rows dll right) ∙ sym (ap (λ (exports : ExportsView). exports.size) is) ∙ none in

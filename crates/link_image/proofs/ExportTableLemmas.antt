@@ -101,7 +101,7 @@ module _ (options : LinkOptions) (plan : LinkPlan) (placement : Placement) (k : 
   rva_is = ap (rva_of placement.layout.pieces.items) found
 
   has : HasTable plan.names
-  has = has_table plan.names (export_rows options plan.names.modules) (dll_name options.out) planned.exports_are planned.told some
+  has = has_table plan.names (export_rows options plan.names.modules) (dll_name options.out) options.time planned.exports_are planned.told some
 
   pub numbered_so : (rows : List ExportRow) (ordinals : List ℕ) → rows ≡ exported_rows plan.names placement.layout.pieces.items → ordinals ≡ plan.names.exports.ordinals → AreNumbered rows ordinals
   numbered_so rows ordinals are numbers =
@@ -115,13 +115,14 @@ module _ (options : LinkOptions) (plan : LinkPlan) (placement : Placement) (k : 
       ∙ ap (table_size (exported_rows plan.names placement.layout.pieces.items) plan.names.exports.ordinals) named
       ∙ placed_size plan.names placement.layout.pieces.items has
 
-  pub table_so : (rows : List ExportRow) (ordinals dll table : List ℕ) (rva : ℕ) → rows ≡ exported_rows plan.names placement.layout.pieces.items → ordinals ≡ plan.names.exports.ordinals → dll ≡ plan.names.exports.dll → rva ≡ get_or placement.layout.pieces.items k 0 → table ≡ export_table rows ordinals dll rva → table ≡ export_table_at plan.names placement.layout
-  table_so rows ordinals dll table rva are numbers named stands is =
+  pub table_so : (rows : List ExportRow) (ordinals dll table : List ℕ) (time rva : ℕ) → rows ≡ exported_rows plan.names placement.layout.pieces.items → ordinals ≡ plan.names.exports.ordinals → dll ≡ plan.names.exports.dll → time ≡ plan.names.exports.time → rva ≡ get_or placement.layout.pieces.items k 0 → table ≡ export_table rows ordinals dll time rva → table ≡ export_table_at plan.names placement.layout
+  table_so rows ordinals dll table time rva are numbers named timed stands is =
       is
-      ∙ ap (λ (rs : List ExportRow). export_table rs ordinals dll rva) are
-      ∙ ap (λ (os : List ℕ). export_table (exported_rows plan.names placement.layout.pieces.items) os dll rva) numbers
-      ∙ ap (λ (d : List ℕ). export_table (exported_rows plan.names placement.layout.pieces.items) plan.names.exports.ordinals d rva) named
-      ∙ ap (export_table (exported_rows plan.names placement.layout.pieces.items) plan.names.exports.ordinals plan.names.exports.dll) (stands ∙ sym rva_is)
+      ∙ ap (λ (rs : List ExportRow). export_table rs ordinals dll time rva) are
+      ∙ ap (λ (os : List ℕ). export_table (exported_rows plan.names placement.layout.pieces.items) os dll time rva) numbers
+      ∙ ap (λ (d : List ℕ). export_table (exported_rows plan.names placement.layout.pieces.items) plan.names.exports.ordinals d time rva) named
+      ∙ ap (λ (t : ℕ). export_table (exported_rows plan.names placement.layout.pieces.items) plan.names.exports.ordinals plan.names.exports.dll t rva) timed
+      ∙ ap (export_table (exported_rows plan.names placement.layout.pieces.items) plan.names.exports.ordinals plan.names.exports.dll plan.names.exports.time) (stands ∙ sym rva_is)
       ∙ sym (export_table_some plan.names placement.layout (not_zero plan.names.exports.size some))
 
   pub inside_so : (rows : List ExportRow) (rva size : ℕ) (told : Option Fault) → rows ≡ exported_rows plan.names placement.layout.pieces.items → rva ≡ get_or placement.layout.pieces.items k 0 → size ≡ plan.names.exports.size → first_standing (map (inside_of rva size) rows) ≡ told → in_table_fault plan.names placement.layout.pieces.items ≡ told

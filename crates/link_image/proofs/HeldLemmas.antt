@@ -115,7 +115,7 @@ module _ (options : LinkOptions) (plan : LinkPlan) (planned : IsPlanOf options p
           let is = table_is plan.names k (omega (arith, lt, piece_count)) table in
           let init : (get_or plan.pieces.items k no_piece).init ≡ true = ap (λ (p : Piece). p.init) (planned_is k lt) ∙ is.init in
           record {
-            filled = λ on. ap length (table_contents plan.names layout k table) ∙ length-tables plan.names layout (export_rows options plan.names.modules) (dll_name options.out) planned.exports_are planned.told (piece_at plan.names k).number ∙ sym is.size ∙ sym (same_size k lt);
+            filled = λ on. ap length (table_contents plan.names layout k table) ∙ length-tables plan.names layout (export_rows options plan.names.modules) (dll_name options.out) options.time planned.exports_are planned.told (piece_at plan.names k).number ∙ sym is.size ∙ sym (same_size k lt);
             empty = λ off. absurd (false≢true (sym off ∙ init));
           }
       by false other =

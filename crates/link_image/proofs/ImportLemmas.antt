@@ -173,7 +173,7 @@ module _ (options : LinkOptions) (plan : LinkPlan) (placement : Placement) (owne
 
   long : (number : ℕ) → length (table number) ≡ size number
   long number =
-      length-tables plan.names placement.layout (export_rows options plan.names.modules) (dll_name options.out) planned.exports_are planned.told number
+      length-tables plan.names placement.layout (export_rows options plan.names.modules) (dll_name options.out) options.time planned.exports_are planned.told number
 
   -- a table in the memory at a base
   record Stands (base number : ℕ) : Type 0 where
@@ -321,13 +321,13 @@ module _ (options : LinkOptions) (plan : LinkPlan) (placement : Placement) (owne
       held_exports base = subst (Holds (expected_image image base) (table_rva plan.names placement.layout EXPORTS)) (export_table_is plan.names placement.layout) (stands base EXPORTS (omega arith)).held
 
       table_has : 0 < plan.names.exports.size → HasTable plan.names
-      table_has some = has_table plan.names (export_rows options plan.names.modules) (dll_name options.out) planned.exports_are planned.told some
+      table_has some = has_table plan.names (export_rows options plan.names.modules) (dll_name options.out) options.time planned.exports_are planned.told some
 
       are_readable : 0 < plan.names.exports.size → AreReadableExports rows (table_rva plan.names placement.layout EXPORTS) plan.names.exports.size
       are_readable some = readable plan.names placement.layout.pieces.items (table_has some) planned.told (given some) outside
 
       without : plan.names.exports.size ≡ 0 → length plan.names.exports.rows ≡ 0
-      without none = ap length (no_rows plan.names (export_rows options plan.names.modules) (dll_name options.out) planned.exports_are placed.means.grouped.exports none)
+      without none = ap length (no_rows plan.names (export_rows options plan.names.modules) (dll_name options.out) options.time planned.exports_are placed.means.grouped.exports none)
 
       record Extends : Type 0 where
         rva_zero : plan.names.exports.size ≡ 0 → (table_extent plan.names placement.layout EXPORTS) ≡ (0, 0)
@@ -371,7 +371,7 @@ module _ (options : LinkOptions) (plan : LinkPlan) (placement : Placement) (owne
                 ∙ exports_read_by_ordinal plan.names placement.layout (expected_image image base) (table_has some) (are_readable some) export_ends (held_exports base) ordinal
             | inr none ↦
                 ap (λ (e : ℕ × ℕ). export_of_ordinal (expected_image image base) e.0 e.1 ordinal) (extends.rva_zero (omega (arith, none)))
-                ∙ none_read_ordinal plan.names (export_rows options plan.names.modules) (dll_name options.out) (expected_image image base) placement.layout.pieces.items ordinal planned.exports_are (without (omega (arith, none)))
+                ∙ none_read_ordinal plan.names (export_rows options plan.names.modules) (dll_name options.out) options.time (expected_image image base) placement.layout.pieces.items ordinal planned.exports_are (without (omega (arith, none)))
           ]
 
       pub exports_there : (entry : ℕ) (file : List ℕ) → headers ≡ headers_of options entry (directories_of plan.names placement.layout (reloc_tables placement.table)) → file ≡ image_file image → MeansPlan image file → HoldsExports plan.names placement.layout file

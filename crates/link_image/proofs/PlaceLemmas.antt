@@ -29,7 +29,7 @@ module _ (layout other : Layout) (pieces : layout.pieces.items ≡ other.pieces.
   held_same : (link : LinkParts) (k : ℕ) → contents_at link layout k ≡ contents_at link other k
   unfolding contents_at import_tables_at export_table_at table_rvas
   held_same link k =
-      ap (λ (rvas : List ℕ). cond (is_table (length link.modules) (piece_at link k)) (get_or (import_tables_of (import_rows link.modules) (map (λ number. rva_of rvas (linker_index link number)) (range_with_len 0 5)) ++ cond (eqb link.exports.size 0) [] (export_table (exported_rows link rvas) link.exports.ordinals link.exports.dll (rva_of rvas (linker_index link EXPORTS))) ∷ []) (piece_at link k).number []) (get_or (link_contents link) k [])) pieces
+      ap (λ (rvas : List ℕ). cond (is_table (length link.modules) (piece_at link k)) (get_or (import_tables_of (import_rows link.modules) (map (λ number. rva_of rvas (linker_index link number)) (range_with_len 0 5)) ++ cond (eqb link.exports.size 0) [] (export_table (exported_rows link rvas) link.exports.ordinals link.exports.dll link.exports.time (rva_of rvas (linker_index link EXPORTS))) ∷ []) (piece_at link k).number []) (get_or (link_contents link) k [])) pieces
 
   piece_same : (link : LinkParts) (rows : List SectionRow) (base k : ℕ) → linked_bytes link rows layout base k ≡ linked_bytes link rows other base k
   piece_same link rows base k =

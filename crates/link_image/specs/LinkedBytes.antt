@@ -85,7 +85,7 @@ exported_rows link rvas = map (exported_row link rvas) link.exports.rows
 unfoldable pub export_table_at : LinkParts → Layout → List ℕ
 export_table_at link layout =
     if link.exports.size == 0 then []
-    else export_table (exported_rows link layout.pieces.items) link.exports.ordinals link.exports.dll (table_rva link layout EXPORTS)
+    else export_table (exported_rows link layout.pieces.items) link.exports.ordinals link.exports.dll link.exports.time (table_rva link layout EXPORTS)
 
 -- those of all tables, by their numbers
 abbrev pub tables_at : LinkParts → Layout → List (List ℕ)

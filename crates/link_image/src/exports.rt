@@ -123,7 +123,14 @@ fn table_at<'a>(
     let rva = rvas[k];
     let rows = placed_rows(alloc, exports.rows(), &plan.exported, rvas)?;
     check_outside(&rows, rva, exports.size())?;
-    let table = fill(alloc, &rows, exports.ordinals(), exports.dll(), rva)?;
+    let table = fill(
+        alloc,
+        &rows,
+        exports.ordinals(),
+        exports.dll(),
+        exports.time(),
+        rva,
+    )?;
     Ok(table)
 }
 

@@ -42,7 +42,7 @@ fill-requires-clause-fits c =
 
 pub returns-clause-table : goal.returns-clause-table
 returns-clause-table c =
-    table_so (options_said c.args.options.now) c.args.plan.now c.args.placement.now c.args.k c.requires.plan c.requires.placed c.requires.found c.deref-4.result.now c.ordinals.result.now c.dll.result c.in_ok-table.table.items c.index-rva.result.now (c.deref-4.ensures.value ∙ (rows_placed c.args.plan.now.names c.in_ok-rows.rows.items c.deref-2.result.now c.args.placement.now.layout.pieces.items c.rows.result.now (c.in_ok-rows.ensures.rows c.args.plan.now.names (c.deref.ensures.value ∙ c.requires.plan.exported_are ∙ ap (map (export_target c.args.plan.now.names)) (sym (c.rows.ensures ∙ ap (λ (e : ExportsView). e.rows) c.exports-exports.ensures)))) c.deref-2.ensures.value (c.rows.ensures ∙ ap (λ (e : ExportsView). e.rows) c.exports-exports.ensures))) (c.ordinals.ensures ∙ ap (λ (e : ExportsView). e.ordinals) c.exports-exports.ensures) (c.dll.ensures ∙ ap (λ (e : ExportsView). e.dll) c.exports-exports.ensures) (c.index-rva.ensures ∙ get_or_default c.args.placement.now.layout.pieces.items c.args.k c.index-rva.result.now 0 (within (options_said c.args.options.now) c.args.plan.now c.args.placement.now c.args.k c.requires.plan c.requires.placed c.requires.found)) c.in_ok-table.ensures
+    table_so (options_said c.args.options.now) c.args.plan.now c.args.placement.now c.args.k c.requires.plan c.requires.placed c.requires.found c.deref-4.result.now c.ordinals.result.now c.dll.result c.in_ok-table.table.items c.time.result c.index-rva.result.now (c.deref-4.ensures.value ∙ (rows_placed c.args.plan.now.names c.in_ok-rows.rows.items c.deref-2.result.now c.args.placement.now.layout.pieces.items c.rows.result.now (c.in_ok-rows.ensures.rows c.args.plan.now.names (c.deref.ensures.value ∙ c.requires.plan.exported_are ∙ ap (map (export_target c.args.plan.now.names)) (sym (c.rows.ensures ∙ ap (λ (e : ExportsView). e.rows) c.exports-exports.ensures)))) c.deref-2.ensures.value (c.rows.ensures ∙ ap (λ (e : ExportsView). e.rows) c.exports-exports.ensures))) (c.ordinals.ensures ∙ ap (λ (e : ExportsView). e.ordinals) c.exports-exports.ensures) (c.dll.ensures ∙ ap (λ (e : ExportsView). e.dll) c.exports-exports.ensures) (c.time.ensures ∙ ap (λ (e : ExportsView). e.time) c.exports-exports.ensures) (c.index-rva.ensures ∙ get_or_default c.args.placement.now.layout.pieces.items c.args.k c.index-rva.result.now 0 (within (options_said c.args.options.now) c.args.plan.now c.args.placement.now c.args.k c.requires.plan c.requires.placed c.requires.found)) c.in_ok-table.ensures
 
 pub returns-clause-outside : goal.returns-clause-outside
 returns-clause-outside c =
