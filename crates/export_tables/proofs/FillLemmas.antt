@@ -68,10 +68,10 @@ pub on_ok : {T E P Q : Type 0} (r : Result T E) → (P → Q) → OnOk r P → O
 on_ok (Ok x) f p = f p
 on_ok (Err e) f p = tt
 
-pub tables_written : (directory : Directory) (names_rva forwarders_rva : ℕ) (targets : List (Option ExportTo)) (names : List NameEntry) (old a b c d : List ℕ) → a ≡ old ++ fields (directory_fields directory) → b ≡ a ++ addresses forwarders_rva targets (length targets) → c ≡ b ++ name_rvas names_rva names (length names) → d ≡ c ++ flat_map index_bytes names → d ≡ old ++ tables_bytes directory names_rva forwarders_rva targets names
+pub tables_written : (time : ℕ) (directory : Directory) (names_rva forwarders_rva : ℕ) (targets : List (Option ExportTo)) (names : List NameEntry) (old a b c d : List ℕ) → a ≡ old ++ fields (directory_fields time directory) → b ≡ a ++ addresses forwarders_rva targets (length targets) → c ≡ b ++ name_rvas names_rva names (length names) → d ≡ c ++ flat_map index_bytes names → d ≡ old ++ tables_bytes time directory names_rva forwarders_rva targets names
 unfolding tables_bytes
-tables_written directory names_rva forwarders_rva targets names old a b c d first second third fourth =
-    appended old (fields (directory_fields directory)) (addresses forwarders_rva targets (length targets) ++ (name_rvas names_rva names (length names) ++ flat_map index_bytes names)) a d _ first
+tables_written time directory names_rva forwarders_rva targets names old a b c d first second third fourth =
+    appended old (fields (directory_fields time directory)) (addresses forwarders_rva targets (length targets) ++ (name_rvas names_rva names (length names) ++ flat_map index_bytes names)) a d _ first
     (appended a (addresses forwarders_rva targets (length targets)) (name_rvas names_rva names (length names) ++ flat_map index_bytes names) b d _ second
     (appended b (name_rvas names_rva names (length names)) (flat_map index_bytes names) c d _ third fourth refl) refl)
     refl

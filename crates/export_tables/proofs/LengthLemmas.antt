@@ -15,9 +15,9 @@ use Rattle.export_tables.specs.ExportTable.{least, address_count, targets_of, na
 use Rattle.export_tables.proofs.TargetLemmas.{length_targets}
 use Rattle.export_tables.proofs.FillLemmas.{parts_size}
 
-pub directory_len : (directory : Directory) → length (fields (directory_fields directory)) ≡ 40
+pub directory_len : (time : ℕ) (directory : Directory) → length (fields (directory_fields time directory)) ≡ 40
 unfolding number_bytes
-directory_len directory = refl
+directory_len time directory = refl
 
 pub numbers_len : (numbers : List ℕ) → length (flat_map (number_bytes 4) numbers) ≡ 4 * length numbers
 numbers_len [] = refl
@@ -54,13 +54,13 @@ targets_len [] = refl
 targets_len (target ∷ targets) =
     omega (arith, length-append (target_bytes target) (flat_map target_bytes targets), target_len target, targets_len targets, sum_by-cons target_size target targets)
 
-pub tables_len : (directory : Directory) (names_rva forwarders_rva : ℕ) (targets : List (Option ExportTo)) (names : List NameEntry) → length (tables_bytes directory names_rva forwarders_rva targets names) ≡ 40 + 4 * length targets + 6 * length names
+pub tables_len : (time : ℕ) (directory : Directory) (names_rva forwarders_rva : ℕ) (targets : List (Option ExportTo)) (names : List NameEntry) → length (tables_bytes time directory names_rva forwarders_rva targets names) ≡ 40 + 4 * length targets + 6 * length names
 unfolding tables_bytes
-tables_len directory names_rva forwarders_rva targets names =
-    let first = length-append (fields (directory_fields directory)) (addresses forwarders_rva targets (length targets) ++ (name_rvas names_rva names (length names) ++ flat_map index_bytes names)) in
+tables_len time directory names_rva forwarders_rva targets names =
+    let first = length-append (fields (directory_fields time directory)) (addresses forwarders_rva targets (length targets) ++ (name_rvas names_rva names (length names) ++ flat_map index_bytes names)) in
     let second = length-append (addresses forwarders_rva targets (length targets)) (name_rvas names_rva names (length names) ++ flat_map index_bytes names) in
     let third = length-append (name_rvas names_rva names (length names)) (flat_map index_bytes names) in
-    omega (arith, first, second, third, directory_len directory, addresses_len forwarders_rva targets (length targets), rvas_len names_rva names (length names), indexes_len names)
+    omega (arith, first, second, third, directory_len time directory, addresses_len forwarders_rva targets (length targets), rvas_len names_rva names (length names), indexes_len names)
 
 texts_len : (dll : List ℕ) (targets : List (Option ExportTo)) (names : List NameEntry) → length (texts_bytes dll targets names) ≡ text_size dll + sum_by name_size names + sum_by target_size targets
 unfolding texts_bytes
@@ -69,15 +69,15 @@ texts_len dll targets names =
     let second = length-append (flat_map name_bytes names) (flat_map target_bytes targets) in
     omega (arith, first, second, length-append dll (0 ∷ []), names_len names, targets_len targets)
 
-table_len : (dll : List ℕ) (directory : Directory) (names_rva : ℕ) (targets : List (Option ExportTo)) (names : List NameEntry) → length (table_from dll directory names_rva targets names) ≡ 40 + 4 * length targets + 6 * length names + text_size dll + sum_by name_size names + sum_by target_size targets
-table_len dll directory names_rva targets names =
-    let both = length-append (tables_bytes directory names_rva (names_rva + sum_by name_size names) targets names) (texts_bytes dll targets names) in
-    omega (arith, both, tables_len directory names_rva (names_rva + sum_by name_size names) targets names, texts_len dll targets names)
+table_len : (dll : List ℕ) (time : ℕ) (directory : Directory) (names_rva : ℕ) (targets : List (Option ExportTo)) (names : List NameEntry) → length (table_from dll time directory names_rva targets names) ≡ 40 + 4 * length targets + 6 * length names + text_size dll + sum_by name_size names + sum_by target_size targets
+table_len dll time directory names_rva targets names =
+    let both = length-append (tables_bytes time directory names_rva (names_rva + sum_by name_size names) targets names) (texts_bytes dll targets names) in
+    omega (arith, both, tables_len time directory names_rva (names_rva + sum_by name_size names) targets names, texts_len dll targets names)
 
-pub size_of_table : (rows : List ExportRow) (ordinals dll : List ℕ) (rva : ℕ) → AreNumbered rows ordinals → length (export_table rows ordinals dll rva) ≡ table_size rows ordinals dll
+pub size_of_table : (rows : List ExportRow) (ordinals dll : List ℕ) (time rva : ℕ) → AreNumbered rows ordinals → length (export_table rows ordinals dll time rva) ≡ table_size rows ordinals dll
 unfolding export_table
-size_of_table rows ordinals dll rva are =
+size_of_table rows ordinals dll time rva are =
     let names = names_of rows ordinals in
     let directory = directory_of ordinals (length names) rva (table_size rows ordinals dll) in
-    let len = table_len dll directory (tables_end directory + text_size dll) (targets_of rows ordinals) names in
+    let len = table_len dll time directory (tables_end directory + text_size dll) (targets_of rows ordinals) names in
     omega (arith, len, length_targets rows (least ordinals) (address_count ordinals) ordinals, parts_size rows ordinals dll are)

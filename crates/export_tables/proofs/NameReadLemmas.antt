@@ -172,7 +172,7 @@ module _ (memory : List ℕ) (rows : List ExportRow) (ordinals dll : List ℕ) (
           ∙ ap (λ (r : ExportRow). exported_what r.what) there.2
           ∙ ap exported_row (sym is)
 
-pub name_read_back : (rows : List ExportRow) (ordinals dll : List ℕ) (rva : ℕ) (memory name : List ℕ) → AreNumbered rows ordinals → All (λ ordinal. ordinal < 2 ^ 16) ordinals → AreReadable rows rva (table_size rows ordinals dll) → rva + table_size rows ordinals dll < 2 ^ 32 → Holds memory rva (export_table rows ordinals dll rva)
+pub name_read_back : (rows : List ExportRow) (ordinals dll : List ℕ) (time rva : ℕ) (memory name : List ℕ) → AreNumbered rows ordinals → All (λ ordinal. ordinal < 2 ^ 16) ordinals → AreReadable rows rva (table_size rows ordinals dll) → rva + table_size rows ordinals dll < 2 ^ 32 → Holds memory rva (export_table rows ordinals dll time rva)
     → export_of_name memory rva (table_size rows ordinals dll) name ≡ exported_name rows name
-name_read_back rows ordinals dll rva memory name numbered small readable below held =
-    read_by_name memory rows ordinals dll rva (record { numbered = numbered; small = small; readable = readable; below = below; held = held }) name
+name_read_back rows ordinals dll time rva memory name numbered small readable below held =
+    read_by_name memory rows ordinals dll rva (record { time = time; numbered = numbered; small = small; readable = readable; below = below; held = held }) name

@@ -78,7 +78,7 @@ module _ (memory : List ℕ) (rows : List ExportRow) (ordinals dll : List ℕ) (
       ap (found_in memory (λ (directory : Directory). ordinal_address memory directory ordinal)) (table_directory_read memory rows ordinals dll rva holds)
       ∙ number_found ordinal
 
-pub ordinal_read_back : (rows : List ExportRow) (ordinals dll : List ℕ) (rva : ℕ) (memory : List ℕ) (ordinal : ℕ) → AreNumbered rows ordinals → All (λ number. number < 2 ^ 16) ordinals → AreReadable rows rva (table_size rows ordinals dll) → rva + table_size rows ordinals dll < 2 ^ 32 → Holds memory rva (export_table rows ordinals dll rva)
+pub ordinal_read_back : (rows : List ExportRow) (ordinals dll : List ℕ) (time rva : ℕ) (memory : List ℕ) (ordinal : ℕ) → AreNumbered rows ordinals → All (λ number. number < 2 ^ 16) ordinals → AreReadable rows rva (table_size rows ordinals dll) → rva + table_size rows ordinals dll < 2 ^ 32 → Holds memory rva (export_table rows ordinals dll time rva)
     → export_of_ordinal memory rva (table_size rows ordinals dll) ordinal ≡ exported_ordinal rows ordinals ordinal
-ordinal_read_back rows ordinals dll rva memory ordinal numbered small readable below held =
-    read_by_ordinal memory rows ordinals dll rva (record { numbered = numbered; small = small; readable = readable; below = below; held = held }) ordinal
+ordinal_read_back rows ordinals dll time rva memory ordinal numbered small readable below held =
+    read_by_ordinal memory rows ordinals dll rva (record { time = time; numbered = numbered; small = small; readable = readable; below = below; held = held }) ordinal

@@ -28,28 +28,29 @@ names_start rows ordinals dll rva = tables_end (table_directory rows ordinals dl
 abbrev pub forwarders_start : List ExportRow → List ℕ → List ℕ → ℕ → ℕ
 forwarders_start rows ordinals dll rva = names_start rows ordinals dll rva + sum_by name_size (names_of rows ordinals)
 
--- a mapped image holds the table of rows that can be read
+-- a mapped image holds the table of rows that can be read, of some time
 pub record HoldsTable (memory : List ℕ) (rows : List ExportRow) (ordinals dll : List ℕ) (rva : ℕ) : Type 0 where
+  pub time : ℕ
   pub numbered : AreNumbered rows ordinals
   pub small : All (λ ordinal. ordinal < 2 ^ 16) ordinals
   pub readable : AreReadable rows rva (table_size rows ordinals dll)
   pub below : rva + table_size rows ordinals dll < 2 ^ 32
-  pub held : Holds memory rva (export_table rows ordinals dll rva)
+  pub held : Holds memory rva (export_table rows ordinals dll time rva)
 
 module _ (memory : List ℕ) (rows : List ExportRow) (ordinals dll : List ℕ) (rva : ℕ) (holds : HoldsTable memory rows ordinals dll rva) where
   -- ---- the directory
 
-  stands : Stands memory (table_directory rows ordinals dll rva) (names_start rows ordinals dll rva) (forwarders_start rows ordinals dll rva) (targets_of rows ordinals) (names_of rows ordinals)
+  stands : Stands memory holds.time (table_directory rows ordinals dll rva) (names_start rows ordinals dll rva) (forwarders_start rows ordinals dll rva) (targets_of rows ordinals) (names_of rows ordinals)
   unfolding export_table
   stands =
-      parts_stand memory ordinals dll rva (table_size rows ordinals dll) (targets_of rows ordinals) (names_of rows ordinals)
+      parts_stand memory ordinals dll holds.time rva (table_size rows ordinals dll) (targets_of rows ordinals) (names_of rows ordinals)
       (length_targets rows (least ordinals) (address_count ordinals) ordinals) holds.held
 
   pub table_directory_read : directory_in memory rva (table_size rows ordinals dll) ≡ Some (table_directory rows ordinals dll rva)
   table_directory_read =
       let sizes = parts_size rows ordinals dll holds.numbered in
       let fits = holds.below in
-      directory_read memory (table_directory rows ordinals dll rva) stands.directory_there
+      directory_read memory holds.time (table_directory rows ordinals dll rva) stands.directory_there
       (record {
         base_fits = omega (arith, falls ordinals 65535);
         addresses_fit = omega (arith, sizes, fits);

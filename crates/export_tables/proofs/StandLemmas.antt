@@ -15,36 +15,36 @@ use Rattle.export_tables.proofs.LengthLemmas.{directory_len, numbers_len, addres
 
 -- ---- the parts
 
-pub record Stands (memory : List ℕ) (directory : Directory) (names_rva forwarders_rva : ℕ) (targets : List (Option ExportTo)) (names : List NameEntry) : Type 0 where
-  pub directory_there : Holds memory directory.rva (fields (directory_fields directory))
+pub record Stands (memory : List ℕ) (time : ℕ) (directory : Directory) (names_rva forwarders_rva : ℕ) (targets : List (Option ExportTo)) (names : List NameEntry) : Type 0 where
+  pub directory_there : Holds memory directory.rva (fields (directory_fields time directory))
   pub addresses_there : Holds memory directory.address_table (addresses forwarders_rva targets (length targets))
   pub rvas_there : Holds memory directory.name_table (name_rvas names_rva names (length names))
   pub indexes_there : Holds memory directory.ordinal_table (flat_map index_bytes names)
   pub names_there : Holds memory names_rva (flat_map name_bytes names)
   pub forwarders_there : Holds memory forwarders_rva (flat_map target_bytes targets)
 
-pub parts_stand : (memory ordinals dll : List ℕ) (rva size : ℕ) (targets : List (Option ExportTo)) (names : List NameEntry) → length targets ≡ address_count ordinals → Holds memory rva (table_by dll (directory_of ordinals (length names) rva size) targets names)
-    → Stands memory (directory_of ordinals (length names) rva size)
+pub parts_stand : (memory ordinals dll : List ℕ) (time rva size : ℕ) (targets : List (Option ExportTo)) (names : List NameEntry) → length targets ≡ address_count ordinals → Holds memory rva (table_by dll time (directory_of ordinals (length names) rva size) targets names)
+    → Stands memory time (directory_of ordinals (length names) rva size)
     (tables_end (directory_of ordinals (length names) rva size) + text_size dll)
     (tables_end (directory_of ordinals (length names) rva size) + text_size dll + sum_by name_size names) targets names
 unfolding tables_bytes texts_bytes
-parts_stand memory ordinals dll rva size targets names many held =
+parts_stand memory ordinals dll time rva size targets names many held =
     let directory = directory_of ordinals (length names) rva size in
     let names_rva = tables_end directory + text_size dll in
     let forwarders_rva = names_rva + sum_by name_size names in
-    let tables = tables_bytes directory names_rva forwarders_rva targets names in
+    let tables = tables_bytes time directory names_rva forwarders_rva targets names in
     let front : Holds memory rva tables = held_first memory rva tables (texts_bytes dll targets names) held in
     let numbers = name_rvas names_rva names (length names) ++ flat_map index_bytes names in
     let from_addresses : Holds memory directory.address_table (addresses forwarders_rva targets (length targets) ++ numbers) =
-    held_rest memory rva directory.address_table (fields (directory_fields directory)) (addresses forwarders_rva targets (length targets) ++ numbers) front (omega (arith, directory_len directory)) in
+    held_rest memory rva directory.address_table (fields (directory_fields time directory)) (addresses forwarders_rva targets (length targets) ++ numbers) front (omega (arith, directory_len time directory)) in
     let from_rvas : Holds memory directory.name_table numbers =
     held_rest memory directory.address_table directory.name_table (addresses forwarders_rva targets (length targets)) numbers from_addresses (omega (arith, many, addresses_len forwarders_rva targets (length targets))) in
     let texts : Holds memory (tables_end directory) (texts_bytes dll targets names) =
-    held_rest memory rva (tables_end directory) tables (texts_bytes dll targets names) held (omega (arith, many, tables_len directory names_rva forwarders_rva targets names)) in
+    held_rest memory rva (tables_end directory) tables (texts_bytes dll targets names) held (omega (arith, many, tables_len time directory names_rva forwarders_rva targets names)) in
     let from_names : Holds memory names_rva (flat_map name_bytes names ++ flat_map target_bytes targets) =
     held_rest memory (tables_end directory) names_rva (text_bytes dll) (flat_map name_bytes names ++ flat_map target_bytes targets) texts (omega (arith, length-append dll (0 ∷ []))) in
     record {
-      directory_there = held_first memory rva (fields (directory_fields directory)) (addresses forwarders_rva targets (length targets) ++ numbers) front;
+      directory_there = held_first memory rva (fields (directory_fields time directory)) (addresses forwarders_rva targets (length targets) ++ numbers) front;
       addresses_there = held_first memory directory.address_table (addresses forwarders_rva targets (length targets)) numbers from_addresses;
       rvas_there = held_first memory directory.name_table (name_rvas names_rva names (length names)) (flat_map index_bytes names) from_rvas;
       indexes_there =

@@ -1,5 +1,6 @@
--- The table of a DLL `c.dll` at RVA 0x2000, which exports what stands at 0x1000 as `api` and by the ordinal 1; and that of
--- `a.dll`, which exports a forwarder by the name `a` and the ordinal 6, and what stands at 0x1000 by the ordinal 5 alone.
+-- The table of a DLL `c.dll` of the time 0x65432100 at RVA 0x2000, which exports what stands at 0x1000 as `api` and by the
+-- ordinal 1; and that of `a.dll`, which exports a forwarder by the name `a` and the ordinal 6, and what stands at 0x1000 by the
+-- ordinal 5 alone.
 use Rattle.std.proofs.Common.{◌≡◌, ◌≢◌, ℕ, zero, suc, ◌<◌, List, [], ◌∷◌, ◌++◌, length, Some, None, true, false, refl, ap, inl, codes, arith}
 use Rattle.std.specs.List.{AllZip}
 use Rattle.std.proofs.lemmas.List.Elements.{All-from_recursion}
@@ -20,8 +21,8 @@ one_size : table_size one (1 ∷ []) (codes "c.dll") ≡ 0x3C
 unfolding one rows_size table_size
 one_size = refl
 
-one_table : export_table one (1 ∷ []) (codes "c.dll") 0x2000
-    ≡ 0 ∷ 0 ∷ 0 ∷ 0 ∷ 0 ∷ 0 ∷ 0 ∷ 0 ∷ 0 ∷ 0 ∷ 0 ∷ 0 ∷ 0x32 ∷ 0x20 ∷ 0 ∷ 0 ∷ 1 ∷ 0 ∷ 0 ∷ 0 ∷
+one_table : export_table one (1 ∷ []) (codes "c.dll") 0x65432100 0x2000
+    ≡ 0 ∷ 0 ∷ 0 ∷ 0 ∷ 0x00 ∷ 0x21 ∷ 0x43 ∷ 0x65 ∷ 0 ∷ 0 ∷ 0 ∷ 0 ∷ 0x32 ∷ 0x20 ∷ 0 ∷ 0 ∷ 1 ∷ 0 ∷ 0 ∷ 0 ∷
     1 ∷ 0 ∷ 0 ∷ 0 ∷ 1 ∷ 0 ∷ 0 ∷ 0 ∷ 0x28 ∷ 0x20 ∷ 0 ∷ 0 ∷ 0x2C ∷ 0x20 ∷ 0 ∷ 0 ∷ 0x30 ∷ 0x20 ∷ 0 ∷ 0 ∷
     0x00 ∷ 0x10 ∷ 0 ∷ 0 ∷ 0x38 ∷ 0x20 ∷ 0 ∷ 0 ∷ 0 ∷ 0 ∷ codes "c.dll" ++ 0 ∷ codes "api" ++ 0 ∷ []
 unfolding one target_in targets_in inserted in_order entries_before names_of rows_size table_size text_rva number_bytes addresses name_rvas tables_bytes texts_bytes export_table
@@ -36,7 +37,7 @@ two_size : table_size two (6 ∷ 5 ∷ []) (codes "a.dll") ≡ 0x42
 unfolding two rows_size table_size
 two_size = refl
 
-two_table : export_table two (6 ∷ 5 ∷ []) (codes "a.dll") 0x2000
+two_table : export_table two (6 ∷ 5 ∷ []) (codes "a.dll") 0 0x2000
     ≡ 0 ∷ 0 ∷ 0 ∷ 0 ∷ 0 ∷ 0 ∷ 0 ∷ 0 ∷ 0 ∷ 0 ∷ 0 ∷ 0 ∷ 0x36 ∷ 0x20 ∷ 0 ∷ 0 ∷ 5 ∷ 0 ∷ 0 ∷ 0 ∷
     2 ∷ 0 ∷ 0 ∷ 0 ∷ 1 ∷ 0 ∷ 0 ∷ 0 ∷ 0x28 ∷ 0x20 ∷ 0 ∷ 0 ∷ 0x30 ∷ 0x20 ∷ 0 ∷ 0 ∷ 0x34 ∷ 0x20 ∷ 0 ∷ 0 ∷
     0x00 ∷ 0x10 ∷ 0 ∷ 0 ∷ 0x3E ∷ 0x20 ∷ 0 ∷ 0 ∷ 0x3C ∷ 0x20 ∷ 0 ∷ 0 ∷ 1 ∷ 0 ∷ codes "a.dll" ++ 0 ∷ codes "a" ++ 0 ∷ codes "k.f" ++ 0 ∷ []
@@ -61,10 +62,10 @@ ordinal_missing : exported_ordinal two (6 ∷ 5 ∷ []) 7 ≡ exported.Missing
 unfolding two exported_ordinal
 ordinal_missing = refl
 
--- and in the bytes of its table, where they stand at RVA 0
+-- and in the bytes of its table of a time that is not 0, where they stand at RVA 0
 
 second : List ℕ
-second = export_table two (6 ∷ 5 ∷ []) (codes "a.dll") 0
+second = export_table two (6 ∷ 5 ∷ []) (codes "a.dll") 0x65432100 0
 
 name_read : export_of_name second 0 0x42 (codes "a") ≡ exported_name two (codes "a")
 unfolding second two target_in targets_in inserted in_order entries_before names_of rows_size table_size text_rva number_at number_bytes addresses name_rvas tables_bytes texts_bytes export_table first_refusal_below directory_in is_export entry_address is_named named_address name_address export_of_name exported_name

@@ -138,11 +138,11 @@ tables_end directory = directory.ordinal_table + 2 * directory.name_count
 
 -- ---- bytes
 
--- flags, time and versions of zeros; the RVA of the DLL's name; the ordinal base; the numbers of addresses and of names; the
--- RVAs of the tables
-abbrev pub directory_fields : Directory → List LeNumber
-directory_fields directory =
-    U32 0 ∷ U32 0 ∷ U16 0 ∷ U16 0 ∷ U32 (tables_end directory) ∷ U32 directory.ordinal_base ∷ U32 directory.address_count
+-- flags of zeros; the time; versions of zeros; the RVA of the DLL's name; the ordinal base; the numbers of addresses and of
+-- names; the RVAs of the tables
+abbrev pub directory_fields : ℕ → Directory → List LeNumber
+directory_fields time directory =
+    U32 0 ∷ U32 time ∷ U16 0 ∷ U16 0 ∷ U32 (tables_end directory) ∷ U32 directory.ordinal_base ∷ U32 directory.address_count
     ∷ U32 directory.name_count ∷ U32 directory.address_table ∷ U32 directory.name_table ∷ U32 directory.ordinal_table ∷ []
 
 -- an address: that of a row, that of a forwarder's text, or 0 where no row has the number
@@ -179,9 +179,9 @@ target_bytes (Some (Rva rva)) = []
 target_bytes (Some (Forward text)) = text_bytes text
 
 -- the directory and its tables
-unfoldable pub tables_bytes : Directory → ℕ → ℕ → List (Option ExportTo) → List NameEntry → List ℕ
-tables_bytes directory names_rva forwarders_rva targets names =
-    fields (directory_fields directory)
+unfoldable pub tables_bytes : ℕ → Directory → ℕ → ℕ → List (Option ExportTo) → List NameEntry → List ℕ
+tables_bytes time directory names_rva forwarders_rva targets names =
+    fields (directory_fields time directory)
     ++ (addresses forwarders_rva targets (length targets) ++ (name_rvas names_rva names (length names) ++ flat_map index_bytes names))
 
 -- the texts: the DLL's name, the names, and the forwarders by ordinal
@@ -189,17 +189,17 @@ unfoldable pub texts_bytes : List ℕ → List (Option ExportTo) → List NameEn
 texts_bytes dll targets names = text_bytes dll ++ (flat_map name_bytes names ++ flat_map target_bytes targets)
 
 -- the whole of a directory, where the names begin at an RVA
-abbrev pub table_from : List ℕ → Directory → ℕ → List (Option ExportTo) → List NameEntry → List ℕ
-table_from dll directory names_rva targets names =
-    tables_bytes directory names_rva (names_rva + sum_by name_size names) targets names ++ texts_bytes dll targets names
+abbrev pub table_from : List ℕ → ℕ → Directory → ℕ → List (Option ExportTo) → List NameEntry → List ℕ
+table_from dll time directory names_rva targets names =
+    tables_bytes time directory names_rva (names_rva + sum_by name_size names) targets names ++ texts_bytes dll targets names
 
-abbrev pub table_by : List ℕ → Directory → List (Option ExportTo) → List NameEntry → List ℕ
-table_by dll directory targets names = table_from dll directory (tables_end directory + text_size dll) targets names
+abbrev pub table_by : List ℕ → ℕ → Directory → List (Option ExportTo) → List NameEntry → List ℕ
+table_by dll time directory targets names = table_from dll time directory (tables_end directory + text_size dll) targets names
 
--- the export directory of some rows, which have these ordinals, with its tables and texts, as it stands at an RVA
-unfoldable pub export_table : List ExportRow → List ℕ → List ℕ → ℕ → List ℕ
-export_table rows ordinals dll rva =
-    table_by dll (directory_of ordinals (length (names_of rows ordinals)) rva (table_size rows ordinals dll))
+-- the export directory of some rows, which have these ordinals, with its tables and texts, of a time, as it stands at an RVA
+unfoldable pub export_table : List ExportRow → List ℕ → List ℕ → ℕ → ℕ → List ℕ
+export_table rows ordinals dll time rva =
+    table_by dll time (directory_of ordinals (length (names_of rows ordinals)) rva (table_size rows ordinals dll))
     (targets_of rows ordinals) (names_of rows ordinals)
 
 -- ---- what rows are to be

@@ -18,7 +18,7 @@ use std::alloc::Global;
 /// of the names in the order of their bytes, the indexes of their addresses, and the texts: the DLL's name, the names and the
 /// forwarders (PE Format, "The .edata Section (Image Only)"). There are `length` of them, and the last lies below 2^32. The
 /// ordinal base is the least ordinal, and the address of a number that no row has is 0. The time stamp, the four bytes at 4,
-/// is 0.
+/// is `time`, which is to be that of the image.
 ///
 /// The rows, their ordinals and the name of the DLL are as `length` asks. For the table to be read back no name and no
 /// forwarder holds a NUL, names differ, and no RVA of a row is 0 or that of one of these bytes, since such an address would be
@@ -33,19 +33,20 @@ pub fn fill(
     rows: &[ExportRow<'_>],
     ordinals: &[u16],
     dll: Name<'_>,
+    time: u32,
     rva: u32,
 ) -> Result<Vec<u8>, Memory>
     requires rows { AreNumbered rows.now ordinals.now }
     requires dll { length dll ≤ DLL_LIMIT }
     requires fits { rva + table_size rows.now ordinals.now dll < 2 ^ 32 }
-    ensures { IfOk result (λ table. table.items ≡ export_table rows.now ordinals.now dll.entry rva) }
+    ensures { IfOk result (λ table. table.items ≡ export_table rows.now ordinals.now dll.entry time rva) }
 {
     let size = table_size(rows, ordinals, &dll);
     let names = names_of(alloc, rows, ordinals)?;
     let targets = targets_of(alloc, rows, ordinals)?;
     let directory = directory_of(ordinals, names.len(), rva, size);
     let mut table = Vec::with_capacity(alloc, size as usize)?;
-    push_table(&mut table, directory, &dll, &targets, &names)?;
+    push_table(&mut table, time, directory, &dll, &targets, &names)?;
     Ok(table)
 }
 
@@ -70,20 +71,29 @@ fn directory_of(ordinals: &[u16], name_count: usize, rva: u32, size: u32) -> Dir
     }
 }
 
-/// Appends the directory, its tables and its texts.
+/// Appends the directory of a time, its tables and its texts.
 fn push_table(
     table: &mut Vec<u8>,
+    time: u32,
     directory: Directory,
     dll: &Name<'_>,
     targets: &[Option<ExportTo<'_>>],
     names: &[NameEntry<'_>],
 ) -> Result<(), Memory>
     requires { tables_end directory + text_size dll.now + sum_by name_size names.now + sum_by target_size targets.now < 2 ^ 32 }
-    ensures { OnOk result (table.new.items ≡ table.old.items ++ table_by dll.now directory targets.now names.now) }
+    ensures { OnOk result (table.new.items ≡ table.old.items ++ table_by dll.now time directory targets.now names.now) }
 {
     let tables_end = directory.ordinal_table as usize + 2 * directory.name_count as usize;
     let names_rva = tables_end + (dll.len() + 1);
     let forwarders_rva = names_rva + names_size(names);
-    push_tables(table, directory, names_rva, forwarders_rva, targets, names)?;
+    push_tables(
+        table,
+        time,
+        directory,
+        names_rva,
+        forwarders_rva,
+        targets,
+        names,
+    )?;
     push_texts(table, dll, targets, names)
 }

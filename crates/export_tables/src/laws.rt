@@ -19,11 +19,11 @@ pub fn assigned_ordinals_differ()
         → All (λ ordinal. (0 < ordinal) × (ordinal < 2 ^ 16)) (ordinals_of rows) }
 {}
 
-/// The bytes of an export directory with its tables are as many as its size says, wherever it stands.
+/// The bytes of an export directory with its tables are as many as its size says, wherever it stands and of whatever time.
 #[tactic(auto, using(crate::proofs::LengthLemmas::size_of_table))]
 pub fn table_has_its_size()
-    ensures { (rows : List ExportRow) (ordinals dll : List ℕ) (rva : ℕ) → AreNumbered rows ordinals
-        → length (export_table rows ordinals dll rva) ≡ table_size rows ordinals dll }
+    ensures { (rows : List ExportRow) (ordinals dll : List ℕ) (time rva : ℕ) → AreNumbered rows ordinals
+        → length (export_table rows ordinals dll time rva) ≡ table_size rows ordinals dll }
 {}
 
 /// Rows that differ from others at most in their RVAs, in the bytes of forwarders and in the ordinals that they ask for take as
@@ -42,10 +42,10 @@ pub fn size_is_that_of_rows_without_places()
 /// below 2^32.
 #[tactic(auto, using(crate::proofs::NameReadLemmas::name_read_back, crate::proofs::OrdinalReadLemmas::ordinal_read_back))]
 pub fn filled_table_is_read_back()
-    ensures by_name { (rows : List ExportRow) (ordinals dll : List ℕ) (rva : ℕ) (memory name : List ℕ) → AreNumbered rows ordinals → All (λ ordinal. ordinal < 2 ^ 16) ordinals
-        → AreReadable rows rva (table_size rows ordinals dll) → rva + table_size rows ordinals dll < 2 ^ 32 → Holds memory rva (export_table rows ordinals dll rva)
+    ensures by_name { (rows : List ExportRow) (ordinals dll : List ℕ) (time rva : ℕ) (memory name : List ℕ) → AreNumbered rows ordinals → All (λ ordinal. ordinal < 2 ^ 16) ordinals
+        → AreReadable rows rva (table_size rows ordinals dll) → rva + table_size rows ordinals dll < 2 ^ 32 → Holds memory rva (export_table rows ordinals dll time rva)
         → export_of_name memory rva (table_size rows ordinals dll) name ≡ exported_name rows name }
-    ensures by_ordinal { (rows : List ExportRow) (ordinals dll : List ℕ) (rva : ℕ) (memory : List ℕ) (ordinal : ℕ) → AreNumbered rows ordinals → All (λ number. number < 2 ^ 16) ordinals
-        → AreReadable rows rva (table_size rows ordinals dll) → rva + table_size rows ordinals dll < 2 ^ 32 → Holds memory rva (export_table rows ordinals dll rva)
+    ensures by_ordinal { (rows : List ExportRow) (ordinals dll : List ℕ) (time rva : ℕ) (memory : List ℕ) (ordinal : ℕ) → AreNumbered rows ordinals → All (λ number. number < 2 ^ 16) ordinals
+        → AreReadable rows rva (table_size rows ordinals dll) → rva + table_size rows ordinals dll < 2 ^ 32 → Holds memory rva (export_table rows ordinals dll time rva)
         → export_of_ordinal memory rva (table_size rows ordinals dll) ordinal ≡ exported_ordinal rows ordinals ordinal }
 {}

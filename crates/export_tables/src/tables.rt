@@ -12,9 +12,10 @@ use crate::row::ExportTo;
 use crate::sizes::{name_size, target_size};
 use link_base::{LeNumber, Memory, push_fields};
 
-/// Appends the directory and its tables, where the names and the forwarders begin at these RVAs.
+/// Appends the directory of a time and its tables, where the names and the forwarders begin at these RVAs.
 pub(crate) fn push_tables(
     table: &mut Vec<u8>,
+    time: u32,
     directory: Directory,
     names_rva: usize,
     forwarders_rva: usize,
@@ -24,24 +25,24 @@ pub(crate) fn push_tables(
     requires directory { tables_end directory < 2 ^ 32 }
     requires names { names_rva + sum_by name_size names.now < 2 ^ 32 }
     requires forwarders { forwarders_rva + sum_by target_size targets.now < 2 ^ 32 }
-    ensures { OnOk result (table.new.items ≡ table.old.items ++ tables_bytes directory names_rva forwarders_rva targets.now names.now) }
+    ensures { OnOk result (table.new.items ≡ table.old.items ++ tables_bytes time directory names_rva forwarders_rva targets.now names.now) }
 {
-    push_directory(table, directory)?;
+    push_directory(table, time, directory)?;
     push_addresses(table, forwarders_rva, targets)?;
     push_name_rvas(table, names_rva, names)?;
     push_indexes(table, names)
 }
 
 /// Appends the directory's fields.
-fn push_directory(table: &mut Vec<u8>, directory: Directory) -> Result<(), Memory>
+fn push_directory(table: &mut Vec<u8>, time: u32, directory: Directory) -> Result<(), Memory>
     requires { tables_end directory < 2 ^ 32 }
-    ensures { OnOk result (table.new.items ≡ table.old.items ++ fields (directory_fields directory)) }
+    ensures { OnOk result (table.new.items ≡ table.old.items ++ fields (directory_fields time directory)) }
 {
     push_fields(
         table,
         &[
             LeNumber::U32(0),
-            LeNumber::U32(0),
+            LeNumber::U32(time),
             LeNumber::U16(0),
             LeNumber::U16(0),
             LeNumber::U32(directory.ordinal_table + 2 * directory.name_count),
