@@ -8,3 +8,4 @@ pub mod Steps
 pub mod Rows
 pub mod LocalSlots
 pub mod LinkerPieces
+pub mod TablePieces

@@ -1,12 +1,12 @@
 -- Which piece a section or a common of a module is, and which one is of a number of those that the linker makes. Own.
-use Rattle.std.specs.Prelude.{◌≡◌, ℕ, ◌+◌, ◌-◌, Bool, ◌&&◌, ◌==◌, nat_lt, if◌then◌else◌, List, length, slice_index_or, Option, None, option_and_then}
+use Rattle.std.specs.Prelude.{◌≡◌, ℕ, ◌+◌, ◌-◌, Bool, ◌&&◌, ◌==◌, nat_lt, if◌then◌else◌, List, length, slice_index_or, Option, Some, None, option_and_then}
 use Rattle.link_base.specs.Bytes.{first_below}
 use Rattle.section_group.specs.declared.piece.Piece.{Piece}
 use Rattle.section_group.specs.SectionOrder.{no_piece}
 use Rattle.link_pieces.specs.LinkParts.{LinkParts}
 use Rattle.link_pieces.specs.Commons.{FIRST_COMMON}
 use Rattle.synthetic_sections.specs.LinkerPieces.{FIRST_LOCAL_SLOT}
-use Rattle.link_imports.specs.Imports.{slot_offset}
+use Rattle.link_imports.specs.Imports.{is_import}
 use Rattle.link_pieces.specs.LocalSlots.{slot_names, slot_number}
 use Rattle.link_pieces.specs.Pieces.{link_pieces}
 
@@ -50,6 +50,13 @@ abbrev pub slot_index : LinkParts → List ℕ → Option ℕ
 slot_index link name =
     option_and_then (λ slot. linker_index link (FIRST_LOCAL_SLOT + slot)) (slot_number (slot_names link) name)
 
+-- ---- behind the pieces
+
+-- the number of the import that is the module at a position, as what pieces can lead to: it stands behind those of the pieces
+abbrev pub import_index : LinkParts → ℕ → Option ℕ
+import_index link position =
+    if is_import link.modules position then Some (length (link_pieces link) + position) else None
+
 -- ---- an index
 
 -- rows by modules and by numbers, one after the other: where each starts, and where the last one ends
@@ -67,7 +74,7 @@ indexed rows position number =
     then slice_index_or rows.pieces (row_start rows position + number) None
     else None
 
--- the pieces that the linker makes: the tables and the jumps by their numbers, and the local slots from the first number on
+-- the pieces that the linker makes: the jumps by their numbers, and the local slots from the first number on
 pub record LinkerView : Type 0 where
   pub made : List (Option ℕ)
   pub slots : List (Option ℕ)
@@ -77,14 +84,14 @@ linker_indexed rows number =
     if nat_lt number FIRST_LOCAL_SLOT then slice_index_or rows.made number None
     else slice_index_or rows.slots (number - FIRST_LOCAL_SLOT) None
 
--- rows for sections, for commons and for what the linker makes, with the names of the local slots, and the offsets of the
--- imports' slots by the positions of their modules
+-- rows for sections, for commons and for what the linker makes, with the names of the local slots, and the numbers of the
+-- imports by the positions of their modules
 pub record IndexView : Type 0 where
   pub sections : RowsView
   pub commons : RowsView
   pub slots : List (List ℕ)
   pub linker : LinkerView
-  pub offsets : List ℕ
+  pub imports : List (Option ℕ)
 
 -- what it says of the slot of a name
 abbrev pub slot_indexed : IndexView → List ℕ → Option ℕ
@@ -96,6 +103,6 @@ pub record IsPieceIndex (link : LinkParts) (index : IndexView) : Type 0 where
   pub sections : (position section : ℕ) → indexed index.sections position section ≡ piece_index link position section
   pub commons : (position symbol : ℕ) → indexed index.commons position symbol ≡ common_index link position symbol
   pub linker : (number : ℕ) → linker_indexed index.linker number ≡ linker_index link number
-  pub offsets : (position : ℕ) → slice_index_or index.offsets position 0 ≡ slot_offset link.modules position
+  pub imports : (position : ℕ) → slice_index_or index.imports position None ≡ import_index link position
   pub names : index.slots ≡ slot_names link
   pub slots : (name : List ℕ) → slot_indexed index name ≡ slot_index link name

@@ -1,5 +1,5 @@
--- The pieces of a link: the sections of its modules that come into the image and the commons that names mean, in the order
--- of the modules, then those that the linker makes, and what they hold. Own.
+-- The pieces of a link that can be kept or dropped: the sections of its modules that come into the image and the commons that
+-- names mean, in the order of the modules, then the jumps and the local slots that the linker makes, and what they hold. Own.
 use Rattle.std.specs.Prelude.{◌≡◌, ◌<◌, ◌≤◌, ◌⊎◌, ℕ, Bool, true, false, not, ◌==◌, ◌&&◌, List, [], ◌++◌, length, map, filter, None, unwrap_or}
 use Rattle.std.specs.List.{range_with_len, flat_map, list_any}
 use Rattle.coff_records.specs.ObjectFile.{section_total, section_name_of, raw_size_of, flags_of, alignment_of, is_uninitialised, body_of}

@@ -15,9 +15,9 @@ rows_of starts pieces = record { starts = starts; pieces = pieces }
 abbrev pub linker_rows_of : List (Option ℕ) → List (Option ℕ) → LinkerView
 linker_rows_of made slots = record { made = made; slots = slots }
 
-abbrev pub index_of : RowsView → RowsView → List (List ℕ) → LinkerView → List ℕ → IndexView
-index_of sections commons slots linker offsets =
-    record { sections = sections; commons = commons; slots = slots; linker = linker; offsets = offsets }
+abbrev pub index_of : RowsView → RowsView → List (List ℕ) → LinkerView → List (Option ℕ) → IndexView
+index_of sections commons slots linker imports =
+    record { sections = sections; commons = commons; slots = slots; linker = linker; imports = imports }
 
 abbrev pub section_places : List ℕ → ℕ
 section_places bytes = section_total bytes + 1

@@ -5,3 +5,4 @@ pub mod Taken
 pub mod Value
 pub mod Written
 pub mod PatchedBytes
+pub mod Redirected
