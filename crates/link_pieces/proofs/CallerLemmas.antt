@@ -1,7 +1,9 @@
 -- What callers may cite of the pieces of a link: what each is, and the one that a section, a common or a slot is.
-use Rattle.std.proofs.Common.{◌≡◌, ℕ, suc, ◌+◌, ◌<◌, Bool, true, false, eqb, ltb, List, [], ◌∷◌, length, map, filter, get_or, Option, Some, None, inl, inr, refl, sym, ap, ◌∙◌, arith}
+use Rattle.std.proofs.Common.{◌≡◌, ℕ, suc, ◌+◌, ◌-◌, ◌<◌, ◌≤◌, Bool, true, false, ◌&&◌, eqb, ltb, List, [], ◌∷◌, length, map, filter, get_or, Option, Some, None, inl, inr, refl, sym, ap, subst, ◌∙◌, eq-eqb, arith}
 use Rattle.std.specs.List.{All, Contains, list_any}
-use Rattle.std.proofs.lemmas.Bool.{false≢true, eqb-true, ltb-true, and_parts}
+use Rattle.std.proofs.lemmas.Bool.{cases_lt, false≢true, eqb-true, ltb-true, lt-ltb, le-ltb, and_parts}
+use Rattle.std.proofs.lemmas.Bool.Decides.{eqb_tells}
+use Rattle.std.proofs.lemmas.List.{get_or_append_left, get_or_append_right, length-append}
 use Rattle.std.proofs.lemmas.List.Elements.{All-map, All-weaker, All-append, All-contains_itself}
 use Rattle.std.proofs.Math.ListN.{get_or-map}
 use Rattle.link_base.proofs.CallerLemmas.{first_below-none, first_below-some}
@@ -15,8 +17,10 @@ use Rattle.link_pieces.specs.LinkParts.{LinkParts}
 use Rattle.module_view.specs.SymbolLists.{commons_of}
 use Rattle.link_pieces.specs.Commons.{FIRST_COMMON, is_meant_common, meant_commons, common_piece}
 use Rattle.link_pieces.specs.Pieces.{is_linked, linked_sections, piece_of, pieces_in, module_pieces, link_pieces, IsPieceOf}
-use Rattle.link_pieces.specs.LinkerPieces.{linker_pieces, is_table, table_sizes, IsLinkTable, IsLinkerPiece}
-use Rattle.link_pieces.proofs.LinkerLemmas.{linker_pieces_are, later_any, made_there}
+use Rattle.link_pieces.specs.LinkerPieces.{linker_pieces, IsLinkerNumber, IsLinkerPiece}
+use Rattle.link_pieces.specs.TablePieces.{KeptParts, tables_of, table_sizes, whole_pieces, table_index, is_table, IsLinkTable}
+use Rattle.link_pieces.proofs.LinkerLemmas.{linker_pieces_are}
+use Rattle.link_pieces.proofs.TableLemmas.{tables_are, later_any, table_made}
 use Rattle.link_pieces.specs.PieceIndex.{is_section, is_numbered, is_section_of, is_common_of, holds, piece_index, common_index, linker_index, slot_index}
 use Rattle.std.specs.Option.{option_and_then}
 use Rattle.synthetic_sections.specs.LinkerPieces.{FIRST_THUNK, FIRST_LOCAL_SLOT, size_at}
@@ -60,30 +64,79 @@ pieces_are link =
 pub piece_is : (link : LinkParts) (k : ℕ) → k < length (link_pieces link) → IsPieceOf link (get_or (link_pieces link) k no_piece)
 piece_is link k lt = pieces_are link k no_piece lt
 
--- a table is one of the six, and as long as its bytes will be
-pub table_is : (link : LinkParts) (k : ℕ) → k < length (link_pieces link) → is_table (length link.modules) (get_or (link_pieces link) k no_piece) ≡ true → IsLinkTable link (get_or (link_pieces link) k no_piece)
-table_is link k lt table =
+-- none of them is a table
+pub no_table : (link : LinkParts) (k : ℕ) → k < length (link_pieces link) → is_table (length link.modules) (get_or (link_pieces link) k no_piece) ≡ false
+no_table link k lt =
     let piece = get_or (link_pieces link) k no_piece in
-    let both = and_parts (eqb piece.«module» (length link.modules)) (ltb piece.number FIRST_THUNK) table in
-    let same = eqb-true piece.«module» (length link.modules) both.0 in
+    let count = length link.modules in
     elim (piece_is link k lt) [
-      | inl of_module ↦ absurd (omega (arith, of_module.within, same))
-      | inr of_linker ↦ of_linker.table (ltb-true piece.number FIRST_THUNK both.1)
+      | inl of_module ↦ rw (ne-eqb piece.«module» count (λ same. omega (arith, of_module.within, same))) refl
+      | inr of_linker ↦ rw (le-ltb piece.number FIRST_THUNK (above of_linker.numbered), and_false (eqb piece.«module» count)) refl
     ]
+  where
+    ne-eqb : (a b : ℕ) → (a ≡ b → ⊥) → eqb a b ≡ false
+    ne-eqb a b apart =
+        elim (eqb_tells a b) [
+          | inl same ↦ absurd (apart same.1)
+          | inr other ↦ other.0
+        ]
+
+    and_false : (b : Bool) → (b && false) ≡ false
+    and_false true = refl
+    and_false false = refl
+
+    above : {modules slots number : ℕ} → IsLinkerNumber modules slots number → FIRST_THUNK ≤ number
+    above (inl jump) = jump.0
+    above (inr slot) = omega (arith, slot.0)
+
+same_place : (position number : ℕ) (piece : Piece) → is_numbered position number piece ≡ true → (piece.«module» ≡ position) × (piece.number ≡ number)
+same_place position number piece e =
+    let both = and_parts (eqb piece.«module» position) (eqb piece.number number) e in
+    (eqb-true piece.«module» position both.0, eqb-true piece.number number both.1)
+
+-- ---- the tables behind them
+
+-- a piece behind those of the link is one of the six, and as long as its bytes will be
+pub table_is : (link : KeptParts) (k : ℕ) → length (link_pieces link.parts) ≤ k → k < length (whole_pieces link) → IsLinkTable link (get_or (whole_pieces link) k no_piece)
+table_is link k behind lt =
+    let pieces = link_pieces link.parts in
+    let tables = tables_of link in
+    subst (IsLinkTable link) (sym (get_or_append_right pieces tables no_piece k behind))
+    (tables_are link (k - length pieces) no_piece (omega (arith, behind, lt, length-append pieces tables)))
+
+-- a piece of the link is the same among all
+pub whole_at : (link : KeptParts) (k : ℕ) → k < length (link_pieces link.parts) → get_or (whole_pieces link) k no_piece ≡ get_or (link_pieces link.parts) k no_piece
+whole_at link k lt = get_or_append_left (link_pieces link.parts) (tables_of link) no_piece k lt
 
 -- one that has bytes is there
-pub table_there : (link : LinkParts) (number : ℕ) → number < 6 → 0 < size_at (table_sizes link) number → linker_index link number ≡ None → ⊥
+pub table_there : (link : KeptParts) (number : ℕ) → number < 6 → 0 < size_at (table_sizes link) number → table_index link number ≡ None → ⊥
 table_there link number few sized none =
-    let test = is_numbered (length link.modules) number in
-    let pieces = link_pieces link in
+    let test = is_numbered (length link.parts.modules) number in
+    let pieces = whole_pieces link in
     let none_passes = first_below-none (length pieces) (holds test pieces) none in
-    let there = later_any test (module_pieces link) (linker_pieces link) (made_there link number few sized) in
+    let there = later_any test (link_pieces link.parts) (tables_of link) (table_made link number few sized) in
     false≢true (sym (no_any test pieces none_passes) ∙ there)
   where
     no_any : (test : Piece → Bool) (pieces : List Piece) → ((k : ℕ) → k < length pieces → test (get_or pieces k no_piece) ≡ false) → list_any test pieces ≡ false
     no_any test [] each = refl
     no_any test (piece ∷ pieces) each =
         rw (each 0 (omega arith)) (no_any test pieces (λ k lt. each (suc k) (omega (arith, lt))))
+
+-- and is one of those behind the pieces of the link
+pub table_found : (link : KeptParts) (number k : ℕ) → number < 6 → table_index link number ≡ Some k → (length (link_pieces link.parts) ≤ k) × (k < length (whole_pieces link))
+table_found link number k few e =
+    let count = length link.parts.modules in
+    let pieces = link_pieces link.parts in
+    let found = first_below-some (length (whole_pieces link)) k (holds (is_numbered count number) (whole_pieces link)) e in
+    elim (cases_lt k (length pieces)) [
+      | inl inside ↦
+          let here : is_numbered count number (get_or pieces k no_piece) ≡ true = ap (is_numbered count number) (sym (whole_at link k inside)) ∙ found.1.0 in
+          let same = same_place count number (get_or pieces k no_piece) here in
+          let piece = get_or pieces k no_piece in
+          let told : is_table count piece ≡ true = rw (eq-eqb piece.«module» count same.0, lt-ltb piece.number FIRST_THUNK (omega (arith, few, same.1))) refl in
+          absurd (false≢true (sym (no_table link.parts k inside) ∙ told))
+      | inr behind ↦ (behind, found.0)
+    ]
 
 -- a piece without its bytes is one of the link
 pub bare_at : (link : LinkParts) (pieces : List Piece) (k : ℕ) → map bare pieces ≡ link_pieces link → bare (get_or pieces k no_piece) ≡ get_or (link_pieces link) k no_piece
@@ -96,11 +149,6 @@ bare_at link pieces k same =
 pub record IsFoundAt (link : LinkParts) (position section k : ℕ) : Type 0 where
   pub within : k < length (link_pieces link)
   pub is : get_or (link_pieces link) k no_piece ≡ piece_of position (module_at link.modules position).bytes section
-
-same_place : (position number : ℕ) (piece : Piece) → is_numbered position number piece ≡ true → (piece.«module» ≡ position) × (piece.number ≡ number)
-same_place position number piece e =
-    let both = and_parts (eqb piece.«module» position) (eqb piece.number number) e in
-    (eqb-true piece.«module» position both.0, eqb-true piece.number number both.1)
 
 pub found_piece : (link : LinkParts) (position section k : ℕ) → piece_index link position section ≡ Some k → IsFoundAt link position section k
 found_piece link position section k e =

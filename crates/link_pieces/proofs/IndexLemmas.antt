@@ -303,7 +303,7 @@ module_place link piece few whole = record {
 
 -- a number of the linker's module stays below those of commons
 few_numbers : (modules slots number : ℕ) → modules ≤ MODULE_LIMIT → numbers_below slots ≤ FIRST_COMMON → IsLinkerNumber modules slots number → number < FIRST_COMMON
-few_numbers modules slots number few below (inl made) = omega (arith, made, few)
+few_numbers modules slots number few below (inl made) = omega (arith, made.1, few)
 few_numbers modules slots number few below (inr slot) = omega (arith, slot.1, below)
 
 some_place : (link : LinkParts) (slots : ℕ) (piece : Piece) → slots ≡ length (slot_names link) → length link.modules ≤ MODULE_LIMIT → numbers_below slots ≤ FIRST_COMMON → All HasFewSections link.modules → IsPieceOf link piece → HasSomePlace link.modules slots piece.«module» piece.number

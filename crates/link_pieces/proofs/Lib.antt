@@ -5,4 +5,5 @@ pub mod CallerLemmas
 pub mod IndexLemmas
 mod SlotLemmas
 pub mod LinkerLemmas
+pub mod TableLemmas
 mod LinkerRowLemmas

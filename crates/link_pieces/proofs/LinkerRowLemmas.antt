@@ -91,8 +91,8 @@ no_linker_noted modules {count} {slots} places pieces rows has all same = record
 -- a piece of the linker's has room
 pub has_room : (modules : List ModuleView) (slots number : ℕ) (pieces : List Piece) (count : ℕ) (rows : LinkerView) → length modules ≤ MODULE_LIMIT → IsLinkerNumber (length modules) slots number → AreLinkerNoted modules slots pieces count rows → HasLinkerRoom rows number
 has_room modules slots number pieces count rows few (inl made) are = record {
-  made = λ below. omega (arith, made, are.made);
-  slots = λ above. absurd (omega (arith, above, made, few));
+  made = λ below. omega (arith, made.1, are.made);
+  slots = λ above. absurd (omega (arith, above, made.1, few));
 }
 has_room modules slots number pieces count rows few (inr slot) are = record {
   made = λ below. absurd (omega (arith, below, slot.0));

@@ -28,11 +28,11 @@ use Rattle.link_directives.specs.LinkDirectives.{raised_alignment}
 use Rattle.link_directives.proofs.CallerLemmas.{raised_holds}
 use Rattle.link_pieces.specs.Commons.{meant_commons, common_alignment, common_piece}
 use Rattle.link_pieces.specs.Pieces.{is_linked, linked_sections, piece_of, section_contents, no_contents, pieces_in, contents_in, module_pieces, module_contents, link_pieces, link_contents}
-use Rattle.synthetic_sections.specs.LinkerPieces.{no_bytes, export_table_pieces, thunk_piece, slot_piece}
-use Rattle.link_imports.specs.ImportPieces.{has_thunk, code_imports, jump, tables_for, import_pieces, import_contents}
+use Rattle.synthetic_sections.specs.LinkerPieces.{thunk_piece, slot_piece}
+use Rattle.link_imports.specs.ImportPieces.{has_thunk, jump, thunk_pieces, thunk_contents}
 use Rattle.link_pieces.specs.LocalSlots.{slot_names}
-use Rattle.link_pieces.specs.LinkerPieces.{pointer, slots_below, pointers_below, made_pieces, made_contents, linker_pieces, linker_contents, is_table}
-use Rattle.link_pieces.proofs.LinkerLemmas.{tables_told, export_told, linker_aligned}
+use Rattle.link_pieces.specs.LinkerPieces.{pointer, slots_below, pointers_below, linker_pieces, linker_contents}
+use Rattle.link_pieces.proofs.LinkerLemmas.{linker_aligned}
 use Rattle.link_pieces.proofs.CommonLemmas.{common_aligned}
 
 -- ---- pieces beside what they hold
@@ -65,82 +65,69 @@ paired_joined P f g a (suc n) each =
     paired_append P (f a) (flat_map f (range_with_len (a + 1) n)) (g a) (flat_map g (range_with_len (a + 1) n)) (each a (omega arith) (omega arith))
     (paired_joined P f g (a + 1) n (λ k low high. each k (omega arith) (omega arith)))
 
--- what it holds is as long as it is, but for an import table of a link of so many modules
-abbrev IsFilled : ℕ → Piece → List ℕ → Type 0
-IsFilled count piece bytes = is_table count piece ≡ false → IsTrue piece.init → length bytes ≡ piece.size
+-- what it holds is as long as it is
+abbrev IsFilled : Piece → List ℕ → Type 0
+IsFilled piece bytes = IsTrue piece.init → length bytes ≡ piece.size
 
 filled : (uninitialised : Bool) (size : ℕ) (bytes : List ℕ) → (uninitialised ≡ false → length bytes ≡ size) → IsTrue (not uninitialised) → length (unwrap_or (cond uninitialised None (Some bytes)) []) ≡ size
 filled true size bytes whole e = absurd (false≢true e)
 filled false size bytes whole e = whole refl
 
-section_filled : (count position : ℕ) (bytes : List ℕ) (section : ℕ) → object_fault bytes ≡ None → 1 ≤ section → section ≤ section_total bytes → IsFilled count (piece_of position bytes section) (section_contents bytes section)
-section_filled count position bytes section sound first last = λ other.
+section_filled : (position : ℕ) (bytes : List ℕ) (section : ℕ) → object_fault bytes ≡ None → 1 ≤ section → section ≤ section_total bytes → IsFilled (piece_of position bytes section) (section_contents bytes section)
+section_filled position bytes section sound first last =
     filled (is_uninitialised bytes section) (raw_size_of bytes section) (bytes_at bytes (raw_offset_of bytes section) (raw_size_of bytes section)) (body_length bytes section sound first last)
 
 -- a common is not initialised
-commons_filled : (count : ℕ) (modules : List ModuleView) (position : ℕ) (commons : List Common) → Paired (IsFilled count) (map (common_piece modules position) commons) (map no_contents commons)
-commons_filled count modules position [] = tt
-commons_filled count modules position (common ∷ commons) = (λ other e. absurd (false≢true e), commons_filled count modules position commons)
+commons_filled : (modules : List ModuleView) (position : ℕ) (commons : List Common) → Paired IsFilled (map (common_piece modules position) commons) (map no_contents commons)
+commons_filled modules position [] = tt
+commons_filled modules position (common ∷ commons) = (λ e. absurd (false≢true e), commons_filled modules position commons)
 
-modules_filled : (link : LinkParts) → ((m : ℕ) → m < length link.modules → object_fault (module_at link.modules m).bytes ≡ None) → Paired (IsFilled (length link.modules)) (module_pieces link) (module_contents link)
+modules_filled : (link : LinkParts) → ((m : ℕ) → m < length link.modules → object_fault (module_at link.modules m).bytes ≡ None) → Paired IsFilled (module_pieces link) (module_contents link)
 modules_filled link sound =
     let count = length link.modules in
-    paired_joined (IsFilled count) (λ m. pieces_in link m (module_at link.modules m).bytes) (λ m. contents_in link m (module_at link.modules m).bytes) 0 count (λ m low high.
+    paired_joined IsFilled (λ m. pieces_in link m (module_at link.modules m).bytes) (λ m. contents_in link m (module_at link.modules m).bytes) 0 count (λ m low high.
     let bytes = (module_at link.modules m).bytes in
     let within : m < length link.modules = omega arith in
     let commons = meant_commons link m bytes in
-    paired_append (IsFilled count) (map (piece_of m bytes) (linked_sections link m bytes)) (map (common_piece link.modules m) commons) (map (section_contents bytes) (linked_sections link m bytes)) (map no_contents commons)
-    (paired_kept (IsFilled count) (piece_of m bytes) (section_contents bytes) (is_linked link m bytes) 1 (section_total bytes) (λ section first last.
-    section_filled count m bytes section (sound m within) first (omega arith)))
-    (commons_filled count link.modules m commons))
-
--- tables hold nothing yet
-tables_filled : (count : ℕ) (pieces : List Piece) → All (λ (piece : Piece). is_table count piece ≡ true) pieces → Paired (IsFilled count) pieces (map no_bytes pieces)
-tables_filled count [] told = tt
-tables_filled count (piece ∷ pieces) told =
-    let here = All-head (λ (p : Piece). is_table count p ≡ true) piece pieces told in
-    (λ other e. absurd (false≢true (sym other ∙ here)), tables_filled count pieces (All-tail (λ (p : Piece). is_table count p ≡ true) piece pieces told))
+    paired_append IsFilled (map (piece_of m bytes) (linked_sections link m bytes)) (map (common_piece link.modules m) commons) (map (section_contents bytes) (linked_sections link m bytes)) (map no_contents commons)
+    (paired_kept IsFilled (piece_of m bytes) (section_contents bytes) (is_linked link m bytes) 1 (section_total bytes) (λ section first last.
+    section_filled m bytes section (sound m within) first (omega arith)))
+    (commons_filled link.modules m commons))
 
 -- a jump has six bytes, and a slot as many as an address
-jumps_filled : (count : ℕ) (modules : List ModuleView) → Paired (IsFilled count) (map (thunk_piece (length modules)) (code_imports modules)) (map jump (code_imports modules))
-jumps_filled count modules =
-    paired_kept (IsFilled count) (thunk_piece (length modules)) jump (has_thunk modules) 0 (length modules) (λ import first last other e. refl)
+jumps_filled : (modules : List ModuleView) → Paired IsFilled (thunk_pieces modules) (thunk_contents modules)
+jumps_filled modules =
+    paired_kept IsFilled (thunk_piece (length modules)) jump (has_thunk modules) 0 (length modules) (λ import first last e. refl)
 
-slots_filled : (count position a n : ℕ) → Paired (IsFilled count) (map (slot_piece position) (range_with_len a n)) (map pointer (range_with_len a n))
-slots_filled count position a zero = tt
-slots_filled count position a (suc n) = (λ other e. refl, slots_filled count position (a + 1) n)
+slots_filled : (position a n : ℕ) → Paired IsFilled (map (slot_piece position) (range_with_len a n)) (map pointer (range_with_len a n))
+slots_filled position a zero = tt
+slots_filled position a (suc n) = (λ e. refl, slots_filled position (a + 1) n)
 
-linker_filled : (link : LinkParts) → Paired (IsFilled (length link.modules)) (linker_pieces link) (linker_contents link)
+linker_filled : (link : LinkParts) → Paired IsFilled (linker_pieces link) (linker_contents link)
 linker_filled link =
     let count = length link.modules in
-    let tables = tables_for link.modules in
-    let jumps = code_imports link.modules in
-    let size = link.exports.size in
     let slots = length (slot_names link) in
-    let table = export_table_pieces count size in
-    paired_append (IsFilled count) (import_pieces link.modules) (made_pieces count size slots) (import_contents link.modules) (made_contents count size slots)
-    (paired_append (IsFilled count) tables (map (thunk_piece count) jumps) (map no_bytes tables) (map jump jumps) (tables_filled count tables (tables_told link.modules)) (jumps_filled count link.modules))
-    (paired_append (IsFilled count) table (slots_below count slots) (map no_bytes table) (pointers_below slots) (tables_filled count table (export_told count size)) (slots_filled count count 0 slots))
+    paired_append IsFilled (thunk_pieces link.modules) (slots_below count slots) (thunk_contents link.modules) (pointers_below slots) (jumps_filled link.modules) (slots_filled count 0 slots)
 
-link_filled : (link : LinkParts) → ((m : ℕ) → m < length link.modules → object_fault (module_at link.modules m).bytes ≡ None) → Paired (IsFilled (length link.modules)) (link_pieces link) (link_contents link)
+link_filled : (link : LinkParts) → ((m : ℕ) → m < length link.modules → object_fault (module_at link.modules m).bytes ≡ None) → Paired IsFilled (link_pieces link) (link_contents link)
 link_filled link sound =
-    paired_append (IsFilled (length link.modules)) (module_pieces link) (linker_pieces link) (module_contents link) (linker_contents link) (modules_filled link sound) (linker_filled link)
+    paired_append IsFilled (module_pieces link) (linker_pieces link) (module_contents link) (linker_contents link) (modules_filled link sound) (linker_filled link)
 
-filled_at : (count : ℕ) (pieces : List Piece) (k : ℕ) → Paired (IsFilled count) (map bare pieces) (map piece_contents pieces) → k < length pieces → is_table count (get_or pieces k no_piece) ≡ false → HasItsBytes pieces k
-filled_at count [] k paired lt other = absurd (omega arith)
-filled_at count (piece ∷ pieces) zero paired lt other = paired.0 other
-filled_at count (piece ∷ pieces) (suc k) paired lt other = filled_at count pieces k paired.1 (omega arith) other
+filled_at : (pieces : List Piece) (k : ℕ) → Paired IsFilled (map bare pieces) (map piece_contents pieces) → k < length pieces → HasItsBytes pieces k
+filled_at [] k paired lt = absurd (omega arith)
+filled_at (piece ∷ pieces) zero paired lt = paired.0
+filled_at (piece ∷ pieces) (suc k) paired lt = filled_at pieces k paired.1 (omega arith)
 
 -- the object of each module is well formed
 pub each_sound : (link : LinkParts) → All IsOpened link.modules → (m : ℕ) → m < length link.modules → object_fault (module_at link.modules m).bytes ≡ None
 each_sound link all m lt = opened_sound (module_at link.modules m).bytes (all m no_module lt)
 
-pub bodies : (link : LinkParts) (pieces : List Piece) → All IsOpened link.modules → map bare pieces ≡ link_pieces link → map piece_contents pieces ≡ link_contents link → (k : ℕ) → k < length pieces → is_table (length link.modules) (get_or pieces k no_piece) ≡ false → HasItsBytes pieces k
-bodies link pieces sound same_pieces same_contents k lt other =
-    filled_at (length link.modules) pieces k
-    (subst (λ (ps : List Piece). Paired (IsFilled (length link.modules)) ps (map piece_contents pieces)) (sym same_pieces)
-    (subst (λ (cs : List (List ℕ)). Paired (IsFilled (length link.modules)) (link_pieces link) cs) (sym same_contents)
-    (link_filled link (each_sound link sound)))) lt other
+pub bodies : (link : LinkParts) (pieces : List Piece) → All IsOpened link.modules → map bare pieces ≡ link_pieces link → map piece_contents pieces ≡ link_contents link → (k : ℕ) → k < length pieces → HasItsBytes pieces k
+bodies link pieces sound same_pieces same_contents k lt =
+    filled_at pieces k
+    (subst (λ (ps : List Piece). Paired IsFilled ps (map piece_contents pieces)) (sym same_pieces)
+    (subst (λ (cs : List (List ℕ)). Paired IsFilled (link_pieces link) cs) (sym same_contents)
+    (link_filled link (each_sound link sound)))) lt
 
 -- ---- alignments
 

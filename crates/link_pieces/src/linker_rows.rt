@@ -17,7 +17,7 @@ use synthetic_sections::{FIRST_LOCAL_SLOT, FIRST_THUNK};
 /// The piece of each number that the linker makes, where there is one.
 #[derive(Drop)]
 pub(crate) struct LinkerRows {
-    /// Of the import tables and the jumps, by their numbers.
+    /// Of the jumps, by their numbers.
     made: Vec<Option<u32>>,
     /// Of the local slots, from the number of the first one on.
     slots: Vec<Option<u32>>,

@@ -1,6 +1,6 @@
 //! Which piece a section, a common or what the linker makes is.
 
-ghost use Rattle.std.specs.Prelude.{◌≡◌, ◌<◌, ◌^◌, ◌≤◌, ◌+◌, ◌-◌, All, [], length, map, slice_index_or, None, IfOk};
+ghost use Rattle.std.specs.Prelude.{◌≡◌, ◌<◌, ◌^◌, ◌≤◌, ◌+◌, ◌-◌, ℕ, All, [], is_some, length, map, slice_index_or, Option, None, Some, IfOk, if◌then◌else◌};
 ghost use Rattle.section_group.specs.BarePieces.{bare};
 ghost use Rattle.link_pieces.specs.Pieces.{link_pieces};
 ghost use Rattle.synthetic_sections.specs.LinkerPieces as slot;
@@ -9,7 +9,7 @@ ghost use Rattle.coff_records.specs.ObjectFile.{section_total};
 ghost use Rattle.link_pieces.specs.LinkParts.{LinkParts};
 ghost use Rattle.link_pieces.specs.Commons.{FIRST_COMMON};
 ghost use Rattle.link_base.specs.Limits.{MODULE_LIMIT};
-ghost use Rattle.link_imports.specs.Imports.{AreImports};
+ghost use Rattle.link_imports.specs.Imports.{is_import};
 ghost use Rattle.link_pieces.specs.PieceIndex.{indexed, linker_indexed, slot_indexed, IsPieceIndex};
 ghost use Rattle.link_pieces.specs.Rows.{section_places, common_places, HasRows, HasSomePlace};
 
@@ -18,24 +18,23 @@ use crate::linker_rows::LinkerRows;
 use crate::piece_rows::PieceRows;
 use crate::slots::LocalSlots;
 use link_base::{Memory, Name};
-use link_imports::LinkImports;
 use module_view::Module;
 use section_group::Piece;
 use std::alloc::Global;
 use std::marker::Model;
-use synthetic_sections::{FIRST_LOCAL_SLOT, FIRST_THUNK, SLOTS};
+use synthetic_sections::{FIRST_LOCAL_SLOT, FIRST_THUNK};
 
 /// The piece of each section that comes into the image, by the position of its module and its number, that of each common
-/// that a name means, by the record of its symbol, those that the linker makes for imports, and that of each local slot, by its
-/// name.
+/// that a name means, by the record of its symbol, the jump of each import of code, and that of each local slot, by its name;
+/// and behind the pieces the number of each import.
 #[derive(Drop)]
 pub struct PieceIndex<'a> {
     sections: PieceRows,
     commons: PieceRows,
     slots: LocalSlots<'a>,
     linker: LinkerRows,
-    /// The offset of the slot of the import that is a module, by the module's position.
-    offsets: Vec<u32>,
+    /// The number of the import that is a module, by the module's position.
+    imports: Vec<Option<u32>>,
 }
 
 impl<'a> Model for PieceIndex<'a> {
@@ -45,20 +44,18 @@ impl<'a> Model for PieceIndex<'a> {
 
     ghost use Rattle.link_pieces.specs.Rows.{index_of};
 
-    ghost view = { λ index. index_of index.sections index.commons index.slots index.linker index.offsets.items };
+    ghost view = { λ index. index_of index.sections index.commons index.slots index.linker index.imports.items };
 }
 
 impl<'a> PieceIndex<'a> {
-    /// The index of the pieces of these modules, with these imports and local slots. More than 2^32 places are want of memory.
+    /// The index of the pieces of these modules, with these local slots. More than 2^32 places are want of memory.
     pub fn new(
         alloc: Global,
         modules: &[Module<'_>],
-        imports: &LinkImports<'_>,
         slots: LocalSlots<'a>,
         pieces: &[Piece<'_>],
     ) -> Result<PieceIndex<'a>, Memory>
         requires few_modules { length modules.now ≤ MODULE_LIMIT }
-        requires imports { AreImports modules.now imports.now }
         requires placed { All (λ piece. HasSomePlace modules.now (length slots) piece.«module» piece.number) pieces.now }
         requires few { length pieces.now < 2 ^ 31 }
         ensures { IfOk result (λ index. (link : LinkParts) → link.modules ≡ modules.now → slot_names link ≡ slots.entry → map bare pieces.now ≡ link_pieces link → IsPieceIndex link index) }
@@ -66,7 +63,7 @@ impl<'a> PieceIndex<'a> {
         let mut sections = section_rows(alloc, modules)?;
         let mut commons = common_rows(alloc, modules)?;
         let mut linker = LinkerRows::empty(alloc, modules.len(), slots.len())?;
-        let offsets = again(&imports.offsets)?;
+        let imports = import_numbers(alloc, modules, pieces.len() as u32)?;
         for index in 0..pieces.len() {
             let piece = &pieces[index];
             if piece.module as usize == modules.len() {
@@ -82,7 +79,7 @@ impl<'a> PieceIndex<'a> {
             commons,
             slots,
             linker,
-            offsets,
+            imports,
         })
     }
 
@@ -109,21 +106,11 @@ impl<'a> PieceIndex<'a> {
             .at(u64::from(FIRST_LOCAL_SLOT) + u64::from(slot))
     }
 
-    /// The piece that is the table of the imports' slots, where there is one.
-    pub fn slot_table(&self) -> Option<u32>
-        ensures { result ≡ linker_indexed self.now.linker slot.SLOTS }
+    /// The number of the import that is the module at a position, where it is one.
+    pub fn of_import(&self, module: u32) -> Option<u32>
+        ensures { result ≡ slice_index_or self.now.imports «module» None }
     {
-        self.linker.at(u64::from(SLOTS))
-    }
-
-    /// The offset in it of the slot of the import that is the module at a position.
-    pub fn slot_offset(&self, module: u32) -> u32
-        ensures { result ≡ slice_index_or self.now.offsets «module» 0 }
-    {
-        match self.offsets.get(module as usize) {
-            Some(offset) => *offset,
-            None => 0,
-        }
+        *self.imports.get(module as usize)?
     }
 
     /// The piece that is the jump of the import that is the module at a position, where it has one.
@@ -142,11 +129,32 @@ impl<'a> PieceIndex<'a> {
     }
 }
 
-/// The same numbers once more.
-fn again(numbers: &Vec<u32>) -> Result<Vec<u32>, Memory>
-    ensures { IfOk result (λ copy. copy.items ≡ numbers.now.items) }
+/// The number of each module that is an import, behind those of so many pieces.
+fn import_numbers(
+    alloc: Global,
+    modules: &[Module<'_>],
+    pieces: u32,
+) -> Result<Vec<Option<u32>>, Memory>
+    requires few_modules { length modules.now ≤ MODULE_LIMIT }
+    requires few { pieces < 2 ^ 31 }
+    ensures { IfOk result (λ numbers. (position : ℕ) → slice_index_or numbers.items position None
+        ≡ (if is_import modules.now position then Some (pieces + position) else None)) }
 {
-    Ok(numbers.clone()?)
+    let mut numbers = Vec::with_capacity(alloc, modules.len())?;
+    for position in 0..modules.len() {
+        numbers.push(import_number(&modules[position], pieces + position as u32))?;
+    }
+    Ok(numbers)
+}
+
+/// A number, where a module is an import.
+fn import_number(module: &Module<'_>, number: u32) -> Option<u32>
+    ensures { result ≡ (if is_some «module».now.imported then Some number else None) }
+{
+    match module.import() {
+        Some(_) => Some(number),
+        None => None,
+    }
 }
 
 /// A row for each module, with nothing for each section and for the number 0.

@@ -1,6 +1,6 @@
 //! The pieces of a link.
 
-ghost use Rattle.std.specs.Prelude.{◌≡◌, ◌≤◌, ◌<◌, ◌+◌, ◌++◌, ◌∷◌, ◌^◌, [], ℕ, false, None, length, slice_index_or, is_some, unwrap_or, map, All, IfOk, OnOk, if◌then◌else◌};
+ghost use Rattle.std.specs.Prelude.{◌≡◌, ◌≤◌, ◌<◌, ◌+◌, ◌++◌, ◌∷◌, ◌-◌, ◌^◌, [], ℕ, false, None, length, slice_index_or, is_some, unwrap_or, map, All, IfOk, OnOk, if◌then◌else◌};
 ghost use Rattle.std.specs.Option.{option_copied};
 ghost use Rattle.link_base.specs.Limits as limit;
 ghost use Rattle.coff_records.specs.ObjectFile.{section_total, record_total};
@@ -13,50 +13,45 @@ ghost use Rattle.link_directives.specs.Alignments.{AreAsked};
 ghost use Rattle.link_pieces.specs.Commons.{is_meant_common, meant_commons, common_piece, HasFewSections, FIRST_COMMON};
 ghost use Rattle.link_pieces.specs.Rows.{HasSomePlace};
 ghost use Rattle.link_pieces.specs.LocalSlots.{slot_names};
-ghost use Rattle.link_imports.specs.Imports.{AreImports};
-ghost use Rattle.section_group.specs.SectionOrder.{no_piece};
-ghost use Rattle.link_pieces.specs.LinkerPieces.{numbers_below, is_table};
+ghost use Rattle.link_pieces.specs.LinkerPieces.{numbers_below};
 ghost use Rattle.link_pieces.specs.Pieces.{is_named, is_linked, piece_of, section_contents, no_contents, linked_sections, pieces_in, contents_in, link_pieces, link_contents};
 
 use crate::commons::{FIRST_COMMON, common_piece, is_meant};
-use crate::linker::push_made;
+use crate::linker::push_slots;
 use crate::named::name_sections;
 use crate::names::LinkNames;
 use coff_object::{Object, Section};
 use link_base::Memory;
 use link_directives::CommonAlignments;
-use link_imports::{LinkImports, push_imports};
+use link_imports::push_thunks;
 use module_view::{Common, Module, comes_in};
 use section_group::Piece;
 use std::alloc::Global;
 
-/// The number of pieces stays below this one.
-const PIECE_LIMIT: usize = 1 << 31;
+/// The number of pieces stays below this one, with room for the tables.
+const PIECE_LIMIT: usize = (1 << 31) - 16;
 
 /// The number of symbol records of a module with pieces stays below this one.
 const RECORD_LIMIT: u32 = 1 << 31;
 
 /// The sections of the modules that come into the image, and the commons that names mean: module by module, and in each the
-/// sections in the order of their headers before the commons in the order of their symbols. Then come the import tables, a jump
-/// for each import of code, the export table, and the local slots, so many as the link refers to. The tables hold nothing before they have places.
-/// Too many pieces are want of memory, and so are too many sections or symbol records of one module.
+/// sections in the order of their headers before the commons in the order of their symbols. Then come a jump for each import of
+/// code, and the local slots, so many as the link refers to. Too many pieces are want of memory, and so are too many sections or symbol records of one module.
 pub fn pieces_of<'a>(
     alloc: Global,
     names: &LinkNames<'a>,
     modules: &[Module<'a>],
-    imports: &LinkImports<'a>,
     slots: usize,
 ) -> Result<Vec<Piece<'a>>, Memory>
     requires same { names.now.modules ≡ modules.now }
     requires few { length modules.now ≤ limit.MODULE_LIMIT }
-    requires imports { AreImports modules.now imports.now }
     requires slots { slots ≡ length (slot_names names.now) }
     requires few_slots { numbers_below slots ≤ FIRST_COMMON }
     ensures pieces { IfOk result (λ pieces. map bare pieces.items ≡ link_pieces names.now) }
     ensures contents { IfOk result (λ pieces. map piece_contents pieces.items ≡ link_contents names.now) }
     ensures aligned { IfOk result (λ pieces. All (λ piece. IsAlignment piece.align) pieces.items) }
-    ensures bodies { IfOk result (λ pieces. (k : ℕ) → k < length pieces.items → is_table (length modules.now) (slice_index_or pieces.items k no_piece) ≡ false → HasItsBytes pieces.items k) }
-    ensures count { IfOk result (λ pieces. length pieces.items < 2 ^ 31) }
+    ensures bodies { IfOk result (λ pieces. (k : ℕ) → k < length pieces.items → HasItsBytes pieces.items k) }
+    ensures count { IfOk result (λ pieces. length pieces.items < 2 ^ 31 - 16) }
     ensures opened { OnOk result (All IsOpened modules.now) }
     ensures placed { IfOk result (λ pieces. All (λ piece. HasSomePlace modules.now slots piece.«module» piece.number) pieces.items) }
 {
@@ -73,9 +68,8 @@ pub fn pieces_of<'a>(
             &modules[position],
         )?;
     }
-    push_imports(&mut pieces, modules, imports)?;
-    let size = names.exports().size();
-    push_made(&mut pieces, modules.len() as u32, size, slots)?;
+    push_thunks(&mut pieces, modules)?;
+    push_slots(&mut pieces, modules.len() as u32, slots)?;
     if pieces.len() >= PIECE_LIMIT {
         return Err(Memory);
     }

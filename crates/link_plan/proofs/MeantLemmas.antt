@@ -1,23 +1,15 @@
--- Pieces that fields mean, marked one after the other.
+-- Pieces that are marked, one after the other, and named by their marks.
 use Rattle.std.proofs.Common.{◌≡◌, ℕ, ◌+◌, ◌<◌, ◌≤◌, Bool, true, false, ◌||◌, eqb, List, [], ◌∷◌, ◌++◌, length, map, get_or, set, take, Option, inl, inr, refl, sym, ap, ◌∙◌, add-one, arith}
 use Rattle.std.specs.List.{list_any, range_with_len}
 use Rattle.std.proofs.Math.Seq.{take-suc}
 use Rattle.std.proofs.lemmas.Bool.{cases_lt}
 use Rattle.std.proofs.lemmas.Bool.Decides.{eqb_tells}
-use Rattle.std.proofs.lemmas.List.{get_or-set_same, get_or-set_other, get_or_default, length-set, length-map, ext_get_or}
-use Rattle.std.proofs.Math.ListN.{get_or-map}
+use Rattle.std.proofs.lemmas.List.{get_or-set_same, get_or-set_other, get_or_default, length-set, ext_get_or}
 use Rattle.std.proofs.lemmas.List.Folds.{list_any-append}
 use Rattle.std.proofs.lemmas.List.FromFn.{get_or-map-range_with_len, length-map-range_with_len}
 use Rattle.section_group.specs.declared.piece.Piece.{Piece}
-use Rattle.section_group.specs.BarePieces.{bare}
 use Rattle.section_group.specs.SectionOrder.{no_piece}
-use Rattle.link_pieces.specs.LinkParts.{LinkParts}
-use Rattle.link_pieces.specs.Pieces.{link_pieces}
-use Rattle.link_pieces.proofs.CallerLemmas.{bare_at}
-use Rattle.link_plan.specs.Targets.{is_that}
-use Rattle.link_plan.specs.ExportTargets.{is_exported}
-use Rattle.link_plan.specs.Fixes.{is_meant, is_entry, named_if, planned_piece, plan_pieces}
-use Rattle.link_words.specs.Outcome.{LinkOptions}
+use Rattle.link_plan.specs.Planned.{named_if}
 
 or_true : (b : Bool) → true ≡ (b || true)
 or_true true = refl
@@ -53,20 +45,18 @@ marked_beyond marks at k ge lt =
 pub marked_none : (b : Bool) → b ≡ (b || false)
 marked_none b = or_false b
 
--- one more that means a piece
-pub marks_more : {X : Type 0} (piece_of : X → Option ℕ) (xs : List X) (i k : ℕ) (x : X) (first was now : Bool) (piece : Option ℕ) → i < length xs → x ≡ get_or xs i x → piece ≡ piece_of x → was ≡ (first || list_any (λ y. is_that k (piece_of y)) (take i xs)) → now ≡ (was || is_that k piece) → now ≡ (first || list_any (λ y. is_that k (piece_of y)) (take (i + 1) xs))
-marks_more {X} piece_of xs i k x first was now piece lt read is before after =
-    let means = λ (y : X). is_that k (piece_of y) in
+-- one more that a test passes
+pub marks_more : {X : Type 0} (test : X → Bool) (xs : List X) (i : ℕ) (x : X) (first was now : Bool) → i < length xs → x ≡ get_or xs i x → was ≡ (first || list_any test (take i xs)) → now ≡ (was || test x) → now ≡ (first || list_any test (take (i + 1) xs))
+marks_more {X} test xs i x first was now lt read before after =
     after
-    ∙ ap (λ (b : Bool). b || is_that k piece) before
-    ∙ or_or first (list_any means (take i xs)) (is_that k piece)
+    ∙ ap (λ (b : Bool). b || test x) before
+    ∙ or_or first (list_any test (take i xs)) (test x)
     ∙ ap (λ (b : Bool). first || b)
-    (ap (λ o. list_any means (take i xs) || is_that k o) is
-    ∙ ap (λ (b : Bool). list_any means (take i xs) || b) (or_false (means x))
-    ∙ sym (list_any-append means (take i xs) (x ∷ []))
-    ∙ ap (λ (y : X). list_any means (take i xs ++ y ∷ [])) read
-    ∙ ap (list_any means) (sym (take-suc xs i x lt))
-    ∙ ap (λ (n : ℕ). list_any means (take n xs)) (sym (add-one i)))
+    (ap (λ (b : Bool). list_any test (take i xs) || b) (or_false (test x))
+    ∙ sym (list_any-append test (take i xs) (x ∷ []))
+    ∙ ap (λ (y : X). list_any test (take i xs ++ y ∷ [])) read
+    ∙ ap (list_any test) (sym (take-suc xs i x lt))
+    ∙ ap (λ (n : ℕ). list_any test (take n xs)) (sym (add-one i)))
 
 -- ---- pieces that are named
 
@@ -116,21 +106,3 @@ named_same old meant k now are unmarked = record {
   ];
   others = λ i above. are.others i (omega arith);
 }
-
--- ---- the pieces of a plan
-
--- the pieces of a link, named where fields or the entry mean them
-pub planned : (options : LinkOptions) (link : LinkParts) (old : List Piece) (meant : List Bool) (now : List Piece) → map bare old ≡ link_pieces link → ((k : ℕ) → k < length old → get_or meant k false ≡ (is_meant link k || (is_entry options link k || is_exported link k))) → now ≡ map (λ k. named_if (get_or meant k false) (get_or old k no_piece)) (range_with_len 0 (length old)) → map bare now ≡ plan_pieces options link
-unfolding plan_pieces
-planned options link old meant now are marks is =
-    let n : length old ≡ length (link_pieces link) = sym (length-map old bare) ∙ ap (λ (ps : List Piece). length ps) are in
-    let f = λ (k : ℕ). named_if (get_or meant k false) (get_or old k no_piece) in
-    let count : length now ≡ length old = ap (λ (ps : List Piece). length ps) is ∙ length-map-range_with_len f 0 (length old) in
-    ext_get_or no_piece (map bare now) (map (planned_piece options link) (range_with_len 0 (length (link_pieces link)))) (length-map now bare ∙ count ∙ n ∙ sym (length-map-range_with_len (planned_piece options link) 0 (length (link_pieces link)))) (λ i lt.
-    let within : i < length old = omega (arith, length-map now bare, count) in
-    let here : get_or now i no_piece ≡ f i = ap (λ (ps : List Piece). get_or ps i no_piece) is ∙ get_or-map-range_with_len f 0 (length old) i i no_piece within (omega arith) in
-    get_or-map bare now i no_piece
-    ∙ ap bare here
-    ∙ ap (λ (b : Bool). named_if b (bare (get_or old i no_piece))) (marks i within)
-    ∙ ap (named_if (is_meant link i || (is_entry options link i || is_exported link i))) (bare_at link old i are)
-    ∙ sym (get_or-map-range_with_len (planned_piece options link) 0 (length (link_pieces link)) i i no_piece (omega (arith, within, n)) (omega arith)))

@@ -8,8 +8,7 @@ use Rattle.address_layout.specs.Layout.{IsAlignment}
 use Rattle.section_group.specs.declared.piece.Piece.{Piece}
 use Rattle.section_group.specs.SectionOrder.{no_piece}
 use Rattle.section_group.specs.PieceContents.{piece_contents, HasItsBytes}
-use Rattle.link_pieces.specs.LinkerPieces.{is_table}
-use Rattle.link_plan.specs.Fixes.{named_if}
+use Rattle.link_plan.specs.Planned.{named_if}
 
 named_at : List Piece → List Bool → ℕ → Piece
 named_at old meant k = named_if (get_or meant k false) (get_or old k no_piece)
@@ -43,10 +42,9 @@ aligned_named old meant now is aligned = λ k d lt.
     let here : get_or now k d ≡ named_if (get_or meant k false) (get_or old k no_piece) = get_or_default now k d no_piece lt ∙ piece_named old meant now k is within in
     subst (λ (piece : Piece). IsAlignment piece.align) (sym here) (aligned k no_piece within)
 
-pub bodies_named : (count : ℕ) (old : List Piece) (meant : List Bool) (now : List Piece) → AreNamed old meant now → ((k : ℕ) → k < length old → is_table count (get_or old k no_piece) ≡ false → HasItsBytes old k) → (k : ℕ) → k < length now → is_table count (get_or now k no_piece) ≡ false → HasItsBytes now k
-bodies_named count old meant now is bodies k lt other =
+pub bodies_named : (old : List Piece) (meant : List Bool) (now : List Piece) → AreNamed old meant now → ((k : ℕ) → k < length old → HasItsBytes old k) → (k : ℕ) → k < length now → HasItsBytes now k
+bodies_named old meant now is bodies k lt =
     let same = count_named old meant now is in
     let within : k < length old = omega arith in
-    let here = piece_named old meant now k is within in
-    subst (λ (piece : Piece). piece.init ≡ true → length (piece_contents piece) ≡ piece.size) (sym here)
-    (bodies k within (ap (is_table count) (sym here) ∙ other))
+    subst (λ (piece : Piece). piece.init ≡ true → length (piece_contents piece) ≡ piece.size) (sym (piece_named old meant now k is within))
+    (bodies k within)

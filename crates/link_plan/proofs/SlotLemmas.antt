@@ -6,7 +6,7 @@ use Rattle.link_pieces.specs.LocalSlots.{with_meant, modules_asked, slot_names}
 use Rattle.symbol_table.specs.declared.meaning.Meaning.{Meaning}
 use Rattle.link_words.specs.Outcome.{LinkOptions}
 use Rattle.lib_search.specs.LinkOf.{asked_names}
-use Rattle.link_plan.specs.Entry.{entry_meant}
+use Rattle.link_fields.specs.Entry.{entry_meant}
 use Rattle.link_plan.proofs.ReferenceLemmas.{meant_append}
 
 -- the words are the entry, where there is one, and the included names

@@ -8,14 +8,14 @@ use Rattle.link_base.specs.declared.fault.Fault.{Fault}
 use Rattle.module_view.specs.Module.{ModuleView}
 use Rattle.link_pieces.specs.LinkParts.{LinkParts}
 use Rattle.link_words.specs.Outcome.{LinkOptions}
-use Rattle.link_plan.specs.References.{names_fault, references_fault}
-use Rattle.link_plan.specs.Entry.{entry_meant, entry_meaning_fault, meant_fault}
+use Rattle.link_plan.specs.References.{names_fault, references_fault, entry_meaning_fault}
+use Rattle.link_fields.specs.Entry.{entry_meant}
+use Rattle.link_fields.specs.Places.{places_fault}
 use Rattle.lib_search.specs.LinkOf.{asked_names}
 use Rattle.symbol_table.specs.declared.meaning.Meaning.{Meaning}
-use Rattle.link_plan.specs.ExportTargets.{exports_fault}
-use Rattle.link_plan.specs.Fixes.{slots_fault, fixes_fault}
+use Rattle.link_fields.specs.Fixes.{fixes_fault}
 use Rattle.link_pieces.specs.ChoiceFaults.{conflict_fault, clash_fault}
-use Rattle.link_plan.specs.PlanFaults.{mismatch_fault, choice_fault, meaning_fault, places_fault, fields_fault, plan_fault}
+use Rattle.link_plan.specs.PlanFaults.{mismatch_fault, choice_fault, meaning_fault, fields_fault, plan_fault}
 
 -- ---- the first stage that has a fault
 
@@ -88,22 +88,6 @@ all_meant options link entry included referred =
     (neither_stands (names_fault link None (asked_names options)) (references_fault link) included referred)
 
 -- ---- in the stage of fields
-
-pub entry_displaced : (link : LinkParts) (start : Option Meaning) (fault : Fault) → meant_fault link start ≡ Some fault → places_fault link start ≡ Some fault
-entry_displaced link start fault is = rw is refl
-
-pub exports_displaced : (link : LinkParts) (start : Option Meaning) (r : Refusal) → meant_fault link start ≡ None → RefusesFor (exports_fault link) r → RefusesFor (places_fault link start) r
-exports_displaced link start r entered refused =
-    refuses_later (meant_fault link start) (option_or (exports_fault link) (slots_fault link)) r entered
-    (refuses_first (exports_fault link) (slots_fault link) r refused)
-
-pub slots_displaced : (link : LinkParts) (start : Option Meaning) (fault : Fault) → meant_fault link start ≡ None → exports_fault link ≡ None → slots_fault link ≡ Some fault → places_fault link start ≡ Some fault
-slots_displaced link start fault entered exported is = rw (entered, exported, is) refl
-
-pub none_displaced : (link : LinkParts) (start : Option Meaning) → meant_fault link start ≡ None → exports_fault link ≡ None → slots_fault link ≡ None → places_fault link start ≡ None
-none_displaced link start entered exported pointed =
-    neither_stands (meant_fault link start) (option_or (exports_fault link) (slots_fault link)) entered
-    (neither_stands (exports_fault link) (slots_fault link) exported pointed)
 
 pub places_refused : (options : LinkOptions) (link : LinkParts) (r : Refusal) → RefusesFor (places_fault link (entry_meant link options.entry_name)) r → RefusesFor (fields_fault options link) r
 places_refused options link r refused =

@@ -9,14 +9,14 @@ use Rattle.section_group.specs.PieceContents.{piece_contents, HasItsBytes}
 use Rattle.address_layout.specs.Layout.{IsAlignment}
 use Rattle.link_pieces.specs.LinkParts.{LinkParts}
 use Rattle.module_view.specs.Opening.{IsOpened}
-use Rattle.link_pieces.specs.Pieces.{link_contents}
-use Rattle.link_pieces.specs.LinkerPieces.{is_table}
+use Rattle.link_imports.specs.Imports.{AreImports}
+use Rattle.link_pieces.specs.TablePieces.{KeptParts, kept_imports, whole_contents, is_table}
 use Rattle.link_words.specs.Outcome.{LinkOptions}
-use Rattle.link_plan.specs.declared.entry.EntryPlace.{EntryPlace}
+use Rattle.link_fields.specs.declared.entry.EntryPlace.{EntryPlace}
+use Rattle.link_fields.specs.Entry.{entry_place}
 use Rattle.link_plan.specs.declared.laid.LaidPieces.{LaidPieces}
-use Rattle.link_plan.specs.Entry.{entry_place}
-use Rattle.link_plan.specs.ExportTargets.{export_targets}
-use Rattle.link_plan.specs.Fixes.{HaveFields, plan_pieces}
+use Rattle.link_plan.specs.Reach.{AreKept}
+use Rattle.link_plan.specs.Planned.{plan_pieces, planned_targets, HaveFields}
 use Rattle.link_plan.specs.PlanFaults.{fields_fault}
 
 -- a place in a piece that stands in a section even where it has no bytes
@@ -25,16 +25,22 @@ pub record StandsNamed (pieces : List Piece) (place : EntryPlace) : Type 0 where
   pub named : (slice_index_or pieces place.piece no_piece).named ≡ true
   pub inside : place.value ≤ (slice_index_or pieces place.piece no_piece).size
 
--- the pieces of the modules with their fields, and the places of the entry and the exports, none of which has a fault
+-- what is laid of a link that is kept
+abbrev pub laid_link : LinkParts → LaidPieces → KeptParts
+laid_link link laid = record { parts = link; kept = laid.kept.items }
+
+-- what is kept of the pieces of the modules, with their fields, the tables, and the places of the entry and the exports, none of which has a fault
 pub record AreLaid (options : LinkOptions) (link : LinkParts) (laid : LaidPieces) : Type 0 where
   pub opened : All IsOpened link.modules
-  pub pieces_are : map bare laid.pieces.items ≡ plan_pieces options link
-  pub contents_are : map piece_contents laid.pieces.items ≡ link_contents link
+  pub kept_are : AreKept options link laid.kept.items
+  pub pieces_are : map bare laid.pieces.items ≡ plan_pieces options (laid_link link laid)
+  pub contents_are : map piece_contents laid.pieces.items ≡ whole_contents (laid_link link laid)
   pub aligned : All (λ piece. IsAlignment piece.align) laid.pieces.items
   pub bodies : (k : ℕ) → k < length laid.pieces.items → is_table (length link.modules) (slice_index_or laid.pieces.items k no_piece) ≡ false → HasItsBytes laid.pieces.items k
   pub few : length laid.pieces.items < 2 ^ 31
-  pub fields : HaveFields link (length laid.pieces.items) laid.fixes.items
+  pub fields : HaveFields (laid_link link laid) (length laid.pieces.items) laid.fixes.items
+  pub imports : AreImports link.modules (kept_imports (laid_link link laid)) laid.imports
   pub entry_is : laid.entry ≡ entry_place link options.entry_name
   pub stands : ForSome laid.entry (StandsNamed laid.pieces.items)
-  pub exported_are : laid.exported.items ≡ export_targets link
+  pub exported_are : laid.exported.items ≡ planned_targets (laid_link link laid)
   pub no_fault : fields_fault options link ≡ None

@@ -1,10 +1,7 @@
 pub mod References
-pub mod Targets
-pub mod Fixes
-pub mod Laid
-pub mod Entry
-pub mod ExportTargets
 pub mod PlanFaults
+pub mod Reach
+pub mod Planned
+pub mod Laid
 pub mod Plan
 pub mod Planning
-pub mod Steps

@@ -13,13 +13,12 @@ use Rattle.link_pieces.specs.LinkParts.{LinkParts, parts_of}
 use Rattle.module_view.specs.Opening.{IsOpened}
 use Rattle.link_directives.specs.LinkDirectives.{link_merges}
 use Rattle.link_imports.specs.Imports.{AreImports}
-use Rattle.link_pieces.specs.Pieces.{link_contents}
-use Rattle.link_pieces.specs.LinkerPieces.{is_table}
+use Rattle.link_pieces.specs.TablePieces.{KeptParts, kept_imports, whole_contents, is_table}
 use Rattle.link_words.specs.Outcome.{LinkOptions}
 use Rattle.link_plan.specs.declared.planning.LinkPlan.{LinkPlan}
-use Rattle.link_plan.specs.Entry.{entry_place}
-use Rattle.link_plan.specs.ExportTargets.{export_targets}
-use Rattle.link_plan.specs.Fixes.{HaveFields, plan_pieces}
+use Rattle.link_fields.specs.Entry.{entry_place}
+use Rattle.link_plan.specs.Reach.{AreKept}
+use Rattle.link_plan.specs.Planned.{plan_pieces, planned_targets, HaveFields}
 use Rattle.link_plan.specs.PlanFaults.{plan_fault}
 use Rattle.link_plan.specs.Laid.{StandsNamed}
 
@@ -27,26 +26,34 @@ use Rattle.link_plan.specs.Laid.{StandsNamed}
 abbrev pub link_parts : LinkOptions → List ModuleView → LinkParts
 link_parts options modules = parts_of (link_of options modules) (exports_of options modules)
 
+-- with what is kept of it
+pub record IsLinkOf (options : LinkOptions) (modules : List ModuleView) (link : KeptParts) : Type 0 where
+  pub parts_are : link.parts ≡ link_parts options modules
+  pub kept_are : AreKept options link.parts link.kept
+
 -- the merges of a link: those of the options, then those of the directives
 abbrev pub merges_of : LinkOptions → LinkParts → List (List ℕ × List ℕ)
 merges_of options link = link_merges options.merges link.modules
 
--- a plan holds what the definitions give for the modules and the options, which have no fault up to it
-pub record IsPlanOf (options : LinkOptions) (link : LinkParts) (plan : LinkPlan) : Type 0 where
-  pub opened : All IsOpened link.modules
-  pub modules_are : plan.modules.items ≡ link.modules
-  pub names_are : plan.names ≡ link
-  pub pieces_are : map bare plan.pieces.items ≡ plan_pieces options link
-  pub contents_are : map piece_contents plan.pieces.items ≡ link_contents link
+-- what a plan keeps
+abbrev pub kept_parts : LinkPlan → KeptParts
+kept_parts plan = record { parts = plan.names; kept = plan.kept.items }
+
+-- a plan holds what the definitions give for its modules and the options, which have no fault up to it
+pub record IsPlanOf (options : LinkOptions) (modules : List ModuleView) (plan : LinkPlan) : Type 0 where
+  pub opened : All IsOpened modules
+  pub modules_are : plan.modules.items ≡ modules
+  pub link_is : IsLinkOf options modules (kept_parts plan)
+  pub pieces_are : map bare plan.pieces.items ≡ plan_pieces options (kept_parts plan)
+  pub contents_are : map piece_contents plan.pieces.items ≡ whole_contents (kept_parts plan)
   pub aligned : All (λ piece. IsAlignment piece.align) plan.pieces.items
-  pub bodies : (k : ℕ) → k < length plan.pieces.items → is_table (length link.modules) (slice_index_or plan.pieces.items k no_piece) ≡ false → HasItsBytes plan.pieces.items k
+  pub bodies : (k : ℕ) → k < length plan.pieces.items → is_table (length modules) (slice_index_or plan.pieces.items k no_piece) ≡ false → HasItsBytes plan.pieces.items k
   pub few : length plan.pieces.items < 2 ^ 31
-  pub fields : HaveFields link (length plan.pieces.items) plan.fixes.items
-  pub imports : AreImports link.modules plan.imports
-  pub exports_are : link.exports ≡ exports_of options link.modules
-  pub told : AreTold link.exports
-  pub merges_are : plan.merges.items ≡ merges_of options link
-  pub entry_is : plan.entry ≡ entry_place link options.entry_name
+  pub fields : HaveFields (kept_parts plan) (length plan.pieces.items) plan.fixes.items
+  pub imports : AreImports modules (kept_imports (kept_parts plan)) plan.imports
+  pub told : AreTold plan.names.exports
+  pub merges_are : plan.merges.items ≡ merges_of options plan.names
+  pub entry_is : plan.entry ≡ entry_place plan.names options.entry_name
   pub stands : ForSome plan.entry (StandsNamed plan.pieces.items)
-  pub exported_are : plan.exported.items ≡ export_targets link
-  pub no_fault : plan_fault options link ≡ None
+  pub exported_are : plan.exported.items ≡ planned_targets (kept_parts plan)
+  pub no_fault : plan_fault options plan.names ≡ None

@@ -11,11 +11,10 @@ use Rattle.link_directives.specs.declared.mismatch.Mismatch.{Mismatch}
 use Rattle.link_pieces.specs.ChoiceFaults.{conflict_fault, clash_fault}
 use Rattle.link_words.specs.Outcome.{LinkOptions}
 use Rattle.lib_search.specs.LinkOf.{asked_names}
-use Rattle.symbol_table.specs.declared.meaning.Meaning.{Meaning}
-use Rattle.link_plan.specs.References.{names_fault, references_fault}
-use Rattle.link_plan.specs.Entry.{entry_meant, entry_meaning_fault, meant_fault}
-use Rattle.link_plan.specs.ExportTargets.{exports_fault}
-use Rattle.link_plan.specs.Fixes.{slots_fault, fixes_fault}
+use Rattle.link_fields.specs.Entry.{entry_meant}
+use Rattle.link_fields.specs.Fixes.{fixes_fault}
+use Rattle.link_fields.specs.Places.{places_fault}
+use Rattle.link_plan.specs.References.{names_fault, references_fault, entry_meaning_fault}
 
 -- mismatch: a directive gives a key another value than an earlier one
 abbrev pub mismatched : Mismatch → Fault
@@ -36,9 +35,6 @@ meaning_fault options link =
 
 -- fields: the entry has no place in the image, or what is exported, or what a local slot points to; or a relocation of a piece
 -- has a fault
-abbrev pub places_fault : LinkParts → Option Meaning → Option Fault
-places_fault link start = option_or (meant_fault link start) (option_or (exports_fault link) (slots_fault link))
-
 abbrev pub fields_fault : LinkOptions → LinkParts → Option Fault
 fields_fault options link =
     option_or (places_fault link (entry_meant link options.entry_name)) (fixes_fault link options.large)

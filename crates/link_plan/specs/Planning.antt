@@ -18,7 +18,7 @@ use Rattle.link_plan.specs.Plan.{link_parts, IsPlanOf}
 -- the plan of its modules; where the store is told, these join
 pub record GivesPlan (options : LinkOptions) (before after : FilesView) (plan : LinkPlan) : Type 0 where
   pub files : AreUntouched before after
-  pub planned : IsPlanOf options (link_parts options plan.modules.items) plan
+  pub planned : IsPlanOf options plan.modules.items plan
   pub told : ForSome before.store (λ store. Loads store options plan.modules.items)
 
 -- modules that join, and that have a fault of the stages from mismatch to fields

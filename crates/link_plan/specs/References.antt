@@ -55,3 +55,10 @@ references_fault_at link position = object_fault_among link position (module_at 
 -- that of all modules, in their order
 abbrev pub references_fault : LinkParts → Option Fault
 references_fault link = first_refusal_below (length link.modules) (references_fault_at link)
+
+-- ---- the entry
+
+-- it means nothing
+abbrev pub entry_meaning_fault : LinkParts → Option (List ℕ) → Option Fault
+entry_meaning_fault link None = None
+entry_meaning_fault link (Some name) = name_fault link name None

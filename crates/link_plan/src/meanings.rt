@@ -6,7 +6,7 @@ ghost use Rattle.link_base.specs.Refusals.{RefusesFor};
 ghost use Rattle.link_words.specs.Outcome.{options_said};
 ghost use Rattle.lib_search.specs.LinkOf.{asked_words};
 ghost use Rattle.link_pieces.specs.LocalSlots.{slot_names};
-ghost use Rattle.link_plan.specs.Entry.{entry_meant};
+ghost use Rattle.link_fields.specs.Entry.{entry_meant};
 ghost use Rattle.link_plan.specs.PlanFaults.{meaning_fault};
 
 use crate::entry::{entry_meaning, note_entry_slot};

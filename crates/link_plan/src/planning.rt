@@ -10,7 +10,6 @@ ghost use Rattle.link_plan.specs.PlanFaults.{plan_fault};
 ghost use Rattle.link_plan.specs.Plan.{link_parts, IsPlanOf};
 ghost use Rattle.link_plan.specs.Planning.{Plans};
 
-use crate::entry::EntryPlace;
 use crate::laid::{LaidPieces, lay_pieces};
 use crate::meanings::meanings_of;
 use crate::mismatch::check_mismatch;
@@ -19,8 +18,9 @@ use lib_search::{LinkList, complete};
 use link_base::{Name, Refusal, Stop};
 use link_directives::link_merges;
 use link_exports::link_exports;
+use link_fields::EntryPlace;
 use link_files::Files;
-use link_imports::{LinkImports, link_imports};
+use link_imports::LinkImports;
 use link_pieces::{LinkNames, check_clash, link_names};
 use link_words::Options;
 use module_view::Module;
@@ -35,12 +35,14 @@ pub struct LinkPlan<'a> {
     pub modules: Vec<Module<'a>>,
     /// What the names of the modules mean.
     pub names: LinkNames<'a>,
-    /// The pieces of the image: module by module, and in each its sections before its commons; then those that the
-    /// linker makes, of which import tables hold nothing yet.
+    /// The pieces of the link: module by module, and in each its sections before its commons; then those that the
+    /// linker makes, of which the tables come last and hold nothing yet.
     pub pieces: Vec<Piece<'a>>,
-    /// The fields of each piece.
+    /// Whether each piece but the tables is kept, and behind these whether the import that is the module at each position is.
+    pub kept: Vec<bool>,
+    /// The fields of each piece that is kept.
     pub fixes: Vec<Fixups>,
-    /// The imports among the modules, as rows of import tables.
+    /// The imports that are kept, as rows of import tables.
     pub imports: LinkImports<'a>,
     /// The merges of sections: those of the options, then those of the directives.
     pub merges: Vec<(Name<'a>, Name<'a>)>,
@@ -86,7 +88,7 @@ fn plan_of<'a>(
 ) -> Result<LinkPlan<'a>, Refusal<'a>>
     requires few { length list.modules.items ≤ MODULE_LIMIT }
     requires names { list.table ≡ link_of (options_said options.now) list.modules.items }
-    ensures planned { IfOk result (IsPlanOf (options_said options.now) (link_parts (options_said options.now) list.entry.modules.items)) }
+    ensures planned { IfOk result (IsPlanOf (options_said options.now) list.entry.modules.items) }
     ensures modules { IfOk result (λ plan. plan.modules.items ≡ list.entry.modules.items) }
     ensures refused { IfErr result (RefusesFor (plan_fault (options_said options.now) (link_parts (options_said options.now) list.entry.modules.items))) }
 {
@@ -96,12 +98,13 @@ fn plan_of<'a>(
     let names = link_names(alloc, table, &modules, exports)?;
     check_clash(&names)?;
     let meant = meanings_of(alloc, &names, &modules, options)?;
-    let imports = link_imports(alloc, &modules)?;
-    let laid = lay_pieces(alloc, &names, &modules, &imports, meant, options)?;
+    let laid = lay_pieces(alloc, &names, &modules, meant, options)?;
     let merges = link_merges(alloc, &options.merges, &modules)?;
     let LaidPieces {
         pieces,
+        kept,
         fixes,
+        imports,
         entry,
         exported,
     } = laid;
@@ -109,6 +112,7 @@ fn plan_of<'a>(
         modules,
         names,
         pieces,
+        kept,
         fixes,
         imports,
         merges,

@@ -1,9 +1,8 @@
-use Rattle.std.proofs.Common.{◌≡◌, ◌<◌, ◌≤◌, ◌++◌, ℕ, List, length, map, take, get_or, sym, ap, subst, ◌∙◌, arith}
+use Rattle.std.proofs.Common.{◌≡◌, ◌<◌, ◌≤◌, ◌++◌, ℕ, List, length, map, take, sym, ap, subst, ◌∙◌, arith}
 use Rattle.std.specs.List.{All, range_with_len, flat_map}
 use Rattle.std.proofs.lemmas.List.{get_or_default, take_all}
 use Rattle.std.proofs.lemmas.List.Elements.{All-nil}
 use Rattle.section_group.specs.BarePieces.{bare}
-use Rattle.section_group.specs.SectionOrder.{no_piece}
 use Rattle.section_group.specs.PieceContents.{piece_contents}
 use Rattle.module_view.specs.Module.{ModuleView, no_module, module_at}
 use Rattle.module_view.specs.Opening.{IsOpened}
@@ -17,9 +16,8 @@ use Rattle.link_pieces.proofs.IndexLemmas.{all_placed}
 use Rattle.link_pieces.specs.Rows.{HasSomePlace}
 use Rattle.link_pieces.specs.LocalSlots.{slot_names}
 use Rattle.link_base.specs.Limits.{MODULE_LIMIT}
-use Rattle.link_exports.specs.Exports.{ExportsView}
-use Rattle.link_imports.specs.ImportPieces.{import_pieces, import_contents}
-use Rattle.link_pieces.specs.LinkerPieces.{made_pieces, made_contents, linker_pieces, linker_contents, is_table}
+use Rattle.link_imports.specs.ImportPieces.{thunk_pieces, thunk_contents}
+use Rattle.link_pieces.specs.LinkerPieces.{slots_below, pointers_below, linker_pieces, linker_contents}
 use Rattle.section_group.specs.declared.piece.Piece.{Piece}
 use Rattle.link_pieces.proofs.pieces.pieces_of.Goals as goal
 
@@ -69,43 +67,38 @@ all_and_made {A} list k modules own same all items one after imports slots made 
     ∙ ap (λ (xs : List A). xs ++ (imports ++ slots)) (whole_list list k modules own same all items is)
     ∙ ap (λ (xs : List A). flat_map (λ n. list n (module_at own n).bytes) (range_with_len 0 (length own)) ++ xs) made_is
 
-pieces_whole : (link : LinkParts) (modules : List ModuleView) (k position size slots : ℕ) (items one after : List Piece) → link.modules ≡ modules → k ≡ length modules → position ≡ length modules → size ≡ link.exports.size → slots ≡ length (slot_names link) → items ≡ flat_map (λ n. pieces_in link n (module_at modules n).bytes) (range_with_len 0 k) → one ≡ items ++ import_pieces modules → after ≡ one ++ made_pieces position size slots → after ≡ link_pieces link
-pieces_whole link modules k position size slots items one after same all at sized count is first second =
-    all_and_made (pieces_in link) k modules link.modules same all items one after (import_pieces modules) (made_pieces position size slots) (linker_pieces link) is first second
-    (ap (λ (ms : List ModuleView). import_pieces ms ++ made_pieces position size slots) (sym same)
-    ∙ ap (λ (n : ℕ). import_pieces link.modules ++ made_pieces n size slots) (at ∙ sym (ap length same))
-    ∙ ap (λ (n : ℕ). import_pieces link.modules ++ made_pieces (length link.modules) n slots) sized
-    ∙ ap (λ (n : ℕ). import_pieces link.modules ++ made_pieces (length link.modules) link.exports.size n) count)
+pieces_whole : (link : LinkParts) (modules : List ModuleView) (k position slots : ℕ) (items one after : List Piece) → link.modules ≡ modules → k ≡ length modules → position ≡ length modules → slots ≡ length (slot_names link) → items ≡ flat_map (λ n. pieces_in link n (module_at modules n).bytes) (range_with_len 0 k) → one ≡ items ++ thunk_pieces modules → after ≡ one ++ slots_below position slots → after ≡ link_pieces link
+pieces_whole link modules k position slots items one after same all at count is first second =
+    all_and_made (pieces_in link) k modules link.modules same all items one after (thunk_pieces modules) (slots_below position slots) (linker_pieces link) is first second
+    (ap (λ (ms : List ModuleView). thunk_pieces ms ++ slots_below position slots) (sym same)
+    ∙ ap (λ (n : ℕ). thunk_pieces link.modules ++ slots_below n slots) (at ∙ sym (ap length same))
+    ∙ ap (λ (n : ℕ). thunk_pieces link.modules ++ slots_below (length link.modules) n) count)
 
-contents_whole : (link : LinkParts) (modules : List ModuleView) (k position size slots : ℕ) (items one after : List (List ℕ)) → link.modules ≡ modules → k ≡ length modules → position ≡ length modules → size ≡ link.exports.size → slots ≡ length (slot_names link) → items ≡ flat_map (λ n. contents_in link n (module_at modules n).bytes) (range_with_len 0 k) → one ≡ items ++ import_contents modules → after ≡ one ++ made_contents position size slots → after ≡ link_contents link
-contents_whole link modules k position size slots items one after same all at sized count is first second =
-    all_and_made (contents_in link) k modules link.modules same all items one after (import_contents modules) (made_contents position size slots) (linker_contents link) is first second
-    (ap (λ (ms : List ModuleView). import_contents ms ++ made_contents position size slots) (sym same)
-    ∙ ap (λ (n : ℕ). import_contents link.modules ++ made_contents n size slots) (at ∙ sym (ap length same))
-    ∙ ap (λ (n : ℕ). import_contents link.modules ++ made_contents (length link.modules) n slots) sized
-    ∙ ap (λ (n : ℕ). import_contents link.modules ++ made_contents (length link.modules) link.exports.size n) count)
+contents_whole : (link : LinkParts) (modules : List ModuleView) (k slots : ℕ) (items one after : List (List ℕ)) → link.modules ≡ modules → k ≡ length modules → slots ≡ length (slot_names link) → items ≡ flat_map (λ n. contents_in link n (module_at modules n).bytes) (range_with_len 0 k) → one ≡ items ++ thunk_contents modules → after ≡ one ++ pointers_below slots → after ≡ link_contents link
+contents_whole link modules k slots items one after same all count is first second =
+    all_and_made (contents_in link) k modules link.modules same all items one after (thunk_contents modules) (pointers_below slots) (linker_contents link) is first second
+    (ap (λ (ms : List ModuleView). thunk_contents ms ++ pointers_below slots) (sym same)
+    ∙ ap (λ (n : ℕ). thunk_contents link.modules ++ pointers_below n) count)
 
 pub returns-clause-pieces : goal.returns-clause-pieces
 returns-clause-pieces c =
-    pieces_whole c.args.names.now c.args.modules.now c.loop-position.position _ _ c.args.slots (map bare c.loop-position.pieces.items) (map bare c.push_imports.new.pieces.items) (map bare c.push_made.new.pieces.items) c.requires.same (omega arith) (omega arith) (c.size-size.ensures ∙ ap (λ (e : ExportsView). e.size) c.exports.ensures) c.requires.slots c.loop-position.invariant.pieces c.in_ok-push_imports.ensures.pieces c.in_ok-push_made.ensures.pieces
+    pieces_whole c.args.names.now c.args.modules.now c.loop-position.position _ c.args.slots (map bare c.loop-position.pieces.items) (map bare c.push_thunks.new.pieces.items) (map bare c.push_slots.new.pieces.items) c.requires.same (omega arith) (omega arith) c.requires.slots c.loop-position.invariant.pieces c.in_ok-push_thunks.ensures.pieces c.in_ok-push_slots.ensures.pieces
 
 pub returns-clause-contents : goal.returns-clause-contents
 returns-clause-contents c =
-    contents_whole c.args.names.now c.args.modules.now c.loop-position.position _ _ c.args.slots (map piece_contents c.loop-position.pieces.items) (map piece_contents c.push_imports.new.pieces.items) (map piece_contents c.push_made.new.pieces.items) c.requires.same (omega arith) (omega arith) (c.size-size.ensures ∙ ap (λ (e : ExportsView). e.size) c.exports.ensures) c.requires.slots c.loop-position.invariant.contents c.in_ok-push_imports.ensures.contents c.in_ok-push_made.ensures.contents
+    contents_whole c.args.names.now c.args.modules.now c.loop-position.position c.args.slots (map piece_contents c.loop-position.pieces.items) (map piece_contents c.push_thunks.new.pieces.items) (map piece_contents c.push_slots.new.pieces.items) c.requires.same (omega arith) c.requires.slots c.loop-position.invariant.contents c.in_ok-push_thunks.ensures.contents c.in_ok-push_slots.ensures.contents
 
 pub returns-clause-aligned : goal.returns-clause-aligned
 returns-clause-aligned c =
-    let same = c.requires.same in
-    aligned c.args.names.now c.push_made.new.pieces.items (all_opened c.loop-position.position c.args.modules.now c.args.names.now same (omega arith) c.loop-position.invariant.opened)
-    (pieces_whole c.args.names.now c.args.modules.now c.loop-position.position _ _ c.args.slots (map bare c.loop-position.pieces.items) (map bare c.push_imports.new.pieces.items) (map bare c.push_made.new.pieces.items) same (omega arith) (omega arith) (c.size-size.ensures ∙ ap (λ (e : ExportsView). e.size) c.exports.ensures) c.requires.slots c.loop-position.invariant.pieces c.in_ok-push_imports.ensures.pieces c.in_ok-push_made.ensures.pieces)
+    aligned c.args.names.now c.push_slots.new.pieces.items (all_opened c.loop-position.position c.args.modules.now c.args.names.now c.requires.same (omega arith) c.loop-position.invariant.opened)
+    (pieces_whole c.args.names.now c.args.modules.now c.loop-position.position _ c.args.slots (map bare c.loop-position.pieces.items) (map bare c.push_thunks.new.pieces.items) (map bare c.push_slots.new.pieces.items) c.requires.same (omega arith) (omega arith) c.requires.slots c.loop-position.invariant.pieces c.in_ok-push_thunks.ensures.pieces c.in_ok-push_slots.ensures.pieces)
 
 pub returns-clause-bodies : goal.returns-clause-bodies
-returns-clause-bodies c = λ k lt other.
-    let same = c.requires.same in
-    bodies c.args.names.now c.push_made.new.pieces.items (all_opened c.loop-position.position c.args.modules.now c.args.names.now same (omega arith) c.loop-position.invariant.opened)
-    (pieces_whole c.args.names.now c.args.modules.now c.loop-position.position _ _ c.args.slots (map bare c.loop-position.pieces.items) (map bare c.push_imports.new.pieces.items) (map bare c.push_made.new.pieces.items) same (omega arith) (omega arith) (c.size-size.ensures ∙ ap (λ (e : ExportsView). e.size) c.exports.ensures) c.requires.slots c.loop-position.invariant.pieces c.in_ok-push_imports.ensures.pieces c.in_ok-push_made.ensures.pieces)
-    (contents_whole c.args.names.now c.args.modules.now c.loop-position.position _ _ c.args.slots (map piece_contents c.loop-position.pieces.items) (map piece_contents c.push_imports.new.pieces.items) (map piece_contents c.push_made.new.pieces.items) same (omega arith) (omega arith) (c.size-size.ensures ∙ ap (λ (e : ExportsView). e.size) c.exports.ensures) c.requires.slots c.loop-position.invariant.contents c.in_ok-push_imports.ensures.contents c.in_ok-push_made.ensures.contents)
-    k lt (ap (λ (ms : List ModuleView). is_table (length ms) (get_or c.push_made.new.pieces.items k no_piece)) same ∙ other)
+returns-clause-bodies c = λ k lt.
+    bodies c.args.names.now c.push_slots.new.pieces.items (all_opened c.loop-position.position c.args.modules.now c.args.names.now c.requires.same (omega arith) c.loop-position.invariant.opened)
+    (pieces_whole c.args.names.now c.args.modules.now c.loop-position.position _ c.args.slots (map bare c.loop-position.pieces.items) (map bare c.push_thunks.new.pieces.items) (map bare c.push_slots.new.pieces.items) c.requires.same (omega arith) (omega arith) c.requires.slots c.loop-position.invariant.pieces c.in_ok-push_thunks.ensures.pieces c.in_ok-push_slots.ensures.pieces)
+    (contents_whole c.args.names.now c.args.modules.now c.loop-position.position c.args.slots (map piece_contents c.loop-position.pieces.items) (map piece_contents c.push_thunks.new.pieces.items) (map piece_contents c.push_slots.new.pieces.items) c.requires.same (omega arith) c.requires.slots c.loop-position.invariant.contents c.in_ok-push_thunks.ensures.contents c.in_ok-push_slots.ensures.contents)
+    k lt
 
 pub returns-clause-opened : goal.returns-clause-opened
 returns-clause-opened c =
@@ -118,9 +111,9 @@ returns-clause-placed c =
     let same = c.requires.same in
     let slots = c.args.slots in
     let few = subst (All HasFewSections) (sym same) (subst (All HasFewSections) (take_all c.loop-position.position modules (omega arith)) c.loop-position.invariant.few_sections) in
-    let pieces = c.push_made.new.pieces.items in
+    let pieces = c.push_slots.new.pieces.items in
     let are =
-    pieces_whole link modules c.loop-position.position _ _ slots (map bare c.loop-position.pieces.items) (map bare c.push_imports.new.pieces.items) (map bare pieces) same (omega arith) (omega arith) (c.size-size.ensures ∙ ap (λ (e : ExportsView). e.size) c.exports.ensures) c.requires.slots c.loop-position.invariant.pieces c.in_ok-push_imports.ensures.pieces c.in_ok-push_made.ensures.pieces in
+    pieces_whole link modules c.loop-position.position _ slots (map bare c.loop-position.pieces.items) (map bare c.push_thunks.new.pieces.items) (map bare pieces) same (omega arith) (omega arith) c.requires.slots c.loop-position.invariant.pieces c.in_ok-push_thunks.ensures.pieces c.in_ok-push_slots.ensures.pieces in
     let limit : length link.modules ≤ MODULE_LIMIT = omega (arith, ap length same, c.requires.few) in
     subst (λ (ms : List ModuleView). All (λ (piece : Piece). HasSomePlace ms slots piece.«module» piece.number) pieces) same
     (over_bare (λ (piece : Piece). HasSomePlace link.modules slots piece.«module» piece.number) pieces

@@ -7,7 +7,8 @@ use Rattle.directives.specs.declared.item.Directive.{Directive}
 use Rattle.link_base.specs.Refusals.{first_standing}
 use Rattle.symbol_names.specs.References.{name_said}
 use Rattle.link_pieces.specs.LocalSlots.{with_meant}
-use Rattle.link_plan.proofs.ReferenceLemmas.{directive_fault, directives_fault, standing_more, refuses_standing, meant_next, asked_append}
+use Rattle.link_fields.proofs.StandingLemmas.{standing_more, refuses_standing}
+use Rattle.link_plan.proofs.ReferenceLemmas.{directive_fault, directives_fault, meant_next, asked_append}
 use Rattle.link_plan.proofs.references.check_directives.Goals as goal
 
 pub loop-directive-init : goal.loop-directive-init

@@ -2,7 +2,8 @@ use Rattle.std.proofs.Common.{ℕ, List, [], ◌∷◌, None, refl, ap, ◌∙�
 use Rattle.std.proofs.lemmas.Result.{err_from_is_err_and}
 use Rattle.link_pieces.specs.LocalSlots.{with_meant}
 use Rattle.link_plan.specs.References.{asked_fault}
-use Rattle.link_plan.proofs.ReferenceLemmas.{standing_more, refuses_standing, meant_next}
+use Rattle.link_fields.proofs.StandingLemmas.{standing_more, refuses_standing}
+use Rattle.link_plan.proofs.ReferenceLemmas.{meant_next}
 use Rattle.link_plan.proofs.references.check_names.Goals as goal
 
 pub loop-name-init : goal.loop-name-init

@@ -7,7 +7,8 @@ use Rattle.link_base.proofs.RefusalLemmas.{first_refusal_below-more}
 use Rattle.module_view.specs.Module.{module_at}
 use Rattle.link_pieces.specs.LocalSlots.{names_asked, with_meant}
 use Rattle.link_plan.specs.References.{references_fault_at}
-use Rattle.link_plan.proofs.ReferenceLemmas.{module_here, bytes_here, refuses_at, meant_module}
+use Rattle.link_fields.proofs.StandingLemmas.{refuses_at}
+use Rattle.link_plan.proofs.ReferenceLemmas.{module_here, bytes_here, meant_module}
 use Rattle.link_plan.proofs.references.check_references.Goals as goal
 
 pub loop-position-init : goal.loop-position-init

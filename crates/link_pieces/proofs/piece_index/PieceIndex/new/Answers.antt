@@ -1,4 +1,4 @@
-use Rattle.std.proofs.Common.{◌≡◌, ◌≤◌, ◌<◌, ◌+◌, ◌-◌, ℕ, List, length, map, get_or, Option, None, Some, refl, sym, ap, subst, ◌∙◌, arith}
+use Rattle.std.proofs.Common.{◌≡◌, ◌≤◌, ◌<◌, ◌+◌, ◌-◌, ℕ, List, length, map, get_or, cond, Option, None, Some, refl, sym, ap, subst, ◌∙◌, arith}
 use Rattle.std.specs.List.{All}
 use Rattle.std.proofs.lemmas.List.{length-map}
 use Rattle.section_group.specs.declared.piece.Piece.{Piece}
@@ -10,7 +10,7 @@ use Rattle.link_pieces.specs.Commons.{FIRST_COMMON}
 use Rattle.link_pieces.specs.PieceIndex.{holds, is_numbered, is_section_of, is_common_of, linker_indexed, linker_index}
 use Rattle.std.specs.Option.{option_and_then}
 use Rattle.synthetic_sections.specs.LinkerPieces.{FIRST_LOCAL_SLOT}
-use Rattle.link_imports.specs.Imports.{slot_offset}
+use Rattle.link_imports.specs.Imports.{is_import}
 use Rattle.link_pieces.specs.LocalSlots.{slot_names, slot_number}
 use Rattle.link_pieces.specs.Pieces.{link_pieces}
 use Rattle.link_pieces.specs.Rows.{section_places, common_places, HasPlace, HasSomePlace}
@@ -121,8 +121,10 @@ returns c =
           ∙ ap (λ (n : ℕ). first_below n (holds (is_common_of m j) (map bare pieces))) all
           ∙ ap (λ (ps : List Piece). first_below (length ps) (holds (is_common_of m j) ps)) are;
       linker = linker_is link same are;
-      offsets = λ position.
-          ap (λ (offsets : List ℕ). get_or offsets position 0) c.in_ok-offsets.ensures ∙ c.requires.imports.offsets position ∙ ap (λ (ms : List ModuleView). slot_offset ms position) (sym same);
+      imports = λ position.
+          c.in_ok-imports.ensures position
+          ∙ ap (λ (n : ℕ). cond (is_import modules position) (Some (n + position)) None) (omega (arith, c.len.ensures.len, length-map pieces bare, ap length are))
+          ∙ ap (λ (ms : List ModuleView). cond (is_import ms position) (Some (length (link_pieces link) + position)) None) (sym same);
       names = sym names;
       slots = λ name.
           ap (λ (number : Option ℕ). option_and_then (λ slot. linker_indexed c.loop-index.linker (FIRST_LOCAL_SLOT + slot)) number) (ap (λ (slots : List (List ℕ)). slot_number slots name) (sym names))

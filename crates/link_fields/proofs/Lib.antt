@@ -1,0 +1,8 @@
+mod TargetLemmas
+mod FixLemmas
+mod JudgeLemmas
+pub mod CallerLemmas
+pub mod EntryLemmas
+pub mod StandingLemmas
+pub mod ListLemmas
+pub mod PlaceLemmas

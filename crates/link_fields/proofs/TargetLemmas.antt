@@ -1,0 +1,56 @@
+-- What the symbols of an object mean, one symbol more at a time.
+use Rattle.std.proofs.Common.{◌≡◌, ℕ, zero, suc, ◌<◌, Bool, true, false, cond, eqb, List, ◌∷◌, length, get_or, set, replicate, Option, Some, None, option_map, inl, inr, refl, sym, ap, ◌∙◌, arith}
+use Rattle.std.specs.List.{find}
+use Rattle.std.specs.Option.{option_or}
+use Rattle.std.proofs.lemmas.Bool.Decides.{eqb_tells}
+use Rattle.std.proofs.lemmas.List.{get_or-set_same, get_or-set_other}
+use Rattle.link_base.proofs.RefusalLemmas.{or_none}
+use Rattle.coff_records.specs.ObjectFile.{SymbolEntry}
+use Rattle.link_fields.specs.Targets.{is_record}
+
+-- a place of a list that is set, where nothing stood there
+pub put_first : {A : Type 0} (row : List (Option A)) (at other : ℕ) (x : A) → at < length row → get_or row at None ≡ None → get_or (set row at (Some x)) other None ≡ option_or (get_or row other None) (cond (eqb at other) (Some x) None)
+put_first row at other x lt none =
+    elim (eqb_tells at other) [
+      | inl here ↦
+          let same : other ≡ at = omega arith in
+          rw (here.0, same, none) (get_or-set_same row at (Some x) None lt)
+      | inr apart ↦
+          rw apart.0 (get_or-set_other row at other (Some x) None (λ same. apart.1 (sym same)) ∙ sym (or_none (get_or row other None)))
+    ]
+
+-- and where something did, nothing changes
+pub put_later : {A : Type 0} (row : List (Option A)) (at other : ℕ) (x y : A) → get_or row at None ≡ Some y → get_or row other None ≡ option_or (get_or row other None) (cond (eqb at other) (Some x) None)
+put_later row at other x y some =
+    elim (eqb_tells at other) [
+      | inl here ↦
+          let same : other ≡ at = omega arith in
+          rw (here.0, same, some) refl
+      | inr apart ↦ rw apart.0 (sym (or_none (get_or row other None)))
+    ]
+
+-- nothing is noted at first
+abbrev none : (A : Type 0) → Option A
+none A = None
+
+pub nothing_noted : {A : Type 0} (row : List (Option A)) (n other : ℕ) → row ≡ replicate n None → get_or row other None ≡ None
+nothing_noted {A} row n other is = ap (λ (r : List (Option A)). get_or r other None) is ∙ each n other
+  where
+    each : (n other : ℕ) → get_or (replicate n (none A)) other None ≡ None
+    each zero other = refl
+    each (suc n) zero = refl
+    each (suc n) (suc other) = each n other
+
+grown : {A : Type 0} (f : SymbolEntry → A) (b : Bool) (old : Option A) (entry : SymbolEntry) (later : Option SymbolEntry) → option_or (option_or old (cond b (Some (f entry)) None)) (option_map f later) ≡ option_or old (option_map f (cond b (Some entry) later))
+grown f true None entry later = refl
+grown f true (Some x) entry later = refl
+grown f false None entry later = refl
+grown f false (Some x) entry later = refl
+
+-- what is noted and what is still to come, after one more symbol
+pub noted_more : {A : Type 0} (f : SymbolEntry → A) (before after : List SymbolEntry) (entry : SymbolEntry) (at : ℕ) (old new whole : Option A) → before ≡ entry ∷ after → new ≡ option_or old (cond (eqb entry.0 at) (Some (f entry)) None) → option_or old (option_map f (find (is_record at) before)) ≡ whole → option_or new (option_map f (find (is_record at) after)) ≡ whole
+noted_more f before after entry at old new whole is noted was =
+    ap (λ o. option_or o (option_map f (find (is_record at) after))) noted
+    ∙ grown f (eqb entry.0 at) old entry (find (is_record at) after)
+    ∙ ap (λ (es : List SymbolEntry). option_or old (option_map f (find (is_record at) es))) (sym is)
+    ∙ was

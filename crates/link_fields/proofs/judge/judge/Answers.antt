@@ -1,0 +1,8 @@
+use Rattle.std.proofs.Common.{◌∙◌, sym, eqb-true, length}
+use Rattle.section_group.specs.PieceContents.{piece_contents}
+use Rattle.link_fields.proofs.JudgeLemmas.{none_judged}
+use Rattle.link_fields.proofs.judge.judge.Goals as goal
+
+pub returns-then-is_empty-clause-accepted : goal.returns-then-is_empty-clause-accepted
+returns-then-is_empty-clause-accepted c =
+    none_judged c.args.piece.now (piece_contents c.args.piece.now) c.args.large c.args.fixes.now (eqb-true (length c.args.fixes.now) 0 (sym c.is_empty.ensures ∙ c.if-is_empty.true))

@@ -1,0 +1,174 @@
+-- The tables of imports and exports: what they are, that they are aligned, and that one with bytes is there.
+use Rattle.std.proofs.Common.{◌≡◌, ℕ, zero, suc, ◌+◌, ◌<◌, Bool, true, false, cond, ◌||◌, eqb, ltb, List, [], ◌∷◌, ◌++◌, length, get_or, Option, None, inl, inr, refl, sym, ap, subst, ◌∙◌, eq-eqb, arith}
+use Rattle.std.specs.Prelude.{codes}
+use Rattle.std.specs.List.{All, list_any}
+use Rattle.std.proofs.lemmas.Bool.{cases_lt, false≢true, lt-ltb}
+use Rattle.std.proofs.lemmas.Bool.Decides.{eqb_tells}
+use Rattle.std.proofs.lemmas.List.{get_or_push, get_or_append_left}
+use Rattle.std.proofs.lemmas.List.Elements.{All-nil, All-cons, All-append}
+use Rattle.std.proofs.lemmas.List.Folds.{list_any-append}
+use Rattle.section_group.specs.declared.piece.Piece.{Piece}
+use Rattle.address_layout.specs.Layout.{IsAlignment}
+use Rattle.import_tables.specs.ImportShape.{sizes_of}
+use Rattle.module_view.specs.Module.{ModuleView}
+use Rattle.synthetic_sections.specs.LinkerPieces.{SLOTS, EXPORTS, FIRST_THUNK, size_at, table_piece, table_if, table_pieces, export_table_pieces}
+use Rattle.link_imports.specs.Imports.{import_sizes}
+use Rattle.link_pieces.specs.PieceIndex.{is_numbered}
+use Rattle.link_pieces.specs.TablePieces.{KeptParts, kept_imports, tables_for, tables_of, table_sizes, is_table, IsLinkTable}
+
+or_true : (b : Bool) → (b || true) ≡ true
+or_true true = refl
+or_true false = refl
+
+-- ---- what holds of them
+
+-- what holds of a piece holds where it is made
+all_if : (P : Piece → Type 0) (none : Bool) (piece : Piece) → (none ≡ false → P piece) → All P (cond none [] (piece ∷ []))
+all_if P true piece holds = All-nil P
+all_if P false piece holds = All-cons P piece [] (holds refl) (All-nil P)
+
+some_bytes : (size : ℕ) → eqb size 0 ≡ false → 0 < size
+some_bytes size made =
+    elim (eqb_tells size 0) [
+      | inl same ↦ absurd (false≢true (sym made ∙ same.0))
+      | inr other ↦ above size other.1
+    ]
+  where
+    above : (size : ℕ) → (size ≡ 0 → ⊥) → 0 < size
+    above zero other = absurd (other refl)
+    above (suc size) other = omega arith
+
+-- what holds of the table of each number holds of all import tables
+all_imports : (P : Piece → Type 0) (count : ℕ) (sizes : List ℕ) → ((number : ℕ) (name : List ℕ) (align : ℕ) → number < 5 → IsAlignment align → 0 < size_at sizes number → P (table_piece count number name align (size_at sizes number))) → All P (table_pieces count sizes)
+unfolding table_pieces
+all_imports P count sizes each =
+    let one = λ (number : ℕ) (name : List ℕ) (align : ℕ) (few : number < 5) (is : IsAlignment align). all_if P (eqb (size_at sizes number) 0) (table_piece count number name align (size_at sizes number)) (λ made. each number name align few is (some_bytes (size_at sizes number) made)) in
+    All-append P _ _ (one 0 (codes ".idata$2") 4 (omega arith) (record { positive = omega arith; divides = refl }))
+    (All-append P _ _ (one 1 (codes ".idata$4") 8 (omega arith) (record { positive = omega arith; divides = refl }))
+    (All-append P _ _ (one SLOTS (codes ".idata$5") 8 (omega arith) (record { positive = omega arith; divides = refl }))
+    (All-append P _ _ (one 3 (codes ".idata$6") 2 (omega arith) (record { positive = omega arith; divides = refl }))
+    (one 4 (codes ".idata$7") 1 (omega arith) (record { positive = omega arith; divides = refl })))))
+
+all_exports : (P : Piece → Type 0) (count size : ℕ) → (0 < size → P (table_piece count EXPORTS (codes ".edata") 4 size)) → All P (export_table_pieces count size)
+unfolding export_table_pieces
+all_exports P count size holds =
+    all_if P (eqb size 0) (table_piece count EXPORTS (codes ".edata") 4 size) (λ made. holds (some_bytes size made))
+
+-- ---- what each is
+
+import_sizes_count : (modules : List ModuleView) (kept : List Bool) → length (import_sizes modules kept) ≡ 5
+unfolding sizes_of
+import_sizes_count modules kept = refl
+
+-- the size of an import table, and that of the export table
+import_size : (link : KeptParts) (number : ℕ) → number < 5 → size_at (table_sizes link) number ≡ size_at (import_sizes link.parts.modules (kept_imports link)) number
+import_size link number few =
+    get_or_append_left (import_sizes link.parts.modules (kept_imports link)) (link.parts.exports.size ∷ []) 0 number (omega (arith, few, import_sizes_count link.parts.modules (kept_imports link)))
+
+export_size : (link : KeptParts) → size_at (table_sizes link) EXPORTS ≡ link.parts.exports.size
+export_size link =
+    get_or_push (import_sizes link.parts.modules (kept_imports link)) link.parts.exports.size 0 EXPORTS (import_sizes_count link.parts.modules (kept_imports link))
+
+pub tables_are : (link : KeptParts) → All (IsLinkTable link) (tables_of link)
+tables_are link =
+    let count = length link.parts.modules in
+    let sizes = import_sizes link.parts.modules (kept_imports link) in
+    let size = link.parts.exports.size in
+    All-append (IsLinkTable link) (table_pieces count sizes) (export_table_pieces count size)
+    (all_imports (IsLinkTable link) count sizes (λ number name align few aligned some.
+    record { of_linker = refl; few = omega (arith, few); init = refl; some = some; size = sym (import_size link number few) }))
+    (all_exports (IsLinkTable link) count size (λ some.
+    record { of_linker = refl; few = omega arith; init = refl; some = some; size = sym (export_size link) }))
+
+pub tables_aligned : (modules : List ModuleView) (kept : List Bool) (size : ℕ) → All (λ (piece : Piece). IsAlignment piece.align) (tables_for modules kept size)
+tables_aligned modules kept size =
+    let count = length modules in
+    All-append (λ (piece : Piece). IsAlignment piece.align) (table_pieces count (import_sizes modules kept)) (export_table_pieces count size)
+    (all_imports (λ (piece : Piece). IsAlignment piece.align) count (import_sizes modules kept) (λ number name align few aligned some. aligned))
+    (all_exports (λ (piece : Piece). IsAlignment piece.align) count size (λ some. record { positive = omega arith; divides = refl }))
+
+-- each is told by its number
+pub tables_told : (modules : List ModuleView) (kept : List Bool) (size : ℕ) → All (λ (piece : Piece). is_table (length modules) piece ≡ true) (tables_for modules kept size)
+tables_told modules kept size =
+    let count = length modules in
+    All-append (λ (piece : Piece). is_table count piece ≡ true) (table_pieces count (import_sizes modules kept)) (export_table_pieces count size)
+    (all_imports (λ (piece : Piece). is_table count piece ≡ true) count (import_sizes modules kept) (λ number name align few aligned some.
+    rw (eq-eqb count count refl, lt-ltb number FIRST_THUNK (omega (arith, few))) refl))
+    (all_exports (λ (piece : Piece). is_table count piece ≡ true) count size (λ some. rw (eq-eqb count count refl) refl))
+
+
+-- ---- one that has bytes is there
+
+-- a piece that is made is among them
+found_in : (test : Piece → Bool) (none : Bool) (piece : Piece) → none ≡ false → test piece ≡ true → list_any test (cond none [] (piece ∷ [])) ≡ true
+found_in test none piece made holds = rw (made, holds) refl
+
+pub either_any : (test : Piece → Bool) (xs ys : List Piece) → list_any test xs ≡ true → list_any test (xs ++ ys) ≡ true
+either_any test xs ys here = list_any-append test xs ys ∙ ap (λ (b : Bool). b || list_any test ys) here
+
+pub later_any : (test : Piece → Bool) (xs ys : List Piece) → list_any test ys ≡ true → list_any test (xs ++ ys) ≡ true
+later_any test xs ys here = list_any-append test xs ys ∙ ap (λ (b : Bool). list_any test xs || b) here ∙ or_true (list_any test xs)
+
+none_false : (size : ℕ) → 0 < size → eqb size 0 ≡ false
+none_false size some =
+    elim (eqb_tells size 0) [
+      | inl same ↦ absurd (omega (arith, some, same.1))
+      | inr other ↦ other.0
+    ]
+
+-- one of five lists, by its number
+abbrev of_five : (a b c d e : List Piece) → ℕ → List Piece
+of_five a b c d e zero = a
+of_five a b c d e (suc zero) = b
+of_five a b c d e (suc (suc zero)) = c
+of_five a b c d e (suc (suc (suc zero))) = d
+of_five a b c d e (suc (suc (suc (suc more)))) = e
+
+any_of_five : (test : Piece → Bool) (a b c d e : List Piece) (number : ℕ) → list_any test (of_five a b c d e number) ≡ true → list_any test (a ++ (b ++ (c ++ (d ++ e)))) ≡ true
+any_of_five test a b c d e zero here = either_any test a (b ++ (c ++ (d ++ e))) here
+any_of_five test a b c d e (suc zero) here = later_any test a (b ++ (c ++ (d ++ e))) (either_any test b (c ++ (d ++ e)) here)
+any_of_five test a b c d e (suc (suc zero)) here =
+    later_any test a (b ++ (c ++ (d ++ e))) (later_any test b (c ++ (d ++ e)) (either_any test c (d ++ e) here))
+any_of_five test a b c d e (suc (suc (suc zero))) here =
+    later_any test a (b ++ (c ++ (d ++ e))) (later_any test b (c ++ (d ++ e)) (later_any test c (d ++ e) (either_any test d e here)))
+any_of_five test a b c d e (suc (suc (suc (suc more)))) here =
+    later_any test a (b ++ (c ++ (d ++ e))) (later_any test b (c ++ (d ++ e)) (later_any test c (d ++ e) (later_any test d e here)))
+
+table_found : (count : ℕ) (sizes : List ℕ) (number : ℕ) (name : List ℕ) (align : ℕ) → 0 < size_at sizes number → list_any (is_numbered count number) (table_if count number name align (size_at sizes number)) ≡ true
+table_found count sizes number name align sized =
+    found_in (is_numbered count number) (eqb (size_at sizes number) 0) (table_piece count number name align (size_at sizes number)) (none_false (size_at sizes number) sized)
+    (rw (eq-eqb count count refl, eq-eqb number number refl) refl)
+
+table_of_number : (count : ℕ) (sizes : List ℕ) (number : ℕ) → number < 5 → 0 < size_at sizes number → list_any (is_numbered count number) (of_five (table_if count 0 (codes ".idata$2") 4 (size_at sizes 0)) (table_if count 1 (codes ".idata$4") 8 (size_at sizes 1)) (table_if count SLOTS (codes ".idata$5") 8 (size_at sizes SLOTS)) (table_if count 3 (codes ".idata$6") 2 (size_at sizes 3)) (table_if count 4 (codes ".idata$7") 1 (size_at sizes 4)) number) ≡ true
+table_of_number count sizes zero few sized = table_found count sizes 0 (codes ".idata$2") 4 sized
+table_of_number count sizes (suc zero) few sized = table_found count sizes 1 (codes ".idata$4") 8 sized
+table_of_number count sizes (suc (suc zero)) few sized = table_found count sizes 2 (codes ".idata$5") 8 sized
+table_of_number count sizes (suc (suc (suc zero))) few sized = table_found count sizes 3 (codes ".idata$6") 2 sized
+table_of_number count sizes (suc (suc (suc (suc zero)))) few sized = table_found count sizes 4 (codes ".idata$7") 1 sized
+table_of_number count sizes (suc (suc (suc (suc (suc more))))) few sized = absurd (omega (arith, few))
+
+import_made : (count : ℕ) (sizes : List ℕ) (number : ℕ) → number < 5 → 0 < size_at sizes number → list_any (is_numbered count number) (table_pieces count sizes) ≡ true
+unfolding table_pieces
+import_made count sizes number few sized =
+    any_of_five (is_numbered count number) (table_if count 0 (codes ".idata$2") 4 (size_at sizes 0)) (table_if count 1 (codes ".idata$4") 8 (size_at sizes 1)) (table_if count SLOTS (codes ".idata$5") 8 (size_at sizes SLOTS)) (table_if count 3 (codes ".idata$6") 2 (size_at sizes 3)) (table_if count 4 (codes ".idata$7") 1 (size_at sizes 4)) number
+    (table_of_number count sizes number few sized)
+
+export_made : (count size : ℕ) → 0 < size → list_any (is_numbered count EXPORTS) (export_table_pieces count size) ≡ true
+unfolding export_table_pieces
+export_made count size some =
+    found_in (is_numbered count EXPORTS) (eqb size 0) (table_piece count EXPORTS (codes ".edata") 4 size) (none_false size some) (rw (eq-eqb count count refl) refl)
+
+pub table_made : (link : KeptParts) (number : ℕ) → number < 6 → 0 < size_at (table_sizes link) number → list_any (is_numbered (length link.parts.modules) number) (tables_of link) ≡ true
+table_made link number few sized =
+    let count = length link.parts.modules in
+    let sizes = import_sizes link.parts.modules (kept_imports link) in
+    elim (cases_lt number 5) [
+      | inl below ↦
+          either_any (is_numbered count number) (table_pieces count sizes) _
+          (import_made count sizes number below (subst (λ (n : ℕ). 0 < n) (import_size link number below) sized))
+      | inr last ↦
+          let same : number ≡ EXPORTS = omega (arith, few, last) in
+          let some = subst (λ (n : ℕ). 0 < n) (ap (size_at (table_sizes link)) same ∙ export_size link) sized in
+          subst (λ (n : ℕ). list_any (is_numbered count n) (tables_of link) ≡ true) (sym same)
+          (later_any (is_numbered count EXPORTS) (table_pieces count sizes) _ (export_made count link.parts.exports.size some))
+    ]

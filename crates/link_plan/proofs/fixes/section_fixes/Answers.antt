@@ -1,9 +1,0 @@
-use Rattle.std.proofs.Common.{◌∙◌, sym}
-use Rattle.link_plan.proofs.FixLemmas.{no_relocations}
-use Rattle.link_plan.proofs.fixes.section_fixes.Goals as goal
-
-pub returns-then-relocation_count-eq0-clause-fixes :
-    goal.returns-then-relocation_count-eq0-clause-fixes
-returns-then-relocation_count-eq0-clause-fixes c =
-    c.requires.empty
-    ∙ sym (no_relocations c.args.names.now c.args.position c.args.object.now c.args.section (sym c.relocation_count.ensures ∙ c.if-relocation_count-eq0.true))

@@ -1,0 +1,93 @@
+-- The pieces of a plan, once it is known what is kept: which of them stand in a section even where they have no bytes, and their
+-- fields. Own.
+use Rattle.std.specs.Prelude.{◌≡◌, ◌<◌, ℕ, Bool, true, false, ◌&&◌, ◌||◌, ◌==◌, nat_lt, if◌then◌else◌, List, [], ◌++◌, length, map, take, replicate, slice_index_or, Option, option_map, unwrap_or}
+use Rattle.std.specs.List.{range_with_len, list_any}
+use Rattle.section_group.specs.declared.piece.Piece.{Piece}
+use Rattle.relocate.specs.declared.fix.Fix.{Fix}
+use Rattle.relocate.specs.declared.fix.Target.{Target}
+use Rattle.relocate.specs.Judged.{AreTheFields, ArePatchable}
+use Rattle.relocate.specs.Redirected.{redirected, redirected_fix}
+use Rattle.synthetic_sections.specs.LinkerPieces.{SLOTS}
+use Rattle.link_imports.specs.Imports.{slot_offset}
+use Rattle.link_words.specs.Outcome.{LinkOptions}
+use Rattle.link_pieces.specs.Pieces.{link_pieces}
+use Rattle.link_pieces.specs.TablePieces.{KeptParts, kept_imports, tables_of, whole_contents, table_index}
+use Rattle.link_fields.specs.ExportTargets.{export_targets}
+use Rattle.link_fields.specs.Fixes.{piece_at, piece_fixes, field_edges}
+use Rattle.link_plan.specs.Reach.{named_nodes}
+
+-- ---- what is kept
+
+-- a piece of the link is kept
+abbrev pub is_kept : KeptParts → ℕ → Bool
+is_kept link k = nat_lt k (length (link_pieces link.parts)) && slice_index_or link.kept k false
+
+-- of all pieces, the tables behind those of the link too, which are made for what is kept
+abbrev pub used_pieces : KeptParts → List Bool
+used_pieces link = take (length (link_pieces link.parts)) link.kept ++ replicate (length (tables_of link)) true
+
+-- ---- pieces that are named
+
+-- a field of a piece that is kept means it
+abbrev pub leads_there : List Bool → ℕ → ℕ × ℕ → Bool
+leads_there kept k edge = slice_index_or kept edge.0 false && (edge.1 == k)
+
+abbrev pub is_meant : KeptParts → ℕ → Bool
+is_meant link k = list_any (leads_there link.kept k) (field_edges link.parts)
+
+-- the entry, an export or what a loader looks for is there
+abbrev pub is_at : ℕ → ℕ → Bool
+is_at k node = node == k
+
+abbrev pub is_sought : LinkOptions → KeptParts → ℕ → Bool
+is_sought options link k = list_any (is_at k) (named_nodes options link.parts)
+
+abbrev pub named_if : Bool → Piece → Piece
+named_if meant piece = record piece { named = piece.named || meant }
+
+abbrev pub planned_piece : LinkOptions → KeptParts → ℕ → Piece
+planned_piece options link k = named_if (is_meant link k || is_sought options link k) (piece_at link.parts k)
+
+-- the pieces of the link, and the tables
+unfoldable pub plan_pieces : LinkOptions → KeptParts → List Piece
+plan_pieces options link =
+    map (planned_piece options link) (range_with_len 0 (length (link_pieces link.parts))) ++ tables_of link
+
+-- ---- fields
+
+-- the offsets of the slots of the imports that are kept, by the positions of their modules, in the table of the slots
+abbrev pub slot_offsets : KeptParts → List ℕ
+slot_offsets link =
+    map (slot_offset link.parts.modules (kept_imports link)) (range_with_len 0 (length link.parts.modules))
+
+abbrev pub slot_table : KeptParts → ℕ
+slot_table link = unwrap_or (table_index link SLOTS) 0
+
+-- an import stands where its slot does
+abbrev pub placed_target : KeptParts → Target → Target
+placed_target link target = redirected (length (link_pieces link.parts)) (slot_table link) (slot_offsets link) target
+
+abbrev pub placed_fix : KeptParts → Fix → Fix
+placed_fix link fix = redirected_fix (length (link_pieces link.parts)) (slot_table link) (slot_offsets link) fix
+
+-- those of a piece that is kept; a table has none
+abbrev pub fixes_if : Bool → List Fix → List Fix
+fixes_if kept fixes = if kept then fixes else []
+
+abbrev pub planned_fixes : KeptParts → ℕ → List Fix
+planned_fixes link k = fixes_if (is_kept link k) (map (placed_fix link) (piece_fixes link.parts k))
+
+-- what the fields of the first pieces are, judged
+pub record HaveFields (link : KeptParts) (count : ℕ) (fixups : List (List Fix)) : Type 0 where
+  pub for_each : length fixups ≡ count
+  pub fields : (k : ℕ) → k < count → AreTheFields (planned_fixes link k) (slice_index_or fixups k [])
+  pub patchable : (k : ℕ) → k < count → ArePatchable (length (slice_index_or (whole_contents link) k [])) (slice_index_or fixups k [])
+
+-- ---- exports
+
+-- what each export stands for
+abbrev pub planned_target : KeptParts → Option Target → Option Target
+planned_target link target = option_map (placed_target link) target
+
+abbrev pub planned_targets : KeptParts → List (Option Target)
+planned_targets link = map (planned_target link) (export_targets link.parts)

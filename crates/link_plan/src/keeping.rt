@@ -1,0 +1,137 @@
+//! What of a link is kept.
+
+ghost use Rattle.std.specs.Prelude.{◌≡◌, ◌++◌, ◌<◌, ◌≤◌, ◌^◌, ◌+◌, ◌||◌, ℕ, false, length, map, slice_index_or, option_and_then, None, IfOk, OnOk, if◌then◌else◌};
+ghost use Rattle.std.specs.List.{list_any};
+ghost use Rattle.link_base.specs.Limits.{MODULE_LIMIT};
+ghost use Rattle.section_group.specs.BarePieces.{bare};
+ghost use Rattle.coff_aux.specs.Comdats.{comdat_of};
+ghost use Rattle.module_view.specs.Module.{module_at};
+ghost use Rattle.link_words.specs.Outcome.{LinkOptions, options_said};
+ghost use Rattle.link_pieces.specs.LinkParts.{LinkParts};
+ghost use Rattle.link_pieces.specs.Pieces.{link_pieces};
+ghost use Rattle.link_pieces.specs.PieceIndex.{is_section, piece_index, IsPieceIndex};
+ghost use Rattle.link_fields.specs.Entry.{entry_place};
+ghost use Rattle.link_fields.specs.ExportTargets.{export_targets};
+ghost use Rattle.link_fields.specs.Fixes.{field_edges};
+ghost use Rattle.link_plan.specs.Reach.{node_count, parent_in, child_edges, link_edges, named_nodes, link_roots, drops as drops_of, AreKept};
+ghost use Rattle.link_plan.specs.Planned.{leads_there, is_at};
+
+use crate::named::{mark_meant, mark_nodes};
+use crate::roots::{named_nodes, push_roots};
+use link_base::Memory;
+use link_fields::NamedPlaces;
+use link_pieces::{FIRST_COMMON, LinkNames, PieceIndex};
+use link_words::Options;
+use module_view::Module;
+use reach::{Graph, kept};
+use section_group::Piece;
+use std::alloc::Global;
+
+/// What of a link is kept.
+#[derive(Drop)]
+pub(crate) struct KeptNodes {
+    /// Whether each piece is, and behind the pieces the import that is the module at each position.
+    pub(crate) kept: Vec<bool>,
+    /// The pieces that a field of what is kept means, or the entry, an export or a loader.
+    pub(crate) meant: Vec<bool>,
+}
+
+/// What is kept of these pieces, whose fields lead to one another by `edges`.
+pub(crate) fn kept_nodes<'a>(
+    alloc: Global,
+    names: &LinkNames<'a>,
+    index: &PieceIndex<'a>,
+    modules: &[Module<'a>],
+    pieces: &[Piece<'a>],
+    places: &NamedPlaces,
+    edges: Vec<(u32, u32)>,
+    options: &Options<'a>,
+) -> Result<KeptNodes, Memory>
+    requires same { names.now.modules ≡ modules.now }
+    requires few_modules { length modules.now ≤ MODULE_LIMIT }
+    requires indexed { IsPieceIndex names.now index.now }
+    requires pieces { map bare pieces.now ≡ link_pieces names.now }
+    requires few { length pieces.now < 2 ^ 31 }
+    requires entry { places.now.entry ≡ entry_place names.now (options_said options.now).entry_name }
+    requires exported { places.now.exported.items ≡ export_targets names.now }
+    requires edges { edges.items ≡ field_edges names.now }
+    ensures kept { IfOk result (λ nodes. AreKept (options_said options.now) names.now nodes.kept.items) }
+    ensures len { IfOk result (λ nodes. length nodes.meant.items ≡ length pieces.now) }
+    ensures meant { IfOk result (λ nodes. (k : ℕ) → k < length pieces.now → slice_index_or nodes.meant.items k false
+        ≡ (list_any (leads_there nodes.kept.items k) (field_edges names.now) || list_any (is_at k) (named_nodes (options_said options.now) names.now))) }
+{
+    let mut roots = named_nodes(alloc, names, index, places, options)?;
+    let named = roots.len();
+    push_roots(&mut roots, names, index, modules, pieces, options)?;
+    let fields = edges.len();
+    let graph = link_graph(index, modules, pieces, edges)?;
+    let kept = kept_if(alloc, drops(options), &graph, &roots)?;
+    let mut meant = vec![in alloc; false; pieces.len()]?;
+    mark_meant(&mut meant, &graph.edges[..fields], &kept);
+    mark_nodes(&mut meant, &roots[..named]);
+    Ok(KeptNodes { kept, meant })
+}
+
+/// Whether unreferenced sections are dropped.
+fn drops(options: &Options<'_>) -> bool
+    ensures { result ≡ drops_of (options_said options.now) }
+{
+    match options.refs {
+        Some(refs) => refs,
+        None => !options.debug,
+    }
+}
+
+/// What leads to what: the edges of fields, and those to sections that are selected with others.
+fn link_graph<'a>(
+    index: &PieceIndex<'a>,
+    modules: &[Module<'a>],
+    pieces: &[Piece<'a>],
+    edges: Vec<(u32, u32)>,
+) -> Result<Graph, Memory>
+    requires few_modules { length modules.now ≤ MODULE_LIMIT }
+    requires few { length pieces.now < 2 ^ 31 }
+    ensures count { IfOk result (λ graph. graph.pieces ≡ length pieces.now + length modules.now) }
+    ensures edges { IfOk result (λ graph. (link : LinkParts) → link.modules ≡ modules.now → map bare pieces.now ≡ link_pieces link → IsPieceIndex link index.now
+        → graph.edges.items ≡ edges.items ++ child_edges link) }
+{
+    let mut edges = edges;
+    for k in 0..pieces.len() {
+        if let Some(parent) = parent_piece(index, modules, &pieces[k]) {
+            edges.push((parent, k as u32))?;
+        }
+    }
+    Ok(Graph {
+        pieces: (pieces.len() + modules.len()) as u32,
+        edges,
+    })
+}
+
+/// The piece that a COMDAT section is selected with, where there is one.
+fn parent_piece<'a>(
+    index: &PieceIndex<'a>,
+    modules: &[Module<'a>],
+    piece: &Piece<'a>,
+) -> Option<u32>
+    ensures { (link : LinkParts) → link.modules ≡ modules.now → IsPieceIndex link index.now → result
+        ≡ (if is_section (length modules.now) piece.now
+        then option_and_then (piece_index link piece.now.«module») (parent_in (comdat_of (module_at modules.now piece.now.«module»).bytes piece.now.number))
+        else None) }
+{
+    if piece.module as usize >= modules.len() || piece.number >= FIRST_COMMON {
+        return None;
+    }
+    let comdat = modules[piece.module as usize].comdat(piece.number)?;
+    index.of(piece.module, comdat.parent?)
+}
+
+/// What edges come to from the roots, or all.
+fn kept_if(alloc: Global, drops: bool, graph: &Graph, roots: &[u32]) -> Result<Vec<bool>, Memory>
+    ensures { IfOk result (λ kept. (options : LinkOptions) (link : LinkParts) → drops ≡ drops_of options → graph.now.pieces ≡ node_count link → graph.now.edges.items ≡ link_edges link
+        → roots.now ≡ link_roots options link → AreKept options link kept.items) }
+{
+    if drops {
+        return kept(alloc, graph, roots);
+    }
+    Ok(vec![in alloc; true; graph.pieces as usize]?)
+}

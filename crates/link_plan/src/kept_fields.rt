@@ -1,0 +1,95 @@
+//! The fields and the exports of what is kept, once the imports that are kept have slots.
+
+ghost use Rattle.std.specs.Prelude.{◌≡◌, ◌≤◌, ◌<◌, ◌+◌, ◌^◌, ◌++◌, [], ℕ, false, length, map, replicate, slice_index_or, unwrap_or, option_map, Option, List, Bool, IfOk, OnOk};
+ghost use Rattle.std.specs.List.{range_with_len};
+ghost use Rattle.section_group.specs.BarePieces.{bare};
+ghost use Rattle.link_base.specs.Bytes.{first_below};
+ghost use Rattle.link_pieces.specs.PieceIndex.{is_numbered, holds};
+ghost use Rattle.relocate.specs.Redirected.{redirected, redirected_fix};
+ghost use Rattle.synthetic_sections.specs.LinkerPieces as number;
+ghost use Rattle.link_plan.specs.Planned.{fixes_if};
+
+use link_base::Memory;
+use relocate::{Fixups, Target, redirected};
+use section_group::Piece;
+use std::alloc::Global;
+use synthetic_sections::SLOTS;
+
+/// Where the imports of a link stand that are kept: the number of the first one behind the pieces, the piece that is the table of
+/// their slots, and the offset of each slot in it.
+pub(crate) struct SlotPlaces<'b> {
+    pub(crate) first: u32,
+    pub(crate) table: u32,
+    pub(crate) offsets: &'b [u32],
+}
+
+/// Drops the fields of pieces that are not kept, and gives those of the others the places of imports.
+pub(crate) fn keep_fields(
+    alloc: Global,
+    fixups: &mut Vec<Fixups>,
+    kept: &[bool],
+    places: &SlotPlaces<'_>,
+)
+    requires { length fixups.old.items ≤ length kept.now }
+    ensures { fixups.new.items ≡ map (λ k. fixes_if (slice_index_or kept.now k false) (map (redirected_fix places.now.first places.now.table places.now.offsets.now) (slice_index_or fixups.old.items k []))) (range_with_len 0 (length fixups.old.items)) }
+{
+    for k in 0..fixups.len() {
+        if kept[k] {
+            fixups[k].redirect(places.first, places.table, places.offsets);
+        } else {
+            fixups[k] = Fixups::none(alloc);
+        }
+    }
+}
+
+/// Appends so many times no fields.
+pub(crate) fn push_none(
+    alloc: Global,
+    fixups: &mut Vec<Fixups>,
+    count: usize,
+) -> Result<(), Memory>
+    ensures { OnOk result (fixups.new.items ≡ fixups.old.items ++ replicate count []) }
+{
+    for _ in 0..count {
+        fixups.push(Fixups::none(alloc))?;
+    }
+    Ok(())
+}
+
+/// Gives the exports the places of imports.
+pub(crate) fn place_exports(targets: &mut Vec<Option<Target>>, places: &SlotPlaces<'_>)
+    ensures { targets.new.items ≡ map (option_map (redirected places.now.first places.now.table places.now.offsets.now)) targets.old.items }
+{
+    for k in 0..targets.len() {
+        targets[k] = placed(targets[k], places);
+    }
+}
+
+/// What an export stands for, with the place of an import.
+fn placed(target: Option<Target>, places: &SlotPlaces<'_>) -> Option<Target>
+    ensures { result ≡ option_map (redirected places.now.first places.now.table places.now.offsets.now) target }
+{
+    match target {
+        Some(target) => Some(redirected(
+            target,
+            places.first,
+            places.table,
+            places.offsets,
+        )),
+        None => None,
+    }
+}
+
+/// The piece that is the table of slots, of the tables from an index on; the first piece where there is none.
+pub(crate) fn slot_table(pieces: &[Piece<'_>], first: usize, position: u32) -> u32
+    requires few { length pieces.now < 2 ^ 31 }
+    requires others { (k : ℕ) → k < first → holds (is_numbered position number.SLOTS) (map bare pieces.now) k ≡ false }
+    ensures { result ≡ unwrap_or (first_below (length pieces.now) (holds (is_numbered position number.SLOTS) (map bare pieces.now))) 0 }
+{
+    for k in first..pieces.len() {
+        if pieces[k].module == position && pieces[k].number == SLOTS {
+            return k as u32;
+        }
+    }
+    0
+}
