@@ -11,6 +11,7 @@ pub mod OrderLemmas
 pub mod BaseLemmas
 pub mod MovedLemmas
 pub mod MovedBytes
+pub mod RedirectLemmas
 pub mod NumberLemmas
 pub mod CallerLemmas
 mod WorkedFields

@@ -1,9 +1,9 @@
 -- At another base a field that holds an address has the bytes of its number and the difference of the bases.
-use Rattle.std.proofs.Common.{◌≡◌, ◌≢◌, ℕ, ◌+◌, ◌-◌, ◌*◌, ◌%◌, ◌^◌, ◌<◌, ◌≤◌, ℤ, pos, ◌+ℤ◌, ◌-ℤ◌, List, length, slice_index, true, false, sym, ap, ◌∙◌, arith}
+use Rattle.std.proofs.Common.{◌≡◌, ℕ, ◌+◌, ◌-◌, ◌*◌, ◌%◌, ◌^◌, ◌<◌, List, length, slice_index, true, false, sym, ap, ◌∙◌, arith}
 use Rattle.link_base.specs.Bytes.{number_at, number_bytes}
 use Rattle.address_layout.specs.declared.layout.Layout.{Layout}
 use Rattle.relocate.specs.declared.fix.Fix.{Fix}
-use Rattle.relocate.specs.Field.{field_width, field_end, has_field, no_fix, fix_at}
+use Rattle.relocate.specs.Field.{field_width, no_fix, fix_at}
 use Rattle.relocate.specs.Judged.{AreTheFields, ArePatchable}
 use Rattle.relocate.specs.Value.{value_of, held}
 use Rattle.relocate.specs.PatchedBytes.{covers, byte_by, patched_bytes, is_based}

@@ -1,5 +1,5 @@
 -- Targets that are given other places: those in pieces from one on, which stand for offsets in a single piece. Own.
-use Rattle.std.specs.Prelude.{ℕ, ◌-◌, nat_lt, if◌then◌else◌, List, slice_index_or, Option, option_map, Result, Ok, Err}
+use Rattle.std.specs.Prelude.{ℕ, ◌-◌, nat_lt, if◌then◌else◌, List, slice_index_or, option_map, Result, Ok, Err}
 use Rattle.link_base.specs.declared.kinds.target.TargetFault.{TargetFault}
 use Rattle.relocate.specs.declared.fix.Fix.{Fix}
 use Rattle.relocate.specs.declared.fix.Target.{Target}

@@ -1,6 +1,6 @@
 //! Laws of the definitions and of the types, each the contract of a function that does nothing.
 
-ghost use Rattle.std.specs.Prelude.{◌≡◌, ℕ, ◌+◌, ◌-◌, ◌*◌, ◌%◌, ◌^◌, ◌<◌, pos, ◌+ℤ◌, ◌-ℤ◌, Bool, true, false, List, [], length, slice_index, Some, None};
+ghost use Rattle.std.specs.Prelude.{◌≡◌, ℕ, ◌+◌, ◌-◌, ◌*◌, ◌%◌, ◌^◌, ◌<◌, pos, ◌+ℤ◌, ◌-ℤ◌, Bool, true, false, List, [], length, map, slice_index, Some, None};
 ghost use Rattle.std.specs.List.{All};
 ghost use Rattle.link_base.specs.Bytes.{number_at};
 ghost use Rattle.address_layout.specs.declared.layout.Layout.{Layout};
@@ -9,6 +9,7 @@ ghost use Rattle.relocate.specs.declared.range.RelocRange.{RelocRange};
 ghost use Rattle.relocate.specs.Field.{has_field, field_width, fix_at};
 ghost use Rattle.relocate.specs.Judged.{AreTheFields, ArePatchable};
 ghost use Rattle.relocate.specs.PatchedBytes.{patched_bytes, range_fault, is_based, AreNumbered, IsSuited, AreSuited, HaveNoBased};
+ghost use Rattle.relocate.specs.Redirected.{redirected_fix};
 ghost use Rattle.relocate.specs.Value.{IsLeastOutside, IsOutside, value_of, fits};
 
 use crate::fixups::Fixups;
@@ -56,6 +57,15 @@ pub fn based_fields_move_with_the_base()
 pub fn patching_keeps_the_length()
     ensures length { (base rva : ℕ) (layout : Layout) (owner : List ℕ) (fixes : List Fix) (bytes : List ℕ) → length (patched_bytes base rva layout owner fixes bytes) ≡ length bytes }
     ensures no_relocations { (base rva : ℕ) (layout : Layout) (owner bytes : List ℕ) → patched_bytes base rva layout owner [] bytes ≡ bytes }
+{}
+
+/// Targets that are given other places leave the fields as they are: the same relocations have one, in the same bytes, and
+/// each can be patched as before.
+pub fn redirected_fields_are_fields()
+    ensures fields { (first home : ℕ) (offsets : List ℕ) (fixes fixups : List Fix) → AreTheFields fixes fixups
+        → AreTheFields (map (redirected_fix first home offsets) fixes) (map (redirected_fix first home offsets) fixups) }
+    ensures patchable { (first home : ℕ) (offsets : List ℕ) (len : ℕ) (fixups : List Fix) → ArePatchable len fixups
+        → ArePatchable len (map (redirected_fix first home offsets) fixups) }
 {}
 
 /// Fixups may be shared by threads and handed from one to another.

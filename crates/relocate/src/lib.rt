@@ -19,6 +19,7 @@ mod parts;
 mod patching;
 mod place;
 mod range;
+mod redirect;
 mod target;
 mod value;
 mod writing;
@@ -29,7 +30,7 @@ pub use fix::{Fix, Target};
 pub use fixups::Fixups;
 pub use laws::{
     based_fields_move_with_the_base, fixups_are_shared, patches_in_any_order,
-    patching_keeps_the_length, values_stay_at_other_bases,
+    patching_keeps_the_length, redirected_fields_are_fields, values_stay_at_other_bases,
 };
 pub use link_base::{RelocKind, TargetFault};
 pub use patching::patch;

@@ -254,3 +254,25 @@ fn the_first_fault_is_answered(rt: HostRuntime) {
     assert_eq!(rt; check(rt.alloc(), None, &low, true, false).err(), field);
     fixups_are_shared();
 }
+
+#[test]
+fn pieces_from_one_on_stand_for_offsets_in_one_piece(rt: HostRuntime) -> Result<(), Fail> {
+    let piece = |piece, value| Target::Piece { piece, value };
+    let cases = [
+        (piece(1, 7), piece(1, 7)),
+        (piece(2, 7), piece(9, 0x10)),
+        (piece(3, 0), piece(9, 0x18)),
+        (piece(4, 0), piece(9, 0)),
+        (Target::Absolute(3), Target::Absolute(3)),
+        (Target::ImageBase, Target::ImageBase),
+    ];
+    for (old, new) in &cases {
+        let fixes = [relocation(0, 0, 1, Ok(*old))];
+        let mut fixups = check(rt.alloc(), Some(&[0; 8]), &fixes, true, false)?;
+        fixups.redirect(2, 9, &[0x10, 0x18]);
+        let target = fixups.fixes().first().and_then(|fix| fix.target);
+        assert_eq!(rt; target, Some(Ok(*new)));
+    }
+    redirected_fields_are_fields();
+    Ok(())
+}
