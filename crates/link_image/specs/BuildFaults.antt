@@ -14,28 +14,28 @@ use Rattle.address_layout.specs.Growth.{IsGrowRefusal}
 use Rattle.address_layout.specs.PermittedBase.{is_permitted}
 use Rattle.base_reloc.specs.declared.field.BaseField.{BaseField}
 use Rattle.base_reloc.specs.PageBlocks.{blocks_of}
-use Rattle.link_pieces.specs.LinkParts.{LinkParts}
+use Rattle.link_pieces.specs.TablePieces.{KeptParts}
 use Rattle.link_words.specs.Outcome.{LinkOptions}
 use Rattle.link_plan.specs.Plan.{merges_of}
-use Rattle.link_plan.specs.Fixes.{plan_pieces}
+use Rattle.link_plan.specs.Planned.{plan_pieces}
 use Rattle.link_image.specs.BaseFields.{is_relocated, AreBaseFields}
 use Rattle.link_image.specs.LinkedBytes.{fields_range_fault}
 use Rattle.link_image.specs.ExportFaults.{export_fault, in_table_fault}
 use Rattle.link_image.specs.LinkedImage.{AreGrouped, ArePlaced, IsPlacement, base_rule}
 
 -- a merge is bad, and no earlier one
-pub record IsBadMerge (options : LinkOptions) (link : LinkParts) (fault : Fault) : Type 0 where
+pub record IsBadMerge (options : LinkOptions) (link : KeptParts) (fault : Fault) : Type 0 where
   pub name : List ℕ
-  pub named : NamesFirstBad (merges_of options link) name
+  pub named : NamesFirstBad (merges_of options link.parts) name
   pub is : fault ≡ faults.BadMerge name
 
 -- an export is bad: its ordinal, or that it stands for no place
-pub record IsBadExport (options : LinkOptions) (link : LinkParts) (fault : Fault) : Type 0 where
-  pub merges : HasNoBadMerge (merges_of options link)
+pub record IsBadExport (options : LinkOptions) (link : KeptParts) (fault : Fault) : Type 0 where
+  pub merges : HasNoBadMerge (merges_of options link.parts)
   pub is : export_fault link ≡ Some fault
 
 -- there are too many sections, that of base relocations counted
-pub record HasTooManySections (options : LinkOptions) (link : LinkParts) (fault : Fault) : Type 0 where
+pub record HasTooManySections (options : LinkOptions) (link : KeptParts) (fault : Fault) : Type 0 where
   pub sections : List OutSection
   pub grouped : AreGrouped options link (plan_pieces options link) sections
   pub count : ℕ
@@ -43,7 +43,7 @@ pub record HasTooManySections (options : LinkOptions) (link : LinkParts) (fault 
   pub is : fault ≡ faults.TooManySections count
 
 -- the pieces fit, but not the table of base relocations after them
-pub record HasLargeTable (options : LinkOptions) (link : LinkParts) (sections : List OutSection) (size : ℕ) : Type 0 where
+pub record HasLargeTable (options : LinkOptions) (link : KeptParts) (sections : List OutSection) (size : ℕ) : Type 0 where
   pub relocated : is_relocated options link ≡ true
   pub layout : Layout
   pub placed : ArePlaced (plan_pieces options link) sections true layout
@@ -52,7 +52,7 @@ pub record HasLargeTable (options : LinkOptions) (link : LinkParts) (sections : 
   pub refused : IsGrowRefusal layout (length (blocks_of fields)) (bad.ImageTooLarge size)
 
 -- the image is too large: by its pieces, or else with the table of base relocations
-pub record IsTooLarge (options : LinkOptions) (link : LinkParts) (fault : Fault) : Type 0 where
+pub record IsTooLarge (options : LinkOptions) (link : KeptParts) (fault : Fault) : Type 0 where
   pub sections : List OutSection
   pub grouped : AreGrouped options link (plan_pieces options link) sections
   pub size : ℕ
@@ -60,7 +60,7 @@ pub record IsTooLarge (options : LinkOptions) (link : LinkParts) (fault : Fault)
   pub is : fault ≡ faults.ImageTooLarge size
 
 -- the image may not stand at the base that it prefers
-pub record HasBadBase (options : LinkOptions) (link : LinkParts) (fault : Fault) : Type 0 where
+pub record HasBadBase (options : LinkOptions) (link : KeptParts) (fault : Fault) : Type 0 where
   pub rows : List SectionRow
   pub layout : Layout
   pub tables : List (List ℕ)
@@ -69,7 +69,7 @@ pub record HasBadBase (options : LinkOptions) (link : LinkParts) (fault : Fault)
   pub is : fault ≡ faults.BaseRange options.base
 
 -- an export lies in the export table itself
-pub record HasExportInTable (options : LinkOptions) (link : LinkParts) (fault : Fault) : Type 0 where
+pub record HasExportInTable (options : LinkOptions) (link : KeptParts) (fault : Fault) : Type 0 where
   pub rows : List SectionRow
   pub layout : Layout
   pub tables : List (List ℕ)
@@ -78,7 +78,7 @@ pub record HasExportInTable (options : LinkOptions) (link : LinkParts) (fault : 
   pub is : in_table_fault link layout.pieces.items ≡ Some fault
 
 -- the value of a field does not fit, and that of no earlier one
-pub record HasBadRange (options : LinkOptions) (link : LinkParts) (fault : Fault) : Type 0 where
+pub record HasBadRange (options : LinkOptions) (link : KeptParts) (fault : Fault) : Type 0 where
   pub rows : List SectionRow
   pub layout : Layout
   pub tables : List (List ℕ)
@@ -88,7 +88,7 @@ pub record HasBadRange (options : LinkOptions) (link : LinkParts) (fault : Fault
   pub is : fields_range_fault link rows layout options.base ≡ Some fault
 
 -- the fault is the one that stands
-abbrev pub IsBuildFault : LinkOptions → LinkParts → Fault → Type 0
+abbrev pub IsBuildFault : LinkOptions → KeptParts → Fault → Type 0
 IsBuildFault options link fault =
     IsBadMerge options link fault
     ⊎ (IsBadExport options link fault
@@ -97,6 +97,6 @@ IsBuildFault options link fault =
     ⊎ (HasBadBase options link fault ⊎ (HasExportInTable options link fault ⊎ HasBadRange options link fault)))))
 
 -- of want of memory nothing is said
-abbrev pub RefusesBuild : LinkOptions → LinkParts → Refusal → Type 0
+abbrev pub RefusesBuild : LinkOptions → KeptParts → Refusal → Type 0
 RefusesBuild options link (refusal.Fault fault) = IsBuildFault options link fault
 RefusesBuild options link refusal.Memory = Unit {0}

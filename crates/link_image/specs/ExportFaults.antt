@@ -12,9 +12,8 @@ use Rattle.export_tables.specs.declared.row.ExportRow.{ExportRow}
 use Rattle.export_tables.specs.declared.row.ExportTo.{ExportTo}
 use Rattle.export_tables.specs.declared.row.ExportTo.TheVariants.{Rva, Forward}
 use Rattle.synthetic_sections.specs.LinkerPieces.{EXPORTS}
-use Rattle.link_pieces.specs.LinkParts.{LinkParts}
-use Rattle.link_pieces.specs.PieceIndex.{linker_index}
-use Rattle.link_plan.specs.ExportTargets.{export_target}
+use Rattle.link_pieces.specs.TablePieces.{KeptParts, table_index}
+use Rattle.link_fields.specs.ExportTargets.{export_target}
 use Rattle.link_image.specs.LinkedBytes.{rva_of, exported_row}
 
 -- ---- before anything has a place
@@ -26,12 +25,12 @@ is_absolute (Some (target.Piece piece value)) = false
 is_absolute (Some (target.Absolute value)) = true
 is_absolute (Some target.ImageBase) = true
 
-abbrev pub absolute_fault : LinkParts → Export → Option Fault
-absolute_fault link row = if is_absolute (export_target link row) then Some (faults.BadExport Absolute row.name) else None
+abbrev pub absolute_fault : KeptParts → Export → Option Fault
+absolute_fault link row = if is_absolute (export_target link.parts row) then Some (faults.BadExport Absolute row.name) else None
 
 -- the first that is wrong with ordinals, or else the first export that stands for no place
-unfoldable pub export_fault : LinkParts → Option Fault
-export_fault link = option_or link.exports.fault (first_standing (map (absolute_fault link) link.exports.rows))
+unfoldable pub export_fault : KeptParts → Option Fault
+export_fault link = option_or link.parts.exports.fault (first_standing (map (absolute_fault link) link.parts.exports.rows))
 
 -- ---- where they stand
 
@@ -43,11 +42,11 @@ lies_in rva size (Forward text) = false
 abbrev pub inside_of : ℕ → ℕ → ExportRow → Option Fault
 inside_of rva size row = if lies_in rva size row.what then Some (faults.BadExport InTable row.name) else None
 
-abbrev pub inside_fault : LinkParts → List ℕ → ℕ → Export → Option Fault
-inside_fault link rvas rva row = inside_of rva link.exports.size (exported_row link rvas row)
+abbrev pub inside_fault : KeptParts → List ℕ → ℕ → Export → Option Fault
+inside_fault link rvas rva row = inside_of rva link.parts.exports.size (exported_row link rvas row)
 
 -- the first export that lies in the export table itself, where pieces have these RVAs
-unfoldable pub in_table_fault : LinkParts → List ℕ → Option Fault
+unfoldable pub in_table_fault : KeptParts → List ℕ → Option Fault
 in_table_fault link rvas =
-    if link.exports.size == 0 then None
-    else first_standing (map (inside_fault link rvas (rva_of rvas (linker_index link EXPORTS))) link.exports.rows)
+    if link.parts.exports.size == 0 then None
+    else first_standing (map (inside_fault link rvas (rva_of rvas (table_index link EXPORTS))) link.parts.exports.rows)

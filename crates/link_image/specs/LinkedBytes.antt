@@ -19,13 +19,9 @@ use Rattle.export_tables.specs.ExportTable.{export_table}
 use Rattle.synthetic_sections.specs.LinkerPieces.{EXPORTS}
 use Rattle.link_exports.specs.Exports.{table_row}
 use Rattle.import_tables.specs.ImportTables.{tables_of as import_tables_of}
-use Rattle.link_pieces.specs.LinkParts.{LinkParts}
-use Rattle.link_imports.specs.Imports.{import_rows}
-use Rattle.link_pieces.specs.LinkerPieces.{is_table}
-use Rattle.link_pieces.specs.PieceIndex.{linker_index}
-use Rattle.link_pieces.specs.Pieces.{link_pieces, link_contents}
-use Rattle.link_plan.specs.ExportTargets.{export_target}
-use Rattle.link_plan.specs.Fixes.{piece_at, piece_fixes}
+use Rattle.link_pieces.specs.TablePieces.{KeptParts, kept_rows, whole_pieces, whole_piece, whole_contents, table_index, is_table}
+use Rattle.link_fields.specs.ExportTargets.{export_target}
+use Rattle.link_plan.specs.Planned.{planned_fixes, planned_target}
 
 -- ---- the section of a piece
 
@@ -54,16 +50,16 @@ rva_of rvas None = 0
 rva_of rvas (Some k) = slice_index rvas k
 
 -- that of the table of a number
-abbrev pub table_rva : LinkParts → Layout → ℕ → ℕ
-table_rva link layout number = rva_of layout.pieces.items (linker_index link number)
+abbrev pub table_rva : KeptParts → Layout → ℕ → ℕ
+table_rva link layout number = rva_of layout.pieces.items (table_index link number)
 
 -- those of the directory, the lookup tables, the slots, the hints with names and the names of DLLs
-unfoldable pub table_rvas : LinkParts → Layout → List ℕ
+unfoldable pub table_rvas : KeptParts → Layout → List ℕ
 table_rvas link layout = map (table_rva link layout) (range_with_len 0 5)
 
 -- the bytes of the import tables
-unfoldable pub import_tables_at : LinkParts → Layout → List (List ℕ)
-import_tables_at link layout = import_tables_of (import_rows link.modules) (table_rvas link layout)
+unfoldable pub import_tables_at : KeptParts → Layout → List (List ℕ)
+import_tables_at link layout = import_tables_of (kept_rows link) (table_rvas link layout)
 
 -- ---- the export table
 
@@ -74,47 +70,47 @@ target_rva rvas (Some (target.Piece piece value)) = slice_index rvas piece + val
 target_rva rvas (Some (target.Absolute value)) = 0
 target_rva rvas (Some target.ImageBase) = 0
 
-abbrev pub exported_row : LinkParts → List ℕ → Export → ExportRow
-exported_row link rvas row = table_row row (target_rva rvas (export_target link row))
+abbrev pub exported_row : KeptParts → List ℕ → Export → ExportRow
+exported_row link rvas row = table_row row (target_rva rvas (planned_target link (export_target link.parts row)))
 
 -- the exports as rows of the table, where pieces have these RVAs
-unfoldable pub exported_rows : LinkParts → List ℕ → List ExportRow
-exported_rows link rvas = map (exported_row link rvas) link.exports.rows
+unfoldable pub exported_rows : KeptParts → List ℕ → List ExportRow
+exported_rows link rvas = map (exported_row link rvas) link.parts.exports.rows
 
 -- the bytes of the table; without exports there are none
-unfoldable pub export_table_at : LinkParts → Layout → List ℕ
+unfoldable pub export_table_at : KeptParts → Layout → List ℕ
 export_table_at link layout =
-    if link.exports.size == 0 then []
-    else export_table (exported_rows link layout.pieces.items) link.exports.ordinals link.exports.dll link.exports.time (table_rva link layout EXPORTS)
+    if link.parts.exports.size == 0 then []
+    else export_table (exported_rows link layout.pieces.items) link.parts.exports.ordinals link.parts.exports.dll link.parts.exports.time (table_rva link layout EXPORTS)
 
 -- those of all tables, by their numbers
-abbrev pub tables_at : LinkParts → Layout → List (List ℕ)
+abbrev pub tables_at : KeptParts → Layout → List (List ℕ)
 tables_at link layout = import_tables_at link layout ++ export_table_at link layout ∷ []
 
 -- ---- the bytes
 
 -- what a piece holds before its fields are patched: a table of imports or exports its bytes by their places, any other piece
 -- what it has without a place
-unfoldable pub contents_at : LinkParts → Layout → ℕ → List ℕ
+unfoldable pub contents_at : KeptParts → Layout → ℕ → List ℕ
 contents_at link layout k =
-    if is_table (length link.modules) (piece_at link k)
-    then slice_index_or (tables_at link layout) (piece_at link k).number []
-    else slice_index_or (link_contents link) k []
+    if is_table (length link.parts.modules) (whole_piece link k)
+    then slice_index_or (tables_at link layout) (whole_piece link k).number []
+    else slice_index_or (whole_contents link) k []
 
-unfoldable pub placed_contents : LinkParts → Layout → List (List ℕ)
-placed_contents link layout = map (contents_at link layout) (range_with_len 0 (length (link_pieces link)))
+unfoldable pub placed_contents : KeptParts → Layout → List (List ℕ)
+placed_contents link layout = map (contents_at link layout) (range_with_len 0 (length (whole_pieces link)))
 
 -- the bytes of a piece with its fields, in an image at a base
-abbrev pub linked_bytes : LinkParts → List SectionRow → Layout → ℕ → ℕ → List ℕ
+abbrev pub linked_bytes : KeptParts → List SectionRow → Layout → ℕ → ℕ → List ℕ
 linked_bytes link rows layout base k =
-    patched_bytes base (slice_index layout.pieces.items k) layout (owners_in rows layout) (piece_fixes link k) (contents_at link layout k)
+    patched_bytes base (slice_index layout.pieces.items k) layout (owners_in rows layout) (planned_fixes link k) (contents_at link layout k)
 
-unfoldable pub linked_contents : LinkParts → List SectionRow → Layout → ℕ → List (List ℕ)
+unfoldable pub linked_contents : KeptParts → List SectionRow → Layout → ℕ → List (List ℕ)
 linked_contents link rows layout base =
-    map (linked_bytes link rows layout base) (range_with_len 0 (length (link_pieces link)))
+    map (linked_bytes link rows layout base) (range_with_len 0 (length (whole_pieces link)))
 
 -- and after them the tables that the linker makes, which are the same at each base
-abbrev pub image_contents : LinkParts → List SectionRow → Layout → List (List ℕ) → ℕ → List (List ℕ)
+abbrev pub image_contents : KeptParts → List SectionRow → Layout → List (List ℕ) → ℕ → List (List ℕ)
 image_contents link rows layout tables base = linked_contents link rows layout base ++ tables
 
 -- ---- values that do not fit
@@ -123,11 +119,11 @@ abbrev pub out_of_range : Piece → RelocRange → Fault
 out_of_range piece range = faults.RelocRange (Some piece.«module») piece.number range.index range.value
 
 -- the first field of a piece whose value does not fit
-abbrev pub piece_range_fault : LinkParts → List SectionRow → Layout → ℕ → ℕ → Option Fault
+abbrev pub piece_range_fault : KeptParts → List SectionRow → Layout → ℕ → ℕ → Option Fault
 piece_range_fault link rows layout base k =
-    option_map (out_of_range (piece_at link k)) (range_fault base (slice_index layout.pieces.items k) layout (owners_in rows layout) (piece_fixes link k) (contents_at link layout k))
+    option_map (out_of_range (whole_piece link k)) (range_fault base (slice_index layout.pieces.items k) layout (owners_in rows layout) (planned_fixes link k) (contents_at link layout k))
 
 -- that of all pieces, in their order
-unfoldable pub fields_range_fault : LinkParts → List SectionRow → Layout → ℕ → Option Fault
+unfoldable pub fields_range_fault : KeptParts → List SectionRow → Layout → ℕ → Option Fault
 fields_range_fault link rows layout base =
-    first_refusal_below (length (link_pieces link)) (piece_range_fault link rows layout base)
+    first_refusal_below (length (whole_pieces link)) (piece_range_fault link rows layout base)

@@ -1,5 +1,5 @@
 -- The image of modules: their pieces in sections, the places of these, and what they make. Own.
-use Rattle.std.specs.Prelude.{◌≡◌, ◌≤◌, ℕ, ◌+◌, ◌-◌, Bool, true, false, List, [], ◌∷◌, ◌++◌, length, replicate, slice_index, slice_index_or, Option, Some, None, codes}
+use Rattle.std.specs.Prelude.{◌≡◌, ◌≤◌, ℕ, ◌+◌, ◌-◌, Bool, true, false, List, [], ◌∷◌, ◌++◌, length, slice_index, slice_index_or, Option, Some, None, codes}
 use Rattle.link_base.specs.Limits.{SECTION_LIMIT, IMAGE_LIMIT}
 use Rattle.link_base.specs.PeFormat.{SCN_CNT_INITIALIZED_DATA, SCN_MEM_DISCARDABLE, SCN_MEM_READ, DIRECTORY_ENTRY_EXPORT, DIRECTORY_ENTRY_IMPORT}
 use Rattle.section_group.specs.declared.piece.Piece.{Piece}
@@ -23,16 +23,13 @@ use Rattle.export_tables.specs.ExportDirectory.{export_of_name, export_of_ordina
 use Rattle.export_tables.specs.ReadBack.{exported_name, exported_ordinal}
 use Rattle.image_writer.specs.ExpectedImage.{ImagePlan, MeansPlan, image_file}
 use Rattle.image_writer.specs.WrittenImage.{written_plan}
-use Rattle.link_pieces.specs.LinkParts.{LinkParts}
 use Rattle.synthetic_sections.specs.LinkerPieces.{SLOTS, EXPORTS}
-use Rattle.link_imports.specs.Imports.{import_rows}
-use Rattle.link_pieces.specs.PieceIndex.{linker_index}
-use Rattle.link_pieces.specs.Pieces.{link_pieces}
+use Rattle.link_pieces.specs.TablePieces.{KeptParts, kept_rows, whole_pieces, table_index}
 use Rattle.link_words.specs.Outcome.{LinkOptions}
-use Rattle.link_plan.specs.declared.entry.EntryPlace.{EntryPlace}
-use Rattle.link_plan.specs.Entry.{entry_place}
+use Rattle.link_fields.specs.declared.entry.EntryPlace.{EntryPlace}
+use Rattle.link_fields.specs.Entry.{entry_place}
 use Rattle.link_plan.specs.Plan.{merges_of}
-use Rattle.link_plan.specs.Fixes.{plan_pieces}
+use Rattle.link_plan.specs.Planned.{used_pieces, plan_pieces}
 use Rattle.link_image.specs.declared.headers.Directories.{Directories}
 use Rattle.link_image.specs.declared.make.Built.{Built}
 use Rattle.link_image.specs.BaseFields.{is_relocated, AreBaseFields}
@@ -42,13 +39,13 @@ use Rattle.link_image.specs.ExportFaults.{export_fault, in_table_fault}
 
 -- ---- sections
 
--- what is put into sections: every piece is used, and the merges are those of the link
-abbrev pub link_input : LinkOptions → LinkParts → List Piece → Input
-link_input options link pieces = input_from pieces (replicate (length pieces) true) (merges_of options link)
+-- what is put into sections: the pieces that are kept, with the tables, and the merges of the link
+abbrev pub link_input : LinkOptions → KeptParts → List Piece → Input
+link_input options link pieces = input_from pieces (used_pieces link) (merges_of options link.parts)
 
 -- the sections that pieces stand in, by merges of which none is bad; and no export is
-pub record AreGrouped (options : LinkOptions) (link : LinkParts) (pieces : List Piece) (sections : List OutSection) : Type 0 where
-  pub merges : HasNoBadMerge (merges_of options link)
+pub record AreGrouped (options : LinkOptions) (link : KeptParts) (pieces : List Piece) (sections : List OutSection) : Type 0 where
+  pub merges : HasNoBadMerge (merges_of options link.parts)
   pub exports : export_fault link ≡ None
   pub grouping : IsGrouping (link_input options link pieces) sections
 
@@ -77,7 +74,7 @@ abbrev pub table_row : ℕ → SectionRow
 table_row k = record { name = codes ".reloc"; flags = SCN_CNT_INITIALIZED_DATA + SCN_MEM_DISCARDABLE + SCN_MEM_READ; pieces = k ∷ [] }
 
 -- the table as the last section and the last piece
-pub record HasTable (link : LinkParts) (piece_rows : List SectionRow) (before : Layout) (rows : List SectionRow) (layout : Layout) (tables : List (List ℕ)) : Type 0 where
+pub record HasTable (link : KeptParts) (piece_rows : List SectionRow) (before : Layout) (rows : List SectionRow) (layout : Layout) (tables : List (List ℕ)) : Type 0 where
   pub fields : List BaseField
   pub based : AreBaseFields link before.pieces.items fields
   pub added : Appends before layout (length (blocks_of fields))
@@ -85,12 +82,12 @@ pub record HasTable (link : LinkParts) (piece_rows : List SectionRow) (before : 
   pub rows_are : rows ≡ piece_rows ++ table_row (length before.pieces.items) ∷ []
   pub tables_are : tables ≡ blocks_of fields ∷ []
 
-abbrev pub IsWhole : Bool → LinkParts → List SectionRow → Layout → List SectionRow → Layout → List (List ℕ) → Type 0
+abbrev pub IsWhole : Bool → KeptParts → List SectionRow → Layout → List SectionRow → Layout → List (List ℕ) → Type 0
 IsWhole true link piece_rows before rows layout tables = HasTable link piece_rows before rows layout tables
 IsWhole false link piece_rows before rows layout tables = (rows ≡ piece_rows) × (layout ≡ before) × (tables ≡ [])
 
 -- where everything stands: the sections of the pieces, and after them the table of base relocations where there is one
-pub record IsPlacement (options : LinkOptions) (link : LinkParts) (rows : List SectionRow) (layout : Layout) (tables : List (List ℕ)) : Type 0 where
+pub record IsPlacement (options : LinkOptions) (link : KeptParts) (rows : List SectionRow) (layout : Layout) (tables : List (List ℕ)) : Type 0 where
   pub sections : List OutSection
   pub grouped : AreGrouped options link (plan_pieces options link) sections
   pub before : Layout
@@ -114,10 +111,10 @@ abbrev pub DIRECTORY : ℕ
 DIRECTORY = 0
 
 -- those of the table of a number
-abbrev pub table_extent : LinkParts → Layout → ℕ → ℕ × ℕ
-table_extent link layout number = extent_of (link_pieces link) layout.pieces.items (linker_index link number)
+abbrev pub table_extent : KeptParts → Layout → ℕ → ℕ × ℕ
+table_extent link layout number = extent_of (whole_pieces link) layout.pieces.items (table_index link number)
 
-abbrev pub directories_of : LinkParts → Layout → List (List ℕ) → Directories
+abbrev pub directories_of : KeptParts → Layout → List (List ℕ) → Directories
 directories_of link layout tables = record {
   exports = table_extent link layout EXPORTS;
   imports = table_extent link layout DIRECTORY;
@@ -128,7 +125,7 @@ directories_of link layout tables = record {
 -- ---- the image
 
 -- the image of modules, in which every value fits
-pub record IsImageOf (options : LinkOptions) (link : LinkParts) (image : ImagePlan) : Type 0 where
+pub record IsImageOf (options : LinkOptions) (link : KeptParts) (image : ImagePlan) : Type 0 where
   pub rows : List SectionRow
   pub layout : Layout
   pub tables : List (List ℕ)
@@ -136,29 +133,29 @@ pub record IsImageOf (options : LinkOptions) (link : LinkParts) (image : ImagePl
   pub permitted : is_permitted (base_rule options) layout.image options.base ≡ true
   pub outside : in_table_fault link layout.pieces.items ≡ None
   pub in_range : fields_range_fault link rows layout options.base ≡ None
-  pub is : image ≡ written_plan (headers_of options (entry_rva layout.pieces.items (entry_place link options.entry_name)) (directories_of link layout tables)) rows layout.sections.items layout.pieces.items layout.image (image_contents link rows layout tables)
+  pub is : image ≡ written_plan (headers_of options (entry_rva layout.pieces.items (entry_place link.parts options.entry_name)) (directories_of link layout tables)) rows layout.sections.items layout.pieces.items layout.image (image_contents link rows layout tables)
 
 -- ---- its imports
 
 -- at each base that a file is loaded at, its import directory names the imports of the modules, each with its slot, and no other
-abbrev pub HoldsImports : LinkParts → Layout → List ℕ → Type 0
+abbrev pub HoldsImports : KeptParts → Layout → List ℕ → Type 0
 HoldsImports link layout image =
     (base : ℕ) (memory : List ℕ) → loaded image base ≡ Some memory
-    → imports_of memory (directory_rva image DIRECTORY_ENTRY_IMPORT) ≡ Imports (found_of (import_rows link.modules) (table_rvas link layout))
+    → imports_of memory (directory_rva image DIRECTORY_ENTRY_IMPORT) ≡ Imports (found_of (kept_rows link) (table_rvas link layout))
 
 -- ---- its exports
 
 -- at each base that a file is loaded at, its export directory says of each name and of each number what the exports of the link
 -- say, and of no other
-pub record HoldsExports (link : LinkParts) (layout : Layout) (image : List ℕ) : Type 0 where
+pub record HoldsExports (link : KeptParts) (layout : Layout) (image : List ℕ) : Type 0 where
   pub by_name : (base : ℕ) (memory name : List ℕ) → loaded image base ≡ Some memory → export_of_name memory (directory_rva image DIRECTORY_ENTRY_EXPORT) (directory_size image DIRECTORY_ENTRY_EXPORT) name ≡ exported_name (exported_rows link layout.pieces.items) name
-  pub by_ordinal : (base : ℕ) (memory : List ℕ) (ordinal : ℕ) → loaded image base ≡ Some memory → export_of_ordinal memory (directory_rva image DIRECTORY_ENTRY_EXPORT) (directory_size image DIRECTORY_ENTRY_EXPORT) ordinal ≡ exported_ordinal (exported_rows link layout.pieces.items) link.exports.ordinals ordinal
+  pub by_ordinal : (base : ℕ) (memory : List ℕ) (ordinal : ℕ) → loaded image base ≡ Some memory → export_of_ordinal memory (directory_rva image DIRECTORY_ENTRY_EXPORT) (directory_size image DIRECTORY_ENTRY_EXPORT) ordinal ≡ exported_ordinal (exported_rows link layout.pieces.items) link.parts.exports.ordinals ordinal
 
 -- ---- what is made
 
 -- what was made is the file of the image of the modules, which loads as planned at every permitted base, and then holds their
 -- imports and exports
-pub record IsBuilt (options : LinkOptions) (link : LinkParts) (built : Built) : Type 0 where
+pub record IsBuilt (options : LinkOptions) (link : KeptParts) (built : Built) : Type 0 where
   pub image : ImagePlan
   pub is_image : IsImageOf options link image
   pub file : built.image.items ≡ image_file image

@@ -21,15 +21,14 @@ use Rattle.relocate.specs.Value.{IsLeastOutside}
 use Rattle.image_writer.specs.declared.headers.Headers.{Headers}
 use Rattle.image_writer.specs.ExpectedImage.{image_file}
 use Rattle.image_writer.specs.WrittenImage.{layout_plan, at_each_base, IsLaidOut}
-use Rattle.link_pieces.specs.LinkParts.{LinkParts}
-use Rattle.link_pieces.specs.LinkerPieces.{is_table}
+use Rattle.link_pieces.specs.TablePieces.{KeptParts, whole_pieces, is_table}
 use Rattle.link_pieces.specs.PieceIndex.{is_numbered, holds}
-use Rattle.link_pieces.specs.Pieces.{link_pieces}
-use Rattle.link_plan.specs.Fixes.{HaveFields, plan_pieces}
+use Rattle.link_plan.specs.Reach.{AreKept}
+use Rattle.link_plan.specs.Planned.{HaveFields, used_pieces, plan_pieces}
 use Rattle.link_base.specs.Limits.{SECTION_LIMIT, IMAGE_LIMIT}
 use Rattle.link_words.specs.Outcome.{LinkOptions}
 use Rattle.link_plan.specs.declared.planning.LinkPlan.{LinkPlan}
-use Rattle.link_plan.specs.declared.entry.EntryPlace.{EntryPlace}
+use Rattle.link_fields.specs.declared.entry.EntryPlace.{EntryPlace}
 use Rattle.link_plan.specs.Laid.{StandsNamed}
 use Rattle.link_image.specs.declared.placement.Placement.{Placement}
 use Rattle.link_image.specs.BaseFields.{base_field, AreBaseFields}
@@ -37,7 +36,7 @@ use Rattle.link_image.specs.LinkedBytes.{owners_in, contents_at, placed_contents
 use Rattle.link_image.specs.LinkedImage.{link_input, table_row, IsPlacement}
 use Rattle.section_group.specs.Merging.{HasNoBadMerge}
 use Rattle.section_group.specs.Placement.{IsGrouping}
-use Rattle.link_plan.specs.Plan.{merges_of}
+use Rattle.link_plan.specs.Plan.{merges_of, kept_parts}
 use Rattle.export_tables.specs.declared.row.ExportTo.{ExportTo}
 use Rattle.export_tables.specs.declared.row.ExportTo.TheVariants.{Rva, Forward}
 
@@ -78,7 +77,7 @@ pub record HoldTables (tables : List (List ℕ)) (rest : List Piece) : Type 0 wh
   pub sizes : (j : ℕ) → j < length rest → (slice_index_or rest j no_piece).size ≡ length (slice_index_or tables j [])
 
 -- a table of base relocations
-pub record IsTable (link : LinkParts) (rvas table : List ℕ) : Type 0 where
+pub record IsTable (link : KeptParts) (rvas table : List ℕ) : Type 0 where
   pub fields : List BaseField
   pub based : AreBaseFields link rvas fields
   pub is : table ≡ blocks_of fields
@@ -91,12 +90,12 @@ pub record EndsWithTable (old new : List OutSection) (k : ℕ) : Type 0 where
 
 -- the placement of a plan: what it means, that it can be written, and that pieces that need a place stand in a section
 pub record IsPlaced (options : LinkOptions) (plan : LinkPlan) (placement : Placement) : Type 0 where
-  pub means : IsPlacement options plan.names (rows_of placement.sections.items) placement.layout (reloc_tables placement.table)
+  pub means : IsPlacement options (kept_parts plan) (rows_of placement.sections.items) placement.layout (reloc_tables placement.table)
   pub laid : (rest : List Piece) → HoldTables (reloc_tables placement.table) rest → IsLaidOut (plan.pieces.items ++ rest) placement.sections.items placement.layout
-  pub stands : (k : ℕ) → k < length plan.pieces.items → ((0 < (slice_index_or plan.pieces.items k no_piece).size) ⊎ ((slice_index_or plan.pieces.items k no_piece).named ≡ true)) → Contains (all_pieces placement.sections.items) k
+  pub stands : (k : ℕ) → k < length plan.pieces.items → slice_index_or (used_pieces (kept_parts plan)) k false ≡ true → ((0 < (slice_index_or plan.pieces.items k no_piece).size) ⊎ ((slice_index_or plan.pieces.items k no_piece).named ≡ true)) → Contains (all_pieces placement.sections.items) k
   pub room : length plan.pieces.items ≤ length placement.layout.pieces.items
   pub fits : (place : EntryPlace) → StandsNamed plan.pieces.items place → slice_index placement.layout.pieces.items place.piece < 2 ^ 32 → slice_index placement.layout.pieces.items place.piece + place.value < 2 ^ 32
-  pub ends : (k : ℕ) → k < length plan.pieces.items → 0 < (slice_index_or plan.pieces.items k no_piece).size → slice_index placement.layout.pieces.items k + (slice_index_or plan.pieces.items k no_piece).size ≤ IMAGE_LIMIT
+  pub ends : (k : ℕ) → k < length plan.pieces.items → slice_index_or (used_pieces (kept_parts plan)) k false ≡ true → 0 < (slice_index_or plan.pieces.items k no_piece).size → slice_index placement.layout.pieces.items k + (slice_index_or plan.pieces.items k no_piece).size ≤ IMAGE_LIMIT
   pub few : length placement.sections.items ≤ SECTION_LIMIT
   pub small : All (λ table. length table < 2 ^ 32) (reloc_tables placement.table)
 
@@ -116,8 +115,8 @@ IsGiven (Rva address) = (address ≢ 0) × (address < 2 ^ 32)
 IsGiven (Forward text) = Unit {0}
 
 -- the sections that pieces stand in, by merges of which none is bad
-pub record AreMerged (options : LinkOptions) (link : LinkParts) (pieces : List Piece) (sections : List OutSection) : Type 0 where
-  pub merges : HasNoBadMerge (merges_of options link)
+pub record AreMerged (options : LinkOptions) (link : KeptParts) (pieces : List Piece) (sections : List OutSection) : Type 0 where
+  pub merges : HasNoBadMerge (merges_of options link.parts)
   pub grouping : IsGrouping (link_input options link pieces) sections
 
 -- ---- pieces with their bytes
@@ -147,36 +146,37 @@ pub record IsHeld (piece : Piece) (bytes : List ℕ) : Type 0 where
 -- ---- what was decided before fields are patched
 
 -- the pieces with their fields, the tables after them, and where all of these stand
-pub record IsReady (link : LinkParts) (pieces : List Piece) (fixups : List (List Fix)) (sections : List OutSection) (layout : Layout) (owner : List ℕ) (tables : List (List ℕ)) : Type 0 where
+pub record IsReady (link : KeptParts) (pieces : List Piece) (fixups : List (List Fix)) (sections : List OutSection) (layout : Layout) (owner : List ℕ) (tables : List (List ℕ)) : Type 0 where
   pub options : LinkOptions
+  pub kept_are : AreKept options link.parts link.kept
   pub pieces_are : map bare pieces ≡ plan_pieces options link
   pub held : (k : ℕ) → k < length pieces → IsHeld (slice_index_or pieces k no_piece) (contents_at link layout k)
   pub fields : HaveFields link (length pieces) fixups
   pub rest : List Piece
   pub holds : HoldTables tables rest
   pub laid : IsLaidOut (pieces ++ rest) sections layout
-  pub stands : (k : ℕ) → k < length pieces → ((0 < (slice_index_or pieces k no_piece).size) ⊎ ((slice_index_or pieces k no_piece).named ≡ true)) → Contains (all_pieces sections) k
+  pub stands : (k : ℕ) → k < length pieces → slice_index_or (used_pieces link) k false ≡ true → ((0 < (slice_index_or pieces k no_piece).size) ⊎ ((slice_index_or pieces k no_piece).named ≡ true)) → Contains (all_pieces sections) k
   pub owner_is : owner ≡ owners_in (rows_of sections) layout
 
 -- the contents of an image whose first pieces are patched
-abbrev pub mixed_at : LinkParts → List SectionRow → Layout → ℕ → ℕ → ℕ → List ℕ
+abbrev pub mixed_at : KeptParts → List SectionRow → Layout → ℕ → ℕ → ℕ → List ℕ
 mixed_at link rows layout base count k =
     if nat_lt k count then linked_bytes link rows layout base k else contents_at link layout k
 
-unfoldable pub mixed_contents : LinkParts → List SectionRow → Layout → ℕ → ℕ → List (List ℕ)
+unfoldable pub mixed_contents : KeptParts → List SectionRow → Layout → ℕ → ℕ → List (List ℕ)
 mixed_contents link rows layout base count =
-    map (mixed_at link rows layout base count) (range_with_len 0 (length (link_pieces link)))
+    map (mixed_at link rows layout base count) (range_with_len 0 (length (whole_pieces link)))
 
 -- the file of an image with these headers and contents, and the tables after them
 abbrev pub file_of : Headers → List OutSection → Layout → List (List ℕ) → List (List ℕ) → List ℕ
 file_of headers sections layout contents tables = image_file (layout_plan headers sections layout (at_each_base (contents ++ tables)))
 
-abbrev pub mixed_file : LinkParts → Headers → List OutSection → Layout → List (List ℕ) → ℕ → List ℕ
+abbrev pub mixed_file : KeptParts → Headers → List OutSection → Layout → List (List ℕ) → ℕ → List ℕ
 mixed_file link headers sections layout tables count =
     file_of headers sections layout (mixed_contents link (rows_of sections) layout headers.base count) tables
 
 -- what was written of pieces and tables
-pub record IsWritten (headers : Headers) (placement : Placement) (link : LinkParts) (image : List ℕ) : Type 0 where
+pub record IsWritten (headers : Headers) (placement : Placement) (link : KeptParts) (image : List ℕ) : Type 0 where
   pub rest : List Piece
   pub holds : HoldTables (reloc_tables placement.table) rest
   pub file : image ≡ file_of headers placement.sections.items placement.layout (placed_contents link placement.layout) (reloc_tables placement.table)

@@ -3,7 +3,7 @@ use Rattle.std.proofs.Common.{◌≡◌, ℕ, suc, ◌+◌, ◌-◌, ◌<◌, �
 use Rattle.std.specs.List.{All, Contains, list_any}
 use Rattle.std.proofs.lemmas.Bool.{cases_lt, false≢true, eqb-true, ltb-true, lt-ltb, le-ltb, and_parts}
 use Rattle.std.proofs.lemmas.Bool.Decides.{eqb_tells}
-use Rattle.std.proofs.lemmas.List.{get_or_append_left, get_or_append_right, length-append}
+use Rattle.std.proofs.lemmas.List.{get_or_append_left, get_or-append_right, length-append}
 use Rattle.std.proofs.lemmas.List.Elements.{All-map, All-weaker, All-append, All-contains_itself}
 use Rattle.std.proofs.Math.ListN.{get_or-map}
 use Rattle.link_base.proofs.CallerLemmas.{first_below-none, first_below-some}
@@ -101,7 +101,7 @@ pub table_is : (link : KeptParts) (k : ℕ) → length (link_pieces link.parts) 
 table_is link k behind lt =
     let pieces = link_pieces link.parts in
     let tables = tables_of link in
-    subst (IsLinkTable link) (sym (get_or_append_right pieces tables no_piece k behind))
+    subst (IsLinkTable link) (sym (get_or-append_right pieces tables (length pieces) k no_piece refl behind))
     (tables_are link (k - length pieces) no_piece (omega (arith, behind, lt, length-append pieces tables)))
 
 -- a piece of the link is the same among all

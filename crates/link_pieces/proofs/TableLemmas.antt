@@ -1,10 +1,10 @@
 -- The tables of imports and exports: what they are, that they are aligned, and that one with bytes is there.
-use Rattle.std.proofs.Common.{◌≡◌, ℕ, zero, suc, ◌+◌, ◌<◌, Bool, true, false, cond, ◌||◌, eqb, ltb, List, [], ◌∷◌, ◌++◌, length, get_or, Option, None, inl, inr, refl, sym, ap, subst, ◌∙◌, eq-eqb, arith}
+use Rattle.std.proofs.Common.{◌≡◌, ℕ, zero, suc, ◌+◌, ◌<◌, ◌≤◌, Bool, true, false, cond, ◌||◌, eqb, ltb, List, [], ◌∷◌, ◌++◌, length, get_or, Option, None, inl, inr, refl, sym, ap, subst, ◌∙◌, eq-eqb, arith}
 use Rattle.std.specs.Prelude.{codes}
 use Rattle.std.specs.List.{All, list_any}
 use Rattle.std.proofs.lemmas.Bool.{cases_lt, false≢true, lt-ltb}
 use Rattle.std.proofs.lemmas.Bool.Decides.{eqb_tells}
-use Rattle.std.proofs.lemmas.List.{get_or_push, get_or_append_left}
+use Rattle.std.proofs.lemmas.List.{get_or_push, get_or_append_left, length-append}
 use Rattle.std.proofs.lemmas.List.Elements.{All-nil, All-cons, All-append}
 use Rattle.std.proofs.lemmas.List.Folds.{list_any-append}
 use Rattle.section_group.specs.declared.piece.Piece.{Piece}
@@ -96,6 +96,33 @@ tables_told modules kept size =
     rw (eq-eqb count count refl, lt-ltb number FIRST_THUNK (omega (arith, few))) refl))
     (all_exports (λ (piece : Piece). is_table count piece ≡ true) count size (λ some. rw (eq-eqb count count refl) refl))
 
+
+-- ---- there are at most six
+
+few_if : (none : Bool) (piece : Piece) → length (cond none [] (piece ∷ [])) ≤ 1
+few_if true piece = omega arith
+few_if false piece = omega arith
+
+few_imports : (count : ℕ) (sizes : List ℕ) → length (table_pieces count sizes) ≤ 5
+unfolding table_pieces
+few_imports count sizes =
+    let table = λ (number : ℕ) (name : List ℕ) (align : ℕ). table_if count number name align (size_at sizes number) in
+    let few = λ (number : ℕ) (name : List ℕ) (align : ℕ). few_if (eqb (size_at sizes number) 0) (table_piece count number name align (size_at sizes number)) in
+    let a = table 0 (codes ".idata$2") 4 in
+    let b = table 1 (codes ".idata$4") 8 in
+    let c = table SLOTS (codes ".idata$5") 8 in
+    let d = table 3 (codes ".idata$6") 2 in
+    let e = table 4 (codes ".idata$7") 1 in
+    omega (arith, length-append a (b ++ (c ++ (d ++ e))), length-append b (c ++ (d ++ e)), length-append c (d ++ e), length-append d e, few 0 (codes ".idata$2") 4, few 1 (codes ".idata$4") 8, few SLOTS (codes ".idata$5") 8, few 3 (codes ".idata$6") 2, few 4 (codes ".idata$7") 1)
+
+few_exports : (count size : ℕ) → length (export_table_pieces count size) ≤ 1
+unfolding export_table_pieces
+few_exports count size = few_if (eqb size 0) (table_piece count EXPORTS (codes ".edata") 4 size)
+
+pub tables_few : (modules : List ModuleView) (kept : List Bool) (size : ℕ) → length (tables_for modules kept size) ≤ 6
+tables_few modules kept size =
+    let count = length modules in
+    omega (arith, length-append (table_pieces count (import_sizes modules kept)) (export_table_pieces count size), few_imports count (import_sizes modules kept), few_exports count size)
 
 -- ---- one that has bytes is there
 

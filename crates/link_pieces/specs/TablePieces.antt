@@ -1,8 +1,9 @@
 -- What is kept of a link, and the tables that the linker makes for it behind all other pieces: those of the imports that are
 -- kept, and that of the exports. Own.
-use Rattle.std.specs.Prelude.{◌≡◌, ◌<◌, ℕ, Bool, true, ◌&&◌, ◌==◌, nat_lt, List, [], ◌∷◌, ◌++◌, length, map, drop, Option}
+use Rattle.std.specs.Prelude.{◌≡◌, ◌<◌, ℕ, Bool, true, ◌&&◌, ◌==◌, nat_lt, List, [], ◌∷◌, ◌++◌, length, map, drop, slice_index_or, Option}
 use Rattle.link_base.specs.Bytes.{first_below}
 use Rattle.section_group.specs.declared.piece.Piece.{Piece}
+use Rattle.section_group.specs.SectionOrder.{no_piece}
 use Rattle.module_view.specs.Module.{ModuleView}
 use Rattle.import_tables.specs.declared.row.ImportRow.{ImportRow}
 use Rattle.synthetic_sections.specs.LinkerPieces.{FIRST_THUNK, size_at, table_pieces, export_table_pieces, no_bytes}
@@ -45,6 +46,9 @@ table_sizes link = import_sizes link.parts.modules (kept_imports link) ++ link.p
 
 abbrev pub whole_pieces : KeptParts → List Piece
 whole_pieces link = link_pieces link.parts ++ tables_of link
+
+abbrev pub whole_piece : KeptParts → ℕ → Piece
+whole_piece link k = slice_index_or (whole_pieces link) k no_piece
 
 -- the tables hold nothing before they have places
 abbrev pub whole_contents : KeptParts → List (List ℕ)

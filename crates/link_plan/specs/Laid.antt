@@ -29,9 +29,8 @@ pub record StandsNamed (pieces : List Piece) (place : EntryPlace) : Type 0 where
 abbrev pub laid_link : LinkParts → LaidPieces → KeptParts
 laid_link link laid = record { parts = link; kept = laid.kept.items }
 
--- what is kept of the pieces of the modules, with their fields, the tables, and the places of the entry and the exports, none of which has a fault
-pub record AreLaid (options : LinkOptions) (link : LinkParts) (laid : LaidPieces) : Type 0 where
-  pub opened : All IsOpened link.modules
+-- what is kept of the pieces of the modules, with their fields and the tables, and the places of the entry and the exports
+pub record ArePlanned (options : LinkOptions) (link : LinkParts) (laid : LaidPieces) : Type 0 where
   pub kept_are : AreKept options link laid.kept.items
   pub pieces_are : map bare laid.pieces.items ≡ plan_pieces options (laid_link link laid)
   pub contents_are : map piece_contents laid.pieces.items ≡ whole_contents (laid_link link laid)
@@ -41,6 +40,11 @@ pub record AreLaid (options : LinkOptions) (link : LinkParts) (laid : LaidPieces
   pub fields : HaveFields (laid_link link laid) (length laid.pieces.items) laid.fixes.items
   pub imports : AreImports link.modules (kept_imports (laid_link link laid)) laid.imports
   pub entry_is : laid.entry ≡ entry_place link options.entry_name
-  pub stands : ForSome laid.entry (StandsNamed laid.pieces.items)
   pub exported_are : laid.exported.items ≡ planned_targets (laid_link link laid)
+
+-- none of them has a fault
+pub record AreLaid (options : LinkOptions) (link : LinkParts) (laid : LaidPieces) : Type 0 where
+  pub opened : All IsOpened link.modules
+  pub planned : ArePlanned options link laid
+  pub stands : ForSome laid.entry (StandsNamed laid.pieces.items)
   pub no_fault : fields_fault options link ≡ None

@@ -1,7 +1,7 @@
 //! What of a link is kept.
 
-ghost use Rattle.std.specs.Prelude.{◌≡◌, ◌++◌, ◌<◌, ◌≤◌, ◌^◌, ◌+◌, ◌||◌, ℕ, false, length, map, slice_index_or, option_and_then, None, IfOk, OnOk, if◌then◌else◌};
-ghost use Rattle.std.specs.List.{list_any};
+ghost use Rattle.std.specs.Prelude.{◌≡◌, ◌++◌, ◌<◌, ◌≤◌, ◌^◌, ◌+◌, ◌||◌, [], ℕ, false, length, map, slice_index_or, option_map, option_and_then, None, IfOk, OnOk, if◌then◌else◌};
+ghost use Rattle.std.specs.List.{cons_option, list_any};
 ghost use Rattle.link_base.specs.Limits.{MODULE_LIMIT};
 ghost use Rattle.section_group.specs.BarePieces.{bare};
 ghost use Rattle.coff_aux.specs.Comdats.{comdat_of};
@@ -97,14 +97,26 @@ fn link_graph<'a>(
 {
     let mut edges = edges;
     for k in 0..pieces.len() {
-        if let Some(parent) = parent_piece(index, modules, &pieces[k]) {
-            edges.push((parent, k as u32))?;
-        }
+        push_child(&mut edges, parent_piece(index, modules, &pieces[k]), k as u32)?;
     }
     Ok(Graph {
         pieces: (pieces.len() + modules.len()) as u32,
         edges,
     })
+}
+
+/// Appends that a piece leads to another, where there is one that does.
+fn push_child(
+    edges: &mut Vec<(u32, u32)>,
+    parent: Option<u32>,
+    child: u32,
+) -> Result<(), Memory>
+    ensures { OnOk result (edges.new.items ≡ edges.old.items ++ cons_option (option_map (λ parent. (parent, child)) parent) []) }
+{
+    if let Some(parent) = parent {
+        edges.push((parent, child))?;
+    }
+    Ok(())
 }
 
 /// The piece that a COMDAT section is selected with, where there is one.

@@ -34,11 +34,18 @@ pub(crate) fn keep_fields(
     ensures { fixups.new.items ≡ map (λ k. fixes_if (slice_index_or kept.now k false) (map (redirected_fix places.now.first places.now.table places.now.offsets.now) (slice_index_or fixups.old.items k []))) (range_with_len 0 (length fixups.old.items)) }
 {
     for k in 0..fixups.len() {
-        if kept[k] {
-            fixups[k].redirect(places.first, places.table, places.offsets);
-        } else {
-            fixups[k] = Fixups::none(alloc);
-        }
+        keep_field(alloc, &mut fixups[k], kept[k], places);
+    }
+}
+
+/// Drops the fields of a piece where it is not kept, and else gives them the places of imports.
+fn keep_field(alloc: Global, fixups: &mut Fixups, kept: bool, places: &SlotPlaces<'_>)
+    ensures { fixups.new ≡ fixes_if kept (map (redirected_fix places.now.first places.now.table places.now.offsets.now) fixups.old) }
+{
+    if kept {
+        fixups.redirect(places.first, places.table, places.offsets);
+    } else {
+        *fixups = Fixups::none(alloc);
     }
 }
 

@@ -1,19 +1,26 @@
 //! The pieces of a link with their fields, what is kept of them, and the places of its entry and its exports.
 
-ghost use Rattle.std.specs.Prelude.{◌≡◌, ◌≤◌, length, IfOk, IfErr};
+ghost use Rattle.std.specs.Prelude.{◌≡◌, ◌≤◌, ◌<◌, ◌-◌, ◌^◌, ℕ, length, map, All, IfOk, IfErr};
 ghost use Rattle.link_base.specs.Limits.{MODULE_LIMIT};
 ghost use Rattle.link_base.specs.Refusals.{RefusesFor};
+ghost use Rattle.section_group.specs.BarePieces.{bare};
+ghost use Rattle.section_group.specs.PieceContents.{piece_contents, HasItsBytes};
+ghost use Rattle.address_layout.specs.Layout.{IsAlignment};
 ghost use Rattle.link_words.specs.Outcome.{options_said};
 ghost use Rattle.link_pieces.specs.LocalSlots.{slot_names};
-ghost use Rattle.link_fields.specs.Entry.{entry_meant};
+ghost use Rattle.link_pieces.specs.Pieces.{link_pieces, link_contents};
+ghost use Rattle.link_pieces.specs.PieceIndex.{IsPieceIndex};
+ghost use Rattle.link_fields.specs.Entry.{entry_meant, entry_place};
+ghost use Rattle.link_fields.specs.ExportTargets.{export_targets};
+ghost use Rattle.link_fields.specs.Fixes.{HaveFields, field_edges};
 ghost use Rattle.link_plan.specs.PlanFaults.{fields_fault};
-ghost use Rattle.link_plan.specs.Laid.{AreLaid};
+ghost use Rattle.link_plan.specs.Laid.{ArePlanned, AreLaid};
 
 use crate::keeping::kept_nodes;
 use crate::kept_fields::{SlotPlaces, keep_fields, place_exports, push_none, slot_table};
 use crate::meanings::Meanings;
 use crate::named::name_meant;
-use link_base::Refusal;
+use link_base::{Memory, Refusal};
 use link_fields::{EntryPlace, JudgedFixes, NamedPlaces, judge_pieces, named_places};
 use link_imports::{LinkImports, link_imports};
 use link_pieces::{LinkNames, PieceIndex, pieces_of, push_tables};
@@ -52,15 +59,47 @@ pub(crate) fn lay_pieces<'a>(
     ensures refused { IfErr result (RefusesFor (fields_fault (options_said options.now) names.now)) }
 {
     let Meanings { start, slots } = meant;
-    let slot_count = slots.len();
-    let mut pieces = pieces_of(alloc, names, modules, slot_count)?;
+    let count = slots.len();
+    let pieces = pieces_of(alloc, names, modules, count)?;
     let index = PieceIndex::new(alloc, modules, slots, &pieces)?;
-    let places = named_places(alloc, names, &index, &start, slot_count)?;
-    let JudgedFixes { fixups, edges } =
-        judge_pieces(alloc, names, &index, modules, &pieces, options.large)?;
-    let nodes = kept_nodes(
-        alloc, names, &index, modules, &pieces, &places, edges, options,
+    let places = named_places(alloc, names, &index, &start, count)?;
+    let fixes = judge_pieces(alloc, names, &index, modules, &pieces, options.large)?;
+    let laid = keep_pieces(
+        alloc, names, &index, modules, pieces, fixes, places, options,
     )?;
+    Ok(laid)
+}
+
+/// What is kept of the pieces of a link, with the tables of what is kept.
+fn keep_pieces<'a>(
+    alloc: Global,
+    names: &LinkNames<'a>,
+    index: &PieceIndex<'a>,
+    modules: &[Module<'a>],
+    pieces: Vec<Piece<'a>>,
+    fixes: JudgedFixes,
+    places: NamedPlaces,
+    options: &Options<'a>,
+) -> Result<LaidPieces<'a>, Memory>
+    requires same { names.now.modules ≡ modules.now }
+    requires few_modules { length modules.now ≤ MODULE_LIMIT }
+    requires indexed { IsPieceIndex names.now index.now }
+    requires pieces { map bare pieces.items ≡ link_pieces names.now }
+    requires contents { map piece_contents pieces.items ≡ link_contents names.now }
+    requires aligned { All (λ piece. IsAlignment piece.align) pieces.items }
+    requires bodies { (k : ℕ) → k < length pieces.items → HasItsBytes pieces.items k }
+    requires few { length pieces.items < 2 ^ 31 - 16 }
+    requires fields { HaveFields names.now (length pieces.items) fixes.fixups.items }
+    requires edges { fixes.edges.items ≡ field_edges names.now }
+    requires entry { places.entry ≡ entry_place names.now (options_said options.now).entry_name }
+    requires exported { places.exported.items ≡ export_targets names.now }
+    ensures { IfOk result (ArePlanned (options_said options.now) names.now) }
+{
+    let JudgedFixes { fixups, edges } = fixes;
+    let nodes = kept_nodes(
+        alloc, names, index, modules, &pieces, &places, edges, options,
+    )?;
+    let mut pieces = pieces;
     name_meant(&mut pieces, &nodes.meant);
     let count = pieces.len();
     let imports = link_imports(alloc, modules, &nodes.kept[count..])?;

@@ -34,6 +34,7 @@ pub use laws::{
 };
 pub use link_base::{RelocKind, TargetFault};
 pub use patching::patch;
+pub use redirect::redirected;
 pub use range::RelocRange;
 pub use target::is_based;
 

@@ -45,8 +45,9 @@ fn redirected_target(
     }
 }
 
-/// A piece from the first on stands for the offset of its number among them, in the one piece.
-fn redirected(target: Target, first: u32, home: u32, offsets: &[u32]) -> Target
+/// A target with the place that it stands for: a piece from `first` on stands for the offset of its number among them, in the
+/// one piece `home`.
+pub fn redirected(target: Target, first: u32, home: u32, offsets: &[u32]) -> Target
     ensures { result ≡ redirected first home offsets.now target }
 {
     match target {
