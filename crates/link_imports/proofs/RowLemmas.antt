@@ -126,7 +126,7 @@ unfolding slots_of
 slots_count rows = length-map-range_with_len (row_offset rows) 0 (length rows)
 
 -- behind the modules there is no slot
-past_all : (modules : List ModuleView) (kept : List Bool) (p : ℕ) → length modules ≤ p → slot_offset modules kept p ≡ 0
+pub past_all : (modules : List ModuleView) (kept : List Bool) (p : ℕ) → length modules ≤ p → slot_offset modules kept p ≡ 0
 past_all modules kept p past =
     get_or_past (import_slots modules kept) (length (rows_below modules kept p)) 0
     (omega (arith, slots_count (import_rows modules kept), rows_among modules kept (length modules) p past))
