@@ -25,10 +25,8 @@ use Rattle.relocate.specs.PatchedBytes.{patched_bytes, range_fault}
 use Rattle.relocate.specs.Value.{fits}
 use Rattle.relocate.proofs.PatchLemmas.{within_at}
 use Rattle.relocate.proofs.CallerLemmas.{bytes_in_any_order, range_in_any_order, no_range_in_any_order, nothing_patched}
-use Rattle.link_pieces.specs.LinkParts.{LinkParts}
-use Rattle.link_pieces.specs.Pieces.{link_pieces}
-use Rattle.link_plan.specs.Fixes.{piece_fixes}
-use Rattle.link_plan.specs.Fixes.{piece_at as link_piece_at, planned_piece}
+use Rattle.link_pieces.specs.TablePieces.{KeptParts, whole_pieces, whole_piece}
+use Rattle.link_plan.specs.Planned.{planned_fixes, planned_piece}
 use Rattle.link_plan.proofs.CallerLemmas.{fixes_numbered, planned_at}
 use Rattle.link_image.specs.LinkedBytes.{section_of, contents_at, placed_contents, linked_bytes, out_of_range, piece_range_fault}
 use Rattle.link_image.specs.Steps.{IsHeld, IsReady, RefusesRange, mixed_contents, file_of, mixed_file}
@@ -40,13 +38,13 @@ pub above_zero : (n : ℕ) → eqb n 0 ≡ false → 0 < n
 above_zero zero none = absurd (false≢true (sym none))
 above_zero (suc n) some = omega arith
 
-module _ (link : LinkParts) (pieces : List Piece) (fixups : List (List Fix)) (sections : List OutSection) (layout : Layout) (owner : List ℕ) (tables : List (List ℕ)) (ready : IsReady link pieces fixups sections layout owner tables) where
+module _ (link : KeptParts) (pieces : List Piece) (fixups : List (List Fix)) (sections : List OutSection) (layout : Layout) (owner : List ℕ) (tables : List (List ℕ)) (ready : IsReady link pieces fixups sections layout owner tables) where
   -- ---- a piece
 
   pub size_here : (k : ℕ) → k < length pieces → (get_or pieces k no_piece).init ≡ true → length (contents_at link layout k) ≡ (get_or pieces k no_piece).size
   size_here k lt init = (ready.held k lt).filled init
 
-  pub total_is : length pieces ≡ length (link_pieces link)
+  pub total_is : length pieces ≡ length (whole_pieces link)
   total_is = pieces_count link pieces fixups sections layout owner tables ready
 
   -- its section
@@ -110,32 +108,32 @@ module _ (link : LinkParts) (pieces : List Piece) (fixups : List (List Fix)) (se
 
   -- ---- its fields, in the order of their places
 
-  pub same_bytes : (base k : ℕ) (fields : List Fix) → k < length pieces → AreTheFields (piece_fixes link k) fields → ArePatchable (length (contents_at link layout k)) fields → patched_bytes base (get_or layout.pieces.items k 0) layout owner fields (contents_at link layout k) ≡ linked_bytes link (rows_of sections) layout base k
+  pub same_bytes : (base k : ℕ) (fields : List Fix) → k < length pieces → AreTheFields (planned_fixes link k) fields → ArePatchable (length (contents_at link layout k)) fields → patched_bytes base (get_or layout.pieces.items k 0) layout owner fields (contents_at link layout k) ≡ linked_bytes link (rows_of sections) layout base k
   same_bytes base k fields lt are patchable =
-      bytes_in_any_order base (get_or layout.pieces.items k 0) layout owner (piece_fixes link k) fields (contents_at link layout k) (length (contents_at link layout k)) are patchable
-      ∙ ap (λ (os : List ℕ). patched_bytes base (get_or layout.pieces.items k 0) layout os (piece_fixes link k) (contents_at link layout k)) ready.owner_is
+      bytes_in_any_order base (get_or layout.pieces.items k 0) layout owner (planned_fixes link k) fields (contents_at link layout k) (length (contents_at link layout k)) are patchable
+      ∙ ap (λ (os : List ℕ). patched_bytes base (get_or layout.pieces.items k 0) layout os (planned_fixes link k) (contents_at link layout k)) ready.owner_is
 
-  same_place : (k : ℕ) (range : RelocRange) → k < length pieces → out_of_range (get_or pieces k no_piece) range ≡ out_of_range (link_piece_at link k) range
+  same_place : (k : ℕ) (range : RelocRange) → k < length pieces → out_of_range (get_or pieces k no_piece) range ≡ out_of_range (whole_piece link k) range
   same_place k range lt =
-      let within : k < length (link_pieces link) = omega (arith, lt, total_is) in
+      let within : k < length (whole_pieces link) = omega (arith, lt, total_is) in
       let is : bare (get_or pieces k no_piece) ≡ planned_piece ready.options link k =
       sym (get_or-map bare pieces k no_piece) ∙ ap (λ (ps : List Piece). get_or ps k no_piece) ready.pieces_are ∙ planned_at ready.options link k within in
       ap (λ (p : Piece). out_of_range p range) is
 
-  pub range_here : (base k : ℕ) (fields : List Fix) (fault : Fault) → k < length pieces → AreTheFields (piece_fixes link k) fields → RefusesRange base (get_or layout.pieces.items k 0) layout owner fields (contents_at link layout k) (get_or pieces k no_piece) fault → piece_range_fault link (rows_of sections) layout base k ≡ Some fault
+  pub range_here : (base k : ℕ) (fields : List Fix) (fault : Fault) → k < length pieces → AreTheFields (planned_fixes link k) fields → RefusesRange base (get_or layout.pieces.items k 0) layout owner fields (contents_at link layout k) (get_or pieces k no_piece) fault → piece_range_fault link (rows_of sections) layout base k ≡ Some fault
   range_here base k fields fault lt are refuses =
       let rva = get_or layout.pieces.items k 0 in
-      let range = range_in_any_order base rva layout owner (piece_fixes link k) fields (contents_at link layout k) refuses.range are (fixes_numbered link k) refuses.least in
-      ap (option_map (out_of_range (link_piece_at link k))) (ap (λ (os : List ℕ). range_fault base rva layout os (piece_fixes link k) (contents_at link layout k)) (sym ready.owner_is) ∙ range)
+      let range = range_in_any_order base rva layout owner (planned_fixes link k) fields (contents_at link layout k) refuses.range are (fixes_numbered link k) refuses.least in
+      ap (option_map (out_of_range (whole_piece link k))) (ap (λ (os : List ℕ). range_fault base rva layout os (planned_fixes link k) (contents_at link layout k)) (sym ready.owner_is) ∙ range)
       ∙ ap (λ (f : Fault). Some f) (sym (same_place k refuses.range lt) ∙ sym refuses.is)
 
-  pub no_range_here : (base k : ℕ) (fields : List Fix) → k < length pieces → AreTheFields (piece_fixes link k) fields → All (λ fix. fits base (get_or layout.pieces.items k 0) layout owner (contents_at link layout k) fix ≡ true) fields → piece_range_fault link (rows_of sections) layout base k ≡ None
+  pub no_range_here : (base k : ℕ) (fields : List Fix) → k < length pieces → AreTheFields (planned_fixes link k) fields → All (λ fix. fits base (get_or layout.pieces.items k 0) layout owner (contents_at link layout k) fix ≡ true) fields → piece_range_fault link (rows_of sections) layout base k ≡ None
   no_range_here base k fields lt are all =
       let rva = get_or layout.pieces.items k 0 in
-      ap (option_map (out_of_range (link_piece_at link k))) (ap (λ (os : List ℕ). range_fault base rva layout os (piece_fixes link k) (contents_at link layout k)) (sym ready.owner_is) ∙ no_range_in_any_order base rva layout owner (piece_fixes link k) fields (contents_at link layout k) are all)
+      ap (option_map (out_of_range (whole_piece link k))) (ap (λ (os : List ℕ). range_fault base rva layout os (planned_fixes link k) (contents_at link layout k)) (sym ready.owner_is) ∙ no_range_in_any_order base rva layout owner (planned_fixes link k) fields (contents_at link layout k) are all)
 
   -- a piece without fields has the bytes of its section, at each base
-  pub nothing_linked : (base k : ℕ) (fields : List Fix) → k < length pieces → AreTheFields (piece_fixes link k) fields → ArePatchable (length (contents_at link layout k)) fields → length fields ≡ 0 → linked_bytes link (rows_of sections) layout base k ≡ contents_at link layout k
+  pub nothing_linked : (base k : ℕ) (fields : List Fix) → k < length pieces → AreTheFields (planned_fixes link k) fields → ArePatchable (length (contents_at link layout k)) fields → length fields ≡ 0 → linked_bytes link (rows_of sections) layout base k ≡ contents_at link layout k
   nothing_linked base k fields lt are patchable none =
       sym (same_bytes base k fields lt are patchable)
       ∙ ap (λ (fs : List Fix). patched_bytes base (get_or layout.pieces.items k 0) layout owner fs (contents_at link layout k)) (empty_is fields none)
@@ -169,7 +167,7 @@ module _ (link : LinkParts) (pieces : List Piece) (fixups : List (List Fix)) (se
 
   module _ (headers : Headers) (directories : length headers.directories ≡ 16) where
     -- the file stays where a piece has no fields
-    pub file_same : (k : ℕ) (fields : List Fix) → k < length pieces → AreTheFields (piece_fixes link k) fields → ArePatchable (length (contents_at link layout k)) fields → length fields ≡ 0 → mixed_file link headers sections layout tables k ≡ mixed_file link headers sections layout tables (k + 1)
+    pub file_same : (k : ℕ) (fields : List Fix) → k < length pieces → AreTheFields (planned_fixes link k) fields → ArePatchable (length (contents_at link layout k)) fields → length fields ≡ 0 → mixed_file link headers sections layout tables k ≡ mixed_file link headers sections layout tables (k + 1)
     file_same k fields lt are patchable none =
         sym (ap (λ (contents : List (List ℕ)). file_of headers sections layout contents tables) (mixed_same link (rows_of sections) layout headers.base k (nothing_linked headers.base k fields lt are patchable none)))
 
@@ -207,14 +205,14 @@ module _ (link : LinkParts) (pieces : List Piece) (fixups : List (List Fix)) (se
 
     -- its fields, as they were read
     pub record HasFields (k : ℕ) (list : List Fix) : Type 0 where
-      pub fields : AreTheFields (piece_fixes link k) list
+      pub fields : AreTheFields (planned_fixes link k) list
       pub patchable : ArePatchable (length (contents_at link layout k)) list
 
     pub fields_here : (k : ℕ) (fields : List Fix) → k < length pieces → fields ≡ get_or fixups k fields → HasFields k fields
     fields_here k fields lt read =
         let is : fields ≡ get_or fixups k [] = read ∙ get_or_default fixups k fields [] (omega (arith, lt, ready.fields.for_each)) in
         record {
-          fields = subst (AreTheFields (piece_fixes link k)) (sym is) (ready.fields.fields k lt);
+          fields = subst (AreTheFields (planned_fixes link k)) (sym is) (ready.fields.fields k lt);
           patchable = subst (ArePatchable (length (contents_at link layout k))) (sym is) (patchable_at link layout fixups (length pieces) ready.fields k lt);
         }
 

@@ -28,14 +28,13 @@ use Rattle.link_base.specs.declared.fault.Fault.{Fault}
 use Rattle.section_group.specs.PieceContents.{piece_contents}
 use Rattle.image_writer.specs.WrittenImage.{section_rows, written_plan, layout_plan, IsLaidOut}
 use Rattle.image_writer.proofs.CallerLemmas.{laid_out, appended_laid_out}
-use Rattle.link_pieces.specs.LinkParts.{LinkParts}
-use Rattle.link_plan.specs.Plan.{merges_of}
-use Rattle.link_plan.specs.Fixes.{plan_pieces}
+use Rattle.link_pieces.specs.TablePieces.{KeptParts}
+use Rattle.link_plan.specs.Plan.{merges_of, IsPlanOf, kept_parts}
+use Rattle.link_plan.specs.Planned.{plan_pieces}
 use Rattle.link_words.specs.Outcome.{LinkOptions}
-use Rattle.link_plan.specs.declared.entry.EntryPlace.{EntryPlace}
+use Rattle.link_fields.specs.declared.entry.EntryPlace.{EntryPlace}
 use Rattle.link_plan.specs.declared.planning.LinkPlan.{LinkPlan}
 use Rattle.link_plan.specs.Laid.{StandsNamed}
-use Rattle.link_plan.specs.Plan.{IsPlanOf}
 use Rattle.base_reloc.specs.declared.field.BaseField.{BaseField}
 use Rattle.base_reloc.specs.PageBlocks.{blocks_of}
 use Rattle.address_layout.specs.Growth.{Appends, IsGrowRefusal}
@@ -52,17 +51,17 @@ use Rattle.link_image.proofs.HeldLemmas.{held_at}
 -- ---- pieces without their bytes
 
 -- the grouping of the pieces of a plan is that of the modules
-pub grouped_modules : (options : LinkOptions) (link : LinkParts) (pieces : List Piece) (sections : List OutSection) → map bare pieces ≡ plan_pieces options link → AreGrouped options link pieces sections → AreGrouped options link (plan_pieces options link) sections
+pub grouped_modules : (options : LinkOptions) (link : KeptParts) (pieces : List Piece) (sections : List OutSection) → map bare pieces ≡ plan_pieces options link → AreGrouped options link pieces sections → AreGrouped options link (plan_pieces options link) sections
 grouped_modules options link pieces sections are grouped =
     let used : replicate (length pieces) true ≡ replicate (length (map bare pieces)) true = ap (λ (n : ℕ). replicate n true) (sym (length-map pieces bare)) in
-    let bared = subst (λ (u : List Bool). IsGrouping (input_from (map bare pieces) u (merges_of options link)) sections) used (grouping_bare pieces (replicate (length pieces) true) (merges_of options link) sections grouped.grouping) in
+    let bared = subst (λ (u : List Bool). IsGrouping (input_from (map bare pieces) u (merges_of options link.parts)) sections) used (grouping_bare pieces (replicate (length pieces) true) (merges_of options link.parts) sections grouped.grouping) in
     record {
       merges = grouped.merges;
       exports = grouped.exports;
       grouping = subst (λ (ps : List Piece). IsGrouping (link_input options link ps) sections) are bared;
     }
 
-pub placed_modules : (options : LinkOptions) (link : LinkParts) (pieces : List Piece) (sections : List OutSection) (reloc : Bool) (layout : Layout) → map bare pieces ≡ plan_pieces options link → ArePlaced pieces sections reloc layout → ArePlaced (plan_pieces options link) sections reloc layout
+pub placed_modules : (options : LinkOptions) (link : KeptParts) (pieces : List Piece) (sections : List OutSection) (reloc : Bool) (layout : Layout) → map bare pieces ≡ plan_pieces options link → ArePlaced pieces sections reloc layout → ArePlaced (plan_pieces options link) sections reloc layout
 placed_modules options link pieces sections reloc layout are placed = record {
   layout_of = subst (λ (ps : List Piece). IsLayout ps sections reloc layout) are (layout_bare pieces sections reloc layout placed.layout_of);
   few = placed.few;
@@ -72,15 +71,15 @@ placed_modules options link pieces sections reloc layout are placed = record {
 
 -- ---- each piece stands once
 
-pub standing : (options : LinkOptions) (link : LinkParts) (pieces : List Piece) (sections : List OutSection) → AreGrouped options link pieces sections → StandOnce pieces sections
+pub standing : (options : LinkOptions) (link : KeptParts) (pieces : List Piece) (sections : List OutSection) → AreGrouped options link pieces sections → StandOnce pieces sections
 standing options link pieces sections grouped = stand_once (link_input options link pieces) sections grouped.grouping
 
 -- ---- why there is no image
 
-pub bad_merge : (options : LinkOptions) (link : LinkParts) (name : List ℕ) → NamesFirstBad (merges_of options link) name → IsBuildFault options link (faults.BadMerge name)
+pub bad_merge : (options : LinkOptions) (link : KeptParts) (name : List ℕ) → NamesFirstBad (merges_of options link.parts) name → IsBuildFault options link (faults.BadMerge name)
 bad_merge options link name named = inl (record { name = name; named = named; is = refl })
 
-pub too_many : (options : LinkOptions) (link : LinkParts) (pieces : List Piece) (sections : List OutSection) (reloc : Bool) (count : ℕ) → map bare pieces ≡ plan_pieces options link → AreGrouped options link pieces sections → reloc ≡ is_relocated options link → IsPlaceRefusal pieces sections reloc (bad.TooManySections count) → IsBuildFault options link (faults.TooManySections count)
+pub too_many : (options : LinkOptions) (link : KeptParts) (pieces : List Piece) (sections : List OutSection) (reloc : Bool) (count : ℕ) → map bare pieces ≡ plan_pieces options link → AreGrouped options link pieces sections → reloc ≡ is_relocated options link → IsPlaceRefusal pieces sections reloc (bad.TooManySections count) → IsBuildFault options link (faults.TooManySections count)
 too_many options link pieces sections reloc count are grouped same refused =
     inr (inr (inl (record {
       sections = sections;
@@ -90,7 +89,7 @@ too_many options link pieces sections reloc count are grouped same refused =
       is = refl;
     })))
 
-pub too_large : (options : LinkOptions) (link : LinkParts) (pieces : List Piece) (sections : List OutSection) (reloc : Bool) (size : ℕ) → map bare pieces ≡ plan_pieces options link → AreGrouped options link pieces sections → reloc ≡ is_relocated options link → IsPlaceRefusal pieces sections reloc (bad.ImageTooLarge size) → IsBuildFault options link (faults.ImageTooLarge size)
+pub too_large : (options : LinkOptions) (link : KeptParts) (pieces : List Piece) (sections : List OutSection) (reloc : Bool) (size : ℕ) → map bare pieces ≡ plan_pieces options link → AreGrouped options link pieces sections → reloc ≡ is_relocated options link → IsPlaceRefusal pieces sections reloc (bad.ImageTooLarge size) → IsBuildFault options link (faults.ImageTooLarge size)
 too_large options link pieces sections reloc size are grouped same refused =
     let bared : IsPlaceRefusal (map bare pieces) sections reloc (bad.ImageTooLarge size) = (refused.0, size_bare pieces sections reloc size refused.1, refused.2) in
     inr (inr (inr (inl (record {
@@ -101,7 +100,7 @@ too_large options link pieces sections reloc size are grouped same refused =
       is = refl;
     }))))
 
-pub large_table : (options : LinkOptions) (link : LinkParts) (pieces : List Piece) (sections : List OutSection) (layout : Layout) (fields : List BaseField) (size : ℕ) → map bare pieces ≡ plan_pieces options link → AreGrouped options link pieces sections → ArePlaced pieces sections true layout → is_relocated options link ≡ true → AreBaseFields link layout.pieces.items fields → IsGrowRefusal layout (length (blocks_of fields)) (bad.ImageTooLarge size) → IsBuildFault options link (faults.ImageTooLarge size)
+pub large_table : (options : LinkOptions) (link : KeptParts) (pieces : List Piece) (sections : List OutSection) (layout : Layout) (fields : List BaseField) (size : ℕ) → map bare pieces ≡ plan_pieces options link → AreGrouped options link pieces sections → ArePlaced pieces sections true layout → is_relocated options link ≡ true → AreBaseFields link layout.pieces.items fields → IsGrowRefusal layout (length (blocks_of fields)) (bad.ImageTooLarge size) → IsBuildFault options link (faults.ImageTooLarge size)
 large_table options link pieces sections layout fields size are grouped placed relocated based refused =
     inr (inr (inr (inl (record {
       sections = sections;
@@ -118,25 +117,25 @@ large_table options link pieces sections layout fields size are grouped placed r
       is = refl;
     }))))
 
-pub bad_base : (options : LinkOptions) (link : LinkParts) (rows : List OutRow) (layout : Layout) (tables : List (List ℕ)) → IsPlacement options link rows layout tables → is_permitted (base_rule options) layout.image options.base ≡ false → IsBuildFault options link (faults.BaseRange options.base)
+pub bad_base : (options : LinkOptions) (link : KeptParts) (rows : List OutRow) (layout : Layout) (tables : List (List ℕ)) → IsPlacement options link rows layout tables → is_permitted (base_rule options) layout.image options.base ≡ false → IsBuildFault options link (faults.BaseRange options.base)
 bad_base options link rows layout tables placement refused =
     inr (inr (inr (inr (inl (record { rows = rows; layout = layout; tables = tables; placement = placement; refused = refused; is = refl })))))
 
 -- a value that does not fit
-pub bad_range : (options : LinkOptions) (link : LinkParts) (rows : List OutRow) (layout : Layout) (tables : List (List ℕ)) (fault : Fault) → IsPlacement options link rows layout tables → is_permitted (base_rule options) layout.image options.base ≡ true → in_table_fault link layout.pieces.items ≡ None → fields_range_fault link rows layout options.base ≡ Some fault → IsBuildFault options link fault
+pub bad_range : (options : LinkOptions) (link : KeptParts) (rows : List OutRow) (layout : Layout) (tables : List (List ℕ)) (fault : Fault) → IsPlacement options link rows layout tables → is_permitted (base_rule options) layout.image options.base ≡ true → in_table_fault link layout.pieces.items ≡ None → fields_range_fault link rows layout options.base ≡ Some fault → IsBuildFault options link fault
 bad_range options link rows layout tables fault placement permitted outside is =
     inr (inr (inr (inr (inr (inr (record { rows = rows; layout = layout; tables = tables; placement = placement; permitted = permitted; outside = outside; is = is }))))))
 
 -- a bad export
-pub bad_export : (options : LinkOptions) (link : LinkParts) (fault : Fault) → HasNoBadMerge (merges_of options link) → export_fault link ≡ Some fault → IsBuildFault options link fault
+pub bad_export : (options : LinkOptions) (link : KeptParts) (fault : Fault) → HasNoBadMerge (merges_of options link.parts) → export_fault link ≡ Some fault → IsBuildFault options link fault
 bad_export options link fault merges is = inr (inl (record { merges = merges; is = is }))
 
 -- one that lies in the table
-pub export_in_table : (options : LinkOptions) (link : LinkParts) (rows : List OutRow) (layout : Layout) (tables : List (List ℕ)) (fault : Fault) → IsPlacement options link rows layout tables → is_permitted (base_rule options) layout.image options.base ≡ true → in_table_fault link layout.pieces.items ≡ Some fault → IsBuildFault options link fault
+pub export_in_table : (options : LinkOptions) (link : KeptParts) (rows : List OutRow) (layout : Layout) (tables : List (List ℕ)) (fault : Fault) → IsPlacement options link rows layout tables → is_permitted (base_rule options) layout.image options.base ≡ true → in_table_fault link layout.pieces.items ≡ Some fault → IsBuildFault options link fault
 export_in_table options link rows layout tables fault placement permitted is =
     inr (inr (inr (inr (inr (inl (record { rows = rows; layout = layout; tables = tables; placement = placement; permitted = permitted; is = is }))))))
 
-pub used_there : (options : LinkOptions) (link : LinkParts) (pieces : List Piece) (k : ℕ) → k < length pieces → is_used (link_input options link pieces) k ≡ true
+pub used_there : (options : LinkOptions) (link : KeptParts) (pieces : List Piece) (k : ℕ) → k < length pieces → is_used (link_input options link pieces) k ≡ true
 used_there options link pieces k lt = and_from _ _ (lt-ltb k (length pieces) lt) (get_or-replicate (length pieces) k true false lt)
 
 pub needs_there : (input : Input) (k : ℕ) → (0 < (get_or input.pieces k no_piece).size) ⊎ ((get_or input.pieces k no_piece).named ≡ true) → needs_place input k ≡ true
@@ -146,7 +145,7 @@ needs_there input k (inr named) = or_right _ _ named
 -- ---- the entry
 
 -- a piece that is named stands in a section, so an offset in it has an RVA
-pub entry_fits : (options : LinkOptions) (link : LinkParts) (pieces : List Piece) (sections : List OutSection) (reloc : Bool) (layout : Layout) (place : EntryPlace) → AreGrouped options link pieces sections → ArePlaced pieces sections reloc layout → StandsNamed pieces place → get_or layout.pieces.items place.piece 0 < 2 ^ 32 → get_or layout.pieces.items place.piece 0 + place.value < 2 ^ 32
+pub entry_fits : (options : LinkOptions) (link : KeptParts) (pieces : List Piece) (sections : List OutSection) (reloc : Bool) (layout : Layout) (place : EntryPlace) → AreGrouped options link pieces sections → ArePlaced pieces sections reloc layout → StandsNamed pieces place → get_or layout.pieces.items place.piece 0 < 2 ^ 32 → get_or layout.pieces.items place.piece 0 + place.value < 2 ^ 32
 entry_fits options link pieces sections reloc layout place grouped placed stand fits =
     let piece = place.piece in
     let input = link_input options link pieces in
@@ -155,7 +154,7 @@ entry_fits options link pieces sections reloc layout place grouped placed stand 
     name_fits pieces sections reloc layout piece place.value placed.layout_of.standing placed.within (stands input sections piece grouped.grouping used needs) fits stand.inside
 
 -- a piece with bytes ends inside the image
-pub end_fits : (options : LinkOptions) (link : LinkParts) (pieces : List Piece) (sections : List OutSection) (reloc : Bool) (layout : Layout) (k : ℕ) → AreGrouped options link pieces sections → ArePlaced pieces sections reloc layout → k < length pieces → 0 < (get_or pieces k no_piece).size → get_or layout.pieces.items k 0 + (get_or pieces k no_piece).size ≤ IMAGE_LIMIT
+pub end_fits : (options : LinkOptions) (link : KeptParts) (pieces : List Piece) (sections : List OutSection) (reloc : Bool) (layout : Layout) (k : ℕ) → AreGrouped options link pieces sections → ArePlaced pieces sections reloc layout → k < length pieces → 0 < (get_or pieces k no_piece).size → get_or layout.pieces.items k 0 + (get_or pieces k no_piece).size ≤ IMAGE_LIMIT
 end_fits options link pieces sections reloc layout k grouped placed lt some =
     let input = link_input options link pieces in
     let standing = placed.layout_of.standing in
@@ -190,7 +189,7 @@ plan_rows headers sections layout contents same =
     rows_count (rows_of sections) layout.sections.items (same ∙ sym count) ∙ count
 
 -- what is placed without a table can be written
-laid : (options : LinkOptions) (link : LinkParts) (pieces : List Piece) (sections : List OutSection) (layout : Layout) → AreGrouped options link pieces sections → ArePlaced pieces sections false layout → IsLaidOut pieces sections layout
+laid : (options : LinkOptions) (link : KeptParts) (pieces : List Piece) (sections : List OutSection) (layout : Layout) → AreGrouped options link pieces sections → ArePlaced pieces sections false layout → IsLaidOut pieces sections layout
 laid options link pieces sections layout grouped placed =
     laid_out pieces sections layout placed.layout_of.standing (standing options link pieces sections grouped) placed.few placed.growth
 
@@ -201,9 +200,9 @@ no_pieces f [] e = refl
 no_pieces f (x ∷ xs) e = absurd cc
 
 -- without a table of base relocations
-pub placed_alone : (options : LinkOptions) (plan : LinkPlan) (placement : Placement) → IsPlanOf options plan.names plan → AreGrouped options plan.names plan.pieces.items placement.sections.items → ArePlaced plan.pieces.items placement.sections.items false placement.layout → is_relocated options plan.names ≡ false → reloc_tables placement.table ≡ [] → IsPlaced options plan placement
+pub placed_alone : (options : LinkOptions) (plan : LinkPlan) (placement : Placement) → IsPlanOf options plan.modules.items plan → AreGrouped options (kept_parts plan) plan.pieces.items placement.sections.items → ArePlaced plan.pieces.items placement.sections.items false placement.layout → is_relocated options (kept_parts plan) ≡ false → reloc_tables placement.table ≡ [] → IsPlaced options plan placement
 placed_alone options plan placement planned grouped placed alone none =
-    let link = plan.names in
+    let link = kept_parts plan in
     let pieces = plan.pieces.items in
     let sections = placement.sections.items in
     let layout = placement.layout in
@@ -236,9 +235,9 @@ sections_more : (sections : List OutSection) (section : OutSection) → all_piec
 sections_more sections section = flat_map-append (λ (s : OutSection). s.pieces.items) sections (section ∷ [])
 
 -- with a table after all other sections
-pub placed_with_table : (options : LinkOptions) (plan : LinkPlan) (sections : List OutSection) (before : Layout) (fields : List BaseField) (placement : Placement) → IsPlanOf options plan.names plan → AreGrouped options plan.names plan.pieces.items sections → ArePlaced plan.pieces.items sections true before → is_relocated options plan.names ≡ true → AreBaseFields plan.names before.pieces.items fields → EndsWithTable sections placement.sections.items (length plan.pieces.items) → Appends before placement.layout (length (blocks_of fields)) → placement.layout.image ≤ IMAGE_LIMIT → reloc_tables placement.table ≡ blocks_of fields ∷ [] → length (blocks_of fields) < 2 ^ 32 → IsPlaced options plan placement
+pub placed_with_table : (options : LinkOptions) (plan : LinkPlan) (sections : List OutSection) (before : Layout) (fields : List BaseField) (placement : Placement) → IsPlanOf options plan.modules.items plan → AreGrouped options (kept_parts plan) plan.pieces.items sections → ArePlaced plan.pieces.items sections true before → is_relocated options (kept_parts plan) ≡ true → AreBaseFields (kept_parts plan) before.pieces.items fields → EndsWithTable sections placement.sections.items (length plan.pieces.items) → Appends before placement.layout (length (blocks_of fields)) → placement.layout.image ≤ IMAGE_LIMIT → reloc_tables placement.table ≡ blocks_of fields ∷ [] → length (blocks_of fields) < 2 ^ 32 → IsPlaced options plan placement
 placed_with_table options plan sections before fields placement planned grouped placed relocated based ends added within tables small =
-    let link = plan.names in
+    let link = kept_parts plan in
     let pieces = plan.pieces.items in
     let layout = placement.layout in
     let section = ends.section in
@@ -285,7 +284,7 @@ placed_with_table options plan sections before fields placement planned grouped 
 -- ---- what is ready
 
 -- the pieces of a plan with their fields, where they stand
-pub ready : (options : LinkOptions) (plan : LinkPlan) (placement : Placement) (headers : Headers) (image owner : List ℕ) → IsPlanOf options plan.names plan → IsPlaced options plan placement → IsWritten headers placement plan.names image → owner ≡ owners_in (rows_of placement.sections.items) placement.layout → IsReady plan.names plan.pieces.items plan.fixes.items placement.sections.items placement.layout owner (reloc_tables placement.table)
+pub ready : (options : LinkOptions) (plan : LinkPlan) (placement : Placement) (headers : Headers) (image owner : List ℕ) → IsPlanOf options plan.modules.items plan → IsPlaced options plan placement → IsWritten headers placement (kept_parts plan) image → owner ≡ owners_in (rows_of placement.sections.items) placement.layout → IsReady (kept_parts plan) plan.pieces.items plan.fixes.items placement.sections.items placement.layout owner (reloc_tables placement.table)
 ready options plan placement headers image owner planned placed written is = record {
   options = options;
   pieces_are = planned.pieces_are;

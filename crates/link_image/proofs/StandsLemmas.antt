@@ -25,9 +25,8 @@ use Rattle.relocate.specs.declared.fix.Target.TheVariants as target
 use Rattle.relocate.specs.Field.{has_field}
 use Rattle.relocate.specs.Judged.{AreTheFields}
 use Rattle.relocate.specs.Value.{target_of, HasEntry, HaveEntries}
-use Rattle.link_pieces.specs.LinkParts.{LinkParts}
-use Rattle.link_pieces.specs.Pieces.{link_pieces}
-use Rattle.link_plan.specs.Fixes.{piece_fixes}
+use Rattle.link_pieces.specs.TablePieces.{KeptParts, whole_pieces}
+use Rattle.link_plan.specs.Planned.{planned_fixes}
 use Rattle.link_plan.proofs.CallerLemmas.{Stands, fields_stand, planned_at, plan_count}
 use Rattle.link_image.specs.LinkedBytes.{no_row, row_holds, section_of, owners}
 use Rattle.link_image.specs.Steps.{IsReady}
@@ -105,8 +104,8 @@ owner_read rows count k lt = get_or-map-range_with_len (section_of rows) 0 count
 
 -- ---- what fields mean
 
-module _ (link : LinkParts) (pieces : List Piece) (fixups : List (List Fix)) (sections : List OutSection) (layout : Layout) (owner : List ℕ) (tables : List (List ℕ)) (ready : IsReady link pieces fixups sections layout owner tables) where
-  pub pieces_count : length pieces ≡ length (link_pieces link)
+module _ (link : KeptParts) (pieces : List Piece) (fixups : List (List Fix)) (sections : List OutSection) (layout : Layout) (owner : List ℕ) (tables : List (List ℕ)) (ready : IsReady link pieces fixups sections layout owner tables) where
+  pub pieces_count : length pieces ≡ length (whole_pieces link)
   pieces_count = sym (length-map pieces bare) ∙ ap (λ (ps : List Piece). length ps) ready.pieces_are ∙ plan_count ready.options link
 
   -- there is an RVA and an owner for each piece
@@ -132,7 +131,7 @@ module _ (link : LinkParts) (pieces : List Piece) (fixups : List (List Fix)) (se
   entry_of (target.Absolute value) stand = tt
   entry_of target.ImageBase stand = tt
 
-  pub entries : (k : ℕ) (fields : List Fix) → k < length pieces → AreTheFields (piece_fixes link k) fields → HaveEntries layout owner fields
+  pub entries : (k : ℕ) (fields : List Fix) → k < length pieces → AreTheFields (planned_fixes link k) fields → HaveEntries layout owner fields
   entries k fields lt are =
-      All-permutation (λ fix. HasEntry layout owner (target_of fix)) (filter has_field (piece_fixes link k)) fields are
-      (All-weaker (λ fix. Stands link (target_of fix)) (λ fix. HasEntry layout owner (target_of fix)) (λ fix stand. entry_of (target_of fix) stand) (filter has_field (piece_fixes link k)) (fields_stand link k (omega (arith, lt, pieces_count))))
+      All-permutation (λ fix. HasEntry layout owner (target_of fix)) (filter has_field (planned_fixes link k)) fields are
+      (All-weaker (λ fix. Stands link (target_of fix)) (λ fix. HasEntry layout owner (target_of fix)) (λ fix stand. entry_of (target_of fix) stand) (filter has_field (planned_fixes link k)) (fields_stand link k (omega (arith, lt, pieces_count))))

@@ -2,7 +2,7 @@
 
 ghost use Rattle.std.specs.Prelude.{◌≡◌, IfOk, IfErr};
 ghost use Rattle.link_words.specs.Outcome.{options_said};
-ghost use Rattle.link_plan.specs.Plan.{IsPlanOf};
+ghost use Rattle.link_plan.specs.Plan.{IsPlanOf, kept_parts};
 ghost use Rattle.link_image.specs.BaseFields.{is_relocated};
 ghost use Rattle.link_image.specs.LinkedImage.{AreGrouped, ArePlaced};
 ghost use Rattle.link_image.specs.BuildFaults.{RefusesBuild};
@@ -22,9 +22,9 @@ pub(crate) fn group_pieces<'a>(
     plan: &LinkPlan<'a>,
     options: &Options<'a>,
 ) -> Result<Vec<OutSection<'a>>, Refusal<'a>>
-    requires { IsPlanOf (options_said options.now) plan.now.names plan.now }
-    ensures grouped { IfOk result (λ sections. AreGrouped (options_said options.now) plan.now.names plan.now.pieces.items sections.items) }
-    ensures refused { IfErr result (RefusesBuild (options_said options.now) plan.now.names) }
+    requires { IsPlanOf (options_said options.now) plan.now.modules.items plan.now }
+    ensures grouped { IfOk result (λ sections. AreGrouped (options_said options.now) (kept_parts plan.now) plan.now.pieces.items sections.items) }
+    ensures refused { IfErr result (RefusesBuild (options_said options.now) (kept_parts plan.now)) }
 {
     let sections = merge_pieces(alloc, plan, options)?;
     check_exports(plan)?;
@@ -37,9 +37,9 @@ fn merge_pieces<'a>(
     plan: &LinkPlan<'a>,
     options: &Options<'a>,
 ) -> Result<Vec<OutSection<'a>>, Refusal<'a>>
-    requires { IsPlanOf (options_said options.now) plan.now.names plan.now }
-    ensures merged { IfOk result (λ sections. AreMerged (options_said options.now) plan.now.names plan.now.pieces.items sections.items) }
-    ensures refused { IfErr result (RefusesBuild (options_said options.now) plan.now.names) }
+    requires { IsPlanOf (options_said options.now) plan.now.modules.items plan.now }
+    ensures merged { IfOk result (λ sections. AreMerged (options_said options.now) (kept_parts plan.now) plan.now.pieces.items sections.items) }
+    ensures refused { IfErr result (RefusesBuild (options_said options.now) (kept_parts plan.now)) }
 {
     let used = vec![in alloc; true; plan.pieces.len()]?;
     match group(alloc, &plan.pieces, &used, &plan.merges) {
@@ -58,11 +58,11 @@ pub(crate) fn place_pieces<'a>(
     sections: &[OutSection<'a>],
     reloc: bool,
 ) -> Result<Layout, Refusal<'a>>
-    requires plan { IsPlanOf (options_said options.now) plan.now.names plan.now }
-    requires grouped { AreGrouped (options_said options.now) plan.now.names plan.now.pieces.items sections.now }
-    requires reloc { reloc ≡ is_relocated (options_said options.now) plan.now.names }
+    requires plan { IsPlanOf (options_said options.now) plan.now.modules.items plan.now }
+    requires grouped { AreGrouped (options_said options.now) (kept_parts plan.now) plan.now.pieces.items sections.now }
+    requires reloc { reloc ≡ is_relocated (options_said options.now) (kept_parts plan.now) }
     ensures placed { IfOk result (ArePlaced plan.now.pieces.items sections.now reloc) }
-    ensures refused { IfErr result (RefusesBuild (options_said options.now) plan.now.names) }
+    ensures refused { IfErr result (RefusesBuild (options_said options.now) (kept_parts plan.now)) }
 {
     match place(alloc, &plan.pieces, sections, reloc) {
         Ok(layout) => Ok(layout),

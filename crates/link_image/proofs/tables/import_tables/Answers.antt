@@ -3,7 +3,8 @@ use Rattle.std.proofs.lemmas.Result.{IfOk-weaker}
 use Rattle.import_tables.specs.declared.row.ImportRow.{ImportRow}
 use Rattle.import_tables.specs.ImportTables.{tables_of}
 use Rattle.link_words.specs.Outcome.{options_said}
-use Rattle.link_imports.specs.Imports.{import_rows}
+use Rattle.link_pieces.specs.TablePieces.{kept_rows}
+use Rattle.link_plan.specs.Plan.{kept_parts}
 use Rattle.link_image.specs.LinkedBytes.{rva_of, import_tables_at}
 use Rattle.link_image.proofs.TableLemmas.{places_within, rvas_are, tables_end}
 use Rattle.link_image.proofs.tables.import_tables.Goals as goal
@@ -22,4 +23,4 @@ returns c =
     let rvas = rvas_are (options_said c.args.options.now) c.args.plan.now c.requires.plan c.args.placement.now.layout c.args.places.now c.table_rvas-rvas.result c.requires.places (c.table_rvas-rvas.ensures ∙ ap (λ (rs : List ℕ). map (rva_of rs) (take 5 c.args.places.now)) c.deref.ensures.value) in
     IfOk-weaker c.fill.result _ _ (λ tables are. are
     ∙ ap (λ (rows : List ImportRow). tables_of rows c.table_rvas-rvas.result) (c.deref-2.ensures.value ∙ c.requires.plan.imports.rows)
-    ∙ ap (tables_of (import_rows c.args.plan.now.names.modules)) rvas) c.fill.ensures.bytes
+    ∙ ap (tables_of (kept_rows (kept_parts c.args.plan.now))) rvas) c.fill.ensures.bytes
