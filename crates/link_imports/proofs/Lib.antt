@@ -1,2 +1,3 @@
 mod RowLemmas
 mod WorkedImports
+pub mod CallerLemmas

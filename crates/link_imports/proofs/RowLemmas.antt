@@ -1,31 +1,40 @@
 -- The rows of imports, one module more at a time.
-use Rattle.std.proofs.Common.{◌≡◌, ℕ, ◌+◌, ◌<◌, ◌≤◌, Bool, true, false, List, [], ◌∷◌, ◌++◌, length, take, get_or, Option, Some, None, inl, inr, refl, sym, ap, subst, ◌∙◌, arith}
-use Rattle.std.specs.List.{All, cons_option, list_any}
+use Rattle.std.proofs.Common.{◌≡◌, ℕ, zero, suc, ◌+◌, ◌-◌, ◌<◌, ◌≤◌, Bool, true, false, List, [], ◌∷◌, ◌++◌, length, get_or, Option, Some, None, inl, inr, refl, sym, ap, subst, ◌∙◌, arith}
+use Rattle.std.specs.List.{All, cons_option, filter_map, list_any, range_with_len}
 use Rattle.link_base.specs.Bytes.{is_nul}
 use Rattle.link_base.specs.NameText.{begins_import, behind_import, with_import}
+use Rattle.link_base.proofs.RangeLemmas.{range_more}
 use Rattle.link_base.proofs.SectionNameLemmas.{text_made}
 use Rattle.std.proofs.lemmas.Bool.{cases_lt}
-use Rattle.std.proofs.lemmas.List.{take_more, take_all, length-append, get_or_push, get_or_append_left, get_or_past}
+use Rattle.std.proofs.lemmas.List.{length-append, get_or_push, get_or_append_left, get_or_past}
 use Rattle.std.proofs.lemmas.List.Elements.{filter_map-append, All-weaker}
 use Rattle.std.proofs.lemmas.List.FromFn.{length-map-range_with_len}
 use Rattle.link_base.specs.Limits.{MODULE_LIMIT, NAME_LIMIT}
-use Rattle.module_view.specs.Module.{ModuleView}
+use Rattle.module_view.specs.Module.{ModuleView, module_at}
 use Rattle.import_tables.specs.declared.row.ImportRow.{ImportRow}
 use Rattle.import_tables.specs.ImportShape.{name_len, slot_offset as row_offset, slots_of, AreWithinLimits}
-use Rattle.link_imports.specs.Imports.{row_by, import_rows, import_slots, imports_before, slot_offset}
+use Rattle.link_imports.specs.Imports.{row_if, row_at, rows_below, import_rows, import_slots, slot_offset}
 use Rattle.import_tables.specs.ReadBack.{HasNoNul, IsReadable, AreReadable}
 use Rattle.link_imports.specs.Steps.{CanBeTold}
 
 -- ---- rows
 
-rows_after : (modules : List ModuleView) (k : ℕ) (m : ModuleView) → k < length modules → m ≡ get_or modules k m → import_rows (take (k + 1) modules) ≡ import_rows (take k modules) ++ cons_option (row_by m) []
-rows_after modules k m lt read =
-    ap import_rows (take_more modules k m lt ∙ ap (λ (v : ModuleView). take k modules ++ v ∷ []) (sym read))
-    ∙ filter_map-append row_by (take k modules) (m ∷ [])
+rows_after : (modules : List ModuleView) (kept : List Bool) (k : ℕ) → rows_below modules kept (k + 1) ≡ rows_below modules kept k ++ cons_option (row_at modules kept k) []
+rows_after modules kept k =
+    ap (filter_map (row_at modules kept)) (range_more 0 k k (omega arith))
+    ∙ filter_map-append (row_at modules kept) (range_with_len 0 k) (k ∷ [])
 
-pub rows_more : (modules : List ModuleView) (k : ℕ) (m : ModuleView) (now after : List ImportRow) → k < length modules → m ≡ get_or modules k m → now ≡ import_rows (take k modules) → after ≡ now ++ cons_option (row_by m) [] → after ≡ import_rows (take (k + 1) modules)
-rows_more modules k m now after lt read is grown =
-    grown ∙ ap (λ (rows : List ImportRow). rows ++ cons_option (row_by m) []) is ∙ sym (rows_after modules k m lt read)
+-- the row of a module that was read
+row_read : (modules : List ModuleView) (kept : List Bool) (k : ℕ) (m : ModuleView) (is_kept : Bool) → m ≡ module_at modules k → is_kept ≡ get_or kept k false → row_if is_kept m ≡ row_at modules kept k
+row_read modules kept k m is_kept read told =
+    ap (λ (b : Bool). row_if b m) told ∙ ap (row_if (get_or kept k false)) read
+
+pub rows_more : (modules : List ModuleView) (kept : List Bool) (k : ℕ) (m : ModuleView) (is_kept : Bool) (now after : List ImportRow) → m ≡ module_at modules k → is_kept ≡ get_or kept k false → now ≡ rows_below modules kept k → after ≡ now ++ cons_option (row_if is_kept m) [] → after ≡ rows_below modules kept (k + 1)
+rows_more modules kept k m is_kept now after read told is grown =
+    grown
+    ∙ ap (λ (rows : List ImportRow). rows ++ cons_option (row_if is_kept m) []) is
+    ∙ ap (λ (row : Option ImportRow). rows_below modules kept k ++ cons_option row []) (row_read modules kept k m is_kept read told)
+    ∙ sym (rows_after modules kept k)
 
 at_most_one : (o : Option ImportRow) → length (cons_option o []) ≤ 1
 at_most_one None = omega arith
@@ -59,38 +68,56 @@ all_readable rows own same told =
 
 -- ---- offsets
 
--- how many imports stand before the next module
-pub before_more : (modules : List ModuleView) (k : ℕ) (m : ModuleView) → k < length modules → m ≡ get_or modules k m → imports_before modules (k + 1) ≡ imports_before modules k + length (cons_option (row_by m) [])
-before_more modules k m lt read =
-    ap length (rows_after modules k m lt read) ∙ length-append (import_rows (take k modules)) (cons_option (row_by m) [])
+-- how many rows stand before the next module
+pub count_after : (modules : List ModuleView) (kept : List Bool) (k : ℕ) → length (rows_below modules kept (k + 1)) ≡ length (rows_below modules kept k) + length (cons_option (row_at modules kept k) [])
+count_after modules kept k =
+    ap length (rows_after modules kept k) ∙ length-append (rows_below modules kept k) (cons_option (row_at modules kept k) [])
+
+-- more modules have no fewer rows
+rows_grow : (modules : List ModuleView) (kept : List Bool) (k more : ℕ) → length (rows_below modules kept k) ≤ length (rows_below modules kept (k + more))
+rows_grow modules kept k zero = let same : k + 0 ≡ k = omega arith in rw same (omega arith)
+rows_grow modules kept k (suc more) =
+    let same : k + suc more ≡ k + more + 1 = omega arith in
+    let earlier = rows_grow modules kept k more in
+    let here = count_after modules kept (k + more) in
+    rw same (omega arith)
+
+pub rows_among : (modules : List ModuleView) (kept : List Bool) (j k : ℕ) → j ≤ k → length (rows_below modules kept j) ≤ length (rows_below modules kept k)
+rows_among modules kept j k le =
+    let same : j + (k - j) ≡ k = omega arith in
+    subst (λ (n : ℕ). length (rows_below modules kept j) ≤ length (rows_below modules kept n)) same (rows_grow modules kept j (k - j))
 
 -- offsets of the first modules
-pub record AreOffsets (modules : List ModuleView) (k before : ℕ) (offsets : List ℕ) : Type 0 where
+pub record AreOffsets (modules : List ModuleView) (kept : List Bool) (k before : ℕ) (offsets : List ℕ) : Type 0 where
   pub for_each : length offsets ≡ k
-  pub count : before ≡ imports_before modules k
+  pub count : before ≡ length (rows_below modules kept k)
   pub few : before ≤ k
-  pub each : (p : ℕ) → p < k → get_or offsets p 0 ≡ slot_offset modules p
+  pub each : (p : ℕ) → p < k → get_or offsets p 0 ≡ slot_offset modules kept p
 
-pub no_offsets : (modules : List ModuleView) (offsets : List ℕ) → offsets ≡ [] → AreOffsets modules 0 0 offsets
-no_offsets modules offsets none = record {
+pub no_offsets : (modules : List ModuleView) (kept : List Bool) (offsets : List ℕ) → offsets ≡ [] → AreOffsets modules kept 0 0 offsets
+no_offsets modules kept offsets none = record {
   for_each = ap length none;
   count = refl;
   few = omega arith;
   each = λ p lt. absurd (omega arith);
 }
 
-pub offsets_more : (modules : List ModuleView) (k : ℕ) (m : ModuleView) (before next offset : ℕ) (offsets after : List ℕ) → k < length modules → m ≡ get_or modules k m → offset ≡ get_or (import_slots modules) before 0 → after ≡ offsets ++ offset ∷ [] → next ≡ before + length (cons_option (row_by m) []) → AreOffsets modules k before offsets → AreOffsets modules (k + 1) next after
-offsets_more modules k m before next offset offsets after lt read here grown counted are = record {
+pub offsets_more : (modules : List ModuleView) (kept : List Bool) (k : ℕ) (m : ModuleView) (is_kept : Bool) (before next offset : ℕ) (offsets after : List ℕ) → m ≡ module_at modules k → is_kept ≡ get_or kept k false → offset ≡ get_or (import_slots modules kept) before 0 → after ≡ offsets ++ offset ∷ [] → next ≡ before + length (cons_option (row_if is_kept m) []) → AreOffsets modules kept k before offsets → AreOffsets modules kept (k + 1) next after
+offsets_more modules kept k m is_kept before next offset offsets after read told here grown counted are = record {
   for_each = let long = are.for_each in omega (arith, long, ap length grown, length-append offsets (offset ∷ []));
-  count = counted ∙ ap (λ (n : ℕ). n + length (cons_option (row_by m) [])) are.count ∙ sym (before_more modules k m lt read);
-  few = let few = are.few in omega (arith, few, counted, at_most_one (row_by m));
+  count =
+      counted
+      ∙ ap (λ (row : Option ImportRow). before + length (cons_option row [])) (row_read modules kept k m is_kept read told)
+      ∙ ap (λ (n : ℕ). n + length (cons_option (row_at modules kept k) [])) are.count
+      ∙ sym (count_after modules kept k);
+  few = let few = are.few in omega (arith, few, counted, at_most_one (row_if is_kept m));
   each = λ p below.
       elim (cases_lt p k) [
         | inl earlier ↦ ap (λ (os : List ℕ). get_or os p 0) grown ∙ get_or_append_left offsets (offset ∷ []) 0 p (omega (arith, earlier, are.for_each)) ∙ are.each p earlier
         | inr later ↦
             let same : p ≡ k = omega arith in
-            let last = ap (λ (os : List ℕ). get_or os k 0) grown ∙ get_or_push offsets offset 0 k are.for_each ∙ here ∙ ap (λ (n : ℕ). get_or (import_slots modules) n 0) are.count in
-            subst (λ (q : ℕ). get_or after q 0 ≡ slot_offset modules q) (sym same) last
+            let last = ap (λ (os : List ℕ). get_or os k 0) grown ∙ get_or_push offsets offset 0 k are.for_each ∙ here ∙ ap (λ (n : ℕ). get_or (import_slots modules kept) n 0) are.count in
+            subst (λ (q : ℕ). get_or after q 0 ≡ slot_offset modules kept q) (sym same) last
       ];
 }
 
@@ -99,20 +126,20 @@ unfolding slots_of
 slots_count rows = length-map-range_with_len (row_offset rows) 0 (length rows)
 
 -- behind the modules there is no slot
-past_all : (modules : List ModuleView) (p : ℕ) → length modules ≤ p → slot_offset modules p ≡ 0
-past_all modules p past =
-    get_or_past (import_slots modules) (imports_before modules p) 0
-    (omega (arith, slots_count (import_rows modules), ap (λ (ms : List ModuleView). length (import_rows ms)) (take_all p modules past)))
+past_all : (modules : List ModuleView) (kept : List Bool) (p : ℕ) → length modules ≤ p → slot_offset modules kept p ≡ 0
+past_all modules kept p past =
+    get_or_past (import_slots modules kept) (length (rows_below modules kept p)) 0
+    (omega (arith, slots_count (import_rows modules kept), rows_among modules kept (length modules) p past))
 
-pub all_offsets : (modules : List ModuleView) (k before p : ℕ) (offsets : List ℕ) → k ≡ length modules → AreOffsets modules k before offsets → get_or offsets p 0 ≡ slot_offset modules p
-all_offsets modules k before p offsets all are =
+pub all_offsets : (modules : List ModuleView) (kept : List Bool) (k before p : ℕ) (offsets : List ℕ) → k ≡ length modules → AreOffsets modules kept k before offsets → get_or offsets p 0 ≡ slot_offset modules kept p
+all_offsets modules kept k before p offsets all are =
     elim (cases_lt p k) [
       | inl inside ↦ are.each p inside
-      | inr past ↦ get_or_past offsets p 0 (omega (arith, past, are.for_each)) ∙ sym (past_all modules p (omega (arith, past, all)))
+      | inr past ↦ get_or_past offsets p 0 (omega (arith, past, are.for_each)) ∙ sym (past_all modules kept p (omega (arith, past, all)))
     ]
 
 -- without slots each offset is 0
-pub without_slots : (modules : List ModuleView) (slots offsets : List ℕ) (p : ℕ) → slots ≡ import_slots modules → length slots ≡ 0 → offsets ≡ [] → get_or offsets p 0 ≡ slot_offset modules p
-without_slots modules slots offsets p is none empty =
+pub without_slots : (modules : List ModuleView) (kept : List Bool) (slots offsets : List ℕ) (p : ℕ) → slots ≡ import_slots modules kept → length slots ≡ 0 → offsets ≡ [] → get_or offsets p 0 ≡ slot_offset modules kept p
+without_slots modules kept slots offsets p is none empty =
     ap (λ (os : List ℕ). get_or os p 0) empty
-    ∙ sym (get_or_past (import_slots modules) (imports_before modules p) 0 (omega (arith, none, ap length is)))
+    ∙ sym (get_or_past (import_slots modules kept) (length (rows_below modules kept p)) 0 (omega (arith, none, ap length is)))

@@ -1,10 +1,10 @@
 //! The imports of a link, as rows of its import tables.
 
-ghost use Rattle.std.specs.Prelude.{◌≡◌, ◌≤◌, ℕ, [], ◌++◌, length, slice_index_or, IfOk, OnOk, IsTrue, All};
+ghost use Rattle.std.specs.Prelude.{◌≡◌, ◌≤◌, ℕ, [], ◌++◌, false, length, slice_index_or, IfOk, OnOk, IsTrue, All};
 ghost use Rattle.std.specs.List.{cons_option, list_any};
 ghost use Rattle.link_base.specs.Bytes.{is_nul};
 ghost use Rattle.import_tables.specs.ImportShape.{name_len, AreWithinLimits};
-ghost use Rattle.link_imports.specs.Imports.{row_by, import_rows, import_slots, slot_offset, AreImports};
+ghost use Rattle.link_imports.specs.Imports.{row_if, import_rows, import_slots, slot_offset, AreImports};
 ghost use Rattle.import_tables.specs.ReadBack.{HasNoNul, IsReadable, AreReadable};
 ghost use Rattle.link_base.specs.Limits.{MODULE_LIMIT, NAME_LIMIT};
 ghost use Rattle.link_imports.specs.Steps.{CanBeTold};
@@ -15,26 +15,30 @@ use module_view::Module;
 use short_import::{Import, ImportBy};
 use std::alloc::Global;
 
-/// The imports of a link, in the order of its modules.
+/// The imports of a link that are kept, in the order of its modules.
 #[derive(Drop)]
 pub struct LinkImports<'a> {
     /// A row of the import tables for each.
     pub rows: Vec<ImportRow<'a>>,
     /// The sizes of the tables, and the offset of each row's slot.
     pub shape: ImportShape,
-    /// The offset of the slot of the import that is a module, by the module's position; empty where no module is an import.
+    /// The offset of the slot of the import that is a module, by the module's position; empty where no import is kept.
     pub offsets: Vec<u32>,
 }
 
-/// The imports among these modules. One with a name of more than 32,000 bytes or with a NUL, which does not open as a module, is
-/// want of memory.
-pub fn link_imports<'a>(alloc: Global, modules: &[Module<'a>]) -> Result<LinkImports<'a>, Memory>
+/// The imports among these modules that are kept, as `kept` says of each module's position; beyond it nothing is. One with a
+/// name of more than 32,000 bytes or with a NUL, which does not open as a module, is want of memory.
+pub fn link_imports<'a>(
+    alloc: Global,
+    modules: &[Module<'a>],
+    kept: &[bool],
+) -> Result<LinkImports<'a>, Memory>
     requires { length modules.now ≤ MODULE_LIMIT }
-    ensures { IfOk result (AreImports modules.now) }
+    ensures { IfOk result (AreImports modules.now kept.now) }
 {
-    let rows = import_rows(alloc, modules)?;
+    let rows = import_rows(alloc, modules, kept)?;
     let shape = shape(alloc, &rows)?;
-    let offsets = slot_offsets(alloc, modules, &shape.slots)?;
+    let offsets = slot_offsets(alloc, modules, kept, &shape.slots)?;
     Ok(LinkImports {
         rows,
         shape,
@@ -42,25 +46,46 @@ pub fn link_imports<'a>(alloc: Global, modules: &[Module<'a>]) -> Result<LinkImp
     })
 }
 
-/// A row for each module that is a short import.
-fn import_rows<'a>(alloc: Global, modules: &[Module<'a>]) -> Result<Vec<ImportRow<'a>>, Memory>
+/// A row for each module that is a short import and is kept.
+fn import_rows<'a>(
+    alloc: Global,
+    modules: &[Module<'a>],
+    kept: &[bool],
+) -> Result<Vec<ImportRow<'a>>, Memory>
     requires { length modules.now ≤ MODULE_LIMIT }
-    ensures rows { IfOk result (λ rows. rows.items ≡ import_rows modules.now) }
+    ensures rows { IfOk result (λ rows. rows.items ≡ import_rows modules.now kept.now) }
     ensures limits { IfOk result (λ rows. AreWithinLimits rows.items) }
-    ensures readable { OnOk result (AreReadable (import_rows modules.now)) }
+    ensures readable { OnOk result (AreReadable (import_rows modules.now kept.now)) }
 {
     let mut rows = Vec::new(alloc);
-    for module in modules {
-        push_row(&mut rows, module)?;
+    for position in 0..modules.len() {
+        push_row(&mut rows, &modules[position], is_kept(kept, position))?;
     }
     Ok(rows)
 }
 
-/// Appends the row of a module, where it is a short import.
-fn push_row<'a>(rows: &mut Vec<ImportRow<'a>>, module: &Module<'a>) -> Result<(), Memory>
-    ensures rows { OnOk result (rows.new.items ≡ rows.old.items ++ cons_option (row_by «module».now) []) }
+/// Whether the import that is the module at a position is kept; beyond the list none is.
+fn is_kept(kept: &[bool], position: usize) -> bool
+    ensures { result ≡ slice_index_or kept.now position false }
+{
+    match kept.get(position) {
+        Some(is_kept) => *is_kept,
+        None => false,
+    }
+}
+
+/// Appends the row of a module, where it is a short import and is kept.
+fn push_row<'a>(
+    rows: &mut Vec<ImportRow<'a>>,
+    module: &Module<'a>,
+    kept: bool,
+) -> Result<(), Memory>
+    ensures rows { OnOk result (rows.new.items ≡ rows.old.items ++ cons_option (row_if kept «module».now) []) }
     ensures told { OnOk result (All CanBeTold rows.old.items → All CanBeTold rows.new.items) }
 {
+    if !kept {
+        return Ok(());
+    }
     let Some(import) = module.import() else {
         return Ok(());
     };
@@ -111,32 +136,37 @@ fn is_nul(byte: &u8) -> bool
     *byte == 0
 }
 
-/// The offset of the slot of the import that is a module, by the module's position, where there are imports, which have these
+/// The offset of the slot of the import that is a module, by the module's position, where imports are kept, which have these
 /// slots.
-fn slot_offsets(alloc: Global, modules: &[Module<'_>], slots: &[u32]) -> Result<Vec<u32>, Memory>
-    requires { slots.now ≡ import_slots modules.now }
-    ensures { IfOk result (λ offsets. (position : ℕ) → slice_index_or offsets.items position 0 ≡ slot_offset modules.now position) }
+fn slot_offsets(
+    alloc: Global,
+    modules: &[Module<'_>],
+    kept: &[bool],
+    slots: &[u32],
+) -> Result<Vec<u32>, Memory>
+    requires { slots.now ≡ import_slots modules.now kept.now }
+    ensures { IfOk result (λ offsets. (position : ℕ) → slice_index_or offsets.items position 0 ≡ slot_offset modules.now kept.now position) }
 {
     let mut offsets = Vec::new(alloc);
     if slots.is_empty() {
         return Ok(offsets);
     }
     let mut before = 0;
-    for module in modules {
+    for position in 0..modules.len() {
         offsets.push(slot_at(slots, before))?;
-        before += rows_by(module);
+        before += rows_by(&modules[position], is_kept(kept, position));
     }
     Ok(offsets)
 }
 
 /// How many rows a module has.
-fn rows_by(module: &Module<'_>) -> usize
-    ensures count { result ≡ length (cons_option (row_by «module».now) []) }
+fn rows_by(module: &Module<'_>, kept: bool) -> usize
+    ensures count { result ≡ length (cons_option (row_if kept «module».now) []) }
     ensures few { result ≤ 1 }
 {
     match module.import() {
-        Some(_) => 1,
-        None => 0,
+        Some(_) if kept => 1,
+        _ => 0,
     }
 }
 

@@ -1,42 +1,23 @@
-//! What the linker makes for imports.
+//! The jumps that the linker makes for imports of code.
 
 ghost use Rattle.std.specs.Prelude.{◌≡◌, ◌≤◌, ◌<◌, ◌^◌, ◌++◌, ◌∷◌, [], length, map, if◌then◌else◌, OnOk};
 ghost use Rattle.link_base.specs.Limits.{MODULE_LIMIT};
 ghost use Rattle.section_group.specs.BarePieces.{bare};
 ghost use Rattle.section_group.specs.PieceContents.{piece_contents};
 ghost use Rattle.synthetic_sections.specs.LinkerPieces.{thunk_piece, thunk_bytes};
-ghost use Rattle.link_imports.specs.Imports.{AreImports};
-ghost use Rattle.link_imports.specs.ImportPieces.{imports_code, code_imports, jump, import_pieces, import_contents};
+ghost use Rattle.link_imports.specs.ImportPieces.{imports_code, thunk_pieces, thunk_contents};
 
-use crate::imports::LinkImports;
 use link_base::Memory;
 use module_view::Module;
 use section_group::Piece;
 use short_import::ImportKind;
-use synthetic_sections::{push_tables, push_thunk};
+use synthetic_sections::push_thunk;
 
-/// Appends the import tables and a jump for each import of code, as pieces of the module behind these.
-pub fn push_imports<'a>(
-    pieces: &mut Vec<Piece<'a>>,
-    modules: &[Module<'a>],
-    imports: &LinkImports<'a>,
-) -> Result<(), Memory>
-    requires few { length modules.now ≤ MODULE_LIMIT }
-    requires imports { AreImports modules.now imports.now }
-    ensures pieces { OnOk result (map bare pieces.new.items ≡ map bare pieces.old.items ++ import_pieces modules.now) }
-    ensures contents { OnOk result (map piece_contents pieces.new.items ≡ map piece_contents pieces.old.items ++ import_contents modules.now) }
-{
-    push_tables(pieces, modules.len() as u32, &imports.shape.lengths)?;
-    push_thunks(pieces, modules)
-}
-
-/// Appends a jump for each import of code.
-fn push_thunks<'a>(pieces: &mut Vec<Piece<'a>>, modules: &[Module<'a>]) -> Result<(), Memory>
+/// Appends a jump for each import of code, as pieces of the module behind these.
+pub fn push_thunks<'a>(pieces: &mut Vec<Piece<'a>>, modules: &[Module<'a>]) -> Result<(), Memory>
     requires { length modules.now ≤ MODULE_LIMIT }
-    ensures pieces { OnOk result (map bare pieces.new.items
-        ≡ map bare pieces.old.items ++ map (thunk_piece (length modules.now)) (code_imports modules.now)) }
-    ensures contents { OnOk result (map piece_contents pieces.new.items
-        ≡ map piece_contents pieces.old.items ++ map jump (code_imports modules.now)) }
+    ensures pieces { OnOk result (map bare pieces.new.items ≡ map bare pieces.old.items ++ thunk_pieces modules.now) }
+    ensures contents { OnOk result (map piece_contents pieces.new.items ≡ map piece_contents pieces.old.items ++ thunk_contents modules.now) }
 {
     let position = modules.len() as u32;
     for import in 0..modules.len() {

@@ -61,7 +61,7 @@ unfolding sizes_of
 import_sizes_count modules kept = refl
 
 -- the size of an import table, and that of the export table
-import_size : (link : KeptParts) (number : ℕ) → number < 5 → size_at (table_sizes link) number ≡ size_at (import_sizes link.parts.modules (kept_imports link)) number
+pub import_size : (link : KeptParts) (number : ℕ) → number < 5 → size_at (table_sizes link) number ≡ size_at (import_sizes link.parts.modules (kept_imports link)) number
 import_size link number few =
     get_or_append_left (import_sizes link.parts.modules (kept_imports link)) (link.parts.exports.size ∷ []) 0 number (omega (arith, few, import_sizes_count link.parts.modules (kept_imports link)))
 

@@ -1,10 +1,11 @@
 -- What callers may cite of a plan: what the fields of what is kept mean is kept and stands in a section, and so does what is
 -- exported.
-use Rattle.std.proofs.Common.{◌≡◌, ◌⊎◌, ℕ, zero, suc, ◌+◌, ◌-◌, ◌<◌, ◌≤◌, Bool, true, false, cond, ◌&&◌, ◌||◌, eqb, ltb, List, [], ◌∷◌, ◌++◌, length, map, filter, take, drop, get_or, replicate, Option, Some, None, option_map, Result, Ok, Err, inl, inr, refl, sym, ap, subst, ◌∙◌, eq-eqb, arith}
+use Rattle.std.proofs.Common.{◌≡◌, ◌⊎◌, ℕ, zero, suc, ◌+◌, ◌-◌, ◌<◌, ◌≤◌, Bool, true, false, cond, ◌&&◌, ◌||◌, eqb, ltb, List, [], ◌∷◌, ◌++◌, length, map, filter, take, drop, get_or, replicate, Option, Some, None, option_map, option_and_then, Result, Ok, Err, inl, inr, refl, sym, ap, subst, ◌∙◌, eq-eqb, arith}
 use Rattle.std.specs.Prelude.{filter_map, unwrap_or}
 use Rattle.std.specs.List.{All, Contains, list_any, range_with_len, flat_map, cons_option}
 use Rattle.std.proofs.lemmas.Bool.{cases_lt, false≢true, and_parts, ltb-true, lt-ltb, le-ltb, or_right, or_left}
-use Rattle.std.proofs.lemmas.List.{get_or_append_left, get_or-append_right, get_or_past, length-append, length-map, length-replicate}
+use Rattle.std.proofs.lemmas.List.{get_or_append_left, get_or-append_right, get_or_past, get_or-take, get_or-drop, get_or-map, length-append, length-map, length-replicate, length-take}
+use Rattle.std.proofs.lemmas.List.Elements.{All-nil, All-cons, All-head, All-tail, All-contains, Contains-get_or, Contains-append_left, Contains-append_right, Contains-append_cases}
 use Rattle.std.proofs.lemmas.List.FromFn.{get_or-map-range_with_len, length-map-range_with_len}
 use Rattle.section_group.specs.declared.piece.Piece.{Piece}
 use Rattle.section_group.specs.SectionOrder.{no_piece}
@@ -13,11 +14,28 @@ use Rattle.relocate.specs.declared.fix.Target.{Target}
 use Rattle.relocate.specs.declared.fix.Target.TheVariants as target
 use Rattle.relocate.specs.Field.{has_field}
 use Rattle.relocate.specs.Value.{target_of}
+use Rattle.relocate.specs.Value.{meant}
+use Rattle.relocate.specs.Redirected.{redirected_if}
+use Rattle.relocate.specs.PatchedBytes.{AreNumbered}
+use Rattle.relocate.proofs.CallerLemmas.{numbered_redirected}
+use Rattle.link_base.specs.declared.kinds.target.TargetFault.{TargetFault}
+use Rattle.reach.proofs.CallerLemmas.{root_kept, next_kept}
+use Rattle.synthetic_sections.specs.LinkerPieces.{SLOTS, size_at}
+use Rattle.link_imports.proofs.CallerLemmas.{slots_made}
 use Rattle.link_words.specs.Outcome.{LinkOptions}
+use Rattle.link_pieces.specs.LinkParts.{LinkParts}
 use Rattle.link_pieces.specs.Pieces.{link_pieces}
-use Rattle.link_pieces.specs.TablePieces.{KeptParts, tables_of, whole_pieces}
-use Rattle.link_plan.specs.Reach.{AreKept, node_count}
-use Rattle.link_plan.specs.Planned.{used_pieces, planned_piece, plan_pieces, planned_fixes, planned_targets}
+use Rattle.link_pieces.specs.TablePieces.{KeptParts, kept_imports, tables_of, table_sizes, whole_pieces, table_index}
+use Rattle.link_pieces.proofs.TableLemmas.{import_size}
+use Rattle.link_pieces.proofs.CallerLemmas.{table_is, table_there, table_found}
+use Rattle.link_fields.specs.declared.entry.EntryPlace.{EntryPlace}
+use Rattle.link_fields.specs.Entry.{entry_place, piece_of_place}
+use Rattle.link_fields.specs.ExportTargets.{export_targets}
+use Rattle.link_fields.specs.Fixes.{piece_at, piece_fixes, meant_in, edge_by, edges_of, field_edges}
+use Rattle.link_fields.specs.Targets.{piece_in}
+use Rattle.link_fields.proofs.CallerLemmas.{IsWithin, IsImportNode, fields_within, exports_within, fixes_numbered}
+use Rattle.link_plan.specs.Reach.{AreKept, IsToKeep, node_count, child_edges, link_edges, link_roots, named_nodes, name_node, loader_names, drops}
+use Rattle.link_plan.specs.Planned.{is_kept, is_meant, is_sought, is_at, leads_there, used_pieces, planned_piece, plan_pieces, slot_offsets, slot_table, placed_target, placed_fix, fixes_if, planned_fixes, planned_target, planned_targets}
 
 -- ---- the pieces of a plan
 
@@ -78,3 +96,228 @@ Stands options link (target.Piece piece value) =
     (piece < length (whole_pieces link)) × (get_or (used_pieces link) piece false ≡ true) × ((0 < (get_or (plan_pieces options link) piece no_piece).size) ⊎ ((get_or (plan_pieces options link) piece no_piece).named ≡ true))
 Stands options link (target.Absolute value) = Unit {0}
 Stands options link target.ImageBase = Unit {0}
+
+-- ---- what is kept leads to what is kept
+
+first_there : {X : Type 0} (x : X) (xs : List X) → Contains (x ∷ xs) x
+first_there x xs = Contains-append_left (x ∷ []) xs x (Contains-get_or (x ∷ []) 0 x (omega arith))
+
+later_there : {X : Type 0} (y : X) (xs : List X) (x : X) → Contains xs x → Contains (y ∷ xs) x
+later_there y xs x there = Contains-append_right (y ∷ []) xs x there
+
+-- a test that one item passes
+any_there : {X : Type 0} (test : X → Bool) (xs : List X) (x : X) → Contains xs x → test x ≡ true → list_any test xs ≡ true
+any_there test [] x there passes = absurd (omega (arith, there.1))
+any_there {X} test (y ∷ xs) x there passes =
+    elim (Contains-append_cases (y ∷ []) xs x there) [
+      | inl first ↦
+          let same : y ≡ x = All-contains (λ (z : X). y ≡ z) (y ∷ []) x (All-cons (λ (z : X). y ≡ z) y [] refl (All-nil (λ (z : X). y ≡ z))) first in
+          or_left (test y) (list_any test xs) (ap test same ∙ passes)
+      | inr later ↦ or_right (test y) (list_any test xs) (any_there test xs x later passes)
+    ]
+
+-- a list has what is made of one of its items
+made_there : {X Y : Type 0} (f : X → Option Y) (xs : List X) (i : ℕ) (d : X) (y : Y) → i < length xs → f (get_or xs i d) ≡ Some y → Contains (filter_map f xs) y
+made_there f [] i d y lt is = absurd (omega arith)
+made_there {X} {Y} f (x ∷ xs) zero d y lt is = subst (λ (o : Option Y). Contains (cons_option o (filter_map f xs)) y) (sym is) (first_there y (filter_map f xs))
+made_there {X} {Y} f (x ∷ xs) (suc i) d y lt is = by (f x) (made_there f xs i d y (omega arith) is)
+  where
+    by : (o : Option Y) → Contains (filter_map f xs) y → Contains (cons_option o (filter_map f xs)) y
+    by None later = later
+    by (Some z) later = later_there z (filter_map f xs) y later
+
+-- and what is in the list made of one of them
+joined_there : {Y : Type 0} (f : ℕ → List Y) (a n k : ℕ) (y : Y) → a ≤ k → k < a + n → Contains (f k) y → Contains (flat_map f (range_with_len a n)) y
+joined_there f a zero k y low high there = absurd (omega arith)
+joined_there f a (suc n) k y low high there =
+    elim (cases_lt a k) [
+      | inl later ↦ Contains-append_right (f a) (flat_map f (range_with_len (a + 1) n)) y (joined_there f (a + 1) n k y (omega arith) (omega arith) there)
+      | inr here ↦
+          let same : k ≡ a = omega arith in
+          Contains-append_left (f a) (flat_map f (range_with_len (a + 1) n)) y (subst (λ (j : ℕ). Contains (f j) y) same there)
+    ]
+
+-- what an edge leads to from what is kept
+kept_next : (options : LinkOptions) (link : LinkParts) (kept : List Bool) (k next : ℕ) → AreKept options link kept → get_or kept k false ≡ true → Contains (link_edges link) (k, next) → next < node_count link → get_or kept next false ≡ true
+kept_next options link kept k next are here edge within = are.kept next (by (drops options) (are.only k here))
+  where
+    by : (b : Bool) → IsToKeep b options link k → IsToKeep b options link next
+    by true path = next_kept (node_count link) (link_edges link) (link_roots options link) k next path edge within
+    by false inside = within
+
+-- a root
+kept_root : (options : LinkOptions) (link : LinkParts) (kept : List Bool) (root : ℕ) → AreKept options link kept → Contains (link_roots options link) root → root < node_count link → get_or kept root false ≡ true
+kept_root options link kept root are there within = are.kept root (by (drops options))
+  where
+    by : (b : Bool) → IsToKeep b options link root
+    by true = root_kept (node_count link) (link_edges link) (link_roots options link) root there within
+    by false = within
+
+-- ---- where imports stand
+
+-- an import that is kept has a slot in the table of the slots
+import_stands : (options : LinkOptions) (link : KeptParts) (node value : ℕ) → AreKept options link.parts link.kept → IsImportNode link.parts node → get_or link.kept node false ≡ true → Stands options link (target.Piece (slot_table link) value)
+import_stands options link node value are import kept = by (table_index link SLOTS) refl
+  where
+    n : ℕ
+    n = length (link_pieces link.parts)
+
+    own : get_or (kept_imports link) import.position false ≡ true
+    own = get_or-drop (length (link_pieces link.parts)) link.kept import.position false ∙ ap (λ (k : ℕ). get_or link.kept k false) (sym import.is) ∙ kept
+
+    some : 0 < size_at (table_sizes link) SLOTS
+    some = subst (λ (m : ℕ). 0 < m) (sym (import_size link SLOTS (omega arith))) (slots_made link.parts.modules (kept_imports link) import.position import.within own import.imported)
+
+    by : (o : Option ℕ) → table_index link SLOTS ≡ o → Stands options link (target.Piece (slot_table link) value)
+    by None none = absurd (table_there link SLOTS (omega arith) some none)
+    by (Some t) found =
+        let at = table_found link SLOTS t (omega arith) found in
+        let is : slot_table link ≡ t = ap (λ (o : Option ℕ). unwrap_or o 0) found in
+        let table = table_is link t at.0 at.1 in
+        subst (λ (p : ℕ). Stands options link (target.Piece p value)) (sym is)
+        (at.1, used_last options link t are at.0 at.1, inl (subst (λ (piece : Piece). 0 < piece.size) (sym (table_at options link t at.0)) table.some))
+
+-- ---- what targets mean
+
+-- a target is in one of the pieces or an import, and that is kept and named
+node_stands : (options : LinkOptions) (link : KeptParts) (t : Target) → AreKept options link.parts link.kept → IsWithin link.parts t → ((node : ℕ) → piece_in t ≡ Some node → (get_or link.kept node false ≡ true) × ((is_meant link node || is_sought options link node) ≡ true)) → Stands options link (placed_target link t)
+node_stands options link (target.Absolute value) are within kept = tt
+node_stands options link target.ImageBase are within kept = tt
+node_stands options link (target.Piece piece value) are (inl inside) kept =
+    let here = kept piece refl in
+    rw (lt-ltb piece (length (link_pieces link.parts)) inside)
+    (
+      omega (arith, inside, length-append (link_pieces link.parts) (tables_of link)),
+      used_first options link piece are inside ∙ here.0,
+      inr (ap (λ (p : Piece). p.named) (planned_at options link piece inside) ∙ or_right (piece_at link.parts piece).named (is_meant link piece || is_sought options link piece) here.1),
+    )
+node_stands options link (target.Piece piece value) are (inr import) kept =
+    rw (le-ltb piece (length (link_pieces link.parts)) (omega (arith, import.is)))
+    (import_stands options link piece (get_or (slot_offsets link) (piece - length (link_pieces link.parts)) 0) are import (kept piece refl).0)
+
+-- a node is one that there is
+node_there : (link : LinkParts) (t : Target) (node : ℕ) → IsWithin link t → piece_in t ≡ Some node → node < node_count link
+node_there link (target.Piece piece value) node (inl inside) is = let same : piece ≡ node = cc in omega (arith, inside, same)
+node_there link (target.Piece piece value) node (inr import) is = let same : piece ≡ node = cc in omega (arith, import.is, import.within, same)
+node_there link (target.Absolute value) node within is = absurd cc
+node_there link target.ImageBase node within is = absurd cc
+
+-- ---- fields
+
+target_placed_of : (link : KeptParts) (fix : Fix) → target_of (placed_fix link fix) ≡ placed_target link (target_of fix)
+target_placed_of link fix = by fix.target
+  where
+    by : (t : Option (Result Target TargetFault)) → meant (option_map (redirected_if (length (link_pieces link.parts)) (slot_table link) (slot_offsets link)) t) ≡ placed_target link (meant t)
+    by None = refl
+    by (Some (Ok t)) = refl
+    by (Some (Err fault)) = refl
+
+-- what a field of a piece that is kept means is kept, and stands in a section
+field_stands : (options : LinkOptions) (link : KeptParts) (k i : ℕ) (d : Fix) → AreKept options link.parts link.kept → k < length (link_pieces link.parts) → get_or link.kept k false ≡ true → i < length (piece_fixes link.parts k) → has_field (get_or (piece_fixes link.parts k) i d) ≡ true → Stands options link (placed_target link (target_of (get_or (piece_fixes link.parts k) i d)))
+unfolding meant_in field_edges
+field_stands options link k i d are inside here lt some =
+    node_stands options link (target_of fix) are within (λ node is. (
+      kept_next options link.parts link.kept k node are here (Contains-append_left (field_edges link.parts) (child_edges link.parts) (k, node) (edge node is)) (node_there link.parts (target_of fix) node within is),
+      or_left (is_meant link node) (is_sought options link node) (any_there (leads_there link.kept node) (field_edges link.parts) (k, node) (edge node is) (ap (λ (b : Bool). b && eqb node node) here ∙ eq-eqb node node refl)),
+    ))
+  where
+    fix : Fix
+    fix = get_or (piece_fixes link.parts k) i d
+
+    within : IsWithin link.parts (target_of (get_or (piece_fixes link.parts k) i d))
+    within = fields_within link.parts k i d lt
+
+    edge : (node : ℕ) → piece_in (target_of (get_or (piece_fixes link.parts k) i d)) ≡ Some node → Contains (field_edges link.parts) (k, node)
+    edge node is =
+        joined_there (edges_of link.parts) 0 (length (link_pieces link.parts)) k (k, node) (omega arith) (omega (arith, inside))
+        (made_there (edge_by k) (piece_fixes link.parts k) i d (k, node) lt
+        (ap (λ (o : Option ℕ). option_map (λ to. (k, to)) o) (ap (λ (b : Bool). cond b (piece_in (target_of (get_or (piece_fixes link.parts k) i d))) None) some ∙ is)))
+
+pub fields_stand : (options : LinkOptions) (link : KeptParts) (k : ℕ) → AreKept options link.parts link.kept → All (λ fix. Stands options link (target_of fix)) (filter has_field (planned_fixes link k))
+fields_stand options link k are = by (is_kept link k) refl
+  where
+    each : (fixes : List Fix) → All (λ fix. has_field fix ≡ true → Stands options link (placed_target link (target_of fix))) fixes → All (λ fix. Stands options link (target_of fix)) (filter has_field (map (placed_fix link) fixes))
+    each [] all = All-nil (λ fix. Stands options link (target_of fix))
+    each (fix ∷ fixes) all =
+        one (has_field fix) refl (each fixes (All-tail (λ f. has_field f ≡ true → Stands options link (placed_target link (target_of f))) fix fixes all))
+      where
+        one : (b : Bool) → has_field fix ≡ b → All (λ fix. Stands options link (target_of fix)) (filter has_field (map (placed_fix link) fixes)) → All (λ fix. Stands options link (target_of fix)) (cond b (placed_fix link fix ∷ filter has_field (map (placed_fix link) fixes)) (filter has_field (map (placed_fix link) fixes)))
+        one true is rest =
+            All-cons (λ f. Stands options link (target_of f)) (placed_fix link fix) (filter has_field (map (placed_fix link) fixes))
+            (subst (Stands options link) (sym (target_placed_of link fix)) (All-head (λ f. has_field f ≡ true → Stands options link (placed_target link (target_of f))) fix fixes all is)) rest
+        one false is rest = rest
+
+    by : (b : Bool) → is_kept link k ≡ b → All (λ fix. Stands options link (target_of fix)) (filter has_field (fixes_if b (map (placed_fix link) (piece_fixes link.parts k))))
+    by false is = All-nil (λ fix. Stands options link (target_of fix))
+    by true is =
+        let both = and_parts (ltb k (length (link_pieces link.parts))) (get_or link.kept k false) is in
+        each (piece_fixes link.parts k) (λ i d lt some. field_stands options link k i d are (ltb-true k (length (link_pieces link.parts)) both.0) both.1 lt some)
+
+-- a piece that has fields is kept
+pub fixes_kept : (link : KeptParts) (k : ℕ) → 0 < length (planned_fixes link k) → is_kept link k ≡ true
+fixes_kept link k some = by (is_kept link k) some
+  where
+    by : (b : Bool) → 0 < length (fixes_if b (map (placed_fix link) (piece_fixes link.parts k))) → b ≡ true
+    by true some = refl
+    by false some = absurd (omega (arith, some))
+
+-- each relocation has its number
+pub planned_numbered : (link : KeptParts) (k : ℕ) → AreNumbered (planned_fixes link k)
+planned_numbered link k = by (is_kept link k)
+  where
+    by : (b : Bool) → AreNumbered (fixes_if b (map (placed_fix link) (piece_fixes link.parts k)))
+    by true = numbered_redirected (length (link_pieces link.parts)) (slot_table link) (slot_offsets link) (piece_fixes link.parts k) (fixes_numbered link.parts k)
+    by false i lt = absurd (omega arith)
+
+-- ---- the entry and the exports
+
+named_export : (options : LinkOptions) (link : LinkParts) (row : ℕ) (t : Target) (node : ℕ) → get_or (export_targets link) row None ≡ Some t → piece_in t ≡ Some node → Contains (named_nodes options link) node
+named_export options link row t node is piece =
+    elim (cases_lt row (length (export_targets link))) [
+      | inl lt ↦ behind (piece_of_place (entry_place link options.entry_name)) (Contains-append_left (filter_map (option_and_then piece_in) (export_targets link)) (filter_map (name_node link) loader_names) node (made_there (option_and_then piece_in) (export_targets link) row None node lt (ap (option_and_then piece_in) is ∙ piece)))
+      | inr past ↦ absurd (none_past (sym (get_or_past (export_targets link) row None past) ∙ is))
+    ]
+  where
+    none_past : None ≡ Some t → ⊥
+    none_past e = cc
+
+    behind : (o : Option ℕ) → Contains (filter_map (option_and_then piece_in) (export_targets link) ++ filter_map (name_node link) loader_names) node → Contains (cons_option o (filter_map (option_and_then piece_in) (export_targets link) ++ filter_map (name_node link) loader_names)) node
+    behind None there = there
+    behind (Some first) there = later_there first _ node there
+
+-- what is named is a root
+sought_kept : (options : LinkOptions) (link : KeptParts) (node : ℕ) → AreKept options link.parts link.kept → Contains (named_nodes options link.parts) node → node < node_count link.parts → (get_or link.kept node false ≡ true) × ((is_meant link node || is_sought options link node) ≡ true)
+sought_kept options link node are there within = (
+  kept_root options link.parts link.kept node are (Contains-append_left (named_nodes options link.parts) _ node there) within,
+  or_right (is_meant link node) (is_sought options link node) (any_there (is_at node) (named_nodes options link.parts) node there (eq-eqb node node refl)),
+)
+
+pub exports_stand : (options : LinkOptions) (link : KeptParts) (row : ℕ) (t : Target) → AreKept options link.parts link.kept → get_or (planned_targets link) row None ≡ Some t → Stands options link t
+exports_stand options link row t are is =
+    elim (cases_lt row (length (export_targets link.parts))) [
+      | inl lt ↦ by (get_or (export_targets link.parts) row None) refl (sym (get_or-map (planned_target link) (export_targets link.parts) row None None lt) ∙ is)
+      | inr past ↦ absurd (none_past (sym (get_or_past (planned_targets link) row None (omega (arith, past, length-map (export_targets link.parts) (planned_target link)))) ∙ is))
+    ]
+  where
+    none_past : None ≡ Some t → ⊥
+    none_past e = cc
+
+    by : (o : Option Target) → get_or (export_targets link.parts) row None ≡ o → planned_target link o ≡ Some t → Stands options link t
+    by None own same = absurd cc
+    by (Some u) own same =
+        let placed : placed_target link u ≡ t = cc in
+        let within = exports_within link.parts row u own in
+        subst (Stands options link) placed
+        (node_stands options link u are within (λ node node_is.
+        sought_kept options link node are
+        (named_export options link.parts row u node own node_is)
+        (node_there link.parts u node within node_is)))
+
+pub entry_used : (options : LinkOptions) (link : KeptParts) (place : EntryPlace) → AreKept options link.parts link.kept → place.piece < length (link_pieces link.parts) → entry_place link.parts options.entry_name ≡ Some place → (get_or (used_pieces link) place.piece false ≡ true) × (is_sought options link place.piece ≡ true)
+entry_used options link place are inside is =
+    let there : Contains (named_nodes options link.parts) place.piece =
+    subst (λ (o : Option EntryPlace). Contains (cons_option (piece_of_place o) (filter_map (option_and_then piece_in) (export_targets link.parts) ++ filter_map (name_node link.parts) loader_names)) place.piece) (sym is) (first_there place.piece _) in
+    (
+      used_first options link place.piece are inside ∙ (sought_kept options link place.piece are there (omega (arith, inside))).0,
+      any_there (is_at place.piece) (named_nodes options link.parts) place.piece there (eq-eqb place.piece place.piece refl),
+    )

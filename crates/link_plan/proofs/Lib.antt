@@ -3,9 +3,10 @@ pub mod CallerLemmas
 pub mod EntryLemmas
 pub mod ReferenceLemmas
 pub mod SlotLemmas
-pub mod TargetLemmas
-pub mod FixLemmas
+pub mod RootLemmas
+pub mod KeepLemmas
+pub mod MadeLemmas
 pub mod MeantLemmas
-pub mod JudgeLemmas
 pub mod NamedLemmas
+pub mod LaidLemmas
 pub mod PlanningLemmas

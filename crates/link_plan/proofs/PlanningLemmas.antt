@@ -28,10 +28,10 @@ names_so options modules own table exports names is tables exported same =
     ∙ ap (parts_of (link_of options modules)) (exported ∙ ap (exports_of options) same)
 
 -- the modules that join have a plan
-pub gives_plan : (options : LinkOptions) (before after : FilesView) (list : LinkList) (plan : LinkPlan) → GivesList options before after list → IsPlanOf options (link_parts options list.modules.items) plan → plan.modules.items ≡ list.modules.items → GivesPlan options before after plan
+pub gives_plan : (options : LinkOptions) (before after : FilesView) (list : LinkList) (plan : LinkPlan) → GivesList options before after list → IsPlanOf options list.modules.items plan → plan.modules.items ≡ list.modules.items → GivesPlan options before after plan
 gives_plan options before after list plan gives planned same = record {
   files = gives.files;
-  planned = subst (λ (modules : List ModuleView). IsPlanOf options (link_parts options modules) plan) (sym same) planned;
+  planned = subst (λ (modules : List ModuleView). IsPlanOf options modules plan) (sym same) planned;
   told = λ store is. subst (Loads store options) (sym same) (gives.told store is);
 }
 

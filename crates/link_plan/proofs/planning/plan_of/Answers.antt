@@ -5,7 +5,6 @@ use Rattle.module_view.specs.Module.{ModuleView}
 use Rattle.link_pieces.specs.LinkParts.{LinkParts}
 use Rattle.link_directives.specs.LinkDirectives.{link_merges}
 use Rattle.link_words.specs.Outcome.{options_said}
-use Rattle.link_imports.specs.Imports.{AreImports}
 use Rattle.link_pieces.specs.ChoiceFaults.{conflict_fault, clash_fault}
 use Rattle.link_plan.specs.PlanFaults.{mismatch_fault, meaning_fault, fields_fault}
 use Rattle.link_exports.specs.Exports.{exports_of, AreTold}
@@ -71,18 +70,9 @@ returns-in_err-meant-clause-refused c =
     (meaning_stage options link c.in_err-meant.field-0.0 well
     (subst (λ (l : LinkParts). RefusesFor (meaning_fault options l) c.in_err-meant.field-0.0) names_are c.in_err-meant.ensures.refused))
 
-pub returns-in_err-imports-clause-refused : goal.returns-in_err-imports-clause-refused
-returns-in_err-imports-clause-refused c =
-    let given = err_from_is_err_and c.from_residual-in_err-imports.result c.from_residual-in_err-imports.ensures.1 in
-    rw (given.1, given.2) tt
-
 pub lay_pieces-requires-clause-same : goal.lay_pieces-requires-clause-same
 lay_pieces-requires-clause-same c =
     ap (λ (l : LinkParts). l.modules) (names_so (options_said c.args.options.now) c.args.list.modules.items c.deref-2.result.now _ _ c.in_ok-names.names c.in_ok-names.ensures.names c.requires.names c.in_ok-exports.ensures.exports c.deref-2.ensures.value) ∙ sym c.deref-6.ensures.value
-
-pub lay_pieces-requires-clause-imports : goal.lay_pieces-requires-clause-imports
-lay_pieces-requires-clause-imports c =
-    subst (λ (ms : List ModuleView). AreImports ms c.in_ok-imports.imports) (c.deref-5.ensures.value ∙ sym c.deref-6.ensures.value) c.in_ok-imports.ensures
 
 pub returns-in_err-laid-clause-refused : goal.returns-in_err-laid-clause-refused
 returns-in_err-laid-clause-refused c =
@@ -111,22 +101,22 @@ returns-clause-planned c =
     chosen_so link c.in_ok-names.names c.deref.result.now c.deref-3.result.now names_are c.deref.ensures.value c.in_ok-check_mismatch.ensures.accepted c.deref-3.ensures.value c.in_ok-names.ensures.accepted c.in_ok-check_clash.ensures.accepted in
     let meant = ap (meaning_fault options) (sym names_are) ∙ c.in_ok-meant.ensures.accepted in
     let laid = subst (λ (l : LinkParts). AreLaid options l c.in_ok-laid.laid) names_are c.in_ok-laid.ensures.laid in
+    let planned = laid.planned in
     record {
-      opened = laid.opened;
+      opened = ap_opened names_are laid.opened;
       modules_are = refl;
-      names_are = names_are;
-      pieces_are = laid.pieces_are;
-      contents_are = laid.contents_are;
-      aligned = laid.aligned;
-      bodies = laid.bodies;
-      few = laid.few;
-      fields = laid.fields;
-      imports = subst (λ (ms : List ModuleView). AreImports ms c.in_ok-imports.imports) c.deref-5.ensures.value c.in_ok-imports.ensures;
-      exports_are = refl;
-      told = subst AreTold (c.in_ok-exports.ensures.exports ∙ ap (exports_of options) c.deref-2.ensures.value) c.in_ok-exports.ensures.told;
-      merges_are = c.in_ok-merges.ensures ∙ ap (λ (given : List (List ℕ × List ℕ)). link_merges given c.deref-8.result.now) c.deref-7.ensures.value ∙ ap (link_merges options.merges) c.deref-8.ensures.value;
-      entry_is = laid.entry_is;
+      link_is = record { parts_are = names_are; kept_are = planned.kept_are };
+      pieces_are = planned.pieces_are;
+      contents_are = planned.contents_are;
+      aligned = planned.aligned;
+      bodies = planned.bodies;
+      few = planned.few;
+      fields = planned.fields;
+      imports = planned.imports;
+      told = subst AreTold (sym (ap (λ (l : LinkParts). l.exports) c.in_ok-names.ensures.names)) c.in_ok-exports.ensures.told;
+      merges_are = merges;
+      entry_is = planned.entry_is;
       stands = laid.stands;
-      exported_are = laid.exported_are;
-      no_fault = no_stage options link well meant laid.no_fault;
+      exported_are = planned.exported_are;
+      no_fault = fault;
     }
