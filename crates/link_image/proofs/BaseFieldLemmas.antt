@@ -81,7 +81,7 @@ module _ (link : KeptParts) (pieces : List Piece) (fixups : List (List Fix)) (se
     (sizes : (k : ℕ) → k < length pieces → length (contents_at link layout k) ≤ (get_or pieces k no_piece).size)
     (standing : HoldsArrangement pieces sections reloc layout)
     (once : StandOnce pieces sections)
-    (stands : (k : ℕ) → k < length pieces → 0 < (get_or pieces k no_piece).size → Contains (all_pieces sections) k)
+    (stands : (k : ℕ) → k < length pieces → 0 < length (planned_fixes link k) → 0 < (get_or pieces k no_piece).size → Contains (all_pieces sections) k)
     (few : layout.image ≤ 2 ^ 31) where
   -- ---- a piece
 
@@ -198,7 +198,7 @@ module _ (link : KeptParts) (pieces : List Piece) (fixups : List (List Fix)) (se
   contained field at =
       let k = at.piece in
       let lt : k < length pieces = omega (arith, count, at.there) in
-      let there = stands k lt (has_bytes k at.index lt at.within at.based) in
+      let there = stands k lt (omega (arith, at.within)) (has_bytes k at.index lt at.within at.based) in
       let here = contains_here k at.index lt at.within at.based in
       subst (Contains (all_fields layout.pieces.items fixups sections)) (sym at.is)
       (subst (λ (all : List BaseField). Contains all (base_field (get_or layout.pieces.items k 0) (fix_at (planned_fixes link k) at.index))) (sym (fields_are layout.pieces.items fixups sections))

@@ -20,8 +20,8 @@ use Rattle.link_image.specs.declared.placement.Placement.{Placement}
 use Rattle.link_image.specs.LinkedBytes.{rva_of, table_rva, exported_row, exported_rows, export_table_at}
 use Rattle.link_image.specs.ExportFaults.{inside_of, inside_fault, in_table_fault}
 use Rattle.link_image.specs.Steps.{IsGiven, IsPlaced}
-use Rattle.link_image.proofs.HeldLemmas.{piece_count, same_size}
-use Rattle.link_image.proofs.TableLemmas.{IsTableAt, found_table}
+use Rattle.link_image.proofs.HeldLemmas.{piece_count, exports_are, same_size}
+use Rattle.link_image.proofs.TableLemmas.{IsTableAt, found_table, table_used}
 use Rattle.link_image.proofs.ExportLemmas.{HasTable, has_table, placed_numbered, placed_size, export_size, export_table_some}
 use Rattle.link_image.proofs.ImportLemmas.{are_made}
 
@@ -91,14 +91,14 @@ module _ (options : LinkOptions) (plan : LinkPlan) (placement : Placement) (k : 
   ends =
       let lt : k < length plan.pieces.items = omega (arith, at.there, piece_count options plan planned) in
       let same = same_size options plan planned k lt in
-      let end = placed.ends k lt (omega (arith, same, at.is.some)) in
+      let end = placed.ends k lt (table_used options plan planned EXPORTS k at) (omega (arith, same, at.is.some)) in
       omega (arith, end, same, size_is)
 
   pub rva_is : table_rva (kept_parts plan) placement.layout EXPORTS ≡ get_or placement.layout.pieces.items k 0
   rva_is = ap (rva_of placement.layout.pieces.items) found
 
   has : HasTable (kept_parts plan)
-  has = has_table (kept_parts plan) (export_rows options plan.names.modules) (dll_name options.out) options.time planned.exports_are planned.told some
+  has = has_table (kept_parts plan) (export_rows options plan.modules.items) (dll_name options.out) options.time (exports_are options plan planned) planned.told some
 
   pub numbered_so : (rows : List ExportRow) (ordinals : List ℕ) → rows ≡ exported_rows (kept_parts plan) placement.layout.pieces.items → ordinals ≡ plan.names.exports.ordinals → AreNumbered rows ordinals
   numbered_so rows ordinals are numbers =

@@ -26,11 +26,12 @@ use Rattle.relocate.specs.Value.{fits}
 use Rattle.relocate.proofs.PatchLemmas.{within_at}
 use Rattle.relocate.proofs.CallerLemmas.{bytes_in_any_order, range_in_any_order, no_range_in_any_order, nothing_patched}
 use Rattle.link_pieces.specs.TablePieces.{KeptParts, whole_pieces, whole_piece}
-use Rattle.link_plan.specs.Planned.{planned_fixes, planned_piece}
-use Rattle.link_plan.proofs.CallerLemmas.{fixes_numbered, planned_at}
+use Rattle.link_plan.specs.Planned.{used_pieces, planned_fixes}
+use Rattle.link_plan.proofs.CallerLemmas.{fixes_numbered}
 use Rattle.link_image.specs.LinkedBytes.{section_of, contents_at, placed_contents, linked_bytes, out_of_range, piece_range_fault}
 use Rattle.link_image.specs.Steps.{IsHeld, IsReady, RefusesRange, mixed_contents, file_of, mixed_file}
-use Rattle.link_image.proofs.HeldLemmas.{patchable_at, have_room_for, length-placed, placed_held}
+use Rattle.link_image.proofs.HeldLemmas.{some_fixes, patchable_at, unnamed, plan_at, have_room_for, length-placed, placed_held}
+use Rattle.link_image.proofs.UsedLemmas.{fields_used}
 use Rattle.link_image.proofs.MixedLemmas.{mixed_front, patched_at, unpatched_at, tables_differ, mixed_same, length_mixed_at}
 use Rattle.link_image.proofs.StandsLemmas.{OwnerAt, owner_at, pieces_count, rva_there, owner_at_piece, length_owner}
 
@@ -48,8 +49,8 @@ module _ (link : KeptParts) (pieces : List Piece) (fixups : List (List Fix)) (se
   total_is = pieces_count link pieces fixups sections layout owner tables ready
 
   -- its section
-  pub owned : (k : ℕ) → k < length pieces → 0 < (get_or pieces k no_piece).size → OwnerAt sections k
-  owned k lt some = owner_at sections k (ready.stands k lt (inl some))
+  pub owned : (k : ℕ) → k < length pieces → get_or (used_pieces link) k false ≡ true → 0 < (get_or pieces k no_piece).size → OwnerAt sections k
+  owned k lt kept some = owner_at sections k (ready.stands k lt kept (inl some))
 
   pub owner_here : (k : ℕ) → k < length pieces → get_or owner k 0 ≡ section_of (rows_of sections) k
   owner_here k lt = owner_at_piece link pieces fixups sections layout owner tables ready k lt
@@ -76,9 +77,9 @@ module _ (link : KeptParts) (pieces : List Piece) (fixups : List (List Fix)) (se
     read_after k lt =
         mixed_front link (rows_of sections) layout headers.base tables (k + 1) k (omega (arith, lt, total_is)) ∙ patched_at link (rows_of sections) layout headers.base (k + 1) k (omega arith)
 
-    pub in_file : (k : ℕ) → k < length pieces → (get_or pieces k no_piece).init ≡ true → 0 < (get_or pieces k no_piece).size → IsInFile headers sections layout (at_each_base (mixed_contents link (rows_of sections) layout headers.base k ++ tables)) (section_of (rows_of sections) k) k
-    in_file k lt init some =
-        let at = owned k lt some in
+    pub in_file : (k : ℕ) → k < length pieces → get_or (used_pieces link) k false ≡ true → (get_or pieces k no_piece).init ≡ true → 0 < (get_or pieces k no_piece).size → IsInFile headers sections layout (at_each_base (mixed_contents link (rows_of sections) layout headers.base k ++ tables)) (section_of (rows_of sections) k) k
+    in_file k lt kept init some =
+        let at = owned k lt kept some in
         let i = section_of (rows_of sections) k in
         let contents = at_each_base (mixed_contents link (rows_of sections) layout headers.base k ++ tables) in
         let len : length (get_or (contents headers.base) k []) ≡ (get_or pieces k no_piece).size = ap length (read_here k lt) ∙ size_here k lt init in
@@ -86,18 +87,18 @@ module _ (link : KeptParts) (pieces : List Piece) (fixups : List (List Fix)) (se
         subst (IsInFile headers sections layout contents i) at.is
         (piece_inside headers (pieces ++ ready.rest) sections layout contents i at.number ready.laid (room k) directories at.there at.within (subst (λ (n : ℕ). 0 < length (get_or (contents headers.base) n [])) (sym at.is) there))
 
-    pub bytes_here : (k : ℕ) → k < length pieces → 0 < (get_or pieces k no_piece).size → bytes_at (mixed_file link headers sections layout tables k) (piece_place layout (section_of (rows_of sections) k) k) (length (contents_at link layout k)) ≡ contents_at link layout k
-    bytes_here k lt some =
-        let at = owned k lt some in
+    pub bytes_here : (k : ℕ) → k < length pieces → get_or (used_pieces link) k false ≡ true → 0 < (get_or pieces k no_piece).size → bytes_at (mixed_file link headers sections layout tables k) (piece_place layout (section_of (rows_of sections) k) k) (length (contents_at link layout k)) ≡ contents_at link layout k
+    bytes_here k lt kept some =
+        let at = owned k lt kept some in
         let i = section_of (rows_of sections) k in
         let contents = at_each_base (mixed_contents link (rows_of sections) layout headers.base k ++ tables) in
         let stands = piece_stands headers (pieces ++ ready.rest) sections layout contents i at.number ready.laid (room k) directories at.there at.within in
         let here = subst (λ (n : ℕ). bytes_at (mixed_file link headers sections layout tables k) (piece_place layout i n) (length (get_or (contents headers.base) n [])) ≡ get_or (contents headers.base) n []) at.is stands in
         subst (λ (bytes : List ℕ). bytes_at (mixed_file link headers sections layout tables k) (piece_place layout i k) (length bytes) ≡ bytes) (read_here k lt) here
 
-    pub file_after : (k : ℕ) → k < length pieces → 0 < (get_or pieces k no_piece).size → patched (piece_place layout (section_of (rows_of sections) k) k) (linked_bytes link (rows_of sections) layout headers.base k) (mixed_file link headers sections layout tables k) ≡ mixed_file link headers sections layout tables (k + 1)
-    file_after k lt some =
-        let at = owned k lt some in
+    pub file_after : (k : ℕ) → k < length pieces → get_or (used_pieces link) k false ≡ true → 0 < (get_or pieces k no_piece).size → patched (piece_place layout (section_of (rows_of sections) k) k) (linked_bytes link (rows_of sections) layout headers.base k) (mixed_file link headers sections layout tables k) ≡ mixed_file link headers sections layout tables (k + 1)
+    file_after k lt kept some =
+        let at = owned k lt kept some in
         let i = section_of (rows_of sections) k in
         let old = at_each_base (mixed_contents link (rows_of sections) layout headers.base k ++ tables) in
         let new = at_each_base (mixed_contents link (rows_of sections) layout headers.base (k + 1) ++ tables) in
@@ -115,9 +116,8 @@ module _ (link : KeptParts) (pieces : List Piece) (fixups : List (List Fix)) (se
 
   same_place : (k : ℕ) (range : RelocRange) → k < length pieces → out_of_range (get_or pieces k no_piece) range ≡ out_of_range (whole_piece link k) range
   same_place k range lt =
-      let within : k < length (whole_pieces link) = omega (arith, lt, total_is) in
-      let is : bare (get_or pieces k no_piece) ≡ planned_piece ready.options link k =
-      sym (get_or-map bare pieces k no_piece) ∙ ap (λ (ps : List Piece). get_or ps k no_piece) ready.pieces_are ∙ planned_at ready.options link k within in
+      let is : unnamed (bare (get_or pieces k no_piece)) ≡ unnamed (whole_piece link k) =
+      ap unnamed (sym (get_or-map bare pieces k no_piece)) ∙ ap (λ (ps : List Piece). unnamed (get_or ps k no_piece)) ready.pieces_are ∙ plan_at ready.options link k in
       ap (λ (p : Piece). out_of_range p range) is
 
   pub range_here : (base k : ℕ) (fields : List Fix) (fault : Fault) → k < length pieces → AreTheFields (planned_fixes link k) fields → RefusesRange base (get_or layout.pieces.items k 0) layout owner fields (contents_at link layout k) (get_or pieces k no_piece) fault → piece_range_fault link (rows_of sections) layout base k ≡ Some fault
@@ -181,16 +181,16 @@ module _ (link : KeptParts) (pieces : List Piece) (fixups : List (List Fix)) (se
       pub after : patched (piece_place layout (get_or owner k 0) k) (linked_bytes link (rows_of sections) layout headers.base k) (mixed_file link headers sections layout tables k) ≡ mixed_file link headers sections layout tables (k + 1)
       pub is : piece ≡ get_or pieces k no_piece
 
-    pub piece_here : (k : ℕ) (piece : Piece) → k < length pieces → piece ≡ get_or pieces k piece → piece.init ≡ true → 0 < piece.size → IsHere k piece
-    piece_here k piece lt read init some =
+    pub piece_here : (k : ℕ) (piece : Piece) → k < length pieces → get_or (used_pieces link) k false ≡ true → piece ≡ get_or pieces k piece → piece.init ≡ true → 0 < piece.size → IsHere k piece
+    piece_here k piece lt kept read init some =
         let is : piece ≡ get_or pieces k no_piece = read ∙ get_or_default pieces k piece no_piece lt in
         let on : (get_or pieces k no_piece).init ≡ true = ap (λ (p : Piece). p.init) (sym is) ∙ init in
         let size : (get_or pieces k no_piece).size ≡ piece.size = ap (λ (p : Piece). p.size) (sym is) in
         let above_zero : 0 < (get_or pieces k no_piece).size = omega (arith, size, some) in
         let len = size_here k lt on in
-        let at = owned k lt above_zero in
+        let at = owned k lt kept above_zero in
         let own = owner_here k lt in
-        let file = in_file headers directories k lt on above_zero in
+        let file = in_file headers directories k lt kept on above_zero in
         let i = section_of (rows_of sections) k in
         let held : length (get_or (mixed_contents link (rows_of sections) layout headers.base k ++ tables) k []) ≡ piece.size = ap length (read_here headers directories k lt) ∙ len ∙ size in
         record {
@@ -198,8 +198,8 @@ module _ (link : KeptParts) (pieces : List Piece) (fixups : List (List Fix)) (se
           above = subst (λ (s : ℕ). (placed_at layout.sections.items s).rva ≤ get_or layout.pieces.items k 0) (sym own) file.lies.above;
           size = len ∙ size;
           inside = subst (λ (s : ℕ). piece_place layout s k + piece.size ≤ length (mixed_file link headers sections layout tables k)) (sym own) (subst (λ (n : ℕ). piece_place layout i k + n ≤ length (mixed_file link headers sections layout tables k)) held file.inside);
-          bytes = subst (λ (s : ℕ). bytes_at (mixed_file link headers sections layout tables k) (piece_place layout s k) piece.size ≡ contents_at link layout k) (sym own) (subst (λ (n : ℕ). bytes_at (mixed_file link headers sections layout tables k) (piece_place layout i k) n ≡ contents_at link layout k) (len ∙ size) (bytes_here headers directories k lt above_zero));
-          after = subst (λ (s : ℕ). patched (piece_place layout s k) (linked_bytes link (rows_of sections) layout headers.base k) (mixed_file link headers sections layout tables k) ≡ mixed_file link headers sections layout tables (k + 1)) (sym own) (file_after headers directories k lt above_zero);
+          bytes = subst (λ (s : ℕ). bytes_at (mixed_file link headers sections layout tables k) (piece_place layout s k) piece.size ≡ contents_at link layout k) (sym own) (subst (λ (n : ℕ). bytes_at (mixed_file link headers sections layout tables k) (piece_place layout i k) n ≡ contents_at link layout k) (len ∙ size) (bytes_here headers directories k lt kept above_zero));
+          after = subst (λ (s : ℕ). patched (piece_place layout s k) (linked_bytes link (rows_of sections) layout headers.base k) (mixed_file link headers sections layout tables k) ≡ mixed_file link headers sections layout tables (k + 1)) (sym own) (file_after headers directories k lt kept above_zero);
           is = is;
         }
 
@@ -221,7 +221,8 @@ module _ (link : KeptParts) (pieces : List Piece) (fixups : List (List Fix)) (se
     with_fields k piece fields lt read has some =
         let is : piece ≡ get_or pieces k no_piece = read ∙ get_or_default pieces k piece no_piece lt in
         let both = initialised k lt (some_bytes k fields has.patchable some) in
-        piece_here k piece lt read (ap (λ (p : Piece). p.init) is ∙ both.0) (omega (arith, both.1, ap (λ (p : Piece). p.size) is))
+        let kept = fields_used ready.options link k ready.kept_are (some_fixes (planned_fixes link k) fields has.fields some) in
+        piece_here k piece lt kept read (ap (λ (p : Piece). p.init) is ∙ both.0) (omega (arith, both.1, ap (λ (p : Piece). p.size) is))
 
     -- what patching them in the file gives
     pub file_patched : (k place rva base : ℕ) (piece : Piece) (fields : List Fix) (before after : List ℕ) → k < length pieces → IsHere k piece → HasFields k fields → before ≡ mixed_file link headers sections layout tables k → place ≡ piece_place layout (get_or owner k 0) k → rva ≡ get_or layout.pieces.items k 0 → base ≡ headers.base

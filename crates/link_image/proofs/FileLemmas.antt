@@ -24,7 +24,7 @@ use Rattle.link_plan.specs.Plan.{IsPlanOf, kept_parts}
 use Rattle.link_image.specs.declared.placement.Placement.{Placement}
 use Rattle.link_image.specs.LinkedBytes.{tables_at, contents_at, placed_contents}
 use Rattle.link_image.specs.Steps.{HoldTables, CanBeGiven, AreWhole, IsPlaced, IsWritten, given_contents, reloc_tables}
-use Rattle.link_image.proofs.HeldLemmas.{piece_count, planned_is, same_test, held_at, other_is, table_contents, all_held, length-placed, placed_read, placed_held}
+use Rattle.link_image.proofs.HeldLemmas.{table_behind, piece_count, planned_is, same_test, held_at, other_is, table_contents, all_held, length-placed, placed_read, placed_held}
 
 -- ---- what holds a table of base relocations
 
@@ -119,8 +119,8 @@ module _ (options : LinkOptions) (plan : LinkPlan) (planned : IsPlanOf options p
       by : (piece : Piece) → piece ≡ get_or plan.pieces.items k no_piece → CanBeGiven piece
       by piece is =
           let test = sym (same_test options plan planned k lt) ∙ here in
-          let table = table_is (kept_parts plan) k (omega (arith, lt, piece_count options plan planned)) test in
-          let at = planned_is options plan planned k lt in
+          let table = table_is (kept_parts plan) k (table_behind (kept_parts plan) k test) (omega (arith, lt, piece_count options plan planned)) in
+          let at = planned_is options plan planned k in
           record {
             few = omega (arith, ap (λ (p : Piece). p.number) is, ap (λ (p : Piece). p.number) at, table.few);
             init = ap (λ (p : Piece). p.init) is ∙ ap (λ (p : Piece). p.init) at ∙ table.init;
@@ -134,7 +134,7 @@ module _ (options : LinkOptions) (plan : LinkPlan) (planned : IsPlanOf options p
       test = same_test options plan planned k lt
 
       number : (get_or plan.pieces.items k no_piece).number ≡ (whole_piece (kept_parts plan) k).number
-      number = ap (λ (p : Piece). p.number) (planned_is options plan planned k lt)
+      number = ap (λ (p : Piece). p.number) (planned_is options plan planned k)
 
       by : (b : Bool) → is_table (length plan.names.modules) (whole_piece (kept_parts plan) k) ≡ b → given_contents (length plan.names.modules) (tables_at (kept_parts plan) layout) (get_or plan.pieces.items k no_piece) ≡ contents_at (kept_parts plan) layout k
       by true table =
@@ -178,8 +178,8 @@ module _ (options : LinkOptions) (plan : LinkPlan) (planned : IsPlanOf options p
         ∙ held.filled (sym (ap (λ (p : Piece). p.init) same) ∙ init)
         ∙ sym (ap (λ (p : Piece). p.size) same)
 
-    pub whole_contents : HasContents whole placement.sections.items
-    whole_contents = λ i d lt. whole_bodies (get_or (all_pieces placement.sections.items) i d) (whole_laid.within i d lt)
+    pub whole_filled : HasContents whole placement.sections.items
+    whole_filled = λ i d lt. whole_bodies (get_or (all_pieces placement.sections.items) i d) (whole_laid.within i d lt)
 
     -- the file
     pub written_with : (headers : Headers) (image : List ℕ) → image ≡ image_file (layout_plan headers placement.sections.items placement.layout (at_each_base (map piece_contents whole))) → IsWritten headers placement (kept_parts plan) image

@@ -40,14 +40,14 @@ use Rattle.link_image.specs.LinkedBytes.{section_of, owners_in, rva_of, table_rv
 use Rattle.link_image.specs.ExportFaults.{in_table_fault}
 use Rattle.link_image.specs.LinkedImage.{extent_of, table_extent, directories_of, HoldsImports, HoldsExports}
 use Rattle.link_image.specs.Steps.{reloc_tables, IsGiven, IsPlaced, IsReady}
-use Rattle.link_image.proofs.HeldLemmas.{piece_count, same_size, table_contents, table_fixes}
+use Rattle.link_image.proofs.HeldLemmas.{piece_count, exports_are, same_size, table_contents, table_fixes}
 use Rattle.link_image.proofs.ExportLemmas.{HasTable, has_table, length-tables, import_size, import_table, export_size, export_table_is}
 use Rattle.link_image.proofs.ExportReadLemmas.{readable, exports_read, exports_read_by_ordinal, none_read as none_read_name, none_read_by_ordinal as none_read_ordinal, no_rows}
 use Rattle.link_image.proofs.MemoryLemmas.{directory_reads, directory_sized, above_headers, in_memory}
 use Rattle.link_image.proofs.MoveLemmas.{contents_room}
 use Rattle.link_image.proofs.PieceMoves.{piece_read}
 use Rattle.link_image.proofs.StandsLemmas.{OwnerAt, owner_at}
-use Rattle.link_image.proofs.TableLemmas.{IsTableAt, found_table}
+use Rattle.link_image.proofs.TableLemmas.{IsTableAt, found_table, table_used}
 
 -- ---- every table that has bytes is made
 
@@ -168,7 +168,7 @@ module _ (options : LinkOptions) (plan : LinkPlan) (placement : Placement) (owne
 
   long : (number : ℕ) → length (table number) ≡ size number
   long number =
-      length-tables (kept_parts plan) placement.layout (export_rows options plan.names.modules) (dll_name options.out) options.time planned.exports_are planned.told number
+      length-tables (kept_parts plan) placement.layout (export_rows options plan.modules.items) (dll_name options.out) options.time (exports_are options plan planned) planned.told number
 
   -- a table in the memory at a base
   record Stands (base number : ℕ) : Type 0 where
@@ -196,7 +196,8 @@ module _ (options : LinkOptions) (plan : LinkPlan) (placement : Placement) (owne
       let same = same_size options plan planned k lt in
       let sized = table_size number k at in
       let some : 0 < (get_or plan.pieces.items k no_piece).size = omega (arith, same, at.is.some) in
-      let own : OwnerAt placement.sections.items k = owner_at placement.sections.items k (ready.stands k lt (inl some)) in
+      let used = table_used options plan planned number k at in
+      let own : OwnerAt placement.sections.items k = owner_at placement.sections.items k (ready.stands k lt used (inl some)) in
       let i = section_of (rows_of placement.sections.items) k in
       let room = contents_room (kept_parts plan) plan.pieces.items plan.fixes.items placement.sections.items placement.layout owner (reloc_tables placement.table) ready base in
       let linked = table_linked base number k at in
@@ -205,7 +206,7 @@ module _ (options : LinkOptions) (plan : LinkPlan) (placement : Placement) (owne
       let here = subst (λ (n : ℕ). bytes_at (expected_image image base) (get_or placement.layout.pieces.items n 0) (length (get_or (contents base) n [])) ≡ get_or (contents base) n []) own.is there in
       let low = subst (λ (n : ℕ). 0 < length (get_or (contents base) n []) → placement.layout.headers ≤ get_or placement.layout.pieces.items n 0) own.is
       (above_headers headers (plan.pieces.items ++ ready.rest) placement.sections.items placement.layout contents base ready.laid room i own.number own.there own.within) in
-      let end = placed.ends k lt some in
+      let end = placed.ends k lt used some in
       record {
         held =
             subst (λ (r : ℕ). Holds (expected_image image base) r (table number)) (sym rva)
@@ -316,13 +317,13 @@ module _ (options : LinkOptions) (plan : LinkPlan) (placement : Placement) (owne
       held_exports base = subst (Holds (expected_image image base) (table_rva (kept_parts plan) placement.layout EXPORTS)) (export_table_is (kept_parts plan) placement.layout) (stands base EXPORTS (omega arith)).held
 
       table_has : 0 < plan.names.exports.size → HasTable (kept_parts plan)
-      table_has some = has_table (kept_parts plan) (export_rows options plan.names.modules) (dll_name options.out) options.time planned.exports_are planned.told some
+      table_has some = has_table (kept_parts plan) (export_rows options plan.modules.items) (dll_name options.out) options.time (exports_are options plan planned) planned.told some
 
       are_readable : 0 < plan.names.exports.size → AreReadableExports rows (table_rva (kept_parts plan) placement.layout EXPORTS) plan.names.exports.size
       are_readable some = readable (kept_parts plan) placement.layout.pieces.items (table_has some) planned.told (given some) outside
 
       without : plan.names.exports.size ≡ 0 → length plan.names.exports.rows ≡ 0
-      without none = ap length (no_rows (kept_parts plan) (export_rows options plan.names.modules) (dll_name options.out) options.time planned.exports_are placed.means.grouped.exports none)
+      without none = ap length (no_rows (kept_parts plan) (export_rows options plan.modules.items) (dll_name options.out) options.time (exports_are options plan planned) placed.means.grouped.exports none)
 
       record Extends : Type 0 where
         rva_zero : plan.names.exports.size ≡ 0 → (table_extent (kept_parts plan) placement.layout EXPORTS) ≡ (0, 0)
@@ -366,7 +367,7 @@ module _ (options : LinkOptions) (plan : LinkPlan) (placement : Placement) (owne
                 ∙ exports_read_by_ordinal (kept_parts plan) placement.layout (expected_image image base) (table_has some) (are_readable some) export_ends (held_exports base) ordinal
             | inr none ↦
                 ap (λ (e : ℕ × ℕ). export_of_ordinal (expected_image image base) e.0 e.1 ordinal) (extends.rva_zero (omega (arith, none)))
-                ∙ none_read_ordinal (kept_parts plan) (export_rows options plan.names.modules) (dll_name options.out) options.time (expected_image image base) placement.layout.pieces.items ordinal planned.exports_are (without (omega (arith, none)))
+                ∙ none_read_ordinal (kept_parts plan) (export_rows options plan.modules.items) (dll_name options.out) options.time (expected_image image base) placement.layout.pieces.items ordinal (exports_are options plan planned) (without (omega (arith, none)))
           ]
 
       pub exports_there : (entry : ℕ) (file : List ℕ) → headers ≡ headers_of options entry (directories_of (kept_parts plan) placement.layout (reloc_tables placement.table)) → file ≡ image_file image → MeansPlan image file → HoldsExports (kept_parts plan) placement.layout file

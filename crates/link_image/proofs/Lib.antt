@@ -1,4 +1,5 @@
 pub mod HeldLemmas
+pub mod UsedLemmas
 pub mod SectionLemmas
 pub mod OwnerLemmas
 pub mod MixedLemmas

@@ -41,6 +41,7 @@ use Rattle.link_image.specs.LinkedBytes.{exported_rows, linked_contents, image_c
 use Rattle.link_image.specs.ExportFaults.{in_table_fault}
 use Rattle.link_image.specs.LinkedImage.{base_rule, entry_rva, table_row, directories_of, HasTable, IsWhole, IsBuilt}
 use Rattle.link_image.specs.Steps.{reloc_tables, file_of, IsGiven, IsPlaced, IsReady}
+use Rattle.link_image.proofs.HeldLemmas.{imports_are}
 use Rattle.link_image.proofs.FieldLemmas.{total_is}
 use Rattle.link_image.proofs.ImportLemmas.{are_made, imports_there, exports_there}
 use Rattle.link_image.proofs.MoveLemmas.{one_length, contents_room, contents_stay, contents_moved}
@@ -233,7 +234,7 @@ module _ (options : LinkOptions) (plan : LinkPlan) (placement : Placement) (owne
         file = file;
         means = subst (MeansPlan image) (sym file) (means permitted);
         imports =
-            imports_there options plan placement owner planned placed ready headers (are_made (kept_parts plan)) (entry_rva placement.layout.pieces.items plan.entry) made.image.items refl file (subst (MeansPlan image) (sym file) (means permitted)) planned.imports.readable;
+            imports_there options plan placement owner planned placed ready headers (are_made (kept_parts plan)) (entry_rva placement.layout.pieces.items plan.entry) made.image.items refl file (subst (MeansPlan image) (sym file) (means permitted)) (imports_are options plan planned).readable;
         exports =
             exports_there options plan placement owner planned placed ready headers (are_made (kept_parts plan)) outside given (entry_rva placement.layout.pieces.items plan.entry) made.image.items refl file (subst (MeansPlan image) (sym file) (means permitted));
         count = count ∙ sym (length-section_rows (plan.pieces.items ++ ready.rest) placement.sections.items placement.layout ready.laid);

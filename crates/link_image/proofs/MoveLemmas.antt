@@ -33,6 +33,7 @@ use Rattle.link_image.specs.BaseFields.{holds_address, base_field, IsBaseField, 
 use Rattle.link_image.specs.LinkedBytes.{section_of, owners_in, contents_at, placed_contents, linked_bytes, image_contents}
 use Rattle.link_image.specs.Steps.{IsHeld, IsReady}
 use Rattle.link_image.proofs.HeldLemmas.{patchable_at, have_room_for, length-placed, placed_read, placed_held}
+use Rattle.link_image.proofs.UsedLemmas.{fields_used}
 use Rattle.link_image.proofs.StandsLemmas.{OwnerAt, owner_at}
 use Rattle.link_image.proofs.PieceMoves.{piece_read, table_read, length_piece, based_some, based_has_field, image_stays}
 
@@ -129,10 +130,10 @@ module _ (link : KeptParts) (pieces : List Piece) (fixups : List (List Fix)) (se
   read_at base k place is lt = ap (λ (j : ℕ). get_or (contents base) j []) is ∙ piece_read link rows layout base tables k lt
 
   -- a piece with a field has bytes, so it stands in a section
-  stands_at : (k : ℕ) → k < count → 0 < length (contents_at link layout k) → OwnerAt sections k
-  stands_at k lt some =
+  stands_at : (k : ℕ) → k < count → 0 < length (planned_fixes link k) → 0 < length (contents_at link layout k) → OwnerAt sections k
+  stands_at k lt field some =
       let within : k < length pieces = omega (arith, lt, count_is) in
-      owner_at sections k (ready.stands k within (inl (sized (get_or pieces k no_piece) (ready.held k within))))
+      owner_at sections k (ready.stands k within (fields_used ready.options link k ready.kept_are field) (inl (sized (get_or pieces k no_piece) (ready.held k within))))
     where
       sized : (piece : Piece) → IsHeld piece (contents_at link layout k) → 0 < piece.size
       sized piece held = by piece.init refl
@@ -164,7 +165,7 @@ module _ (link : KeptParts) (pieces : List Piece) (fixups : List (List Fix)) (se
         let raised = fix_raised k here.index here.there here.within here.based in
         let some : 0 < field_width fix.kind = based_some fix here.based in
         let end = raised.0 in
-        let at : OwnerAt sections k = stands_at k here.there (omega (arith, some, end, length_piece link rows layout own k)) in
+        let at : OwnerAt sections k = stands_at k here.there (omega (arith, here.within)) (omega (arith, some, end, length_piece link rows layout own k)) in
         let place = piece_at sections (section_of rows k) at.number in
         let was = read_at own k place at.is here.there in
         let is = read_at base k place at.is here.there in

@@ -9,6 +9,7 @@ use Rattle.address_layout.specs.Layout.{all_pieces}
 use Rattle.address_layout.proofs.CallerLemmas.{stands}
 use Rattle.link_pieces.specs.TablePieces.{whole_pieces}
 use Rattle.link_words.specs.Outcome.{LinkOptions}
+use Rattle.link_plan.specs.Planned.{planned_fixes}
 use Rattle.link_plan.specs.declared.planning.LinkPlan.{LinkPlan}
 use Rattle.link_plan.specs.Plan.{IsPlanOf, kept_parts}
 use Rattle.link_image.specs.BaseFields.{AreBaseFields}
@@ -16,6 +17,7 @@ use Rattle.link_image.specs.LinkedBytes.{contents_at}
 use Rattle.link_image.specs.LinkedImage.{link_input, AreGrouped, ArePlaced}
 use Rattle.link_image.specs.Steps.{Fits, all_fields}
 use Rattle.link_image.proofs.HeldLemmas.{piece_count, held_size}
+use Rattle.link_image.proofs.UsedLemmas.{fields_used}
 use Rattle.link_image.proofs.SectionLemmas.{standing, used_there, needs_there}
 use Rattle.link_image.proofs.BaseFieldLemmas.{all_fit, base_fields_are}
 
@@ -29,9 +31,9 @@ module _ (options : LinkOptions) (plan : LinkPlan) (sections : List OutSection) 
   sizes : (k : ℕ) → k < length plan.pieces.items → length (contents_at (kept_parts plan) layout k) ≤ (get_or plan.pieces.items k no_piece).size
   sizes k lt = held_size options plan planned layout k lt
 
-  stand : (k : ℕ) → k < length plan.pieces.items → 0 < (get_or plan.pieces.items k no_piece).size → Contains (all_pieces sections) k
-  stand k lt some =
-      stands (link_input options (kept_parts plan) plan.pieces.items) sections k grouped.grouping (used_there options (kept_parts plan) plan.pieces.items k lt) (needs_there (link_input options (kept_parts plan) plan.pieces.items) k (inl some))
+  stand : (k : ℕ) → k < length plan.pieces.items → 0 < length (planned_fixes (kept_parts plan) k) → 0 < (get_or plan.pieces.items k no_piece).size → Contains (all_pieces sections) k
+  stand k lt field some =
+      stands (link_input options (kept_parts plan) plan.pieces.items) sections k grouped.grouping (used_there options (kept_parts plan) plan.pieces.items k lt (fields_used options (kept_parts plan) k planned.link_is.kept_are field)) (needs_there (link_input options (kept_parts plan) plan.pieces.items) k (inl some))
 
   few : layout.image ≤ 2 ^ 31
   few = omega (arith, placed.within)

@@ -1,8 +1,8 @@
 -- From what grouping and placing say of the pieces of a plan to what they say of the modules.
-use Rattle.std.proofs.Common.{◌≡◌, ℕ, suc, ◌+◌, ◌<◌, ◌^◌, ◌⊎◌, Bool, true, false, ◌≤◌, List, [], ◌∷◌, ◌++◌, length, length-append, map, replicate, get_or, Some, None, refl, sym, ap, ◌∙◌, subst, inl, inr, arith}
+use Rattle.std.proofs.Common.{◌≡◌, ℕ, suc, ◌+◌, ◌<◌, ◌^◌, ◌⊎◌, Bool, true, false, ◌≤◌, List, [], ◌∷◌, ◌++◌, length, length-append, map, get_or, Some, None, refl, sym, ap, ◌∙◌, subst, inl, inr, arith}
 use Rattle.std.specs.List.{All, Contains}
 use Rattle.std.proofs.lemmas.Bool.{lt-ltb, and_from, or_left, or_right}
-use Rattle.std.proofs.lemmas.List.{length-map, map-append, append-nil, get_or-replicate, get_or_append_left}
+use Rattle.std.proofs.lemmas.List.{length-map, map-append, append-nil, get_or_append_left}
 use Rattle.std.proofs.lemmas.List.Elements.{All-nil, All-cons, Contains-append_left}
 use Rattle.std.proofs.lemmas.Grind.{flat_map-append}
 use Rattle.link_base.specs.declared.fault.Fault.TheVariants as faults
@@ -30,7 +30,7 @@ use Rattle.image_writer.specs.WrittenImage.{section_rows, written_plan, layout_p
 use Rattle.image_writer.proofs.CallerLemmas.{laid_out, appended_laid_out}
 use Rattle.link_pieces.specs.TablePieces.{KeptParts}
 use Rattle.link_plan.specs.Plan.{merges_of, IsPlanOf, kept_parts}
-use Rattle.link_plan.specs.Planned.{plan_pieces}
+use Rattle.link_plan.specs.Planned.{used_pieces, plan_pieces}
 use Rattle.link_words.specs.Outcome.{LinkOptions}
 use Rattle.link_fields.specs.declared.entry.EntryPlace.{EntryPlace}
 use Rattle.link_plan.specs.declared.planning.LinkPlan.{LinkPlan}
@@ -53,8 +53,7 @@ use Rattle.link_image.proofs.HeldLemmas.{held_at}
 -- the grouping of the pieces of a plan is that of the modules
 pub grouped_modules : (options : LinkOptions) (link : KeptParts) (pieces : List Piece) (sections : List OutSection) → map bare pieces ≡ plan_pieces options link → AreGrouped options link pieces sections → AreGrouped options link (plan_pieces options link) sections
 grouped_modules options link pieces sections are grouped =
-    let used : replicate (length pieces) true ≡ replicate (length (map bare pieces)) true = ap (λ (n : ℕ). replicate n true) (sym (length-map pieces bare)) in
-    let bared = subst (λ (u : List Bool). IsGrouping (input_from (map bare pieces) u (merges_of options link.parts)) sections) used (grouping_bare pieces (replicate (length pieces) true) (merges_of options link.parts) sections grouped.grouping) in
+    let bared : IsGrouping (input_from (map bare pieces) (used_pieces link) (merges_of options link.parts)) sections = grouping_bare pieces (used_pieces link) (merges_of options link.parts) sections grouped.grouping in
     record {
       merges = grouped.merges;
       exports = grouped.exports;
@@ -135,8 +134,8 @@ pub export_in_table : (options : LinkOptions) (link : KeptParts) (rows : List Ou
 export_in_table options link rows layout tables fault placement permitted is =
     inr (inr (inr (inr (inr (inl (record { rows = rows; layout = layout; tables = tables; placement = placement; permitted = permitted; is = is }))))))
 
-pub used_there : (options : LinkOptions) (link : KeptParts) (pieces : List Piece) (k : ℕ) → k < length pieces → is_used (link_input options link pieces) k ≡ true
-used_there options link pieces k lt = and_from _ _ (lt-ltb k (length pieces) lt) (get_or-replicate (length pieces) k true false lt)
+pub used_there : (options : LinkOptions) (link : KeptParts) (pieces : List Piece) (k : ℕ) → k < length pieces → get_or (used_pieces link) k false ≡ true → is_used (link_input options link pieces) k ≡ true
+used_there options link pieces k lt kept = and_from _ _ (lt-ltb k (length pieces) lt) kept
 
 pub needs_there : (input : Input) (k : ℕ) → (0 < (get_or input.pieces k no_piece).size) ⊎ ((get_or input.pieces k no_piece).named ≡ true) → needs_place input k ≡ true
 needs_there input k (inl some) = or_left _ _ (lt-ltb 0 (get_or input.pieces k no_piece).size some)
@@ -145,20 +144,20 @@ needs_there input k (inr named) = or_right _ _ named
 -- ---- the entry
 
 -- a piece that is named stands in a section, so an offset in it has an RVA
-pub entry_fits : (options : LinkOptions) (link : KeptParts) (pieces : List Piece) (sections : List OutSection) (reloc : Bool) (layout : Layout) (place : EntryPlace) → AreGrouped options link pieces sections → ArePlaced pieces sections reloc layout → StandsNamed pieces place → get_or layout.pieces.items place.piece 0 < 2 ^ 32 → get_or layout.pieces.items place.piece 0 + place.value < 2 ^ 32
-entry_fits options link pieces sections reloc layout place grouped placed stand fits =
+pub entry_fits : (options : LinkOptions) (link : KeptParts) (pieces : List Piece) (sections : List OutSection) (reloc : Bool) (layout : Layout) (place : EntryPlace) → AreGrouped options link pieces sections → ArePlaced pieces sections reloc layout → StandsNamed pieces place → get_or (used_pieces link) place.piece false ≡ true → get_or layout.pieces.items place.piece 0 < 2 ^ 32 → get_or layout.pieces.items place.piece 0 + place.value < 2 ^ 32
+entry_fits options link pieces sections reloc layout place grouped placed stand kept fits =
     let piece = place.piece in
     let input = link_input options link pieces in
-    let used : is_used input piece ≡ true = and_from _ _ (lt-ltb piece (length pieces) stand.within) (get_or-replicate (length pieces) piece true false stand.within) in
+    let used = used_there options link pieces piece stand.within kept in
     let needs : needs_place input piece ≡ true = or_right _ _ stand.named in
     name_fits pieces sections reloc layout piece place.value placed.layout_of.standing placed.within (stands input sections piece grouped.grouping used needs) fits stand.inside
 
 -- a piece with bytes ends inside the image
-pub end_fits : (options : LinkOptions) (link : KeptParts) (pieces : List Piece) (sections : List OutSection) (reloc : Bool) (layout : Layout) (k : ℕ) → AreGrouped options link pieces sections → ArePlaced pieces sections reloc layout → k < length pieces → 0 < (get_or pieces k no_piece).size → get_or layout.pieces.items k 0 + (get_or pieces k no_piece).size ≤ IMAGE_LIMIT
-end_fits options link pieces sections reloc layout k grouped placed lt some =
+pub end_fits : (options : LinkOptions) (link : KeptParts) (pieces : List Piece) (sections : List OutSection) (reloc : Bool) (layout : Layout) (k : ℕ) → AreGrouped options link pieces sections → ArePlaced pieces sections reloc layout → k < length pieces → get_or (used_pieces link) k false ≡ true → 0 < (get_or pieces k no_piece).size → get_or layout.pieces.items k 0 + (get_or pieces k no_piece).size ≤ IMAGE_LIMIT
+end_fits options link pieces sections reloc layout k grouped placed lt kept some =
     let input = link_input options link pieces in
     let standing = placed.layout_of.standing in
-    let at = stands_at sections k (stands input sections k grouped.grouping (used_there options link pieces k lt) (needs_there input k (inl some))) in
+    let at = stands_at sections k (stands input sections k grouped.grouping (used_there options link pieces k lt kept) (needs_there input k (inl some))) in
     let size : (piece_in pieces (row_at sections at.section) at.number).size ≡ (get_or pieces k no_piece).size = ap (λ (n : ℕ). (get_or pieces n no_piece).size) at.is in
     let place : get_or layout.pieces.items k 0 ≡ standing.place at.section at.number = ap (λ (n : ℕ). get_or layout.pieces.items n 0) (sym at.is) ∙ standing.written at.section at.number at.there at.within in
     let inside = piece_end_inside (standing.arranged.each at.section at.there) at.number at.within (omega (arith, some, size)) in
@@ -218,10 +217,10 @@ placed_alone options plan placement planned grouped placed alone none =
       laid = λ rest holds.
           let empty : rest ≡ [] = no_pieces piece_contents rest (holds.contents ∙ none) in
           subst (λ (ps : List Piece). IsLaidOut ps sections layout) (sym (append-nil pieces) ∙ ap (λ (r : List Piece). pieces ++ r) (sym empty)) (laid options link pieces sections layout grouped placed);
-      stands = λ k lt needs. stands input sections k grouped.grouping (used_there options link pieces k lt) (needs_there input k needs);
+      stands = λ k lt kept needs. stands input sections k grouped.grouping (used_there options link pieces k lt kept) (needs_there input k needs);
       room = omega (arith, placed.layout_of.standing.rva_for_each);
-      fits = λ place stand small. entry_fits options link pieces sections false layout place grouped placed stand small;
-      ends = λ k lt some. end_fits options link pieces sections false layout k grouped placed lt some;
+      fits = λ place stand kept small. entry_fits options link pieces sections false layout place grouped placed stand kept small;
+      ends = λ k lt kept some. end_fits options link pieces sections false layout k grouped placed lt kept some;
       few = omega (arith, placed.few);
       small = subst (λ (ts : List (List ℕ)). All (λ table. length table < 2 ^ 32) ts) (sym none) (All-nil (λ (table : List ℕ). length table < 2 ^ 32));
     }
@@ -262,20 +261,20 @@ placed_with_table options plan sections before fields placement planned grouped 
           subst (λ (ss : List OutSection). IsLaidOut (pieces ++ rest) ss layout) (sym ends.is)
           (subst (λ (r : List Piece). IsLaidOut (pieces ++ r) (sections ++ section ∷ []) layout) (sym one.1)
           (appended_laid_out pieces one.0 sections section before layout (length (blocks_of fields)) placed.layout_of.standing planned.aligned (standing options link pieces sections grouped) placed.few added within last size));
-      stands = λ k lt needs.
+      stands = λ k lt kept needs.
           subst (λ (ss : List OutSection). Contains (all_pieces ss) k) (sym ends.is)
           (subst (λ (ks : List ℕ). Contains ks k) (sym (sections_more sections section))
-          (Contains-append_left (all_pieces sections) (all_pieces (section ∷ [])) k (stands input sections k grouped.grouping (used_there options link pieces k lt) (needs_there input k needs))));
+          (Contains-append_left (all_pieces sections) (all_pieces (section ∷ [])) k (stands input sections k grouped.grouping (used_there options link pieces k lt kept) (needs_there input k needs))));
       room = omega (arith, count, ap length added.pieces, length-append before.pieces.items (added.placed.rva ∷ []));
-      fits = λ place stand fits.
+      fits = λ place stand kept fits.
           let same : get_or layout.pieces.items place.piece 0 ≡ get_or before.pieces.items place.piece 0 =
           ap (λ (rvas : List ℕ). get_or rvas place.piece 0) added.pieces ∙ get_or_append_left before.pieces.items (added.placed.rva ∷ []) 0 place.piece (omega (arith, stand.within, count)) in
-          let here = entry_fits options link pieces sections true before place grouped placed stand (omega (arith, same, fits)) in
+          let here = entry_fits options link pieces sections true before place grouped placed stand kept (omega (arith, same, fits)) in
           omega (arith, same, here);
-      ends = λ k lt some.
+      ends = λ k lt kept some.
           let same : get_or layout.pieces.items k 0 ≡ get_or before.pieces.items k 0 =
           ap (λ (rvas : List ℕ). get_or rvas k 0) added.pieces ∙ get_or_append_left before.pieces.items (added.placed.rva ∷ []) 0 k (omega (arith, lt, count)) in
-          let here = end_fits options link pieces sections true before k grouped placed lt some in
+          let here = end_fits options link pieces sections true before k grouped placed lt kept some in
           omega (arith, same, here);
       few = omega (arith, placed.few, ap length ends.is, length-append sections (section ∷ []));
       small = subst (λ (ts : List (List ℕ)). All (λ table. length table < 2 ^ 32) ts) (sym tables) (All-cons (λ (table : List ℕ). length table < 2 ^ 32) (blocks_of fields) [] small (All-nil (λ (table : List ℕ). length table < 2 ^ 32)));
@@ -287,6 +286,7 @@ placed_with_table options plan sections before fields placement planned grouped 
 pub ready : (options : LinkOptions) (plan : LinkPlan) (placement : Placement) (headers : Headers) (image owner : List ℕ) → IsPlanOf options plan.modules.items plan → IsPlaced options plan placement → IsWritten headers placement (kept_parts plan) image → owner ≡ owners_in (rows_of placement.sections.items) placement.layout → IsReady (kept_parts plan) plan.pieces.items plan.fixes.items placement.sections.items placement.layout owner (reloc_tables placement.table)
 ready options plan placement headers image owner planned placed written is = record {
   options = options;
+  kept_are = planned.link_is.kept_are;
   pieces_are = planned.pieces_are;
   held = held_at options plan planned placement.layout;
   fields = planned.fields;

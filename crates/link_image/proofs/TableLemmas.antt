@@ -1,5 +1,5 @@
 -- The pieces of the import tables, where they stand, and that they end below 4 GiB.
-use Rattle.std.proofs.Common.{◌≡◌, ℕ, zero, suc, ◌+◌, ◌^◌, ◌<◌, ◌≤◌, Bool, true, cond, eqb, ltb, List, length, map, take, get_or, slice_index, Option, Some, None, IfSome, refl, sym, ap, ◌∙◌, subst, lt-ltb, arith}
+use Rattle.std.proofs.Common.{◌≡◌, ℕ, zero, suc, ◌+◌, ◌^◌, ◌<◌, ◌≤◌, Bool, true, false, cond, eqb, ltb, List, length, map, take, get_or, slice_index, Option, Some, None, IfSome, refl, sym, ap, ◌∙◌, subst, lt-ltb, arith}
 use Rattle.std.specs.List.{All, range_with_len}
 use Rattle.std.specs.Option.{option_or}
 use Rattle.std.proofs.Math.Path.{fun_ext}
@@ -13,19 +13,21 @@ use Rattle.section_group.specs.SectionOrder.{no_piece}
 use Rattle.address_layout.specs.declared.layout.Layout.{Layout}
 use Rattle.import_tables.specs.ImportTables.{EndBelow4G}
 use Rattle.synthetic_sections.specs.LinkerPieces.{FIRST_THUNK, size_at}
-use Rattle.module_view.specs.Module.{ModuleView}
 use Rattle.link_pieces.specs.TablePieces.{KeptParts, is_table, table_sizes, IsLinkTable, table_index, whole_pieces, whole_piece, kept_imports}
 use Rattle.link_imports.specs.Imports.{import_sizes}
 use Rattle.link_pieces.specs.PieceIndex.{is_numbered, holds}
+use Rattle.link_pieces.specs.Pieces.{link_pieces}
 use Rattle.link_pieces.proofs.CallerLemmas.{table_is}
 use Rattle.link_words.specs.Outcome.{LinkOptions}
+use Rattle.link_plan.specs.Planned.{used_pieces}
 use Rattle.link_plan.specs.declared.planning.LinkPlan.{LinkPlan}
+use Rattle.link_plan.proofs.CallerLemmas.{used_last}
 use Rattle.link_plan.specs.Plan.{IsPlanOf, kept_parts}
 use Rattle.link_image.specs.declared.placement.Placement.{Placement}
 use Rattle.link_image.specs.LinkedBytes.{rva_of, table_rva, table_rvas}
 use Rattle.link_image.specs.LinkedImage.{extent_of}
 use Rattle.link_image.specs.Steps.{numbered_index, numbered_indexes, IsPlaced}
-use Rattle.link_image.proofs.HeldLemmas.{piece_count, planned_is, same_size}
+use Rattle.link_image.proofs.HeldLemmas.{table_behind, piece_count, planned_is, names_count, same_size}
 use Rattle.link_image.proofs.ExportLemmas.{import_size}
 
 -- ---- the first piece of a number
@@ -58,6 +60,7 @@ all_noted position pieces places count each =
 
 pub record IsTableAt (link : KeptParts) (number k : ℕ) : Type 0 where
   pub there : k < length (whole_pieces link)
+  pub behind : length (link_pieces link.parts) ≤ k
   pub table : is_table (length link.parts.modules) (whole_piece link k) ≡ true
   pub number_is : (whole_piece link k).number ≡ number
   pub is : IsLinkTable link (whole_piece link k)
@@ -69,19 +72,24 @@ found_table link number k few found =
     let both = and_parts (eqb piece.«module» (length link.parts.modules)) (eqb piece.number number) at.1.0 in
     let same : piece.number ≡ number = eqb-true piece.number number both.1 in
     let table : is_table (length link.parts.modules) piece ≡ true = and_from (eqb piece.«module» (length link.parts.modules)) (ltb piece.number FIRST_THUNK) both.0 (lt-ltb piece.number FIRST_THUNK (omega (arith, same, few))) in
-    record { there = at.0; table = table; number_is = same; is = table_is link k at.0 table }
+    let behind = table_behind link k table in
+    record { there = at.0; behind = behind; table = table; number_is = same; is = table_is link k behind at.0 }
 
 module _ (options : LinkOptions) (plan : LinkPlan) (planned : IsPlanOf options plan.modules.items plan) where
   numbered_is : (number : ℕ) → numbered_index (length plan.modules.items) plan.pieces.items number ≡ table_index (kept_parts plan) number
   numbered_is number =
-      ap (λ (ms : List ModuleView). numbered_index (length ms) plan.pieces.items number) planned.modules_are
-      ∙ first_same (length plan.pieces.items) (holds (is_numbered (length plan.names.modules) number) plan.pieces.items) (holds (is_numbered (length plan.names.modules) number) (whole_pieces (kept_parts plan))) (λ k lt. ap (is_numbered (length plan.names.modules) number) (planned_is options plan planned k lt))
+      ap (λ (count : ℕ). numbered_index count plan.pieces.items number) (names_count options plan planned)
+      ∙ first_same (length plan.pieces.items) (holds (is_numbered (length plan.names.modules) number) plan.pieces.items) (holds (is_numbered (length plan.names.modules) number) (whole_pieces (kept_parts plan))) (λ k lt. ap (is_numbered (length plan.names.modules) number) (planned_is options plan planned k))
       ∙ ap (λ (n : ℕ). first_below n (holds (is_numbered (length plan.names.modules) number) (whole_pieces (kept_parts plan)))) (piece_count options plan planned)
 
   pub places_are : (places : List (Option ℕ)) → places ≡ numbered_indexes (length plan.modules.items) plan.pieces.items → places ≡ map (table_index (kept_parts plan)) (range_with_len 0 6)
   places_are places is = is ∙ ap (λ (f : ℕ → Option ℕ). map f (range_with_len 0 6)) (fun_ext numbered_is)
 
-  -- each is a piece of the plan
+  -- each is used
+  pub table_used : (number k : ℕ) → IsTableAt (kept_parts plan) number k → get_or (used_pieces (kept_parts plan)) k false ≡ true
+  table_used number k at = used_last options (kept_parts plan) k planned.link_is.kept_are at.behind at.there
+
+  -- and is a piece of the plan
   pub place_there : (number : ℕ) → number < 6 → IfSome (table_index (kept_parts plan) number) (λ k. k < length plan.pieces.items)
   place_there number few = by (table_index (kept_parts plan) number) refl
     where
@@ -131,7 +139,7 @@ module _ (options : LinkOptions) (plan : LinkPlan) (planned : IsPlanOf options p
             let lt : k < length plan.pieces.items = omega (arith, at.there, piece_count options plan planned) in
             let same = same_size options plan planned k lt in
             let size : (whole_piece (kept_parts plan) k).size ≡ size_at (import_sizes plan.names.modules (kept_imports (kept_parts plan))) number = at.is.size ∙ ap (size_at (table_sizes (kept_parts plan))) at.number_is ∙ import_size (kept_parts plan) number few in
-            let end = placed.ends k lt (omega (arith, same, at.is.some)) in
+            let end = placed.ends k lt (table_used number k at) (omega (arith, same, at.is.some)) in
             omega (arith, end, same, size)
 
     pub tables_end : (rvas sizes : List ℕ) → rvas ≡ table_rvas (kept_parts plan) placement.layout → sizes ≡ import_sizes plan.names.modules (kept_imports (kept_parts plan)) → ((n : ℕ) → n < 5 → slice_index sizes n < 2 ^ 32) → EndBelow4G rvas sizes

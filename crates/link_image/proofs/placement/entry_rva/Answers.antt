@@ -1,5 +1,8 @@
 use Rattle.std.proofs.Common.{◌≡◌, ◌<◌, length, get_or, sym, ◌∙◌, arith}
 use Rattle.std.proofs.lemmas.List.{get_or_default}
+use Rattle.link_words.specs.Outcome.{options_said}
+use Rattle.link_plan.specs.Plan.{kept_parts}
+use Rattle.link_plan.proofs.CallerLemmas.{entry_used}
 use Rattle.link_image.proofs.placement.entry_rva.Goals as goal
 
 pub index-requires : goal.index-requires
@@ -14,7 +17,8 @@ rva_in-requires c =
     let stand = c.requires.plan.stands place c.in-Some.is in
     let within : place.piece < length layout.pieces.items = omega (arith, stand.within, c.requires.placed.room) in
     let read : get_or layout.pieces.items place.piece 0 ≡ c.index.result.now = get_or_default layout.pieces.items place.piece 0 c.index.result.now within ∙ sym c.index.ensures in
-    rw (← read) (c.requires.placed.fits place stand)
+    let used = entry_used (options_said c.args.options.now) (kept_parts c.args.plan.now) place c.requires.plan.link_is.kept_are (sym c.requires.plan.entry_is ∙ c.in-Some.is) in
+    rw (← read) (c.requires.placed.fits place stand used)
 
 pub returns-in-Some : goal.returns-in-Some
 returns-in-Some c =
