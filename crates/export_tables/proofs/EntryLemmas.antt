@@ -14,11 +14,11 @@ use Rattle.std.proofs.lemmas.List.Elements.{filter_map-append}
 use Rattle.std.proofs.lemmas.List.Sums.{sum_by-append, sum_by-cons, sum_by_more}
 use Rattle.std.proofs.lemmas.List.Sorted.{sum_by-IsPermutation}
 use Rattle.std.proofs.lemmas.List.{take_all}
+use Rattle.sorted_lists.specs.Order.{in_order}
+use Rattle.sorted_lists.proofs.CallerLemmas.{order_permutes}
 use Rattle.export_tables.specs.declared.row.ExportRow.{ExportRow}
 use Rattle.export_tables.specs.declared.names.NameEntry.{NameEntry}
-use Rattle.export_tables.specs.Order.{in_order}
 use Rattle.export_tables.specs.ExportTable.{no_row, row_at, least, address_count, targets_in, entry_of, entry_at, entries_before, entry_cmp, names_of, text_size, name_size, target_size, forwarder_size, row_size, rows_size, AreNumbered}
-use Rattle.export_tables.proofs.SortLemmas.{order_permutes}
 use Rattle.export_tables.proofs.TargetLemmas.{least_below, place_within, sum_target, no_sum}
 
 -- ---- the order of names

@@ -5,7 +5,6 @@ pub mod OrdinalLemmas
 pub mod AssignedLemmas
 pub mod WorkedDirectory
 pub mod WorkedOrdinals
-pub mod SortLemmas
 pub mod TargetLemmas
 pub mod EntryLemmas
 pub mod PlaceLemmas

@@ -9,10 +9,10 @@ use Rattle.std.proofs.lemmas.List.{take_all, take_more, length-take, length-set,
 use Rattle.std.proofs.lemmas.List.Sums.{sum_by-append, sum_by-cons, sum_by-set}
 use Rattle.std.proofs.lemmas.List.Sorted.{sum_by-IsPermutation}
 use Rattle.std.proofs.lemmas.List.FromFn.{length-map-range_with_len, get_or-map-range_with_len, map-range_with_len_more, fill_by_all}
+use Rattle.sorted_lists.proofs.CallerLemmas.{is_order_of_sums}
 use Rattle.export_tables.specs.declared.row.ExportRow.{ExportRow}
 use Rattle.export_tables.specs.declared.names.NameEntry.{NameEntry}
 use Rattle.export_tables.specs.ExportTable.{least, address_count, entry_at, entries_before, entry_cmp, names_of, place_in, places_in, places_of, AreNumbered}
-use Rattle.export_tables.proofs.SortLemmas.{is_in_order}
 use Rattle.export_tables.proofs.EntryLemmas.{entry_total, one_entry, entries_more}
 use Rattle.export_tables.proofs.TargetLemmas.{Differ, least_below, place_within, place_of_other, place_of_new, same_no, no_earlier}
 
@@ -121,7 +121,7 @@ flat_sum f (place ∷ places) =
 pub names_are : (rows : List ExportRow) (ordinals : List ℕ) (names sorted : List NameEntry) → AreNumbered rows ordinals → names ≡ flat_map option_to_list (places_of rows ordinals) → IsPermutation names sorted → IsSorted entry_cmp sorted → sorted ≡ names_of rows ordinals
 unfolding names_of
 names_are rows ordinals names sorted are is moved up =
-    is_in_order entry_cmp entry_total one_entry (entries_before rows ordinals (length rows)) sorted (λ f.
+    is_order_of_sums entry_cmp entry_total one_entry (entries_before rows ordinals (length rows)) sorted (λ f.
     let all : OneSum f rows ordinals (length rows) = one_sum f rows ordinals (length rows) are (omega arith) in
     let whole : take (length rows) ordinals ≡ ordinals = take_all (length rows) ordinals (omega (arith, are.same_many)) in
     sum_by-IsPermutation f names sorted moved

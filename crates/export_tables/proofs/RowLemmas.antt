@@ -8,11 +8,11 @@ use Rattle.std.proofs.lemmas.List.FromFn.{get_or-map-range_with_len}
 use Rattle.std.proofs.lemmas.List.Quantifiers.{position-Some}
 use Rattle.std.proofs.lemmas.List.Sorted.{All-permutation, Contains-permutation}
 use Rattle.std.proofs.lemmas.List.Sums.{position_or_len_is}
+use Rattle.sorted_lists.proofs.CallerLemmas.{order_permutes}
 use Rattle.export_tables.specs.declared.row.ExportRow.{ExportRow}
 use Rattle.export_tables.specs.declared.row.ExportTo.{ExportTo}
 use Rattle.export_tables.specs.declared.names.NameEntry.{NameEntry}
 use Rattle.export_tables.specs.ExportTable.{no_row, row_at, least, target_in, targets_in, named, entry_of, entry_at, entries_before, entry_cmp, names_of}
-use Rattle.export_tables.proofs.SortLemmas.{order_permutes}
 use Rattle.export_tables.proofs.TargetLemmas.{Differ, least_below}
 use Rattle.export_tables.proofs.EntryLemmas.{entries_more}
 

@@ -6,10 +6,10 @@ use Rattle.std.specs.List.{AllZip}
 use Rattle.std.proofs.lemmas.List.Elements.{All-from_recursion}
 use Rattle.link_base.specs.Bytes.{number_at, number_bytes}
 use Rattle.link_base.specs.Refusals.{first_refusal_below}
+use Rattle.sorted_lists.specs.Order.{inserted, in_order}
 use Rattle.export_tables.specs.declared.row.ExportRow.{ExportRow}
 use Rattle.export_tables.specs.declared.row.ExportTo.TheVariants.{Rva, Forward}
 use Rattle.export_tables.specs.declared.exported.Exported.TheVariants as exported
-use Rattle.export_tables.specs.Order.{inserted, in_order}
 use Rattle.export_tables.specs.ExportDirectory.{directory_in, is_export, entry_address, ordinal_address, is_named, named_address, name_address, export_of_ordinal, export_of_name}
 use Rattle.export_tables.specs.ExportTable.{row_at, target_in, targets_in, entries_before, names_of, rows_size, table_size, text_rva, addresses, name_rvas, tables_bytes, texts_bytes, export_table}
 use Rattle.export_tables.specs.ReadBack.{HasNoNul, forward_text, IsApart, AreReadable, SameSize, exported_name, exported_ordinal}

@@ -12,13 +12,13 @@ use Rattle.link_base.specs.Fields.{fields}
 use Rattle.link_base.specs.Limits.{NAME_LIMIT}
 use Rattle.link_base.specs.declared.numbers.LeNumber.{LeNumber}
 use Rattle.link_base.specs.declared.numbers.LeNumber.TheVariants.{U16, U32}
+use Rattle.sorted_lists.specs.Order.{in_order}
 use Rattle.export_tables.specs.declared.row.ExportRow.{ExportRow}
 use Rattle.export_tables.specs.declared.row.ExportTo.{ExportTo}
 use Rattle.export_tables.specs.declared.row.ExportTo.TheVariants.{Rva, Forward}
 use Rattle.export_tables.specs.declared.names.NameEntry.{NameEntry}
 use Rattle.export_tables.specs.declared.directory.Directory.{Directory}
 use Rattle.export_tables.specs.ExportDirectory.{SIZEOF_EXPORT_DIRECTORY}
-use Rattle.export_tables.specs.Order.{in_order}
 
 -- in place of a row that is not there
 abbrev pub no_row : ExportRow

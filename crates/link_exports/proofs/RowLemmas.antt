@@ -1,4 +1,4 @@
--- Exports that are noted one after the other, and texts without a NUL.
+-- Exports that are noted one after the other.
 use Rattle.std.proofs.Common.{◌≡◌, ℕ, ◌+◌, ◌<◌, Bool, true, false, cond, List, [], ◌∷◌, ◌++◌, length, map, fold, take, get_or, refl, sym, ap, ◌∙◌, append_assoc}
 use Rattle.std.specs.Prelude.{filter_map}
 use Rattle.std.specs.List.{list_any}
@@ -6,9 +6,6 @@ use Rattle.std.proofs.lemmas.List.{append-nil, map-append, take_more}
 use Rattle.std.proofs.lemmas.List.Elements.{filter_map-append}
 use Rattle.std.proofs.lemmas.List.Sums.{fold-append}
 use Rattle.std.proofs.lemmas.List.Concat.{flat_map-append}
-use Rattle.link_base.specs.Bytes.{is_nul}
-use Rattle.link_base.specs.NameText.{begins_import, behind_import, with_import}
-use Rattle.link_base.proofs.SectionNameLemmas.{text_made}
 use Rattle.directives.specs.Said.{Said, said}
 use Rattle.directives.specs.declared.item.Directive.{Directive}
 use Rattle.directives.specs.declared.item.Export.{Export}
@@ -17,14 +14,6 @@ use Rattle.link_words.specs.Outcome.{LinkOptions}
 use Rattle.link_directives.specs.LinkDirectives.{directives_by, all_directives}
 use Rattle.link_exports.specs.Exports.{export_said, all_exports, agrees, with_row, export_rows}
 use Rattle.link_exports.specs.Steps.{SaidRow, said_row, row_of, says_same, with_said}
-
--- the prefix of a name has no NUL
-pub plain_name : (name : List ℕ) → list_any is_nul (behind_import name) ≡ false → list_any is_nul name ≡ false
-plain_name name plain = ap (list_any is_nul) (text_made name) ∙ by_prefix (begins_import name) ∙ plain
-  where
-    by_prefix : (b : Bool) → list_any is_nul (with_import b (behind_import name)) ≡ list_any is_nul (behind_import name)
-    by_prefix true = refl
-    by_prefix false = refl
 
 -- ---- what is noted
 

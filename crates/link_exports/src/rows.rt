@@ -1,22 +1,20 @@
 //! The exports of a link, each once.
 
-ghost use Rattle.std.specs.Prelude.{◌≡◌, ◌≤◌, ◌<◌, ◌^◌, [], ◌∷◌, fold, filter_map, length, map, IfOk, OnOk, IsTrue};
-ghost use Rattle.std.specs.List.{All, list_any};
-ghost use Rattle.link_base.specs.Bytes.{is_nul};
-ghost use Rattle.link_base.specs.Limits.{NAME_LIMIT};
+ghost use Rattle.std.specs.Prelude.{◌≡◌, ◌<◌, ◌^◌, [], ◌∷◌, fold, filter_map, length, map, IfOk, OnOk, IsTrue};
+ghost use Rattle.std.specs.List.{All};
 ghost use Rattle.directives.specs.Said.{said};
 ghost use Rattle.link_words.specs.Outcome.{options_said};
-ghost use Rattle.export_tables.specs.ReadBack.{HasNoNul};
 ghost use Rattle.link_exports.specs.Exports.{export_said, export_rows, CanBeTold};
 ghost use Rattle.link_exports.specs.Steps.{SaidRow, row_of, with_said};
 
 use directives::{Directive, Export};
 use indexmap::IndexSet;
-use link_base::{Memory, NAME_LIMIT, Name};
+use link_base::{Memory, Name};
 use link_words::Options;
 use module_view::Module;
 use std::alloc::Global;
 use symbol_names::forwarder;
+use synthetic_sections::can_stand;
 
 /// All that an export says: its name, what stands behind it, the ordinal that it asks for, and whether it is found by that
 /// alone.
@@ -155,26 +153,4 @@ fn can_be_told(row: &Export<'_>) -> bool
         Some(text) => can_stand(&text),
         None => true,
     }
-}
-
-/// Whether a text can stand in a table: it has at most 32,000 bytes, and no NUL.
-#[tactic(auto, using(crate::proofs::RowLemmas::plain_name))]
-fn can_stand(text: &Name<'_>) -> bool
-    ensures short { IsTrue result → length text.now ≤ NAME_LIMIT }
-    ensures plain { IsTrue result → HasNoNul text.now }
-{
-    text.len() <= NAME_LIMIT && !has_nul(text.rest())
-}
-
-/// Whether a byte of a text is a NUL.
-fn has_nul(text: &[u8]) -> bool
-    ensures { result ≡ list_any is_nul text.now }
-{
-    text.iter().any(|byte| is_nul(byte))
-}
-
-fn is_nul(byte: &u8) -> bool
-    ensures { result ≡ is_nul byte.now }
-{
-    *byte == 0
 }

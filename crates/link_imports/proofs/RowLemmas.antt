@@ -1,10 +1,7 @@
 -- The rows of imports, one module more at a time.
-use Rattle.std.proofs.Common.{◌≡◌, ℕ, zero, suc, ◌+◌, ◌-◌, ◌<◌, ◌≤◌, Bool, true, false, List, [], ◌∷◌, ◌++◌, length, get_or, Option, Some, None, inl, inr, refl, sym, ap, subst, ◌∙◌, arith}
-use Rattle.std.specs.List.{All, cons_option, filter_map, list_any, range_with_len}
-use Rattle.link_base.specs.Bytes.{is_nul}
-use Rattle.link_base.specs.NameText.{begins_import, behind_import, with_import}
+use Rattle.std.proofs.Common.{◌≡◌, ℕ, zero, suc, ◌+◌, ◌-◌, ◌<◌, ◌≤◌, Bool, false, List, [], ◌∷◌, ◌++◌, length, get_or, Option, Some, None, inl, inr, refl, sym, ap, subst, ◌∙◌, arith}
+use Rattle.std.specs.List.{All, cons_option, filter_map, range_with_len}
 use Rattle.link_base.proofs.RangeLemmas.{range_more}
-use Rattle.link_base.proofs.SectionNameLemmas.{text_made}
 use Rattle.std.proofs.lemmas.Bool.{cases_lt}
 use Rattle.std.proofs.lemmas.List.{length-append, get_or_push, get_or_append_left, get_or_past}
 use Rattle.std.proofs.lemmas.List.Elements.{filter_map-append, All-weaker}
@@ -43,14 +40,6 @@ at_most_one (Some row) = omega arith
 pub count_more : (now after : List ImportRow) (o : Option ImportRow) (k : ℕ) → after ≡ now ++ cons_option o [] → length now ≤ k → length after ≤ k + 1
 count_more now after o k grown few =
     omega (arith, few, ap length grown, length-append now (cons_option o []), at_most_one o)
-
--- the prefix of a name has no NUL
-pub plain_name : (name : List ℕ) → list_any is_nul (behind_import name) ≡ false → list_any is_nul name ≡ false
-plain_name name plain = ap (list_any is_nul) (text_made name) ∙ by_prefix (begins_import name) ∙ plain
-  where
-    by_prefix : (b : Bool) → list_any is_nul (with_import b (behind_import name)) ≡ list_any is_nul (behind_import name)
-    by_prefix true = refl
-    by_prefix false = refl
 
 pub within_limits : (rows : List ImportRow) → length rows ≤ MODULE_LIMIT → All CanBeTold rows → AreWithinLimits rows
 within_limits rows few told = record {
@@ -126,7 +115,7 @@ unfolding slots_of
 slots_count rows = length-map-range_with_len (row_offset rows) 0 (length rows)
 
 -- behind the modules there is no slot
-past_all : (modules : List ModuleView) (kept : List Bool) (p : ℕ) → length modules ≤ p → slot_offset modules kept p ≡ 0
+pub past_all : (modules : List ModuleView) (kept : List Bool) (p : ℕ) → length modules ≤ p → slot_offset modules kept p ≡ 0
 past_all modules kept p past =
     get_or_past (import_slots modules kept) (length (rows_below modules kept p)) 0
     (omega (arith, slots_count (import_rows modules kept), rows_among modules kept (length modules) p past))

@@ -1,19 +1,19 @@
 //! The imports of a link, as rows of its import tables.
 
 ghost use Rattle.std.specs.Prelude.{◌≡◌, ◌≤◌, ℕ, [], ◌++◌, false, length, slice_index_or, IfOk, OnOk, IsTrue, All};
-ghost use Rattle.std.specs.List.{cons_option, list_any};
-ghost use Rattle.link_base.specs.Bytes.{is_nul};
+ghost use Rattle.std.specs.List.{cons_option};
 ghost use Rattle.import_tables.specs.ImportShape.{name_len, AreWithinLimits};
 ghost use Rattle.link_imports.specs.Imports.{row_if, import_rows, import_slots, slot_offset, AreImports};
-ghost use Rattle.import_tables.specs.ReadBack.{HasNoNul, IsReadable, AreReadable};
+ghost use Rattle.import_tables.specs.ReadBack.{IsReadable, AreReadable};
 ghost use Rattle.link_base.specs.Limits.{MODULE_LIMIT, NAME_LIMIT};
 ghost use Rattle.link_imports.specs.Steps.{CanBeTold};
 
 use import_tables::{ImportRow, ImportShape, shape};
-use link_base::{Memory, NAME_LIMIT, Name};
+use link_base::Memory;
 use module_view::Module;
 use short_import::{Import, ImportBy};
 use std::alloc::Global;
+use synthetic_sections::can_stand;
 
 /// The imports of a link that are kept, in the order of its modules.
 #[derive(Drop)]
@@ -112,28 +112,6 @@ fn can_be_found(by: &ImportBy<'_>) -> bool
             can_stand(name)
         }
     }
-}
-
-/// Whether a name can stand in the tables: it has at most 32,000 bytes, and no NUL.
-#[tactic(auto, using(crate::proofs::RowLemmas::plain_name))]
-fn can_stand(name: &Name<'_>) -> bool
-    ensures short { IsTrue result → length name.now ≤ NAME_LIMIT }
-    ensures plain { IsTrue result → HasNoNul name.now }
-{
-    name.len() <= NAME_LIMIT && !has_nul(name.rest())
-}
-
-/// Whether a byte of a text is a NUL.
-fn has_nul(text: &[u8]) -> bool
-    ensures { result ≡ list_any is_nul text.now }
-{
-    text.iter().any(|byte| is_nul(byte))
-}
-
-fn is_nul(byte: &u8) -> bool
-    ensures { result ≡ is_nul byte.now }
-{
-    *byte == 0
 }
 
 /// The offset of the slot of the import that is a module, by the module's position, where imports are kept, which have these

@@ -1,5 +1,6 @@
 -- An index of pieces, one piece more at a time.
 use Rattle.std.proofs.Common.{◌≡◌, ℕ, zero, suc, ◌+◌, ◌-◌, ◌<◌, ◌≤◌, Bool, true, false, cond, ◌&&◌, eqb, ltb, List, [], ◌∷◌, ◌++◌, length, map, get_or, set, replicate, Option, Some, None, inl, inr, refl, sym, ap, subst, ◌∙◌, add-one, arith}
+use Rattle.std.specs.Prelude.{is_some}
 use Rattle.std.specs.Option.{option_or}
 use Rattle.std.specs.List.{All}
 use Rattle.std.proofs.lemmas.Bool.{cases_lt, eq-eqb, lt-ltb, le-ltb}
@@ -12,6 +13,7 @@ use Rattle.section_group.specs.BarePieces.{bare}
 use Rattle.section_group.specs.SectionOrder.{no_piece}
 use Rattle.coff_records.specs.ObjectFile.{section_total}
 use Rattle.module_view.specs.Module.{ModuleView, no_module, module_at}
+use Rattle.link_imports.specs.Imports.{is_import}
 use Rattle.link_pieces.specs.LinkParts.{LinkParts}
 use Rattle.link_pieces.specs.Commons.{FIRST_COMMON, HasFewSections}
 use Rattle.link_pieces.specs.Pieces.{link_pieces, IsModulePiece, IsPieceOf}
@@ -342,3 +344,38 @@ of_module modules slots position number other (inr place) = absurd (other place.
 pub of_linker : (modules : List ModuleView) (slots position number : ℕ) → position ≡ length modules → HasSomePlace modules slots position number → HasLinkerPlace modules slots position number
 of_linker modules slots position number same (inl place) = absurd (omega (arith, same, place.within))
 of_linker modules slots position number same (inr place) = place
+
+-- ---- the numbers of imports
+
+abbrev number_at : List ModuleView → ℕ → ℕ → Option ℕ
+number_at modules pieces position = cond (is_import modules position) (Some (pieces + position)) None
+
+-- those of the first modules
+pub record AreNumbers (modules : List ModuleView) (pieces count : ℕ) (numbers : List (Option ℕ)) : Type 0 where
+  pub for_each : length numbers ≡ count
+  pub each : (p : ℕ) → p < count → get_or numbers p None ≡ cond (is_import modules p) (Some (pieces + p)) None
+
+pub no_numbers : (modules : List ModuleView) (pieces : ℕ) (numbers : List (Option ℕ)) → numbers ≡ [] → AreNumbers modules pieces 0 numbers
+no_numbers modules pieces numbers none = record { for_each = ap length none; each = λ p lt. absurd (omega arith) }
+
+pub numbers_more : (modules : List ModuleView) (pieces k : ℕ) (numbers after : List (Option ℕ)) (number : Option ℕ) → k < length modules → after ≡ numbers ++ number ∷ [] → number ≡ cond (is_import modules k) (Some (pieces + k)) None → AreNumbers modules pieces k numbers → AreNumbers modules pieces (k + 1) after
+numbers_more modules pieces k numbers after number lt grown is are = record {
+  for_each = let long = are.for_each in omega (arith, long, ap length grown, length-append numbers (number ∷ []));
+  each = λ p below.
+      ap (λ (ns : List (Option ℕ)). get_or ns p None) grown
+      ∙ elim (cases_lt p k) [
+        | inl earlier ↦ get_or_append_left numbers (number ∷ []) None p (omega (arith, earlier, are.for_each)) ∙ are.each p earlier
+        | inr later ↦
+            let same : p ≡ k = omega arith in
+            subst (λ (q : ℕ). get_or (numbers ++ number ∷ []) q None ≡ number_at modules pieces q) (sym same) (get_or_push numbers number None k are.for_each ∙ is)
+      ];
+}
+
+pub all_numbers : (modules : List ModuleView) (pieces count : ℕ) (numbers : List (Option ℕ)) (p : ℕ) → count ≡ length modules → AreNumbers modules pieces count numbers → get_or numbers p None ≡ cond (is_import modules p) (Some (pieces + p)) None
+all_numbers modules pieces count numbers p all are =
+    elim (cases_lt p count) [
+      | inl inside ↦ are.each p inside
+      | inr past ↦
+          get_or_past numbers p None (omega (arith, past, are.for_each))
+          ∙ sym (ap (λ (view : ModuleView). cond (is_some view.imported) (Some (pieces + p)) None) (get_or_past modules p no_module (omega (arith, past, all))))
+    ]

@@ -1,4 +1,3 @@
-pub mod SortLemmas
 pub mod RowLemmas
 pub mod OrderLemmas
 pub mod TableLemmas

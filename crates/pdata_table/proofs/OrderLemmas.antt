@@ -8,10 +8,10 @@ use Rattle.std.specs.declared.cmp.Ordering.{Ordering}
 use Rattle.std.specs.declared.cmp.Ordering.TheVariants.{Less, Equal, Greater}
 use Rattle.std.proofs.lemmas.Bool.{true≢false}
 use Rattle.std.proofs.lemmas.List.Sorted.{IsNonDecreasingBy-from_sort}
+use Rattle.sorted_lists.specs.Order.{in_order}
+use Rattle.sorted_lists.proofs.CallerLemmas.{is_in_order}
 use Rattle.pdata_table.specs.declared.row.Row.{Row}
-use Rattle.pdata_table.specs.Order.{in_order}
 use Rattle.pdata_table.specs.Rows.{row_cmp}
-use Rattle.pdata_table.proofs.SortLemmas.{is_in_order}
 
 pub row_total : IsTotalOrder row_cmp
 row_total = search (comparing, rules) depth 8

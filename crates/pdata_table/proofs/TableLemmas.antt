@@ -5,10 +5,10 @@ use Rattle.std.specs.List.Sorted.{IsSorted, IsSortedWithin, IsPermutation, IsNon
 use Rattle.std.specs.Ordering.{is_lt}
 use Rattle.std.proofs.lemmas.Bool.{true≢false, cases_lt}
 use Rattle.std.proofs.lemmas.List.Sorted.{All-permutation, IsPermutation-refl, length_permutation}
+use Rattle.sorted_lists.specs.Order.{in_order}
+use Rattle.sorted_lists.proofs.CallerLemmas.{order_permutes, order_sorted}
 use Rattle.pdata_table.specs.declared.row.Row.{Row}
-use Rattle.pdata_table.specs.Order.{in_order}
 use Rattle.pdata_table.specs.Rows.{HasWholeRows, row_at, rows_of, row_cmp, table_of, AreSortedRows, sorted_table}
-use Rattle.pdata_table.proofs.SortLemmas.{order_permutes, order_sorted}
 use Rattle.pdata_table.proofs.RowLemmas.{Fits, HaveBytes, have_bytes, length_table, small_table, length_rows_of, row_of_index, rows_fit, rows_back, table_back}
 use Rattle.pdata_table.proofs.OrderLemmas.{row_total, rows_in_order, begins_ascend}
 

@@ -1,6 +1,6 @@
 -- The definitions on small tables: three rows, of which two begin alike, and rows whose numbers lie above 2 ^ 31.
 use Rattle.std.proofs.Common.{◌≡◌, ℕ, List, [], ◌∷◌, refl}
-use Rattle.pdata_table.specs.Order.{inserted, in_order}
+use Rattle.sorted_lists.specs.Order.{inserted, in_order}
 use Rattle.pdata_table.specs.Rows.{row_at, rows_of, row_bytes, sorted_table}
 use Rattle.link_base.specs.Bytes.{number_at, number_bytes}
 

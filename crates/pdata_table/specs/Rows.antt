@@ -4,8 +4,8 @@ use Rattle.std.specs.List.{flat_map, range_with_len}
 use Rattle.std.specs.Ordering.{nat_cmp, then_cmp, on}
 use Rattle.std.specs.declared.cmp.Ordering.{Ordering}
 use Rattle.link_base.specs.Bytes.{u32_at, number_bytes}
+use Rattle.sorted_lists.specs.Order.{in_order}
 use Rattle.pdata_table.specs.declared.row.Row.{Row}
-use Rattle.pdata_table.specs.Order.{in_order}
 
 -- ---- the rows of a table
 

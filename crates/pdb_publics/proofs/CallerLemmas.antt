@@ -1,11 +1,11 @@
 -- What callers may cite: how long the streams of some rows are.
 use Rattle.std.proofs.Common.{◌≡◌, ℕ, zero, suc, ◌+◌, ◌*◌, ◌≤◌, Bool, true, false, List, length, ap, ◌∙◌, arith}
 use Rattle.std.proofs.lemmas.List.Sorted.{length_permutation, sum_by-IsPermutation}
+use Rattle.sorted_lists.proofs.CallerLemmas.{order_permutes}
 use Rattle.pdb_publics.specs.declared.rows.PublicRow.{PublicRow}
 use Rattle.pdb_publics.specs.PublicOrder.{row_cmp, by_name, by_hash, by_place, record_size, extent}
 use Rattle.pdb_publics.specs.PublicStreams.{counts, has_some, records_stream, publics_stream}
 use Rattle.pdb_publics.specs.Lookup.{passing}
-use Rattle.pdb_publics.proofs.SortLemmas.{order_permutes}
 use Rattle.pdb_publics.proofs.KeyLemmas.{length_by_hash, length_by_place}
 use Rattle.pdb_publics.proofs.StreamLemmas.{length_records}
 use Rattle.pdb_publics.proofs.PartLemmas.{length_counts}

@@ -7,12 +7,12 @@ use Rattle.link_base.specs.NameText.{same_name}
 use Rattle.pdb_msf.specs.Streams.{stream_of}
 use Rattle.pdb_msf.specs.WrittenFile.{MSF_LIMIT, file_size, msf_of}
 use Rattle.pdb_msf.proofs.LawLemmas.{reads}
+use Rattle.sorted_lists.proofs.CallerLemmas.{order_permutes}
 use Rattle.pdb_publics.specs.declared.rows.PublicRow.{PublicRow}
 use Rattle.pdb_publics.specs.PublicOrder.{row_cmp, by_name}
 use Rattle.pdb_publics.specs.PublicStreams.{records_stream, publics_stream}
 use Rattle.pdb_publics.specs.Lookup.{found_in, found}
 use Rattle.pdb_publics.specs.WrittenPublics.{IsRow, AreRows, row_named, public_of, public_named}
-use Rattle.pdb_publics.proofs.SortLemmas.{order_permutes}
 use Rattle.pdb_publics.proofs.KeyLemmas.{hashed_are_keys}
 use Rattle.pdb_publics.proofs.StreamLemmas.{extent_fits}
 use Rattle.pdb_publics.proofs.LawLemmas.{Written, none_found, row_found}

@@ -11,13 +11,14 @@ use Rattle.std.specs.declared.cmp.Ordering.TheVariants.{Less, Equal}
 use Rattle.std.proofs.Math.Nat.{pow-succ', pow-le-pow_right}
 use Rattle.std.proofs.lemmas.Bool.{true≢false, cases_lt, cases_order}
 use Rattle.std.proofs.lemmas.List.Sorted.{IsPermutation-map, All-permutation}
+use Rattle.sorted_lists.specs.Order.{in_order}
+use Rattle.sorted_lists.proofs.CallerLemmas.{sorted_cons, sorted_first, sorted_tail, is_in_order}
 use Rattle.pdb_publics.specs.declared.fronts.Fronted.{Fronted}
 use Rattle.pdb_publics.specs.declared.rows.PublicRow.{PublicRow}
 use Rattle.pdb_publics.specs.declared.keys.HashKey.{HashKey}
 use Rattle.pdb_publics.specs.declared.keys.PlaceKey.{PlaceKey}
-use Rattle.pdb_publics.specs.PublicOrder.{row_cmp, hash_cmp, place_cmp, hash_keys, place_keys, in_order, by_name, by_hash, by_place}
+use Rattle.pdb_publics.specs.PublicOrder.{row_cmp, hash_cmp, place_cmp, hash_keys, place_keys, by_name, by_hash, by_place}
 use Rattle.pdb_publics.specs.Fronts.{text_front, IsTextFront, IsRowFront, name_front, IsHashFront, IsPlaceFront, fronted_cmp}
-use Rattle.pdb_publics.proofs.SortLemmas.{sorted_cons, sorted_first, sorted_tail, is_in_order}
 use Rattle.pdb_publics.proofs.KeyLemmas.{row_total, one_row, hash_total, one_hash_key, place_total, one_place_key}
 
 -- ---- the number of the first bytes of a text

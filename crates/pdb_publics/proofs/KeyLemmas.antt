@@ -14,12 +14,13 @@ use Rattle.std.proofs.lemmas.List.{take_more, drop_more, take_at, drop_at, lengt
 use Rattle.std.proofs.lemmas.List.Sums.{sum_by-cons, sum_by_more}
 use Rattle.std.proofs.lemmas.List.Elements.{All-nil, All-cons}
 use Rattle.std.proofs.lemmas.List.Sorted.{All-permutation, length_permutation}
+use Rattle.sorted_lists.specs.Order.{in_order}
+use Rattle.sorted_lists.proofs.CallerLemmas.{is_in_order, order_permutes}
 use Rattle.pdb_publics.specs.declared.rows.PublicRow.{PublicRow}
 use Rattle.pdb_publics.specs.declared.keys.HashKey.{HashKey}
 use Rattle.pdb_publics.specs.declared.keys.PlaceKey.{PlaceKey}
 use Rattle.pdb_publics.specs.NameHash.{bucket}
-use Rattle.pdb_publics.specs.PublicOrder.{row_cmp, hash_cmp, place_cmp, in_order, by_name, record_size, extent, lowered, hash_key, hash_keys, place_key, place_keys, IsKey, by_hash, by_place}
-use Rattle.pdb_publics.proofs.SortLemmas.{is_in_order, order_permutes}
+use Rattle.pdb_publics.specs.PublicOrder.{row_cmp, hash_cmp, place_cmp, by_name, record_size, extent, lowered, hash_key, hash_keys, place_key, place_keys, IsKey, by_hash, by_place}
 
 -- ---- the orders are total, and what ties is one
 

@@ -12,6 +12,7 @@ use Rattle.std.proofs.lemmas.List.Sums.{sum_by-cons, count_by-le-length}
 use Rattle.std.proofs.lemmas.List.Sorted.{sorted_far, ranks_by, All-permutation, Contains-permutation}
 use Rattle.link_base.specs.NameText.{same_name}
 use Rattle.link_base.specs.Refusals.{first_refusal_below}
+use Rattle.sorted_lists.proofs.CallerLemmas.{order_permutes, order_sorted}
 use Rattle.pdb_publics.specs.declared.rows.PublicRow.{PublicRow}
 use Rattle.pdb_publics.specs.declared.keys.HashKey.{HashKey}
 use Rattle.pdb_publics.specs.NameHash.{bucket}
@@ -19,7 +20,6 @@ use Rattle.pdb_publics.specs.PublicOrder.{hash_cmp, by_hash, by_place, record_si
 use Rattle.pdb_publics.specs.PublicStreams.{counts, has_some, records_of, publics_of}
 use Rattle.pdb_publics.specs.Lookup.{Answer, has_bucket, passing, first_record, end_record, verdict, hash_entry, first_named, found_in_bucket, found_in}
 use Rattle.pdb_publics.specs.WrittenPublics.{IsRow, public_of}
-use Rattle.pdb_publics.proofs.SortLemmas.{order_permutes, order_sorted}
 use Rattle.pdb_publics.proofs.KeyLemmas.{hash_total, length_hash_keys}
 use Rattle.pdb_publics.proofs.CountLemmas.{count_low, count_high}
 use Rattle.pdb_publics.proofs.PartLemmas.{counts_at, below_more}

@@ -1,5 +1,4 @@
 pub mod HashLemmas
-pub mod SortLemmas
 pub mod KeyLemmas
 pub mod FrontLemmas
 pub mod PartLemmas

@@ -9,12 +9,12 @@ use Rattle.link_base.specs.Fields.{field_bytes, fields}
 use Rattle.link_base.specs.declared.numbers.LeNumber.{LeNumber}
 use Rattle.link_base.specs.declared.numbers.LeNumber.TheVariants.{U8, U16, U32, U64}
 use Rattle.link_base.proofs.CallerLemmas.{length-number_bytes}
+use Rattle.sorted_lists.proofs.CallerLemmas.{order_permutes}
 use Rattle.pdb_publics.specs.declared.rows.PublicRow.{PublicRow}
 use Rattle.pdb_publics.specs.declared.keys.HashKey.{HashKey}
 use Rattle.pdb_publics.specs.declared.keys.PlaceKey.{PlaceKey}
 use Rattle.pdb_publics.specs.PublicOrder.{row_cmp, by_name, record_size, extent, by_hash, IsKey}
 use Rattle.pdb_publics.specs.PublicStreams.{PUBLIC_NAME_LIMIT, flags_of, record_of, records_of, hash_part, address_map, publics_of}
-use Rattle.pdb_publics.proofs.SortLemmas.{order_permutes}
 use Rattle.pdb_publics.proofs.KeyLemmas.{hashed_are_keys, length_by_hash, rows_are_few}
 
 abbrev pub width : LeNumber → ℕ

@@ -1,24 +1,14 @@
 -- The orders in which public symbols stand (own, after LLVM, "The PDB Public Symbol Stream").
-use Rattle.std.specs.Prelude.{ℕ, ◌+◌, ◌*◌, ◌/◌, ◌<◌, ◌^◌, if◌then◌else◌, List, [], ◌∷◌, length, map, sum_by}
-use Rattle.std.specs.Ordering.{nat_cmp, bool_cmp, then_cmp, on, is_lt}
+use Rattle.std.specs.Prelude.{ℕ, ◌+◌, ◌*◌, ◌/◌, ◌<◌, ◌^◌, List, [], ◌∷◌, length, map, sum_by}
+use Rattle.std.specs.Ordering.{nat_cmp, bool_cmp, then_cmp, on}
 use Rattle.std.specs.declared.cmp.Ordering.{Ordering}
 use Rattle.std.specs.Cmp.Lexicographic.{slice_cmp}
 use Rattle.std.specs.Char.{to_ascii_lowercase}
+use Rattle.sorted_lists.specs.Order.{in_order}
 use Rattle.pdb_publics.specs.declared.rows.PublicRow.{PublicRow}
 use Rattle.pdb_publics.specs.declared.keys.HashKey.{HashKey}
 use Rattle.pdb_publics.specs.declared.keys.PlaceKey.{PlaceKey}
 use Rattle.pdb_publics.specs.NameHash.{bucket}
-
--- ---- a list in order
-
--- an item put before the first that does not come before it
-unfoldable pub inserted : {X : Type 0} → (X → X → Ordering) → X → List X → List X
-inserted cmp x [] = x ∷ []
-inserted cmp x (y ∷ ys) = if is_lt (cmp y x) then y ∷ inserted cmp x ys else x ∷ y ∷ ys
-
-unfoldable pub in_order : {X : Type 0} → (X → X → Ordering) → List X → List X
-in_order cmp [] = []
-in_order cmp (x ∷ xs) = inserted cmp x (in_order cmp xs)
 
 -- ---- the order of the records: by the bytes of the names
 

@@ -9,7 +9,7 @@ use Rattle.std.specs.declared.cmp.Ordering.TheVariants.{Less, Equal, Greater}
 use Rattle.std.proofs.lemmas.Bool.{false≢true, true≢false}
 use Rattle.std.proofs.lemmas.List.Sums.{sum_by-cons}
 use Rattle.std.proofs.lemmas.List.Sorted.{sorted_far, ranks_by, sum_by-IsPermutation, IsPermutation-refl, IsPermutation-cons, IsPermutation-trans, IsPermutation-middle, IsPermutation-sym}
-use Rattle.pdb_publics.specs.PublicOrder.{inserted, in_order}
+use Rattle.sorted_lists.specs.Order.{inserted, in_order}
 
 module _ {X : Type 0} (R : X → X → Ordering) where
   -- ---- an order is one of the same items
@@ -127,7 +127,12 @@ module _ {X : Type 0} (R : X → X → Ordering) where
         omega (arith, first, second, one, all)) (sorted_tail x xs up) (sorted_tail y ys up') in
         ap (λ (z : X). z ∷ xs) heads ∙ ap (λ (zs : List X). y ∷ zs) tails
 
-    pub is_in_order : ((a b : X) → R a b ≡ Equal → a ≡ b) → (xs ys : List X) → IsPermutation xs ys → IsSorted R ys → ys ≡ in_order R xs
+    -- a list that ascends is the order of one that has its items, each as often; told by sums over both
+    pub is_order_of_sums : ((a b : X) → R a b ≡ Equal → a ≡ b) → (xs ys : List X) → ((f : X → ℕ) → sum_by f ys ≡ sum_by f xs) → IsSorted R ys → ys ≡ in_order R xs
     unfolding HaveOneSum
-    is_in_order same xs ys moved up =
-        one_order same ys (in_order R xs) (λ f. sum_by-IsPermutation f xs ys moved ∙ sym (sum_by-IsPermutation f xs (in_order R xs) (order_permutes xs))) up (order_sorted xs)
+    is_order_of_sums same xs ys sums up =
+        one_order same ys (in_order R xs) (λ f. sums f ∙ sym (sum_by-IsPermutation f xs (in_order R xs) (order_permutes xs))) up (order_sorted xs)
+
+    -- told by a permutation
+    pub is_in_order : ((a b : X) → R a b ≡ Equal → a ≡ b) → (xs ys : List X) → IsPermutation xs ys → IsSorted R ys → ys ≡ in_order R xs
+    is_in_order same xs ys moved up = is_order_of_sums same xs ys (λ f. sum_by-IsPermutation f xs ys moved) up
