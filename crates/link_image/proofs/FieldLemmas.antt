@@ -27,7 +27,7 @@ use Rattle.relocate.proofs.PatchLemmas.{within_at}
 use Rattle.relocate.proofs.CallerLemmas.{bytes_in_any_order, range_in_any_order, no_range_in_any_order, nothing_patched}
 use Rattle.link_pieces.specs.TablePieces.{KeptParts, whole_pieces, whole_piece}
 use Rattle.link_plan.specs.Planned.{used_pieces, planned_fixes}
-use Rattle.link_plan.proofs.CallerLemmas.{fixes_numbered}
+use Rattle.link_plan.proofs.CallerLemmas.{planned_numbered}
 use Rattle.link_image.specs.LinkedBytes.{section_of, contents_at, placed_contents, linked_bytes, out_of_range, piece_range_fault}
 use Rattle.link_image.specs.Steps.{IsHeld, IsReady, RefusesRange, mixed_contents, file_of, mixed_file}
 use Rattle.link_image.proofs.HeldLemmas.{some_fixes, patchable_at, unnamed, plan_at, have_room_for, length-placed, placed_held}
@@ -123,7 +123,7 @@ module _ (link : KeptParts) (pieces : List Piece) (fixups : List (List Fix)) (se
   pub range_here : (base k : ℕ) (fields : List Fix) (fault : Fault) → k < length pieces → AreTheFields (planned_fixes link k) fields → RefusesRange base (get_or layout.pieces.items k 0) layout owner fields (contents_at link layout k) (get_or pieces k no_piece) fault → piece_range_fault link (rows_of sections) layout base k ≡ Some fault
   range_here base k fields fault lt are refuses =
       let rva = get_or layout.pieces.items k 0 in
-      let range = range_in_any_order base rva layout owner (planned_fixes link k) fields (contents_at link layout k) refuses.range are (fixes_numbered link k) refuses.least in
+      let range = range_in_any_order base rva layout owner (planned_fixes link k) fields (contents_at link layout k) refuses.range are (planned_numbered link k) refuses.least in
       ap (option_map (out_of_range (whole_piece link k))) (ap (λ (os : List ℕ). range_fault base rva layout os (planned_fixes link k) (contents_at link layout k)) (sym ready.owner_is) ∙ range)
       ∙ ap (λ (f : Fault). Some f) (sym (same_place k refuses.range lt) ∙ sym refuses.is)
 
