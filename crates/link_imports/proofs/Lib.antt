@@ -1,3 +1,3 @@
-mod RowLemmas
+pub mod RowLemmas
 mod WorkedImports
 pub mod CallerLemmas

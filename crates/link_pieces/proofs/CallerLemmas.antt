@@ -71,7 +71,7 @@ no_table link k lt =
     let count = length link.modules in
     elim (piece_is link k lt) [
       | inl of_module ↦ rw (ne-eqb piece.«module» count (λ same. omega (arith, of_module.within, same))) refl
-      | inr of_linker ↦ rw (le-ltb piece.number FIRST_THUNK (above of_linker.numbered), and_false (eqb piece.«module» count)) refl
+      | inr of_linker ↦ rw (le-ltb piece.number FIRST_THUNK (above count (length (slot_names link)) piece.number of_linker.numbered), and_false (eqb piece.«module» count)) refl
     ]
   where
     ne-eqb : (a b : ℕ) → (a ≡ b → ⊥) → eqb a b ≡ false
@@ -85,9 +85,9 @@ no_table link k lt =
     and_false true = refl
     and_false false = refl
 
-    above : {modules slots number : ℕ} → IsLinkerNumber modules slots number → FIRST_THUNK ≤ number
-    above (inl jump) = jump.0
-    above (inr slot) = omega (arith, slot.0)
+    above : (modules slots number : ℕ) → IsLinkerNumber modules slots number → FIRST_THUNK ≤ number
+    above modules slots number (inl jump) = jump.0
+    above modules slots number (inr slot) = omega (arith, slot.0)
 
 same_place : (position number : ℕ) (piece : Piece) → is_numbered position number piece ≡ true → (piece.«module» ≡ position) × (piece.number ≡ number)
 same_place position number piece e =

@@ -22,7 +22,7 @@ use Rattle.link_base.specs.declared.kinds.target.TargetFault.{TargetFault}
 use Rattle.relocate.proofs.CallerLemmas.{fields_redirected, patchable_redirected}
 use Rattle.synthetic_sections.specs.LinkerPieces.{no_bytes}
 use Rattle.link_imports.specs.Imports.{slot_offset}
-use Rattle.link_imports.proofs.CallerLemmas.{past_all}
+use Rattle.link_imports.proofs.RowLemmas.{past_all}
 use Rattle.link_words.specs.Outcome.{LinkOptions}
 use Rattle.link_pieces.specs.LinkParts.{LinkParts}
 use Rattle.link_pieces.specs.Pieces.{link_pieces, link_contents}

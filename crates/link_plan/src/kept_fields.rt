@@ -17,6 +17,7 @@ use synthetic_sections::SLOTS;
 
 /// Where the imports of a link stand that are kept: the number of the first one behind the pieces, the piece that is the table of
 /// their slots, and the offset of each slot in it.
+#[derive(Drop)]
 pub(crate) struct SlotPlaces<'b> {
     pub(crate) first: u32,
     pub(crate) table: u32,

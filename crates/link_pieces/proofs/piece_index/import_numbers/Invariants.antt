@@ -1,4 +1,3 @@
-use Rattle.std.proofs.Common.{◌≡◌}
 use Rattle.link_pieces.proofs.IndexLemmas.{AreNumbers}
 use Rattle.link_pieces.proofs.piece_index.import_numbers.Given as goal
 
