@@ -18,7 +18,7 @@ use Rattle.relocate.specs.declared.fix.Fix.{Fix}
 use Rattle.relocate.specs.Field.{has_field}
 use Rattle.relocate.specs.Judged.{AreTheFields, IsPatchable, ArePatchable}
 use Rattle.image_writer.specs.WrittenImage.{HaveRoom}
-use Rattle.link_pieces.specs.TablePieces.{KeptParts, is_table, whole_pieces, whole_contents, whole_piece}
+use Rattle.link_pieces.specs.TablePieces.{KeptParts, kept_imports, is_table, whole_pieces, whole_contents, whole_piece}
 use Rattle.link_pieces.specs.LinkParts.{LinkParts}
 use Rattle.link_pieces.specs.Pieces.{link_pieces}
 use Rattle.link_pieces.proofs.CallerLemmas.{no_table, whole_at, table_is}

@@ -4,7 +4,7 @@ use Rattle.std.proofs.lemmas.Bool.{cases_lt, and_parts, ltb-true}
 use Rattle.std.proofs.lemmas.List.{length-append}
 use Rattle.link_words.specs.Outcome.{LinkOptions}
 use Rattle.link_pieces.specs.Pieces.{link_pieces}
-use Rattle.link_pieces.specs.TablePieces.{KeptParts, tables_of, whole_pieces}
+use Rattle.link_pieces.specs.TablePieces.{KeptParts, tables_of}
 use Rattle.link_fields.specs.declared.entry.EntryPlace.{EntryPlace}
 use Rattle.link_plan.specs.Reach.{AreKept}
 use Rattle.link_plan.specs.Planned.{used_pieces, planned_fixes}

@@ -1,4 +1,4 @@
-use Rattle.std.proofs.Common.{List, Some, None, map, sym, ap, ◌∙◌, subst, arith}
+use Rattle.std.proofs.Common.{List, Some, None, sym, ap, ◌∙◌, subst, arith}
 use Rattle.std.specs.List.{All}
 use Rattle.std.proofs.lemmas.Result.{err_from_is_err_and}
 use Rattle.std.proofs.lemmas.List.{get_or_default}
