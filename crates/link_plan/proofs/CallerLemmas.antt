@@ -74,7 +74,7 @@ pub used_first : (options : LinkOptions) (link : KeptParts) (k : ℕ) → AreKep
 used_first options link k kept lt =
     let n = length (link_pieces link.parts) in
     get_or_append_left (take n link.kept) (replicate (length (tables_of link)) true) false k (omega (arith, lt, length-take n link.kept, kept.for_each))
-    ∙ get_or-take link.kept n k false lt
+    ∙ get_or-take n link.kept k false lt
 
 -- the tables are
 pub used_last : (options : LinkOptions) (link : KeptParts) (k : ℕ) → AreKept options link.parts link.kept → length (link_pieces link.parts) ≤ k → k < length (whole_pieces link) → get_or (used_pieces link) k false ≡ true
@@ -266,7 +266,7 @@ pub planned_numbered : (link : KeptParts) (k : ℕ) → AreNumbered (planned_fix
 planned_numbered link k = by (is_kept link k)
   where
     by : (b : Bool) → AreNumbered (fixes_if b (map (placed_fix link) (piece_fixes link.parts k)))
-    by true = numbered_redirected (length (link_pieces link.parts)) (slot_table link) (slot_offsets link) (piece_fixes link.parts k) (fixes_numbered link.parts k)
+    by true i lt = numbered_redirected (length (link_pieces link.parts)) (slot_table link) (slot_offsets link) (piece_fixes link.parts k) (fixes_numbered link.parts k) i lt
     by false i lt = absurd (omega arith)
 
 -- ---- the entry and the exports

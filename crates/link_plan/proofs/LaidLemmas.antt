@@ -3,7 +3,7 @@ use Rattle.std.proofs.Common.{◌≡◌, ℕ, zero, suc, ◌+◌, ◌-◌, ◌^�
 use Rattle.std.specs.List.{All, range_with_len}
 use Rattle.std.specs.Option.{ForSome}
 use Rattle.std.proofs.lemmas.Bool.{cases_lt, false≢true, lt-ltb, le-ltb}
-use Rattle.std.proofs.lemmas.List.{get_or_append_left, get_or-append_right, get_or_past, length-append, length-map, length-replicate, map-append, ext_get_or}
+use Rattle.std.proofs.lemmas.List.{get_or_append_left, get_or-append_right, get_or_past, get_or_default, length-append, length-map, length-replicate, map-append, ext_get_or}
 use Rattle.std.proofs.lemmas.List.Elements.{All-map, All-append, All-nil}
 use Rattle.std.proofs.lemmas.List.Sorted.{IsPermutation-refl}
 use Rattle.std.proofs.lemmas.List.FromFn.{get_or-map-range_with_len, length-map-range_with_len}
@@ -23,9 +23,11 @@ use Rattle.relocate.proofs.CallerLemmas.{fields_redirected, patchable_redirected
 use Rattle.synthetic_sections.specs.LinkerPieces.{no_bytes}
 use Rattle.link_imports.specs.Imports.{slot_offset}
 use Rattle.link_imports.proofs.RowLemmas.{past_all}
+use Rattle.module_view.specs.Module.{ModuleView}
 use Rattle.link_words.specs.Outcome.{LinkOptions}
 use Rattle.link_pieces.specs.LinkParts.{LinkParts}
 use Rattle.link_pieces.specs.Pieces.{link_pieces, link_contents}
+use Rattle.link_pieces.specs.PieceIndex.{holds}
 use Rattle.link_pieces.specs.TablePieces.{KeptParts, kept_imports, tables_for, tables_of, whole_pieces, whole_contents, is_table}
 use Rattle.link_pieces.proofs.CallerLemmas.{bare_at}
 use Rattle.link_pieces.proofs.PieceLemmas.{over_bare}
@@ -123,7 +125,7 @@ bodies_planned modules kept size now after bodies grown holds k lt other =
 -- ---- fields
 
 no_fields : (len : ℕ) → ArePatchable len []
-no_fields len = record { each = All-nil _; apart = tt }
+no_fields len = record { each = All-nil _; apart = λ i j d low lt. absurd (omega arith) }
 
 -- no fields
 abbrev no_fix : List Fix
@@ -234,3 +236,10 @@ targets_planned link first home offsets old now places are is = is ∙ each old 
     each : (ts : List (Option Target)) → map (option_map (redirected first home offsets)) ts ≡ map (planned_target link) ts
     each [] = refl
     each (t ∷ ts) = rw (one t, each ts) refl
+
+-- ---- the table of slots
+
+-- what a test says of a piece as it was read; it does not look at what the piece holds
+pub holds_read : (test : Piece → Bool) (pieces : List Piece) (k : ℕ) (piece : Piece) → k < length pieces → piece ≡ get_or pieces k piece → holds test (map bare pieces) k ≡ test (bare piece)
+holds_read test pieces k piece lt read =
+    ap test (get_or-map bare pieces k no_piece) ∙ ap (λ (p : Piece). test (bare p)) (sym (read ∙ get_or_default pieces k piece no_piece lt))

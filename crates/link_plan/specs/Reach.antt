@@ -112,7 +112,7 @@ IsToKeep true options link node = IsKept (node_count link) (link_edges link) (li
 IsToKeep false options link node = node < node_count link
 
 -- a list says it of each piece, and behind these of each import
-pub record AreKept (options : LinkOptions) (link : LinkParts) (kept : List Bool) : Type 0 where
-  pub for_each : length kept ≡ node_count link
-  pub kept : (node : ℕ) → IsToKeep (drops options) options link node → slice_index_or kept node false ≡ true
-  pub only : (node : ℕ) → slice_index_or kept node false ≡ true → IsToKeep (drops options) options link node
+pub record AreKept (options : LinkOptions) (link : LinkParts) (flags : List Bool) : Type 0 where
+  pub for_each : length flags ≡ node_count link
+  pub kept : (node : ℕ) → IsToKeep (drops options) options link node → slice_index_or flags node false ≡ true
+  pub only : (node : ℕ) → slice_index_or flags node false ≡ true → IsToKeep (drops options) options link node

@@ -143,7 +143,8 @@ fn kept_if(alloc: Global, drops: bool, graph: &Graph, roots: &[u32]) -> Result<V
         → roots.now ≡ link_roots options link → AreKept options link kept.items) }
 {
     if drops {
-        return kept(alloc, graph, roots);
+        let flags = kept(alloc, graph, roots)?;
+        return Ok(flags);
     }
     Ok(vec![in alloc; true; graph.pieces as usize]?)
 }

@@ -95,9 +95,16 @@ pub(crate) fn slot_table(pieces: &[Piece<'_>], first: usize, position: u32) -> u
     ensures { result ≡ unwrap_or (first_below (length pieces.now) (holds (is_numbered position number.SLOTS) (map bare pieces.now))) 0 }
 {
     for k in first..pieces.len() {
-        if pieces[k].module == position && pieces[k].number == SLOTS {
+        if is_slot_table(&pieces[k], position) {
             return k as u32;
         }
     }
     0
+}
+
+/// Whether a piece is the table of slots of the module at a position.
+fn is_slot_table(piece: &Piece<'_>, position: u32) -> bool
+    ensures { result ≡ is_numbered position number.SLOTS piece.now }
+{
+    piece.module == position && piece.number == SLOTS
 }

@@ -68,7 +68,8 @@ pub(crate) fn push_roots<'a>(
 {
     push_names(roots, names, index, &options.includes)?;
     push_included(roots, names, index, modules)?;
-    push_plain(roots, pieces, modules.len())
+    push_plain(roots, pieces, modules.len())?;
+    Ok(())
 }
 
 /// Appends a number, where there is one.

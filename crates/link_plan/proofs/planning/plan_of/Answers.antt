@@ -72,7 +72,7 @@ returns-in_err-meant-clause-refused c =
 
 pub lay_pieces-requires-clause-same : goal.lay_pieces-requires-clause-same
 lay_pieces-requires-clause-same c =
-    ap (λ (l : LinkParts). l.modules) (names_so (options_said c.args.options.now) c.args.list.modules.items c.deref-2.result.now _ _ c.in_ok-names.names c.in_ok-names.ensures.names c.requires.names c.in_ok-exports.ensures.exports c.deref-2.ensures.value) ∙ sym c.deref-6.ensures.value
+    ap (λ (l : LinkParts). l.modules) (names_so (options_said c.args.options.now) c.args.list.modules.items c.deref-2.result.now _ _ c.in_ok-names.names c.in_ok-names.ensures.names c.requires.names c.in_ok-exports.ensures.exports c.deref-2.ensures.value) ∙ sym c.deref-5.ensures.value
 
 pub returns-in_err-laid-clause-refused : goal.returns-in_err-laid-clause-refused
 returns-in_err-laid-clause-refused c =

@@ -1,4 +1,4 @@
-use Rattle.std.proofs.Common.{ℕ, List, [], ◌∷◌, ◌++◌, ◌&&◌, Bool, not, cond, length, map, get_or, ap, sym, ◌∙◌, arith}
+use Rattle.std.proofs.Common.{ℕ, List, [], ◌∷◌, ◌++◌, ◌&&◌, Bool, not, cond, length, map, filter, ap, ◌∙◌, arith}
 use Rattle.std.specs.List.{range_with_len}
 use Rattle.std.proofs.lemmas.List.{length-map}
 use Rattle.link_base.specs.Bytes.{has_flag}
@@ -23,4 +23,4 @@ loop-k-preserved c = λ link are count.
 pub returns : goal.returns
 returns c = λ link are count.
     c.loop-k.invariant link are count
-    ∙ ap (λ (n : ℕ). c.args.nodes.now.items ++ _) (omega (arith, length-map c.args.pieces.now bare, ap length are))
+    ∙ ap (λ (n : ℕ). c.args.nodes.now.items ++ filter (is_plain link) (range_with_len 0 n)) (omega (arith, length-map c.args.pieces.now bare, ap length are))
