@@ -96,7 +96,6 @@ tables_told modules kept size =
     rw (eq-eqb count count refl, lt-ltb number FIRST_THUNK (omega (arith, few))) refl))
     (all_exports (λ (piece : Piece). is_table count piece ≡ true) count size (λ some. rw (eq-eqb count count refl) refl))
 
-
 -- ---- there are at most six
 
 few_if : (none : Bool) (piece : Piece) → length (cond none [] (piece ∷ [])) ≤ 1

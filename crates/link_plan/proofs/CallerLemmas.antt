@@ -1,9 +1,9 @@
 -- What callers may cite of a plan: what the fields of what is kept mean is kept and stands in a section, and so does what is
 -- exported.
-use Rattle.std.proofs.Common.{◌≡◌, ◌⊎◌, ℕ, zero, suc, ◌+◌, ◌-◌, ◌<◌, ◌≤◌, Bool, true, false, cond, ◌&&◌, ◌||◌, eqb, ltb, List, [], ◌∷◌, ◌++◌, length, map, filter, take, drop, get_or, replicate, Option, Some, None, option_map, option_and_then, Result, Ok, Err, inl, inr, refl, sym, ap, subst, ◌∙◌, eq-eqb, arith}
+use Rattle.std.proofs.Common.{◌≡◌, ◌⊎◌, ℕ, zero, suc, ◌+◌, ◌-◌, ◌<◌, ◌≤◌, Bool, true, false, cond, ◌&&◌, ◌||◌, eqb, ltb, List, [], ◌∷◌, ◌++◌, length, map, filter, take, get_or, replicate, Option, Some, None, option_map, option_and_then, Result, Ok, Err, inl, inr, refl, sym, ap, subst, ◌∙◌, eq-eqb, arith}
 use Rattle.std.specs.Prelude.{filter_map, unwrap_or}
 use Rattle.std.specs.List.{All, Contains, list_any, range_with_len, flat_map, cons_option}
-use Rattle.std.proofs.lemmas.Bool.{cases_lt, false≢true, and_parts, ltb-true, lt-ltb, le-ltb, or_right, or_left}
+use Rattle.std.proofs.lemmas.Bool.{cases_lt, and_parts, ltb-true, lt-ltb, le-ltb, or_right, or_left}
 use Rattle.std.proofs.lemmas.List.{get_or_append_left, get_or-append_right, get_or_past, get_or-take, get_or-drop, get_or-map, length-append, length-map, length-replicate, length-take}
 use Rattle.std.proofs.lemmas.List.Elements.{All-nil, All-cons, All-head, All-tail, All-contains, Contains-get_or, Contains-append_left, Contains-append_right, Contains-append_cases}
 use Rattle.std.proofs.lemmas.List.FromFn.{get_or-map-range_with_len, length-map-range_with_len}
@@ -185,8 +185,7 @@ node_stands options link (target.Absolute value) are within kept = tt
 node_stands options link target.ImageBase are within kept = tt
 node_stands options link (target.Piece piece value) are (inl inside) kept =
     let here = kept piece refl in
-    rw (lt-ltb piece (length (link_pieces link.parts)) inside)
-    (
+    rw (lt-ltb piece (length (link_pieces link.parts)) inside) (
       omega (arith, inside, length-append (link_pieces link.parts) (tables_of link)),
       used_first options link piece are inside ∙ here.0,
       inr (ap (λ (p : Piece). p.named) (planned_at options link piece inside) ∙ or_right (piece_at link.parts piece).named (is_meant link piece || is_sought options link piece) here.1),
@@ -316,8 +315,7 @@ exports_stand options link row t are is =
 pub entry_used : (options : LinkOptions) (link : KeptParts) (place : EntryPlace) → AreKept options link.parts link.kept → place.piece < length (link_pieces link.parts) → entry_place link.parts options.entry_name ≡ Some place → (get_or (used_pieces link) place.piece false ≡ true) × (is_sought options link place.piece ≡ true)
 entry_used options link place are inside is =
     let there : Contains (named_nodes options link.parts) place.piece =
-    subst (λ (o : Option EntryPlace). Contains (cons_option (piece_of_place o) (filter_map (option_and_then piece_in) (export_targets link.parts) ++ filter_map (name_node link.parts) loader_names)) place.piece) (sym is) (first_there place.piece _) in
-    (
+    subst (λ (o : Option EntryPlace). Contains (cons_option (piece_of_place o) (filter_map (option_and_then piece_in) (export_targets link.parts) ++ filter_map (name_node link.parts) loader_names)) place.piece) (sym is) (first_there place.piece _) in (
       used_first options link place.piece are inside ∙ (sought_kept options link place.piece are there (omega (arith, inside))).0,
       any_there (is_at place.piece) (named_nodes options link.parts) place.piece there (eq-eqb place.piece place.piece refl),
     )

@@ -1,5 +1,5 @@
 -- The entry stands in a piece that is named, and inside it.
-use Rattle.std.proofs.Common.{◌≡◌, ℕ, ◌<◌, ◌≤◌, Bool, true, ◌||◌, List, length, map, get_or, Option, Some, sym, ap, ◌∙◌, arith}
+use Rattle.std.proofs.Common.{◌≡◌, ◌||◌, List, length, map, get_or, sym, ap, ◌∙◌, arith}
 use Rattle.std.specs.List.{All}
 use Rattle.std.specs.Option.{ForSome}
 use Rattle.std.proofs.lemmas.Bool.{or_right}
@@ -11,7 +11,7 @@ use Rattle.section_group.specs.SectionOrder.{no_piece}
 use Rattle.module_view.specs.Opening.{IsOpened}
 use Rattle.link_words.specs.Outcome.{LinkOptions}
 use Rattle.link_pieces.specs.Pieces.{link_pieces}
-use Rattle.link_pieces.specs.TablePieces.{KeptParts, tables_of, whole_pieces}
+use Rattle.link_pieces.specs.TablePieces.{KeptParts, tables_of}
 use Rattle.link_fields.specs.Entry.{entry_place}
 use Rattle.link_fields.specs.Fixes.{piece_at}
 use Rattle.link_fields.proofs.EntryLemmas.{entry_inside}

@@ -1,9 +1,9 @@
 -- The pieces of a plan, their fields and the exports, once it is known what is kept.
-use Rattle.std.proofs.Common.{◌≡◌, ℕ, zero, suc, ◌+◌, ◌-◌, ◌^◌, ◌<◌, ◌≤◌, Bool, true, false, cond, ◌&&◌, ◌||◌, ltb, List, [], ◌∷◌, ◌++◌, length, map, drop, get_or, replicate, Option, Some, None, option_map, Result, Ok, Err, inl, inr, refl, sym, ap, subst, ◌∙◌, arith}
+use Rattle.std.proofs.Common.{◌≡◌, ℕ, zero, suc, ◌+◌, ◌-◌, ◌^◌, ◌<◌, ◌≤◌, Bool, true, false, cond, ◌&&◌, ◌||◌, eqb, ltb, List, [], ◌∷◌, ◌++◌, length, map, take, drop, get_or, replicate, Option, Some, None, option_map, Result, Ok, Err, inl, inr, refl, sym, ap, subst, ◌∙◌, append_assoc, add-one, arith}
 use Rattle.std.specs.List.{All, range_with_len}
-use Rattle.std.specs.Option.{ForSome}
-use Rattle.std.proofs.lemmas.Bool.{cases_lt, false≢true, lt-ltb, le-ltb}
-use Rattle.std.proofs.lemmas.List.{get_or_append_left, get_or-append_right, get_or_past, get_or_default, length-append, length-map, length-replicate, map-append, ext_get_or}
+use Rattle.std.specs.Prelude.{unwrap_or}
+use Rattle.std.proofs.lemmas.Bool.{cases_lt, false≢true, and_parts, eqb-true, lt-ltb, le-ltb}
+use Rattle.std.proofs.lemmas.List.{get_or_append_left, get_or-append_right, get_or_past, get_or_default, take_all, length-drop, length-append, length-map, length-replicate, ext_get_or}
 use Rattle.std.proofs.lemmas.List.Elements.{All-map, All-append, All-nil}
 use Rattle.std.proofs.lemmas.List.Sorted.{IsPermutation-refl}
 use Rattle.std.proofs.lemmas.List.FromFn.{get_or-map-range_with_len, length-map-range_with_len}
@@ -20,21 +20,23 @@ use Rattle.relocate.specs.Judged.{AreTheFields, ArePatchable}
 use Rattle.relocate.specs.Redirected.{redirected, redirected_if, redirected_fix}
 use Rattle.link_base.specs.declared.kinds.target.TargetFault.{TargetFault}
 use Rattle.relocate.proofs.CallerLemmas.{fields_redirected, patchable_redirected}
-use Rattle.synthetic_sections.specs.LinkerPieces.{no_bytes}
+use Rattle.link_base.specs.Bytes.{first_below}
+use Rattle.synthetic_sections.specs.LinkerPieces.{SLOTS, FIRST_THUNK, no_bytes}
 use Rattle.link_imports.specs.Imports.{slot_offset}
 use Rattle.link_imports.proofs.RowLemmas.{past_all}
 use Rattle.module_view.specs.Module.{ModuleView}
 use Rattle.link_words.specs.Outcome.{LinkOptions}
 use Rattle.link_pieces.specs.LinkParts.{LinkParts}
 use Rattle.link_pieces.specs.Pieces.{link_pieces, link_contents}
-use Rattle.link_pieces.specs.PieceIndex.{holds}
+use Rattle.link_pieces.specs.PieceIndex.{is_numbered, holds}
 use Rattle.link_pieces.specs.TablePieces.{KeptParts, kept_imports, tables_for, tables_of, whole_pieces, whole_contents, is_table}
-use Rattle.link_pieces.proofs.CallerLemmas.{bare_at}
+use Rattle.link_pieces.proofs.CallerLemmas.{bare_at, no_table, whole_at}
 use Rattle.link_pieces.proofs.PieceLemmas.{over_bare}
 use Rattle.link_pieces.proofs.TableLemmas.{tables_aligned, tables_told, tables_few}
 use Rattle.link_fields.specs.ExportTargets.{export_targets}
 use Rattle.link_fields.specs.Fixes.{piece_fixes, HaveFields as HaveAll}
-use Rattle.link_plan.specs.Planned.{is_meant, is_sought, named_if, planned_piece, plan_pieces, slot_offsets, slot_table, placed_target, placed_fix, fixes_if, planned_fixes, HaveFields, planned_target, planned_targets}
+use Rattle.link_plan.specs.Planned.{is_meant, is_sought, named_if, planned_piece, plan_pieces, slot_offsets, slot_table, placed_target, placed_fix, fixes_if, HaveFields, planned_target, planned_targets}
+use Rattle.link_plan.proofs.CallerLemmas.{planned_at, table_at, plan_count}
 use Rattle.link_plan.proofs.NamedLemmas.{AreNamed, count_named, contents_named}
 
 -- ---- pieces
@@ -128,11 +130,23 @@ no_fields : (len : ℕ) → ArePatchable len []
 no_fields len = record { each = All-nil _; apart = λ i j d low lt. absurd (omega arith) }
 
 -- no fields
-abbrev no_fix : List Fix
+abbrev pub no_fix : List Fix
 no_fix = []
 
 no_permutation : AreTheFields [] []
 no_permutation = IsPermutation-refl no_fix
+
+-- once more
+pub one_more_none : (old now after : List (List Fix)) (count : ℕ) → now ≡ old ++ replicate count no_fix → after ≡ now ++ no_fix ∷ [] → after ≡ old ++ replicate (count + 1) no_fix
+one_more_none old now after count is grown =
+    grown
+    ∙ ap (λ (fs : List (List Fix)). fs ++ no_fix ∷ []) is
+    ∙ append_assoc old (replicate count no_fix) (no_fix ∷ [])
+    ∙ ap (λ (fs : List (List Fix)). old ++ fs) (last count ∙ ap (λ (n : ℕ). replicate n no_fix) (sym (add-one count)))
+  where
+    last : (n : ℕ) → replicate n no_fix ++ no_fix ∷ [] ≡ replicate (suc n) no_fix
+    last zero = refl
+    last (suc n) = ap (λ (fs : List (List Fix)). no_fix ∷ fs) (last n)
 
 -- with the same offsets in another list
 pub same_place : (first home other : ℕ) (offsets own : List ℕ) (t : Target) → home ≡ other → ((p : ℕ) → get_or offsets p 0 ≡ get_or own p 0) → redirected first home offsets t ≡ redirected first other own t
@@ -243,3 +257,58 @@ targets_planned link first home offsets old now places are is = is ∙ each old 
 pub holds_read : (test : Piece → Bool) (pieces : List Piece) (k : ℕ) (piece : Piece) → k < length pieces → piece ≡ get_or pieces k piece → holds test (map bare pieces) k ≡ test (bare piece)
 holds_read test pieces k piece lt read =
     ap test (get_or-map bare pieces k no_piece) ∙ ap (λ (p : Piece). test (bare p)) (sym (read ∙ get_or_default pieces k piece no_piece lt))
+
+-- its number is that of a table
+slots_told : (count : ℕ) (piece : Piece) → is_numbered count SLOTS piece ≡ true → is_table count piece ≡ true
+slots_told count piece e =
+    let both = and_parts (eqb piece.«module» count) (eqb piece.number SLOTS) e in
+    rw (both.0, lt-ltb piece.number FIRST_THUNK (omega (arith, eqb-true piece.number SLOTS both.1))) refl
+
+-- no piece of the link has it
+pub not_slots : (link : LinkParts) (k : ℕ) → k < length (link_pieces link) → is_numbered (length link.modules) SLOTS (get_or (link_pieces link) k no_piece) ≡ false
+not_slots link k lt = by (is_numbered (length link.modules) SLOTS piece) refl
+  where
+    piece : Piece
+    piece = get_or (link_pieces link) k no_piece
+
+    by : (b : Bool) → is_numbered (length link.modules) SLOTS (get_or (link_pieces link) k no_piece) ≡ b → b ≡ false
+    by false is = refl
+    by true is = absurd (false≢true (sym (no_table link k lt) ∙ slots_told (length link.modules) (get_or (link_pieces link) k no_piece) is))
+
+-- a piece of the plan has the number of the same piece among all
+pub number_planned : (options : LinkOptions) (link : KeptParts) (k : ℕ) → is_numbered (length link.parts.modules) SLOTS (get_or (plan_pieces options link) k no_piece) ≡ is_numbered (length link.parts.modules) SLOTS (get_or (whole_pieces link) k no_piece)
+number_planned options link k =
+    let test = is_numbered (length link.parts.modules) SLOTS in
+    elim (cases_lt k (length (link_pieces link.parts))) [
+      | inl inside ↦ ap test (planned_at options link k inside) ∙ ap test (sym (whole_at link k inside))
+      | inr behind ↦ ap test (table_at options link k behind)
+    ]
+
+first_same_test : (n : ℕ) (f g : ℕ → Bool) → ((k : ℕ) → f k ≡ g k) → first_below n f ≡ first_below n g
+unfolding first_below
+first_same_test zero f g same = refl
+first_same_test (suc n) f g same = rw (first_same_test n f g same, same n) refl
+
+-- so the table that is found is that of the slots
+pub table_planned : (options : LinkOptions) (link : KeptParts) (count : ℕ) (after : List Piece) → count ≡ length link.parts.modules → map bare after ≡ plan_pieces options link → unwrap_or (first_below (length after) (holds (is_numbered count SLOTS) (map bare after))) 0 ≡ slot_table link
+table_planned options link count after counted are =
+    ap (λ (o : Option ℕ). unwrap_or o 0)
+    (ap (λ (n : ℕ). first_below n (holds (is_numbered count SLOTS) (map bare after))) (sym (length-map after bare) ∙ ap (λ (ps : List Piece). length ps) are ∙ plan_count options link)
+    ∙ ap (λ (ps : List Piece). first_below (length (whole_pieces link)) (holds (is_numbered count SLOTS) ps)) are
+    ∙ ap (λ (n : ℕ). first_below (length (whole_pieces link)) (holds (is_numbered n SLOTS) (plan_pieces options link))) counted
+    ∙ first_same_test (length (whole_pieces link)) (holds (is_numbered (length link.parts.modules) SLOTS) (plan_pieces options link)) (holds (is_numbered (length link.parts.modules) SLOTS) (whole_pieces link)) (number_planned options link))
+
+-- no piece of the link is found
+pub others_fail : (options : LinkOptions) (link : KeptParts) (count n : ℕ) (after : List Piece) → count ≡ length link.parts.modules → n ≡ length (link_pieces link.parts) → map bare after ≡ plan_pieces options link → (k : ℕ) → k < n → holds (is_numbered count SLOTS) (map bare after) k ≡ false
+others_fail options link count n after counted all are k below =
+    let inside : k < length (link_pieces link.parts) = omega (arith, below, all) in
+    ap (λ (ps : List Piece). holds (is_numbered count SLOTS) ps k) are
+    ∙ ap (λ (m : ℕ). is_numbered m SLOTS (get_or (plan_pieces options link) k no_piece)) counted
+    ∙ number_planned options link k
+    ∙ ap (is_numbered (length link.parts.modules) SLOTS) (whole_at link k inside)
+    ∙ not_slots link.parts k inside
+
+-- ---- what is behind the pieces
+
+pub part_from : (n : ℕ) (flags : List Bool) → take (length flags - n) (drop n flags) ≡ drop n flags
+part_from n flags = take_all (length flags - n) (drop n flags) (omega (arith, length-drop n flags))

@@ -1,5 +1,5 @@
 -- The stages of a plan, one after the other, and the piece of the entry.
-use Rattle.std.proofs.Common.{◌≡◌, List, Option, Some, None, refl, sym, ap, ◌∙◌}
+use Rattle.std.proofs.Common.{◌≡◌, List, Some, None, refl, sym, ap, ◌∙◌}
 use Rattle.std.specs.Option.{option_or}
 use Rattle.link_base.specs.Refusals.{RefusesFor}
 use Rattle.link_base.specs.declared.stop.Refusal.{Refusal}
@@ -12,7 +12,6 @@ use Rattle.link_plan.specs.References.{names_fault, references_fault, entry_mean
 use Rattle.link_fields.specs.Entry.{entry_meant}
 use Rattle.link_fields.specs.Places.{places_fault}
 use Rattle.lib_search.specs.LinkOf.{asked_names}
-use Rattle.symbol_table.specs.declared.meaning.Meaning.{Meaning}
 use Rattle.link_fields.specs.Fixes.{fixes_fault}
 use Rattle.link_pieces.specs.ChoiceFaults.{conflict_fault, clash_fault}
 use Rattle.link_plan.specs.PlanFaults.{mismatch_fault, choice_fault, meaning_fault, fields_fault, plan_fault}

@@ -1,6 +1,6 @@
 -- What of a link is kept: where unreferenced sections are dropped, what a path of references comes to from a root (MSVC linker
 -- reference, "/OPT"; what leads to what, and the roots, are own).
-use Rattle.std.specs.Prelude.{◌≡◌, ◌<◌, ◌+◌, ℕ, Bool, true, false, ◌&&◌, not, if◌then◌else◌, List, [], ◌∷◌, ◌++◌, length, map, filter, filter_map, slice_index_or, Option, Some, None, option_map, option_and_then, unwrap_or, Result, Ok, Err, codes}
+use Rattle.std.specs.Prelude.{◌≡◌, ◌<◌, ◌+◌, ℕ, Bool, true, false, ◌&&◌, not, if◌then◌else◌, List, [], ◌∷◌, ◌++◌, length, filter, filter_map, slice_index_or, Option, Some, None, option_map, option_and_then, unwrap_or, Result, Ok, Err, codes}
 use Rattle.std.specs.List.{range_with_len, flat_map, cons_option}
 use Rattle.link_base.specs.Bytes.{has_flag}
 use Rattle.link_base.specs.PeFormat.{SCN_LNK_COMDAT}

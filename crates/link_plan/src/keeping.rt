@@ -97,7 +97,11 @@ fn link_graph<'a>(
 {
     let mut edges = edges;
     for k in 0..pieces.len() {
-        push_child(&mut edges, parent_piece(index, modules, &pieces[k]), k as u32)?;
+        push_child(
+            &mut edges,
+            parent_piece(index, modules, &pieces[k]),
+            k as u32,
+        )?;
     }
     Ok(Graph {
         pieces: (pieces.len() + modules.len()) as u32,
@@ -106,11 +110,7 @@ fn link_graph<'a>(
 }
 
 /// Appends that a piece leads to another, where there is one that does.
-fn push_child(
-    edges: &mut Vec<(u32, u32)>,
-    parent: Option<u32>,
-    child: u32,
-) -> Result<(), Memory>
+fn push_child(edges: &mut Vec<(u32, u32)>, parent: Option<u32>, child: u32) -> Result<(), Memory>
     ensures { OnOk result (edges.new.items ≡ edges.old.items ++ cons_option (option_map (λ parent. (parent, child)) parent) []) }
 {
     if let Some(parent) = parent {

@@ -51,11 +51,7 @@ fn keep_field(alloc: Global, fixups: &mut Fixups, kept: bool, places: &SlotPlace
 }
 
 /// Appends so many times no fields.
-pub(crate) fn push_none(
-    alloc: Global,
-    fixups: &mut Vec<Fixups>,
-    count: usize,
-) -> Result<(), Memory>
+pub(crate) fn push_none(alloc: Global, fixups: &mut Vec<Fixups>, count: usize) -> Result<(), Memory>
     ensures { OnOk result (fixups.new.items ≡ fixups.old.items ++ replicate count []) }
 {
     for _ in 0..count {
@@ -78,12 +74,7 @@ fn placed(target: Option<Target>, places: &SlotPlaces<'_>) -> Option<Target>
     ensures { result ≡ option_map (redirected places.now.first places.now.table places.now.offsets.now) target }
 {
     match target {
-        Some(target) => Some(redirected(
-            target,
-            places.first,
-            places.table,
-            places.offsets,
-        )),
+        Some(target) => Some(redirected(target, places.first, places.table, places.offsets)),
         None => None,
     }
 }

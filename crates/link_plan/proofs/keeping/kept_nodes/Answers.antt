@@ -1,11 +1,11 @@
-use Rattle.std.proofs.Common.{◌≡◌, ℕ, ◌+◌, ◌<◌, ◌||◌, Bool, false, List, ◌++◌, length, map, take, get_or, sym, ap, ◌∙◌, arith}
+use Rattle.std.proofs.Common.{◌≡◌, ℕ, ◌||◌, Bool, List, ◌++◌, length, take, ap, ◌∙◌, arith}
 use Rattle.std.specs.List.{list_any}
 use Rattle.std.proofs.Math.Seq.{take-append_seam}
 use Rattle.std.proofs.lemmas.List.{length-map}
 use Rattle.section_group.specs.BarePieces.{bare}
 use Rattle.module_view.proofs.CallerLemmas.{unmarked}
 use Rattle.link_words.specs.Outcome.{options_said}
-use Rattle.link_plan.specs.Reach.{child_edges, link_edges, node_count, named_nodes}
+use Rattle.link_plan.specs.Reach.{child_edges, named_nodes}
 use Rattle.link_plan.specs.Planned.{leads_there, is_at}
 use Rattle.link_fields.specs.Fixes.{field_edges}
 use Rattle.link_plan.proofs.keeping.kept_nodes.Goals as goal

@@ -1,5 +1,4 @@
-use Rattle.std.proofs.Common.{ℕ, [], List, false, map, get_or}
-use Rattle.relocate.specs.declared.fix.Fix.{Fix}
+use Rattle.std.proofs.Common.{ℕ, [], false, map, get_or}
 use Rattle.relocate.specs.Redirected.{redirected_fix}
 use Rattle.link_plan.specs.Planned.{fixes_if}
 use Rattle.link_plan.proofs.MadeLemmas.{AreMadeUpTo}

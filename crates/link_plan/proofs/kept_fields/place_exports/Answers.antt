@@ -1,4 +1,4 @@
-use Rattle.std.proofs.Common.{None, option_map, length, arith}
+use Rattle.std.proofs.Common.{None, option_map, arith}
 use Rattle.relocate.specs.Redirected.{redirected}
 use Rattle.link_plan.proofs.MadeLemmas.{each_made}
 use Rattle.link_plan.proofs.kept_fields.place_exports.Goals as goal

@@ -1,16 +1,14 @@
-use Rattle.std.proofs.Common.{◌<◌, ◌-◌, ◌^◌, ℕ, length, map, arith, List, Option, sym, ap, ◌∙◌, subst}
+use Rattle.std.proofs.Common.{ℕ, length, map, List, Option, sym, ap, ◌∙◌, subst}
 use Rattle.std.proofs.lemmas.Result.{err_from_is_err_and}
 use Rattle.std.specs.List.{All}
 use Rattle.link_base.specs.Refusals.{RefusesFor}
 use Rattle.symbol_table.specs.declared.meaning.Meaning.{Meaning}
 use Rattle.section_group.specs.BarePieces.{bare}
 use Rattle.section_group.specs.declared.piece.Piece.{Piece}
-use Rattle.section_group.specs.PieceContents.{piece_contents}
-use Rattle.module_view.specs.Module.{ModuleView}
 use Rattle.module_view.specs.Opening.{IsOpened}
 use Rattle.link_words.specs.Outcome.{options_said}
 use Rattle.link_pieces.specs.Rows.{HasSomePlace}
-use Rattle.link_fields.specs.Entry.{meant_place, entry_place}
+use Rattle.link_fields.specs.Entry.{meant_place}
 use Rattle.link_fields.specs.Places.{places_fault}
 use Rattle.link_fields.specs.Fixes.{HaveFields}
 use Rattle.link_plan.specs.Laid.{laid_link}

@@ -1,4 +1,10 @@
-use Rattle.std.proofs.Common.{ℕ, List, refl, sym, ap, ◌∙◌, subst}
+use Rattle.std.proofs.Common.{◌≡◌, ℕ, ◌<◌, false, List, length, get_or, None, refl, sym, ap, ◌∙◌, subst}
+use Rattle.std.specs.List.{All}
+use Rattle.section_group.specs.SectionOrder.{no_piece}
+use Rattle.section_group.specs.PieceContents.{HasItsBytes}
+use Rattle.module_view.specs.Opening.{IsOpened}
+use Rattle.link_imports.specs.Imports.{AreImports}
+use Rattle.link_pieces.specs.TablePieces.{kept_imports, is_table}
 use Rattle.std.proofs.lemmas.Result.{err_from_is_err_and}
 use Rattle.link_base.specs.Refusals.{RefusesFor}
 use Rattle.module_view.specs.Module.{ModuleView}
@@ -6,9 +12,9 @@ use Rattle.link_pieces.specs.LinkParts.{LinkParts}
 use Rattle.link_directives.specs.LinkDirectives.{link_merges}
 use Rattle.link_words.specs.Outcome.{options_said}
 use Rattle.link_pieces.specs.ChoiceFaults.{conflict_fault, clash_fault}
-use Rattle.link_plan.specs.PlanFaults.{mismatch_fault, meaning_fault, fields_fault}
-use Rattle.link_exports.specs.Exports.{exports_of, AreTold}
-use Rattle.link_plan.specs.Laid.{AreLaid}
+use Rattle.link_plan.specs.PlanFaults.{mismatch_fault, meaning_fault, fields_fault, plan_fault}
+use Rattle.link_exports.specs.Exports.{AreTold}
+use Rattle.link_plan.specs.Laid.{laid_link}
 use Rattle.link_plan.specs.Plan.{link_parts}
 use Rattle.link_plan.proofs.PlanningLemmas.{names_so}
 use Rattle.link_plan.proofs.StageLemmas.{mismatch_stage, conflict_stage, clash_stage, meaning_stage, fields_stage, no_stage, chosen_so}
@@ -100,23 +106,24 @@ returns-clause-planned c =
     let well =
     chosen_so link c.in_ok-names.names c.deref.result.now c.deref-3.result.now names_are c.deref.ensures.value c.in_ok-check_mismatch.ensures.accepted c.deref-3.ensures.value c.in_ok-names.ensures.accepted c.in_ok-check_clash.ensures.accepted in
     let meant = ap (meaning_fault options) (sym names_are) ∙ c.in_ok-meant.ensures.accepted in
-    let laid = subst (λ (l : LinkParts). AreLaid options l c.in_ok-laid.laid) names_are c.in_ok-laid.ensures.laid in
+    let laid = c.in_ok-laid.ensures.laid in
     let planned = laid.planned in
+    let own = ap (λ (l : LinkParts). l.modules) names_are in
     record {
-      opened = ap_opened names_are laid.opened;
+      opened = subst (All IsOpened) own laid.opened;
       modules_are = refl;
       link_is = record { parts_are = names_are; kept_are = planned.kept_are };
       pieces_are = planned.pieces_are;
       contents_are = planned.contents_are;
       aligned = planned.aligned;
-      bodies = planned.bodies;
+      bodies = subst (λ (ms : List ModuleView). (k : ℕ) → k < length c.in_ok-laid.laid.pieces.items → is_table (length ms) (get_or c.in_ok-laid.laid.pieces.items k no_piece) ≡ false → HasItsBytes c.in_ok-laid.laid.pieces.items k) own planned.bodies;
       few = planned.few;
       fields = planned.fields;
-      imports = planned.imports;
+      imports = subst (λ (ms : List ModuleView). AreImports ms (kept_imports (laid_link c.in_ok-names.names c.in_ok-laid.laid)) c.in_ok-laid.laid.imports) own planned.imports;
       told = subst AreTold (sym (ap (λ (l : LinkParts). l.exports) c.in_ok-names.ensures.names)) c.in_ok-exports.ensures.told;
-      merges_are = merges;
+      merges_are = c.in_ok-merges.ensures ∙ ap (λ (given : List (List ℕ × List ℕ)). link_merges given c.deref-7.result.now) c.deref-6.ensures.value ∙ ap (link_merges options.merges) (c.deref-7.ensures.value ∙ sym own);
       entry_is = planned.entry_is;
       stands = laid.stands;
       exported_are = planned.exported_are;
-      no_fault = fault;
+      no_fault = ap (plan_fault options) names_are ∙ no_stage options link well meant (subst (λ (l : LinkParts). fields_fault options l ≡ None) names_are laid.no_fault);
     }

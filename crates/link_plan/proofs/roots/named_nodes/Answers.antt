@@ -1,10 +1,8 @@
-use Rattle.std.proofs.Common.{◌≡◌, ℕ, List, [], ◌∷◌, ◌++◌, Option, option_and_then, sym, ap, ◌∙◌, append_assoc}
-use Rattle.std.specs.Prelude.{filter_map, codes}
+use Rattle.std.proofs.Common.{ℕ, List, [], ◌++◌, Option, option_and_then, ap, ◌∙◌}
+use Rattle.std.specs.Prelude.{filter_map}
 use Rattle.std.specs.List.{cons_option}
 use Rattle.relocate.specs.declared.fix.Target.{Target}
 use Rattle.link_words.specs.Outcome.{options_said}
-use Rattle.link_fields.specs.declared.entry.EntryPlace.{EntryPlace}
-use Rattle.link_fields.specs.Entry.{piece_of_place}
 use Rattle.link_fields.specs.Targets.{piece_in}
 use Rattle.link_plan.specs.Reach.{name_node}
 use Rattle.link_plan.proofs.RootLemmas.{named_so}

@@ -1,4 +1,4 @@
-use Rattle.std.proofs.Common.{ℕ, ◌<◌, List, [], ◌++◌, Option, None, option_and_then, length, get_or, ap, ◌∙◌, arith}
+use Rattle.std.proofs.Common.{ℕ, ◌<◌, [], ◌++◌, Option, None, option_and_then, length, get_or, ap, ◌∙◌, arith}
 use Rattle.std.specs.List.{cons_option}
 use Rattle.std.proofs.lemmas.List.{get_or_default}
 use Rattle.link_fields.specs.Targets.{piece_in}

@@ -1,4 +1,4 @@
-use Rattle.std.proofs.Common.{ℕ, List, ◌++◌, map, ap, ◌∙◌, arith}
+use Rattle.std.proofs.Common.{List, ◌++◌, ap, ◌∙◌, arith}
 use Rattle.std.specs.Prelude.{filter_map}
 use Rattle.directives.specs.Said.{Said}
 use Rattle.link_plan.specs.Reach.{name_node, included, included_by}

@@ -1,11 +1,7 @@
-use Rattle.std.proofs.Common.{ℕ, List, [], ◌∷◌, ◌++◌, map, Option, ap, sym, ◌∙◌, append_assoc, arith}
+use Rattle.std.proofs.Common.{ℕ, List, [], ◌++◌, Option, ap, ◌∙◌, arith}
 use Rattle.std.specs.Prelude.{filter_map}
 use Rattle.std.specs.List.{cons_option}
-use Rattle.std.proofs.lemmas.List.{take_more, map-append}
-use Rattle.std.proofs.lemmas.List.Elements.{filter_map-append}
-use Rattle.directives.specs.Said.{Said, said}
-use Rattle.directives.specs.declared.item.Directive.{Directive}
-use Rattle.link_plan.specs.Reach.{name_node, included}
+use Rattle.link_plan.specs.Reach.{name_node}
 use Rattle.link_plan.proofs.RootLemmas.{included_next}
 use Rattle.link_plan.proofs.roots.push_included_by.Goals as goal
 

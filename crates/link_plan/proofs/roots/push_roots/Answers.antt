@@ -1,9 +1,9 @@
-use Rattle.std.proofs.Common.{◌≡◌, ℕ, List, ◌++◌, length, sym, ap, ◌∙◌, subst}
-use Rattle.std.specs.Prelude.{OnOk, filter_map}
+use Rattle.std.proofs.Common.{ℕ, List, ◌++◌, length, sym, ap, ◌∙◌}
+use Rattle.std.specs.Prelude.{filter_map}
 use Rattle.std.specs.List.{flat_map}
 use Rattle.module_view.specs.Module.{ModuleView}
 use Rattle.link_words.specs.Outcome.{options_said}
-use Rattle.link_plan.specs.Reach.{name_node, included_by, plain_sections, link_roots}
+use Rattle.link_plan.specs.Reach.{name_node, included_by}
 use Rattle.link_plan.proofs.RootLemmas.{roots_so}
 use Rattle.link_plan.proofs.roots.push_roots.Goals as goal
 
