@@ -9,9 +9,8 @@ use Rattle.relocate.specs.Judged.{AreTheFields}
 use Rattle.relocate.specs.PatchedBytes.{is_based}
 use Rattle.relocate.proofs.OrderLemmas.{IsAmong}
 use Rattle.relocate.proofs.CallerLemmas.{based_width, field_among, among_fields}
-use Rattle.link_pieces.specs.LinkParts.{LinkParts}
-use Rattle.link_pieces.specs.Pieces.{link_pieces}
-use Rattle.link_plan.specs.Fixes.{piece_fixes, HaveFields}
+use Rattle.link_pieces.specs.TablePieces.{KeptParts, whole_pieces}
+use Rattle.link_plan.specs.Planned.{planned_fixes, HaveFields}
 use Rattle.link_image.specs.BaseFields.{piece_holds_address, holds_address}
 
 -- two tests are one where each follows from the other
@@ -72,10 +71,10 @@ any_from test at (x ∷ xs) d start same =
     one_more : (n k : ℕ) → n + suc k ≡ n + 1 + k
     one_more n k = omega arith
 
-pub held_addresses : (link : LinkParts) (fixups : List (List Fix)) (count : ℕ) → count ≡ length (link_pieces link) → HaveFields link count fixups → list_any (λ fixes. list_any is_based fixes) fixups ≡ holds_address link
+pub held_addresses : (link : KeptParts) (fixups : List (List Fix)) (count : ℕ) → count ≡ length (whole_pieces link) → HaveFields link count fixups → list_any (λ fixes. list_any is_based fixes) fixups ≡ holds_address link
 unfolding holds_address
 held_addresses link fixups count same fields =
-    any_from (λ fixes. list_any is_based fixes) (piece_holds_address link) fixups [] 0 (λ k lt. same_piece (piece_fixes link k) (get_or fixups k []) (fields.fields k (omega (arith, lt, fields.for_each))) ∙ ap (piece_holds_address link) (none_more k))
+    any_from (λ fixes. list_any is_based fixes) (piece_holds_address link) fixups [] 0 (λ k lt. same_piece (planned_fixes link k) (get_or fixups k []) (fields.fields k (omega (arith, lt, fields.for_each))) ∙ ap (piece_holds_address link) (none_more k))
     ∙ ap (λ (n : ℕ). list_any (piece_holds_address link) (range_with_len 0 n)) (fields.for_each ∙ same)
   where
     none_more : (k : ℕ) → k ≡ 0 + k

@@ -16,9 +16,8 @@ use Rattle.relocate.specs.declared.fix.Fix.{Fix}
 use Rattle.relocate.specs.Field.{field_end, has_field, no_fix, fix_at}
 use Rattle.relocate.specs.PatchedBytes.{is_based}
 use Rattle.relocate.proofs.CallerLemmas.{ends_within, based_width, among_fields}
-use Rattle.link_pieces.specs.LinkParts.{LinkParts}
-use Rattle.link_pieces.specs.Pieces.{link_pieces}
-use Rattle.link_plan.specs.Fixes.{HaveFields, piece_fixes}
+use Rattle.link_pieces.specs.TablePieces.{KeptParts, whole_pieces}
+use Rattle.link_plan.specs.Planned.{HaveFields, planned_fixes}
 use Rattle.link_image.specs.BaseFields.{base_field, IsBaseField, AreBaseFields}
 use Rattle.link_image.specs.LinkedBytes.{contents_at}
 use Rattle.link_image.specs.Steps.{Fits, fields_of, fields_at, section_fields, all_fields}
@@ -76,13 +75,13 @@ has_its_field fix based =
 
 -- ---- the fields of a link
 
-module _ (link : LinkParts) (pieces : List Piece) (fixups : List (List Fix)) (sections : List OutSection) (reloc : Bool) (layout : Layout)
-    (count : length pieces ≡ length (link_pieces link))
+module _ (link : KeptParts) (pieces : List Piece) (fixups : List (List Fix)) (sections : List OutSection) (reloc : Bool) (layout : Layout)
+    (count : length pieces ≡ length (whole_pieces link))
     (fields : HaveFields link (length pieces) fixups)
     (sizes : (k : ℕ) → k < length pieces → length (contents_at link layout k) ≤ (get_or pieces k no_piece).size)
     (standing : HoldsArrangement pieces sections reloc layout)
     (once : StandOnce pieces sections)
-    (stands : (k : ℕ) → k < length pieces → 0 < (get_or pieces k no_piece).size → Contains (all_pieces sections) k)
+    (stands : (k : ℕ) → k < length pieces → 0 < length (planned_fixes link k) → 0 < (get_or pieces k no_piece).size → Contains (all_pieces sections) k)
     (few : layout.image ≤ 2 ^ 31) where
   -- ---- a piece
 
@@ -158,7 +157,7 @@ module _ (link : LinkParts) (pieces : List Piece) (fixups : List (List Fix)) (se
   is_listed k lt =
       let rva = get_or layout.pieces.items k 0 in
       let P : Fix → Type 0 = λ fix. is_based fix ≡ true → IsBaseField link layout.pieces.items (base_field rva fix) in
-      let each : All P (piece_fixes link k) = All-from_get_or P (piece_fixes link k) no_fix (λ i within based. record {
+      let each : All P (planned_fixes link k) = All-from_get_or P (planned_fixes link k) no_fix (λ i within based. record {
         piece = k;
         index = i;
         there = omega (arith, count);
@@ -167,7 +166,7 @@ module _ (link : LinkParts) (pieces : List Piece) (fixups : List (List Fix)) (se
         is = refl;
       })
       in
-      let kept : All P (get_or fixups k []) = All-permutation P (filter has_field (piece_fixes link k)) (get_or fixups k []) (fields.fields k lt) (All-filter has_field P (piece_fixes link k) each) in
+      let kept : All P (get_or fixups k []) = All-permutation P (filter has_field (planned_fixes link k)) (get_or fixups k []) (fields.fields k lt) (All-filter has_field P (planned_fixes link k) each) in
       All-map (IsBaseField link layout.pieces.items) (base_field rva) (filter is_based (get_or fixups k []))
       (all_passing is_based (λ fix. IsBaseField link layout.pieces.items (base_field rva fix)) (get_or fixups k []) kept)
 
@@ -179,7 +178,7 @@ module _ (link : LinkParts) (pieces : List Piece) (fixups : List (List Fix)) (se
 
   -- ---- and all of them are there
 
-  contains_here : (k i : ℕ) → k < length pieces → i < length (piece_fixes link k) → is_based (fix_at (piece_fixes link k) i) ≡ true → Contains (fields_at layout.pieces.items fixups k) (base_field (get_or layout.pieces.items k 0) (fix_at (piece_fixes link k) i))
+  contains_here : (k i : ℕ) → k < length pieces → i < length (planned_fixes link k) → is_based (fix_at (planned_fixes link k) i) ≡ true → Contains (fields_at layout.pieces.items fixups k) (base_field (get_or layout.pieces.items k 0) (fix_at (planned_fixes link k) i))
   contains_here k i lt within based =
       let rva = get_or layout.pieces.items k 0 in
       let kept = get_or fixups k [] in
@@ -187,23 +186,23 @@ module _ (link : LinkParts) (pieces : List Piece) (fixups : List (List Fix)) (se
       let each : All P kept = All-from_get_or P kept no_fix (λ n below here.
       contains_map (base_field rva) (filter is_based kept) (get_or kept n no_fix) (contains_passing is_based kept (get_or kept n no_fix) (Contains-get_or kept n no_fix below) here))
       in
-      among_fields P (piece_fixes link k) kept i (fields.fields k lt) each within (has_its_field (fix_at (piece_fixes link k) i) based) based
+      among_fields P (planned_fixes link k) kept i (fields.fields k lt) each within (has_its_field (fix_at (planned_fixes link k) i) based) based
 
-  has_bytes : (k i : ℕ) → k < length pieces → i < length (piece_fixes link k) → is_based (fix_at (piece_fixes link k) i) ≡ true → 0 < (get_or pieces k no_piece).size
+  has_bytes : (k i : ℕ) → k < length pieces → i < length (planned_fixes link k) → is_based (fix_at (planned_fixes link k) i) ≡ true → 0 < (get_or pieces k no_piece).size
   has_bytes k i lt within based =
       let P : Fix → Type 0 = λ fix. 0 < (get_or pieces k no_piece).size in
       let each : All P (get_or fixups k []) = All-from_get_or P (get_or fixups k []) no_fix (λ n below. size_positive k n lt below) in
-      among_fields P (piece_fixes link k) (get_or fixups k []) i (fields.fields k lt) each within (has_its_field (fix_at (piece_fixes link k) i) based)
+      among_fields P (planned_fixes link k) (get_or fixups k []) i (fields.fields k lt) each within (has_its_field (fix_at (planned_fixes link k) i) based)
 
   contained : (field : BaseField) → IsBaseField link layout.pieces.items field → Contains (all_fields layout.pieces.items fixups sections) field
   contained field at =
       let k = at.piece in
       let lt : k < length pieces = omega (arith, count, at.there) in
-      let there = stands k lt (has_bytes k at.index lt at.within at.based) in
+      let there = stands k lt (omega (arith, at.within)) (has_bytes k at.index lt at.within at.based) in
       let here = contains_here k at.index lt at.within at.based in
       subst (Contains (all_fields layout.pieces.items fixups sections)) (sym at.is)
-      (subst (λ (all : List BaseField). Contains all (base_field (get_or layout.pieces.items k 0) (fix_at (piece_fixes link k) at.index))) (sym (fields_are layout.pieces.items fixups sections))
-      (contains_flat (fields_at layout.pieces.items fixups) (all_pieces sections) k (base_field (get_or layout.pieces.items k 0) (fix_at (piece_fixes link k) at.index)) there here))
+      (subst (λ (all : List BaseField). Contains all (base_field (get_or layout.pieces.items k 0) (fix_at (planned_fixes link k) at.index))) (sym (fields_are layout.pieces.items fixups sections))
+      (contains_flat (fields_at layout.pieces.items fixups) (all_pieces sections) k (base_field (get_or layout.pieces.items k 0) (fix_at (planned_fixes link k) at.index)) there here))
 
   pub base_fields_are : AreBaseFields link layout.pieces.items (all_fields layout.pieces.items fixups sections)
   base_fields_are =

@@ -19,20 +19,19 @@ use Rattle.export_tables.proofs.LengthLemmas.{size_of_table}
 use Rattle.export_tables.proofs.SizeLemmas.{same_table_size, same_numbered}
 use Rattle.synthetic_sections.specs.LinkerPieces.{EXPORTS, size_at}
 use Rattle.link_exports.specs.Exports.{refused_rows, numbers_fault, numbers_of, export_to, table_row, unplaced_row, size_of, size_if, ExportsView, exports_from, AreTold}
-use Rattle.link_imports.specs.Imports.{import_rows, import_sizes}
-use Rattle.link_pieces.specs.LinkParts.{LinkParts}
-use Rattle.link_pieces.specs.LinkerPieces.{table_sizes}
+use Rattle.link_pieces.specs.TablePieces.{kept_rows, KeptParts, table_sizes, kept_imports}
+use Rattle.link_imports.specs.Imports.{import_sizes}
 use Rattle.link_image.specs.LinkedBytes.{table_rva, table_rvas, import_tables_at, exported_row, exported_rows, export_table_at, tables_at}
 
 -- ---- a link with a table
 
 -- there are exports, and nothing is wrong with their ordinals: these are given, and the size is that of the rows without places
-pub record HasTable (link : LinkParts) : Type 0 where
-  pub none : ordinal_fault link.exports.rows ≡ None
-  pub some : 0 < length link.exports.rows
-  pub numbers : link.exports.ordinals ≡ ordinals_of link.exports.rows
-  pub size : link.exports.size ≡ table_size (map unplaced_row link.exports.rows) link.exports.ordinals link.exports.dll
-  pub numbered : AreNumbered (map unplaced_row link.exports.rows) link.exports.ordinals
+pub record HasTable (link : KeptParts) : Type 0 where
+  pub none : ordinal_fault link.parts.exports.rows ≡ None
+  pub some : 0 < length link.parts.exports.rows
+  pub numbers : link.parts.exports.ordinals ≡ ordinals_of link.parts.exports.rows
+  pub size : link.parts.exports.size ≡ table_size (map unplaced_row link.parts.exports.rows) link.parts.exports.ordinals link.parts.exports.dll
+  pub numbered : AreNumbered (map unplaced_row link.parts.exports.rows) link.parts.exports.ordinals
 
 -- where no ordinal is wrong
 pub numbers_given : (rows : List Export) → ordinal_fault rows ≡ None → numbers_of rows ≡ ordinals_of rows
@@ -65,7 +64,7 @@ size_of_some : (rows : List Export) (ordinals dll : List ℕ) → 0 < length row
 size_of_some [] ordinals dll some = absurd (omega (arith, some))
 size_of_some (row ∷ rows) ordinals dll some = refl
 
-pub has_table : (link : LinkParts) (rows : List Export) (dll : List ℕ) (time : ℕ) → link.exports ≡ exports_from rows dll time → AreTold link.exports → 0 < link.exports.size → HasTable link
+pub has_table : (link : KeptParts) (rows : List Export) (dll : List ℕ) (time : ℕ) → link.parts.exports ≡ exports_from rows dll time → AreTold link.parts.exports → 0 < link.parts.exports.size → HasTable link
 has_table link rows dll time is told sized =
     let above : 0 < size_if rows dll = subst (λ (exports : ExportsView). 0 < exports.size) is sized in
     let none = sized_none rows dll above in
@@ -101,88 +100,88 @@ same_row row rva other = record {
   same_sizes = same_size (forwarder row) rva other;
 }
 
-all_same : (link : LinkParts) (rvas : List ℕ) (rows : List Export) → AllZip SameSize (map unplaced_row rows) (map (exported_row link rvas) rows)
+all_same : (link : KeptParts) (rvas : List ℕ) (rows : List Export) → AllZip SameSize (map unplaced_row rows) (map (exported_row link rvas) rows)
 all_same link rvas [] = tt
 all_same link rvas (row ∷ rows) = (same_row row 0 _, all_same link rvas rows)
 
-pub same_rows : (link : LinkParts) (rvas : List ℕ) → AllZip SameSize (map unplaced_row link.exports.rows) (exported_rows link rvas)
+pub same_rows : (link : KeptParts) (rvas : List ℕ) → AllZip SameSize (map unplaced_row link.parts.exports.rows) (exported_rows link rvas)
 unfolding exported_rows
-same_rows link rvas = all_same link rvas link.exports.rows
+same_rows link rvas = all_same link rvas link.parts.exports.rows
 
-pub placed_numbered : (link : LinkParts) (rvas : List ℕ) → HasTable link → AreNumbered (exported_rows link rvas) link.exports.ordinals
+pub placed_numbered : (link : KeptParts) (rvas : List ℕ) → HasTable link → AreNumbered (exported_rows link rvas) link.parts.exports.ordinals
 placed_numbered link rvas has =
-    same_numbered (map unplaced_row link.exports.rows) (exported_rows link rvas) link.exports.ordinals (same_rows link rvas) has.numbered
+    same_numbered (map unplaced_row link.parts.exports.rows) (exported_rows link rvas) link.parts.exports.ordinals (same_rows link rvas) has.numbered
 
-pub placed_size : (link : LinkParts) (rvas : List ℕ) → HasTable link → table_size (exported_rows link rvas) link.exports.ordinals link.exports.dll ≡ link.exports.size
+pub placed_size : (link : KeptParts) (rvas : List ℕ) → HasTable link → table_size (exported_rows link rvas) link.parts.exports.ordinals link.parts.exports.dll ≡ link.parts.exports.size
 placed_size link rvas has =
-    sym (same_table_size (map unplaced_row link.exports.rows) (exported_rows link rvas) link.exports.ordinals link.exports.dll (same_rows link rvas))
+    sym (same_table_size (map unplaced_row link.parts.exports.rows) (exported_rows link rvas) link.parts.exports.ordinals link.parts.exports.dll (same_rows link rvas))
     ∙ sym has.size
 
 -- ---- the bytes of the table
 
 -- where it has a size
-pub export_table_some : (link : LinkParts) (layout : Layout) → eqb link.exports.size 0 ≡ false → export_table_at link layout ≡ export_table (exported_rows link layout.pieces.items) link.exports.ordinals link.exports.dll link.exports.time (table_rva link layout EXPORTS)
+pub export_table_some : (link : KeptParts) (layout : Layout) → eqb link.parts.exports.size 0 ≡ false → export_table_at link layout ≡ export_table (exported_rows link layout.pieces.items) link.parts.exports.ordinals link.parts.exports.dll link.parts.exports.time (table_rva link layout EXPORTS)
 unfolding export_table_at
 export_table_some link layout some =
-    ap (λ (b : Bool). cond b [] (export_table (exported_rows link layout.pieces.items) link.exports.ordinals link.exports.dll link.exports.time (table_rva link layout EXPORTS))) some
+    ap (λ (b : Bool). cond b [] (export_table (exported_rows link layout.pieces.items) link.parts.exports.ordinals link.parts.exports.dll link.parts.exports.time (table_rva link layout EXPORTS))) some
 
-export_table_none : (link : LinkParts) (layout : Layout) → eqb link.exports.size 0 ≡ true → export_table_at link layout ≡ []
+export_table_none : (link : KeptParts) (layout : Layout) → eqb link.parts.exports.size 0 ≡ true → export_table_at link layout ≡ []
 unfolding export_table_at
 export_table_none link layout none =
-    ap (λ (b : Bool). cond b [] (export_table (exported_rows link layout.pieces.items) link.exports.ordinals link.exports.dll link.exports.time (table_rva link layout EXPORTS))) none
+    ap (λ (b : Bool). cond b [] (export_table (exported_rows link layout.pieces.items) link.parts.exports.ordinals link.parts.exports.dll link.parts.exports.time (table_rva link layout EXPORTS))) none
 
 above_zero : (size : ℕ) → eqb size 0 ≡ false → 0 < size
 above_zero size some = grind (arith, some)
 
-pub export_length : (link : LinkParts) (layout : Layout) (rows : List Export) (dll : List ℕ) (time : ℕ) → link.exports ≡ exports_from rows dll time → AreTold link.exports → length (export_table_at link layout) ≡ link.exports.size
-export_length link layout rows dll time is told = go (eqb link.exports.size 0) refl
+pub export_length : (link : KeptParts) (layout : Layout) (rows : List Export) (dll : List ℕ) (time : ℕ) → link.parts.exports ≡ exports_from rows dll time → AreTold link.parts.exports → length (export_table_at link layout) ≡ link.parts.exports.size
+export_length link layout rows dll time is told = go (eqb link.parts.exports.size 0) refl
   where
-    go : (b : Bool) → eqb link.exports.size 0 ≡ b → length (export_table_at link layout) ≡ link.exports.size
-    go true none = ap length (export_table_none link layout none) ∙ sym (eqb-true link.exports.size 0 none)
+    go : (b : Bool) → eqb link.parts.exports.size 0 ≡ b → length (export_table_at link layout) ≡ link.parts.exports.size
+    go true none = ap length (export_table_none link layout none) ∙ sym (eqb-true link.parts.exports.size 0 none)
     go false some =
-        let has = has_table link rows dll time is told (above_zero link.exports.size some) in
+        let has = has_table link rows dll time is told (above_zero link.parts.exports.size some) in
         let placed = exported_rows link layout.pieces.items in
         ap length (export_table_some link layout some)
-        ∙ size_of_table placed link.exports.ordinals link.exports.dll link.exports.time (table_rva link layout EXPORTS) (placed_numbered link layout.pieces.items has)
+        ∙ size_of_table placed link.parts.exports.ordinals link.parts.exports.dll link.parts.exports.time (table_rva link layout EXPORTS) (placed_numbered link layout.pieces.items has)
         ∙ placed_size link layout.pieces.items has
 
 -- ---- all tables
 
-import_lengths : (link : LinkParts) (layout : Layout) → map length (import_tables_at link layout) ≡ import_sizes link.modules
+import_lengths : (link : KeptParts) (layout : Layout) → map length (import_tables_at link layout) ≡ import_sizes link.parts.modules (kept_imports link)
 unfolding import_tables_at
 import_lengths link layout =
-    let rows = import_rows link.modules in
+    let rows = kept_rows link in
     let rvas = table_rvas link layout in
     sizes_kept rows rvas (import_tables_of rows rvas) (sizes_of rows) refl refl
 
-pub length-tables : (link : LinkParts) (layout : Layout) (rows : List Export) (dll : List ℕ) (time : ℕ) → link.exports ≡ exports_from rows dll time → AreTold link.exports → (number : ℕ) → length (get_or (tables_at link layout) number []) ≡ size_at (table_sizes link) number
+pub length-tables : (link : KeptParts) (layout : Layout) (rows : List Export) (dll : List ℕ) (time : ℕ) → link.parts.exports ≡ exports_from rows dll time → AreTold link.parts.exports → (number : ℕ) → length (get_or (tables_at link layout) number []) ≡ size_at (table_sizes link) number
 length-tables link layout rows dll time is told number =
     sym (get_or-map length (tables_at link layout) number [])
     ∙ ap (λ (sizes : List ℕ). get_or sizes number 0) (map-append length (import_tables_at link layout) (export_table_at link layout ∷ []))
     ∙ ap (λ (sizes : List ℕ). get_or (sizes ++ length (export_table_at link layout) ∷ []) number 0) (import_lengths link layout)
-    ∙ ap (λ (size : ℕ). get_or (import_sizes link.modules ++ size ∷ []) number 0) (export_length link layout rows dll time is told)
+    ∙ ap (λ (size : ℕ). get_or (import_sizes link.parts.modules (kept_imports link) ++ size ∷ []) number 0) (export_length link layout rows dll time is told)
 
 -- ---- by their numbers
 
-five_sizes : (link : LinkParts) → length (import_sizes link.modules) ≡ 5
+five_sizes : (link : KeptParts) → length (import_sizes link.parts.modules (kept_imports link)) ≡ 5
 unfolding sizes_of
 five_sizes link = refl
 
-five_tables : (link : LinkParts) (layout : Layout) → length (import_tables_at link layout) ≡ 5
+five_tables : (link : KeptParts) (layout : Layout) → length (import_tables_at link layout) ≡ 5
 unfolding import_tables_at import_tables_of
 five_tables link layout = refl
 
-pub import_size : (link : LinkParts) (number : ℕ) → number < 5 → size_at (table_sizes link) number ≡ size_at (import_sizes link.modules) number
+pub import_size : (link : KeptParts) (number : ℕ) → number < 5 → size_at (table_sizes link) number ≡ size_at (import_sizes link.parts.modules (kept_imports link)) number
 import_size link number few =
-    get_or_append_left (import_sizes link.modules) (link.exports.size ∷ []) 0 number (omega (arith, few, five_sizes link))
+    get_or_append_left (import_sizes link.parts.modules (kept_imports link)) (link.parts.exports.size ∷ []) 0 number (omega (arith, few, five_sizes link))
 
-pub import_table : (link : LinkParts) (layout : Layout) (number : ℕ) → number < 5 → get_or (tables_at link layout) number [] ≡ get_or (import_tables_at link layout) number []
+pub import_table : (link : KeptParts) (layout : Layout) (number : ℕ) → number < 5 → get_or (tables_at link layout) number [] ≡ get_or (import_tables_at link layout) number []
 import_table link layout number few =
     get_or_append_left (import_tables_at link layout) (export_table_at link layout ∷ []) [] number (omega (arith, few, five_tables link layout))
 
-pub export_size : (link : LinkParts) → size_at (table_sizes link) 5 ≡ link.exports.size
-export_size link = get_or_push (import_sizes link.modules) link.exports.size 0 5 (five_sizes link)
+pub export_size : (link : KeptParts) → size_at (table_sizes link) 5 ≡ link.parts.exports.size
+export_size link = get_or_push (import_sizes link.parts.modules (kept_imports link)) link.parts.exports.size 0 5 (five_sizes link)
 
-pub export_table_is : (link : LinkParts) (layout : Layout) → get_or (tables_at link layout) 5 [] ≡ export_table_at link layout
+pub export_table_is : (link : KeptParts) (layout : Layout) → get_or (tables_at link layout) 5 [] ≡ export_table_at link layout
 export_table_is link layout =
     get_or_push (import_tables_at link layout) (export_table_at link layout) [] 5 (five_tables link layout)

@@ -30,8 +30,7 @@ use Rattle.export_tables.proofs.NameReadLemmas.{name_read_back}
 use Rattle.export_tables.proofs.OrdinalReadLemmas.{ordinal_read_back}
 use Rattle.synthetic_sections.specs.LinkerPieces.{EXPORTS}
 use Rattle.link_exports.specs.Exports.{refused_rows, numbers_fault, numbers_of, export_to, unplaced_row, size_of, text_of, ExportsView, exports_from, CanBeTold, AreTold}
-use Rattle.link_pieces.specs.LinkParts.{LinkParts}
-use Rattle.link_pieces.specs.PieceIndex.{linker_index}
+use Rattle.link_pieces.specs.TablePieces.{KeptParts, table_index}
 use Rattle.link_image.specs.LinkedBytes.{rva_of, table_rva, exported_row, exported_rows, export_table_at}
 use Rattle.link_image.specs.ExportFaults.{absolute_fault, export_fault, lies_in, inside_fault, in_table_fault}
 use Rattle.link_image.proofs.ExportLemmas.{HasTable, numbers_given, size_given, placed_numbered, placed_size, export_table_some}
@@ -42,11 +41,11 @@ table_some : (rows : List ExportRow) (ordinals dll : List ℕ) → 0 < table_siz
 unfolding table_size
 table_some rows ordinals dll = omega arith
 
-pub some_size : (link : LinkParts) → HasTable link → 0 < link.exports.size
-some_size link has = omega (arith, has.size, table_some (map unplaced_row link.exports.rows) link.exports.ordinals link.exports.dll)
+pub some_size : (link : KeptParts) → HasTable link → 0 < link.parts.exports.size
+some_size link has = omega (arith, has.size, table_some (map unplaced_row link.parts.exports.rows) link.parts.exports.ordinals link.parts.exports.dll)
 
-not_zero : (link : LinkParts) → HasTable link → eqb link.exports.size 0 ≡ false
-not_zero link has = let some = some_size link has in ne_eqb link.exports.size 0 (λ same. omega (arith, some, same))
+not_zero : (link : KeptParts) → HasTable link → eqb link.parts.exports.size 0 ≡ false
+not_zero link has = let some = some_size link has in ne_eqb link.parts.exports.size 0 (λ same. omega (arith, some, same))
 
 -- ---- the first of several
 
@@ -75,18 +74,18 @@ names_differ rows i j none lt within same =
 
 -- ---- rows with places
 
-length_exported : (link : LinkParts) (rvas : List ℕ) → length (exported_rows link rvas) ≡ length link.exports.rows
+length_exported : (link : KeptParts) (rvas : List ℕ) → length (exported_rows link rvas) ≡ length link.parts.exports.rows
 unfolding exported_rows
-length_exported link rvas = length-map link.exports.rows (exported_row link rvas)
+length_exported link rvas = length-map link.parts.exports.rows (exported_row link rvas)
 
-exported_at : (link : LinkParts) (rvas : List ℕ) (k : ℕ) (d : ExportRow) → k < length link.exports.rows → get_or (exported_rows link rvas) k d ≡ exported_row link rvas (row_at link.exports.rows k)
+exported_at : (link : KeptParts) (rvas : List ℕ) (k : ℕ) (d : ExportRow) → k < length link.parts.exports.rows → get_or (exported_rows link rvas) k d ≡ exported_row link rvas (row_at link.parts.exports.rows k)
 unfolding exported_rows
-exported_at link rvas k d lt = get_or-map (exported_row link rvas) link.exports.rows k no_export d lt
+exported_at link rvas k d lt = get_or-map (exported_row link rvas) link.parts.exports.rows k no_export d lt
 
 -- what holds of each holds of all
-all_exported : (P : ExportRow → Type 0) (link : LinkParts) (rvas : List ℕ) → All (λ row. P (exported_row link rvas row)) link.exports.rows → All P (exported_rows link rvas)
+all_exported : (P : ExportRow → Type 0) (link : KeptParts) (rvas : List ℕ) → All (λ row. P (exported_row link rvas row)) link.parts.exports.rows → All P (exported_rows link rvas)
 unfolding exported_rows
-all_exported P link rvas each = All-map P (exported_row link rvas) link.exports.rows each
+all_exported P link rvas each = All-map P (exported_row link rvas) link.parts.exports.rows each
 
 its_text : (text : Option (List ℕ)) (rva : ℕ) → forward_text (export_to text rva) ≡ text_of text
 its_text None rva = refl
@@ -113,64 +112,64 @@ apart_one rva size (Rva address) given outside =
     ]
 
 -- no row lies in the table
-none_inside : (link : LinkParts) (rvas : List ℕ) → HasTable link → in_table_fault link rvas ≡ None → All (λ row. inside_fault link rvas (rva_of rvas (linker_index link EXPORTS)) row ≡ None) link.exports.rows
+none_inside : (link : KeptParts) (rvas : List ℕ) → HasTable link → in_table_fault link rvas ≡ None → All (λ row. inside_fault link rvas (rva_of rvas (table_index link EXPORTS)) row ≡ None) link.parts.exports.rows
 unfolding in_table_fault
 none_inside link rvas has none =
-    let inside = inside_fault link rvas (rva_of rvas (linker_index link EXPORTS)) in
-    none_stand inside link.exports.rows
-    (sym (ap (λ (b : Bool). cond b None (first_standing (map inside link.exports.rows))) (not_zero link has)) ∙ none)
+    let inside = inside_fault link rvas (rva_of rvas (table_index link EXPORTS)) in
+    none_stand inside link.parts.exports.rows
+    (sym (ap (λ (b : Bool). cond b None (first_standing (map inside link.parts.exports.rows))) (not_zero link has)) ∙ none)
 
-all_apart : (link : LinkParts) (rvas : List ℕ) (rva : ℕ) → All (λ row. IsGiven row.what) (exported_rows link rvas) → All (λ row. inside_fault link rvas rva row ≡ None) link.exports.rows → All (λ row. IsApart rva link.exports.size row.what) (exported_rows link rvas)
+all_apart : (link : KeptParts) (rvas : List ℕ) (rva : ℕ) → All (λ row. IsGiven row.what) (exported_rows link rvas) → All (λ row. inside_fault link rvas rva row ≡ None) link.parts.exports.rows → All (λ row. IsApart rva link.parts.exports.size row.what) (exported_rows link rvas)
 all_apart link rvas rva given outside k d lt =
-    let within : k < length link.exports.rows = omega (arith, lt, length_exported link rvas) in
-    let row = row_at link.exports.rows k in
+    let within : k < length link.parts.exports.rows = omega (arith, lt, length_exported link rvas) in
+    let row = row_at link.parts.exports.rows k in
     let is = exported_at link rvas k d within in
-    subst (λ (row : ExportRow). IsApart rva link.exports.size row.what) (sym is)
-    (apart_one rva link.exports.size (exported_row link rvas row).what (subst (λ (row : ExportRow). IsGiven row.what) is (given k d lt)) (fails (lies_in rva link.exports.size (exported_row link rvas row).what) (faults.BadExport InTable row.name) (outside k no_export within)))
+    subst (λ (row : ExportRow). IsApart rva link.parts.exports.size row.what) (sym is)
+    (apart_one rva link.parts.exports.size (exported_row link rvas row).what (subst (λ (row : ExportRow). IsGiven row.what) is (given k d lt)) (fails (lies_in rva link.parts.exports.size (exported_row link rvas row).what) (faults.BadExport InTable row.name) (outside k no_export within)))
 
 -- ---- all of it
 
-pub readable : (link : LinkParts) (rvas : List ℕ) → HasTable link → AreTold link.exports → All (λ row. IsGiven row.what) (exported_rows link rvas) → in_table_fault link rvas ≡ None → AreReadable (exported_rows link rvas) (rva_of rvas (linker_index link EXPORTS)) link.exports.size
+pub readable : (link : KeptParts) (rvas : List ℕ) → HasTable link → AreTold link.parts.exports → All (λ row. IsGiven row.what) (exported_rows link rvas) → in_table_fault link rvas ≡ None → AreReadable (exported_rows link rvas) (rva_of rvas (table_index link EXPORTS)) link.parts.exports.size
 readable link rvas has told given none = record {
-  names = all_exported (λ (row : ExportRow). HasNoNul row.name) link rvas (All-weaker CanBeTold (λ (row : Export). HasNoNul row.name) (λ row is. is.plain_name) link.exports.rows told.rows);
+  names = all_exported (λ (row : ExportRow). HasNoNul row.name) link rvas (All-weaker CanBeTold (λ (row : Export). HasNoNul row.name) (λ row is. is.plain_name) link.parts.exports.rows told.rows);
   forwarders =
       all_exported (λ (row : ExportRow). HasNoNul (forward_text row.what)) link rvas
-      (All-weaker CanBeTold (λ (row : Export). HasNoNul (forward_text (exported_row link rvas row).what)) (λ row is. subst HasNoNul (sym (its_text (forwarder row) _)) is.plain_forwarder) link.exports.rows told.rows);
+      (All-weaker CanBeTold (λ (row : Export). HasNoNul (forward_text (exported_row link rvas row).what)) (λ row is. subst HasNoNul (sym (its_text (forwarder row) _)) is.plain_forwarder) link.parts.exports.rows told.rows);
   differ = λ i j lt below same.
-      let within : j < length link.exports.rows = omega (arith, below, length_exported link rvas) in
-      names_differ link.exports.rows i j has.none lt within
+      let within : j < length link.parts.exports.rows = omega (arith, below, length_exported link rvas) in
+      names_differ link.parts.exports.rows i j has.none lt within
       (sym (ap (λ (row : ExportRow). row.name) (exported_at link rvas i no_row (omega (arith, lt, within))))
       ∙ same
       ∙ ap (λ (row : ExportRow). row.name) (exported_at link rvas j no_row within));
-  apart = all_apart link rvas (rva_of rvas (linker_index link EXPORTS)) given (none_inside link rvas has none);
+  apart = all_apart link rvas (rva_of rvas (table_index link EXPORTS)) given (none_inside link rvas has none);
 }
 
 -- ---- a mapped image with the table
 
-small_numbers : (link : LinkParts) → HasTable link → All (λ ordinal. ordinal < 2 ^ 16) link.exports.ordinals
+small_numbers : (link : KeptParts) → HasTable link → All (λ ordinal. ordinal < 2 ^ 16) link.parts.exports.ordinals
 small_numbers link has =
     subst (All (λ ordinal. ordinal < 2 ^ 16)) (sym has.numbers)
-    (All-weaker (λ ordinal. (0 < ordinal) × (ordinal < 2 ^ 16)) (λ ordinal. ordinal < 2 ^ 16) (λ ordinal fits. fits.1) (ordinals_of link.exports.rows) (ordinals_fit link.exports.rows has.none))
+    (All-weaker (λ ordinal. (0 < ordinal) × (ordinal < 2 ^ 16)) (λ ordinal. ordinal < 2 ^ 16) (λ ordinal fits. fits.1) (ordinals_of link.parts.exports.rows) (ordinals_fit link.parts.exports.rows has.none))
 
-pub exports_read : (link : LinkParts) (layout : Layout) (memory : List ℕ) → HasTable link → AreReadable (exported_rows link layout.pieces.items) (table_rva link layout EXPORTS) link.exports.size → table_rva link layout EXPORTS + link.exports.size < 2 ^ 32
+pub exports_read : (link : KeptParts) (layout : Layout) (memory : List ℕ) → HasTable link → AreReadable (exported_rows link layout.pieces.items) (table_rva link layout EXPORTS) link.parts.exports.size → table_rva link layout EXPORTS + link.parts.exports.size < 2 ^ 32
     → bytes_at memory (table_rva link layout EXPORTS) (length (export_table_at link layout)) ≡ export_table_at link layout
-    → (name : List ℕ) → export_of_name memory (table_rva link layout EXPORTS) link.exports.size name ≡ exported_name (exported_rows link layout.pieces.items) name
+    → (name : List ℕ) → export_of_name memory (table_rva link layout EXPORTS) link.parts.exports.size name ≡ exported_name (exported_rows link layout.pieces.items) name
 exports_read link layout memory has read below held name =
     let rows = exported_rows link layout.pieces.items in
     let rva = table_rva link layout EXPORTS in
     let size = placed_size link layout.pieces.items has in
     subst (λ (n : ℕ). export_of_name memory rva n name ≡ exported_name rows name) size
-    (name_read_back rows link.exports.ordinals link.exports.dll link.exports.time rva memory name (placed_numbered link layout.pieces.items has) (small_numbers link has) (subst (AreReadable rows rva) (sym size) read) (omega (arith, below, size)) (subst (Holds memory rva) (export_table_some link layout (not_zero link has)) held))
+    (name_read_back rows link.parts.exports.ordinals link.parts.exports.dll link.parts.exports.time rva memory name (placed_numbered link layout.pieces.items has) (small_numbers link has) (subst (AreReadable rows rva) (sym size) read) (omega (arith, below, size)) (subst (Holds memory rva) (export_table_some link layout (not_zero link has)) held))
 
-pub exports_read_by_ordinal : (link : LinkParts) (layout : Layout) (memory : List ℕ) → HasTable link → AreReadable (exported_rows link layout.pieces.items) (table_rva link layout EXPORTS) link.exports.size → table_rva link layout EXPORTS + link.exports.size < 2 ^ 32
+pub exports_read_by_ordinal : (link : KeptParts) (layout : Layout) (memory : List ℕ) → HasTable link → AreReadable (exported_rows link layout.pieces.items) (table_rva link layout EXPORTS) link.parts.exports.size → table_rva link layout EXPORTS + link.parts.exports.size < 2 ^ 32
     → bytes_at memory (table_rva link layout EXPORTS) (length (export_table_at link layout)) ≡ export_table_at link layout
-    → (ordinal : ℕ) → export_of_ordinal memory (table_rva link layout EXPORTS) link.exports.size ordinal ≡ exported_ordinal (exported_rows link layout.pieces.items) link.exports.ordinals ordinal
+    → (ordinal : ℕ) → export_of_ordinal memory (table_rva link layout EXPORTS) link.parts.exports.size ordinal ≡ exported_ordinal (exported_rows link layout.pieces.items) link.parts.exports.ordinals ordinal
 exports_read_by_ordinal link layout memory has read below held ordinal =
     let rows = exported_rows link layout.pieces.items in
     let rva = table_rva link layout EXPORTS in
     let size = placed_size link layout.pieces.items has in
-    subst (λ (n : ℕ). export_of_ordinal memory rva n ordinal ≡ exported_ordinal rows link.exports.ordinals ordinal) size
-    (ordinal_read_back rows link.exports.ordinals link.exports.dll link.exports.time rva memory ordinal (placed_numbered link layout.pieces.items has) (small_numbers link has) (subst (AreReadable rows rva) (sym size) read) (omega (arith, below, size)) (subst (Holds memory rva) (export_table_some link layout (not_zero link has)) held))
+    subst (λ (n : ℕ). export_of_ordinal memory rva n ordinal ≡ exported_ordinal rows link.parts.exports.ordinals ordinal) size
+    (ordinal_read_back rows link.parts.exports.ordinals link.parts.exports.dll link.parts.exports.time rva memory ordinal (placed_numbered link layout.pieces.items has) (small_numbers link has) (subst (AreReadable rows rva) (sym size) read) (omega (arith, below, size)) (subst (Holds memory rva) (export_table_some link layout (not_zero link has)) held))
 
 -- ---- no exports
 
@@ -178,10 +177,10 @@ no_items : {A : Type 0} (xs : List A) → length xs ≡ 0 → xs ≡ []
 no_items [] none = refl
 no_items (x ∷ xs) none = absurd (omega (arith, none))
 
-none_exported : (link : LinkParts) (rvas : List ℕ) → length link.exports.rows ≡ 0 → exported_rows link rvas ≡ []
+none_exported : (link : KeptParts) (rvas : List ℕ) → length link.parts.exports.rows ≡ 0 → exported_rows link rvas ≡ []
 none_exported link rvas none = no_items (exported_rows link rvas) (length_exported link rvas ∙ none)
 
-pub none_read : (link : LinkParts) (memory rvas : List ℕ) (name : List ℕ) → length link.exports.rows ≡ 0 → export_of_name memory 0 0 name ≡ exported_name (exported_rows link rvas) name
+pub none_read : (link : KeptParts) (memory rvas : List ℕ) (name : List ℕ) → length link.parts.exports.rows ≡ 0 → export_of_name memory 0 0 name ≡ exported_name (exported_rows link rvas) name
 unfolding export_of_name directory_in exported_name
 none_read link memory rvas name none = ap (λ (rows : List ExportRow). exported_name rows name) (sym (none_exported link rvas none))
 
@@ -190,11 +189,11 @@ no_numbers : (rows : List Export) → rows ≡ [] → numbers_of rows ≡ []
 unfolding ordinal_fault first_below
 no_numbers rows none = ap numbers_of none ∙ numbers_given [] refl
 
-pub none_read_by_ordinal : (link : LinkParts) (rows : List Export) (dll : List ℕ) (time : ℕ) (memory rvas : List ℕ) (ordinal : ℕ) → link.exports ≡ exports_from rows dll time → length link.exports.rows ≡ 0
-    → export_of_ordinal memory 0 0 ordinal ≡ exported_ordinal (exported_rows link rvas) link.exports.ordinals ordinal
+pub none_read_by_ordinal : (link : KeptParts) (rows : List Export) (dll : List ℕ) (time : ℕ) (memory rvas : List ℕ) (ordinal : ℕ) → link.parts.exports ≡ exports_from rows dll time → length link.parts.exports.rows ≡ 0
+    → export_of_ordinal memory 0 0 ordinal ≡ exported_ordinal (exported_rows link rvas) link.parts.exports.ordinals ordinal
 unfolding export_of_ordinal directory_in exported_ordinal
 none_read_by_ordinal link rows dll time memory rvas ordinal is none =
-    let empty = sym (ap (λ (exports : ExportsView). exports.rows) is) ∙ no_items link.exports.rows none in
+    let empty = sym (ap (λ (exports : ExportsView). exports.rows) is) ∙ no_items link.parts.exports.rows none in
     let numbers = ap (λ (exports : ExportsView). exports.ordinals) is ∙ no_numbers rows empty in
     ap (λ (rows : List ExportRow). exported_ordinal rows [] ordinal) (sym (none_exported link rvas none))
     ∙ ap (λ (numbers : List ℕ). exported_ordinal (exported_rows link rvas) numbers ordinal) (sym numbers)
@@ -223,12 +222,12 @@ no_size : (rows : List Export) (ordinals dll : List ℕ) → size_of rows ordina
 no_size [] ordinals dll none = refl
 no_size (row ∷ rows) ordinals dll none = absurd (omega (arith, none, table_some (map unplaced_row (row ∷ rows)) ordinals dll))
 
-no_fault : (link : LinkParts) → export_fault link ≡ None → link.exports.fault ≡ None
+no_fault : (link : KeptParts) → export_fault link ≡ None → link.parts.exports.fault ≡ None
 unfolding export_fault
 no_fault link none =
-    (both_none link.exports.fault (first_standing (map (absolute_fault link) link.exports.rows)) none).0
+    (both_none link.parts.exports.fault (first_standing (map (absolute_fault link) link.parts.exports.rows)) none).0
 
-pub no_rows : (link : LinkParts) (rows : List Export) (dll : List ℕ) (time : ℕ) → link.exports ≡ exports_from rows dll time → export_fault link ≡ None → link.exports.size ≡ 0 → link.exports.rows ≡ []
+pub no_rows : (link : KeptParts) (rows : List Export) (dll : List ℕ) (time : ℕ) → link.parts.exports ≡ exports_from rows dll time → export_fault link ≡ None → link.parts.exports.size ≡ 0 → link.parts.exports.rows ≡ []
 no_rows link rows dll time is faultless none =
     let right = nothing_wrong rows (sym (ap (λ (exports : ExportsView). exports.fault) is) ∙ no_fault link faultless) in
     let size : size_of rows (numbers_of rows) dll ≡ 0 =

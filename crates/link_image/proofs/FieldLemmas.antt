@@ -25,14 +25,13 @@ use Rattle.relocate.specs.PatchedBytes.{patched_bytes, range_fault}
 use Rattle.relocate.specs.Value.{fits}
 use Rattle.relocate.proofs.PatchLemmas.{within_at}
 use Rattle.relocate.proofs.CallerLemmas.{bytes_in_any_order, range_in_any_order, no_range_in_any_order, nothing_patched}
-use Rattle.link_pieces.specs.LinkParts.{LinkParts}
-use Rattle.link_pieces.specs.Pieces.{link_pieces}
-use Rattle.link_plan.specs.Fixes.{piece_fixes}
-use Rattle.link_plan.specs.Fixes.{piece_at as link_piece_at, planned_piece}
-use Rattle.link_plan.proofs.CallerLemmas.{fixes_numbered, planned_at}
+use Rattle.link_pieces.specs.TablePieces.{KeptParts, whole_pieces, whole_piece}
+use Rattle.link_plan.specs.Planned.{used_pieces, planned_fixes}
+use Rattle.link_plan.proofs.CallerLemmas.{planned_numbered}
 use Rattle.link_image.specs.LinkedBytes.{section_of, contents_at, placed_contents, linked_bytes, out_of_range, piece_range_fault}
 use Rattle.link_image.specs.Steps.{IsHeld, IsReady, RefusesRange, mixed_contents, file_of, mixed_file}
-use Rattle.link_image.proofs.HeldLemmas.{patchable_at, have_room_for, length-placed, placed_held}
+use Rattle.link_image.proofs.HeldLemmas.{some_fixes, patchable_at, unnamed, plan_at, have_room_for, length-placed, placed_held}
+use Rattle.link_image.proofs.UsedLemmas.{fields_used}
 use Rattle.link_image.proofs.MixedLemmas.{mixed_front, patched_at, unpatched_at, tables_differ, mixed_same, length_mixed_at}
 use Rattle.link_image.proofs.StandsLemmas.{OwnerAt, owner_at, pieces_count, rva_there, owner_at_piece, length_owner}
 
@@ -40,18 +39,18 @@ pub above_zero : (n : ℕ) → eqb n 0 ≡ false → 0 < n
 above_zero zero none = absurd (false≢true (sym none))
 above_zero (suc n) some = omega arith
 
-module _ (link : LinkParts) (pieces : List Piece) (fixups : List (List Fix)) (sections : List OutSection) (layout : Layout) (owner : List ℕ) (tables : List (List ℕ)) (ready : IsReady link pieces fixups sections layout owner tables) where
+module _ (link : KeptParts) (pieces : List Piece) (fixups : List (List Fix)) (sections : List OutSection) (layout : Layout) (owner : List ℕ) (tables : List (List ℕ)) (ready : IsReady link pieces fixups sections layout owner tables) where
   -- ---- a piece
 
   pub size_here : (k : ℕ) → k < length pieces → (get_or pieces k no_piece).init ≡ true → length (contents_at link layout k) ≡ (get_or pieces k no_piece).size
   size_here k lt init = (ready.held k lt).filled init
 
-  pub total_is : length pieces ≡ length (link_pieces link)
+  pub total_is : length pieces ≡ length (whole_pieces link)
   total_is = pieces_count link pieces fixups sections layout owner tables ready
 
   -- its section
-  pub owned : (k : ℕ) → k < length pieces → 0 < (get_or pieces k no_piece).size → OwnerAt sections k
-  owned k lt some = owner_at sections k (ready.stands k lt (inl some))
+  pub owned : (k : ℕ) → k < length pieces → get_or (used_pieces link) k false ≡ true → 0 < (get_or pieces k no_piece).size → OwnerAt sections k
+  owned k lt kept some = owner_at sections k (ready.stands k lt kept (inl some))
 
   pub owner_here : (k : ℕ) → k < length pieces → get_or owner k 0 ≡ section_of (rows_of sections) k
   owner_here k lt = owner_at_piece link pieces fixups sections layout owner tables ready k lt
@@ -78,9 +77,9 @@ module _ (link : LinkParts) (pieces : List Piece) (fixups : List (List Fix)) (se
     read_after k lt =
         mixed_front link (rows_of sections) layout headers.base tables (k + 1) k (omega (arith, lt, total_is)) ∙ patched_at link (rows_of sections) layout headers.base (k + 1) k (omega arith)
 
-    pub in_file : (k : ℕ) → k < length pieces → (get_or pieces k no_piece).init ≡ true → 0 < (get_or pieces k no_piece).size → IsInFile headers sections layout (at_each_base (mixed_contents link (rows_of sections) layout headers.base k ++ tables)) (section_of (rows_of sections) k) k
-    in_file k lt init some =
-        let at = owned k lt some in
+    pub in_file : (k : ℕ) → k < length pieces → get_or (used_pieces link) k false ≡ true → (get_or pieces k no_piece).init ≡ true → 0 < (get_or pieces k no_piece).size → IsInFile headers sections layout (at_each_base (mixed_contents link (rows_of sections) layout headers.base k ++ tables)) (section_of (rows_of sections) k) k
+    in_file k lt kept init some =
+        let at = owned k lt kept some in
         let i = section_of (rows_of sections) k in
         let contents = at_each_base (mixed_contents link (rows_of sections) layout headers.base k ++ tables) in
         let len : length (get_or (contents headers.base) k []) ≡ (get_or pieces k no_piece).size = ap length (read_here k lt) ∙ size_here k lt init in
@@ -88,18 +87,18 @@ module _ (link : LinkParts) (pieces : List Piece) (fixups : List (List Fix)) (se
         subst (IsInFile headers sections layout contents i) at.is
         (piece_inside headers (pieces ++ ready.rest) sections layout contents i at.number ready.laid (room k) directories at.there at.within (subst (λ (n : ℕ). 0 < length (get_or (contents headers.base) n [])) (sym at.is) there))
 
-    pub bytes_here : (k : ℕ) → k < length pieces → 0 < (get_or pieces k no_piece).size → bytes_at (mixed_file link headers sections layout tables k) (piece_place layout (section_of (rows_of sections) k) k) (length (contents_at link layout k)) ≡ contents_at link layout k
-    bytes_here k lt some =
-        let at = owned k lt some in
+    pub bytes_here : (k : ℕ) → k < length pieces → get_or (used_pieces link) k false ≡ true → 0 < (get_or pieces k no_piece).size → bytes_at (mixed_file link headers sections layout tables k) (piece_place layout (section_of (rows_of sections) k) k) (length (contents_at link layout k)) ≡ contents_at link layout k
+    bytes_here k lt kept some =
+        let at = owned k lt kept some in
         let i = section_of (rows_of sections) k in
         let contents = at_each_base (mixed_contents link (rows_of sections) layout headers.base k ++ tables) in
         let stands = piece_stands headers (pieces ++ ready.rest) sections layout contents i at.number ready.laid (room k) directories at.there at.within in
         let here = subst (λ (n : ℕ). bytes_at (mixed_file link headers sections layout tables k) (piece_place layout i n) (length (get_or (contents headers.base) n [])) ≡ get_or (contents headers.base) n []) at.is stands in
         subst (λ (bytes : List ℕ). bytes_at (mixed_file link headers sections layout tables k) (piece_place layout i k) (length bytes) ≡ bytes) (read_here k lt) here
 
-    pub file_after : (k : ℕ) → k < length pieces → 0 < (get_or pieces k no_piece).size → patched (piece_place layout (section_of (rows_of sections) k) k) (linked_bytes link (rows_of sections) layout headers.base k) (mixed_file link headers sections layout tables k) ≡ mixed_file link headers sections layout tables (k + 1)
-    file_after k lt some =
-        let at = owned k lt some in
+    pub file_after : (k : ℕ) → k < length pieces → get_or (used_pieces link) k false ≡ true → 0 < (get_or pieces k no_piece).size → patched (piece_place layout (section_of (rows_of sections) k) k) (linked_bytes link (rows_of sections) layout headers.base k) (mixed_file link headers sections layout tables k) ≡ mixed_file link headers sections layout tables (k + 1)
+    file_after k lt kept some =
+        let at = owned k lt kept some in
         let i = section_of (rows_of sections) k in
         let old = at_each_base (mixed_contents link (rows_of sections) layout headers.base k ++ tables) in
         let new = at_each_base (mixed_contents link (rows_of sections) layout headers.base (k + 1) ++ tables) in
@@ -110,32 +109,31 @@ module _ (link : LinkParts) (pieces : List Piece) (fixups : List (List Fix)) (se
 
   -- ---- its fields, in the order of their places
 
-  pub same_bytes : (base k : ℕ) (fields : List Fix) → k < length pieces → AreTheFields (piece_fixes link k) fields → ArePatchable (length (contents_at link layout k)) fields → patched_bytes base (get_or layout.pieces.items k 0) layout owner fields (contents_at link layout k) ≡ linked_bytes link (rows_of sections) layout base k
+  pub same_bytes : (base k : ℕ) (fields : List Fix) → k < length pieces → AreTheFields (planned_fixes link k) fields → ArePatchable (length (contents_at link layout k)) fields → patched_bytes base (get_or layout.pieces.items k 0) layout owner fields (contents_at link layout k) ≡ linked_bytes link (rows_of sections) layout base k
   same_bytes base k fields lt are patchable =
-      bytes_in_any_order base (get_or layout.pieces.items k 0) layout owner (piece_fixes link k) fields (contents_at link layout k) (length (contents_at link layout k)) are patchable
-      ∙ ap (λ (os : List ℕ). patched_bytes base (get_or layout.pieces.items k 0) layout os (piece_fixes link k) (contents_at link layout k)) ready.owner_is
+      bytes_in_any_order base (get_or layout.pieces.items k 0) layout owner (planned_fixes link k) fields (contents_at link layout k) (length (contents_at link layout k)) are patchable
+      ∙ ap (λ (os : List ℕ). patched_bytes base (get_or layout.pieces.items k 0) layout os (planned_fixes link k) (contents_at link layout k)) ready.owner_is
 
-  same_place : (k : ℕ) (range : RelocRange) → k < length pieces → out_of_range (get_or pieces k no_piece) range ≡ out_of_range (link_piece_at link k) range
+  same_place : (k : ℕ) (range : RelocRange) → k < length pieces → out_of_range (get_or pieces k no_piece) range ≡ out_of_range (whole_piece link k) range
   same_place k range lt =
-      let within : k < length (link_pieces link) = omega (arith, lt, total_is) in
-      let is : bare (get_or pieces k no_piece) ≡ planned_piece ready.options link k =
-      sym (get_or-map bare pieces k no_piece) ∙ ap (λ (ps : List Piece). get_or ps k no_piece) ready.pieces_are ∙ planned_at ready.options link k within in
+      let is : unnamed (bare (get_or pieces k no_piece)) ≡ unnamed (whole_piece link k) =
+      ap unnamed (sym (get_or-map bare pieces k no_piece)) ∙ ap (λ (ps : List Piece). unnamed (get_or ps k no_piece)) ready.pieces_are ∙ plan_at ready.options link k in
       ap (λ (p : Piece). out_of_range p range) is
 
-  pub range_here : (base k : ℕ) (fields : List Fix) (fault : Fault) → k < length pieces → AreTheFields (piece_fixes link k) fields → RefusesRange base (get_or layout.pieces.items k 0) layout owner fields (contents_at link layout k) (get_or pieces k no_piece) fault → piece_range_fault link (rows_of sections) layout base k ≡ Some fault
+  pub range_here : (base k : ℕ) (fields : List Fix) (fault : Fault) → k < length pieces → AreTheFields (planned_fixes link k) fields → RefusesRange base (get_or layout.pieces.items k 0) layout owner fields (contents_at link layout k) (get_or pieces k no_piece) fault → piece_range_fault link (rows_of sections) layout base k ≡ Some fault
   range_here base k fields fault lt are refuses =
       let rva = get_or layout.pieces.items k 0 in
-      let range = range_in_any_order base rva layout owner (piece_fixes link k) fields (contents_at link layout k) refuses.range are (fixes_numbered link k) refuses.least in
-      ap (option_map (out_of_range (link_piece_at link k))) (ap (λ (os : List ℕ). range_fault base rva layout os (piece_fixes link k) (contents_at link layout k)) (sym ready.owner_is) ∙ range)
+      let range = range_in_any_order base rva layout owner (planned_fixes link k) fields (contents_at link layout k) refuses.range are (planned_numbered link k) refuses.least in
+      ap (option_map (out_of_range (whole_piece link k))) (ap (λ (os : List ℕ). range_fault base rva layout os (planned_fixes link k) (contents_at link layout k)) (sym ready.owner_is) ∙ range)
       ∙ ap (λ (f : Fault). Some f) (sym (same_place k refuses.range lt) ∙ sym refuses.is)
 
-  pub no_range_here : (base k : ℕ) (fields : List Fix) → k < length pieces → AreTheFields (piece_fixes link k) fields → All (λ fix. fits base (get_or layout.pieces.items k 0) layout owner (contents_at link layout k) fix ≡ true) fields → piece_range_fault link (rows_of sections) layout base k ≡ None
+  pub no_range_here : (base k : ℕ) (fields : List Fix) → k < length pieces → AreTheFields (planned_fixes link k) fields → All (λ fix. fits base (get_or layout.pieces.items k 0) layout owner (contents_at link layout k) fix ≡ true) fields → piece_range_fault link (rows_of sections) layout base k ≡ None
   no_range_here base k fields lt are all =
       let rva = get_or layout.pieces.items k 0 in
-      ap (option_map (out_of_range (link_piece_at link k))) (ap (λ (os : List ℕ). range_fault base rva layout os (piece_fixes link k) (contents_at link layout k)) (sym ready.owner_is) ∙ no_range_in_any_order base rva layout owner (piece_fixes link k) fields (contents_at link layout k) are all)
+      ap (option_map (out_of_range (whole_piece link k))) (ap (λ (os : List ℕ). range_fault base rva layout os (planned_fixes link k) (contents_at link layout k)) (sym ready.owner_is) ∙ no_range_in_any_order base rva layout owner (planned_fixes link k) fields (contents_at link layout k) are all)
 
   -- a piece without fields has the bytes of its section, at each base
-  pub nothing_linked : (base k : ℕ) (fields : List Fix) → k < length pieces → AreTheFields (piece_fixes link k) fields → ArePatchable (length (contents_at link layout k)) fields → length fields ≡ 0 → linked_bytes link (rows_of sections) layout base k ≡ contents_at link layout k
+  pub nothing_linked : (base k : ℕ) (fields : List Fix) → k < length pieces → AreTheFields (planned_fixes link k) fields → ArePatchable (length (contents_at link layout k)) fields → length fields ≡ 0 → linked_bytes link (rows_of sections) layout base k ≡ contents_at link layout k
   nothing_linked base k fields lt are patchable none =
       sym (same_bytes base k fields lt are patchable)
       ∙ ap (λ (fs : List Fix). patched_bytes base (get_or layout.pieces.items k 0) layout owner fs (contents_at link layout k)) (empty_is fields none)
@@ -169,7 +167,7 @@ module _ (link : LinkParts) (pieces : List Piece) (fixups : List (List Fix)) (se
 
   module _ (headers : Headers) (directories : length headers.directories ≡ 16) where
     -- the file stays where a piece has no fields
-    pub file_same : (k : ℕ) (fields : List Fix) → k < length pieces → AreTheFields (piece_fixes link k) fields → ArePatchable (length (contents_at link layout k)) fields → length fields ≡ 0 → mixed_file link headers sections layout tables k ≡ mixed_file link headers sections layout tables (k + 1)
+    pub file_same : (k : ℕ) (fields : List Fix) → k < length pieces → AreTheFields (planned_fixes link k) fields → ArePatchable (length (contents_at link layout k)) fields → length fields ≡ 0 → mixed_file link headers sections layout tables k ≡ mixed_file link headers sections layout tables (k + 1)
     file_same k fields lt are patchable none =
         sym (ap (λ (contents : List (List ℕ)). file_of headers sections layout contents tables) (mixed_same link (rows_of sections) layout headers.base k (nothing_linked headers.base k fields lt are patchable none)))
 
@@ -183,16 +181,16 @@ module _ (link : LinkParts) (pieces : List Piece) (fixups : List (List Fix)) (se
       pub after : patched (piece_place layout (get_or owner k 0) k) (linked_bytes link (rows_of sections) layout headers.base k) (mixed_file link headers sections layout tables k) ≡ mixed_file link headers sections layout tables (k + 1)
       pub is : piece ≡ get_or pieces k no_piece
 
-    pub piece_here : (k : ℕ) (piece : Piece) → k < length pieces → piece ≡ get_or pieces k piece → piece.init ≡ true → 0 < piece.size → IsHere k piece
-    piece_here k piece lt read init some =
+    pub piece_here : (k : ℕ) (piece : Piece) → k < length pieces → get_or (used_pieces link) k false ≡ true → piece ≡ get_or pieces k piece → piece.init ≡ true → 0 < piece.size → IsHere k piece
+    piece_here k piece lt kept read init some =
         let is : piece ≡ get_or pieces k no_piece = read ∙ get_or_default pieces k piece no_piece lt in
         let on : (get_or pieces k no_piece).init ≡ true = ap (λ (p : Piece). p.init) (sym is) ∙ init in
         let size : (get_or pieces k no_piece).size ≡ piece.size = ap (λ (p : Piece). p.size) (sym is) in
         let above_zero : 0 < (get_or pieces k no_piece).size = omega (arith, size, some) in
         let len = size_here k lt on in
-        let at = owned k lt above_zero in
+        let at = owned k lt kept above_zero in
         let own = owner_here k lt in
-        let file = in_file headers directories k lt on above_zero in
+        let file = in_file headers directories k lt kept on above_zero in
         let i = section_of (rows_of sections) k in
         let held : length (get_or (mixed_contents link (rows_of sections) layout headers.base k ++ tables) k []) ≡ piece.size = ap length (read_here headers directories k lt) ∙ len ∙ size in
         record {
@@ -200,21 +198,21 @@ module _ (link : LinkParts) (pieces : List Piece) (fixups : List (List Fix)) (se
           above = subst (λ (s : ℕ). (placed_at layout.sections.items s).rva ≤ get_or layout.pieces.items k 0) (sym own) file.lies.above;
           size = len ∙ size;
           inside = subst (λ (s : ℕ). piece_place layout s k + piece.size ≤ length (mixed_file link headers sections layout tables k)) (sym own) (subst (λ (n : ℕ). piece_place layout i k + n ≤ length (mixed_file link headers sections layout tables k)) held file.inside);
-          bytes = subst (λ (s : ℕ). bytes_at (mixed_file link headers sections layout tables k) (piece_place layout s k) piece.size ≡ contents_at link layout k) (sym own) (subst (λ (n : ℕ). bytes_at (mixed_file link headers sections layout tables k) (piece_place layout i k) n ≡ contents_at link layout k) (len ∙ size) (bytes_here headers directories k lt above_zero));
-          after = subst (λ (s : ℕ). patched (piece_place layout s k) (linked_bytes link (rows_of sections) layout headers.base k) (mixed_file link headers sections layout tables k) ≡ mixed_file link headers sections layout tables (k + 1)) (sym own) (file_after headers directories k lt above_zero);
+          bytes = subst (λ (s : ℕ). bytes_at (mixed_file link headers sections layout tables k) (piece_place layout s k) piece.size ≡ contents_at link layout k) (sym own) (subst (λ (n : ℕ). bytes_at (mixed_file link headers sections layout tables k) (piece_place layout i k) n ≡ contents_at link layout k) (len ∙ size) (bytes_here headers directories k lt kept above_zero));
+          after = subst (λ (s : ℕ). patched (piece_place layout s k) (linked_bytes link (rows_of sections) layout headers.base k) (mixed_file link headers sections layout tables k) ≡ mixed_file link headers sections layout tables (k + 1)) (sym own) (file_after headers directories k lt kept above_zero);
           is = is;
         }
 
     -- its fields, as they were read
     pub record HasFields (k : ℕ) (list : List Fix) : Type 0 where
-      pub fields : AreTheFields (piece_fixes link k) list
+      pub fields : AreTheFields (planned_fixes link k) list
       pub patchable : ArePatchable (length (contents_at link layout k)) list
 
     pub fields_here : (k : ℕ) (fields : List Fix) → k < length pieces → fields ≡ get_or fixups k fields → HasFields k fields
     fields_here k fields lt read =
         let is : fields ≡ get_or fixups k [] = read ∙ get_or_default fixups k fields [] (omega (arith, lt, ready.fields.for_each)) in
         record {
-          fields = subst (AreTheFields (piece_fixes link k)) (sym is) (ready.fields.fields k lt);
+          fields = subst (AreTheFields (planned_fixes link k)) (sym is) (ready.fields.fields k lt);
           patchable = subst (ArePatchable (length (contents_at link layout k))) (sym is) (patchable_at link layout fixups (length pieces) ready.fields k lt);
         }
 
@@ -223,7 +221,8 @@ module _ (link : LinkParts) (pieces : List Piece) (fixups : List (List Fix)) (se
     with_fields k piece fields lt read has some =
         let is : piece ≡ get_or pieces k no_piece = read ∙ get_or_default pieces k piece no_piece lt in
         let both = initialised k lt (some_bytes k fields has.patchable some) in
-        piece_here k piece lt read (ap (λ (p : Piece). p.init) is ∙ both.0) (omega (arith, both.1, ap (λ (p : Piece). p.size) is))
+        let kept = fields_used ready.options link k ready.kept_are (some_fixes (planned_fixes link k) fields has.fields some) in
+        piece_here k piece lt kept read (ap (λ (p : Piece). p.init) is ∙ both.0) (omega (arith, both.1, ap (λ (p : Piece). p.size) is))
 
     -- what patching them in the file gives
     pub file_patched : (k place rva base : ℕ) (piece : Piece) (fields : List Fix) (before after : List ℕ) → k < length pieces → IsHere k piece → HasFields k fields → before ≡ mixed_file link headers sections layout tables k → place ≡ piece_place layout (get_or owner k 0) k → rva ≡ get_or layout.pieces.items k 0 → base ≡ headers.base

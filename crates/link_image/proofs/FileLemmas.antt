@@ -16,16 +16,15 @@ use Rattle.address_layout.specs.Places.{row_at, piece_in, piece_floor}
 use Rattle.image_writer.specs.declared.headers.Headers.{Headers}
 use Rattle.image_writer.specs.ExpectedImage.{image_file}
 use Rattle.image_writer.specs.WrittenImage.{layout_plan, at_each_base, place_in, IsSectionLaidOut, IsLaidOut, HasContents}
-use Rattle.link_pieces.specs.LinkerPieces.{is_table}
+use Rattle.link_pieces.specs.TablePieces.{is_table, whole_piece}
 use Rattle.link_pieces.proofs.CallerLemmas.{table_is}
 use Rattle.link_words.specs.Outcome.{LinkOptions}
 use Rattle.link_plan.specs.declared.planning.LinkPlan.{LinkPlan}
-use Rattle.link_plan.specs.Fixes.{piece_at}
-use Rattle.link_plan.specs.Plan.{IsPlanOf}
+use Rattle.link_plan.specs.Plan.{IsPlanOf, kept_parts}
 use Rattle.link_image.specs.declared.placement.Placement.{Placement}
 use Rattle.link_image.specs.LinkedBytes.{tables_at, contents_at, placed_contents}
 use Rattle.link_image.specs.Steps.{HoldTables, CanBeGiven, AreWhole, IsPlaced, IsWritten, given_contents, reloc_tables}
-use Rattle.link_image.proofs.HeldLemmas.{piece_count, planned_is, same_test, held_at, other_is, table_contents, all_held, length-placed, placed_read, placed_held}
+use Rattle.link_image.proofs.HeldLemmas.{table_behind, piece_count, planned_is, same_test, held_at, other_is, table_contents, all_held, length-placed, placed_read, placed_held}
 
 -- ---- what holds a table of base relocations
 
@@ -100,7 +99,7 @@ whole_by position count imports others tables given pieces whole at same is are 
     (subst (λ (is : List (List ℕ)). AreWhole position is tables pieces whole) same
     (subst (λ (ps : List Piece). AreWhole position imports tables ps whole) is are))
 
-module _ (options : LinkOptions) (plan : LinkPlan) (planned : IsPlanOf options plan.names plan) where
+module _ (options : LinkOptions) (plan : LinkPlan) (planned : IsPlanOf options plan.modules.items plan) where
   abbrev count : ℕ
   count = length plan.names.modules
 
@@ -120,49 +119,49 @@ module _ (options : LinkOptions) (plan : LinkPlan) (planned : IsPlanOf options p
       by : (piece : Piece) → piece ≡ get_or plan.pieces.items k no_piece → CanBeGiven piece
       by piece is =
           let test = sym (same_test options plan planned k lt) ∙ here in
-          let table = table_is plan.names k (omega (arith, lt, piece_count options plan planned)) test in
-          let at = planned_is options plan planned k lt in
+          let table = table_is (kept_parts plan) k (table_behind (kept_parts plan) k test) (omega (arith, lt, piece_count options plan planned)) in
+          let at = planned_is options plan planned k in
           record {
             few = omega (arith, ap (λ (p : Piece). p.number) is, ap (λ (p : Piece). p.number) at, table.few);
             init = ap (λ (p : Piece). p.init) is ∙ ap (λ (p : Piece). p.init) at ∙ table.init;
           }
 
   -- what the pieces are given is what they hold
-  given_is : (layout : Layout) (k : ℕ) → k < length plan.pieces.items → given_contents (length plan.names.modules) (tables_at plan.names layout) (get_or plan.pieces.items k no_piece) ≡ contents_at plan.names layout k
-  given_is layout k lt = by (is_table (length plan.names.modules) (piece_at plan.names k)) refl
+  given_is : (layout : Layout) (k : ℕ) → k < length plan.pieces.items → given_contents (length plan.names.modules) (tables_at (kept_parts plan) layout) (get_or plan.pieces.items k no_piece) ≡ contents_at (kept_parts plan) layout k
+  given_is layout k lt = by (is_table (length plan.names.modules) (whole_piece (kept_parts plan) k)) refl
     where
-      test : is_table (length plan.names.modules) (get_or plan.pieces.items k no_piece) ≡ is_table (length plan.names.modules) (piece_at plan.names k)
+      test : is_table (length plan.names.modules) (get_or plan.pieces.items k no_piece) ≡ is_table (length plan.names.modules) (whole_piece (kept_parts plan) k)
       test = same_test options plan planned k lt
 
-      number : (get_or plan.pieces.items k no_piece).number ≡ (piece_at plan.names k).number
-      number = ap (λ (p : Piece). p.number) (planned_is options plan planned k lt)
+      number : (get_or plan.pieces.items k no_piece).number ≡ (whole_piece (kept_parts plan) k).number
+      number = ap (λ (p : Piece). p.number) (planned_is options plan planned k)
 
-      by : (b : Bool) → is_table (length plan.names.modules) (piece_at plan.names k) ≡ b → given_contents (length plan.names.modules) (tables_at plan.names layout) (get_or plan.pieces.items k no_piece) ≡ contents_at plan.names layout k
+      by : (b : Bool) → is_table (length plan.names.modules) (whole_piece (kept_parts plan) k) ≡ b → given_contents (length plan.names.modules) (tables_at (kept_parts plan) layout) (get_or plan.pieces.items k no_piece) ≡ contents_at (kept_parts plan) layout k
       by true table =
-          ap (λ (b : Bool). cond b (get_or (tables_at plan.names layout) (get_or plan.pieces.items k no_piece).number []) (piece_contents (get_or plan.pieces.items k no_piece))) (test ∙ table)
-          ∙ ap (λ (n : ℕ). get_or (tables_at plan.names layout) n []) number
-          ∙ sym (table_contents plan.names layout k table)
+          ap (λ (b : Bool). cond b (get_or (tables_at (kept_parts plan) layout) (get_or plan.pieces.items k no_piece).number []) (piece_contents (get_or plan.pieces.items k no_piece))) (test ∙ table)
+          ∙ ap (λ (n : ℕ). get_or (tables_at (kept_parts plan) layout) n []) number
+          ∙ sym (table_contents (kept_parts plan) layout k table)
       by false other =
-          ap (λ (b : Bool). cond b (get_or (tables_at plan.names layout) (get_or plan.pieces.items k no_piece).number []) (piece_contents (get_or plan.pieces.items k no_piece))) (test ∙ other)
+          ap (λ (b : Bool). cond b (get_or (tables_at (kept_parts plan) layout) (get_or plan.pieces.items k no_piece).number []) (piece_contents (get_or plan.pieces.items k no_piece))) (test ∙ other)
           ∙ sym (other_is options plan planned layout k other)
 
-  all_given : (layout : Layout) → map (given_contents (length plan.names.modules) (tables_at plan.names layout)) plan.pieces.items ≡ placed_contents plan.names layout
+  all_given : (layout : Layout) → map (given_contents (length plan.names.modules) (tables_at (kept_parts plan) layout)) plan.pieces.items ≡ placed_contents (kept_parts plan) layout
   all_given layout =
-      let given = given_contents (length plan.names.modules) (tables_at plan.names layout) in
+      let given = given_contents (length plan.names.modules) (tables_at (kept_parts plan) layout) in
       let same = piece_count options plan planned in
-      let placed = length-placed plan.names layout in
+      let placed = length-placed (kept_parts plan) layout in
       let mapped = length-map plan.pieces.items given in
-      ext_get_or [] (map given plan.pieces.items) (placed_contents plan.names layout) (mapped ∙ same ∙ sym placed) (λ k lt.
+      ext_get_or [] (map given plan.pieces.items) (placed_contents (kept_parts plan) layout) (mapped ∙ same ∙ sym placed) (λ k lt.
       let within : k < length plan.pieces.items = omega (arith, lt, mapped) in
       lists.get_or-map given plan.pieces.items k no_piece [] within
       ∙ given_is layout k within
-      ∙ sym (placed_read plan.names layout k (omega (arith, within, same))))
+      ∙ sym (placed_read (kept_parts plan) layout k (omega (arith, within, same))))
 
-  module _ (placement : Placement) (placed : IsPlaced options plan placement) (whole : List Piece) (are : AreWhole (length plan.names.modules) (tables_at plan.names placement.layout) (reloc_tables placement.table) plan.pieces.items whole) where
+  module _ (placement : Placement) (placed : IsPlaced options plan placement) (whole : List Piece) (are : AreWhole (length plan.names.modules) (tables_at (kept_parts plan) placement.layout) (reloc_tables placement.table) plan.pieces.items whole) where
     abbrev contents : List (List ℕ)
-    contents = placed_contents plan.names placement.layout
+    contents = placed_contents (kept_parts plan) placement.layout
 
-    held_are : map piece_contents whole ≡ placed_contents plan.names placement.layout ++ reloc_tables placement.table
+    held_are : map piece_contents whole ≡ placed_contents (kept_parts plan) placement.layout ++ reloc_tables placement.table
     held_are = are.contents ∙ ap (λ (cs : List (List ℕ)). cs ++ reloc_tables placement.table) (all_given placement.layout)
 
     pub whole_laid : IsLaidOut whole placement.sections.items placement.layout
@@ -173,17 +172,17 @@ module _ (options : LinkOptions) (plan : LinkPlan) (planned : IsPlanOf options p
         let n = same_count (plan.pieces.items ++ are.rest) whole are.same in
         let same = bare_same (plan.pieces.items ++ are.rest) whole are.same k in
         let total = piece_count options plan planned in
-        let held = all_held plan.pieces.items are.rest (placed_contents plan.names placement.layout) (reloc_tables placement.table) (length-placed plan.names placement.layout ∙ sym total) (placed_held plan.names placement.layout plan.pieces.items total (held_at options plan planned placement.layout)) are.holds k (omega (arith, lt, n)) in
+        let held = all_held plan.pieces.items are.rest (placed_contents (kept_parts plan) placement.layout) (reloc_tables placement.table) (length-placed (kept_parts plan) placement.layout ∙ sym total) (placed_held (kept_parts plan) placement.layout plan.pieces.items total (held_at options plan planned placement.layout)) are.holds k (omega (arith, lt, n)) in
         sym (ap length (get_or-map piece_contents whole k no_piece))
         ∙ ap (λ (cs : List (List ℕ)). length (get_or cs k [])) held_are
         ∙ held.filled (sym (ap (λ (p : Piece). p.init) same) ∙ init)
         ∙ sym (ap (λ (p : Piece). p.size) same)
 
-    pub whole_contents : HasContents whole placement.sections.items
-    whole_contents = λ i d lt. whole_bodies (get_or (all_pieces placement.sections.items) i d) (whole_laid.within i d lt)
+    pub whole_filled : HasContents whole placement.sections.items
+    whole_filled = λ i d lt. whole_bodies (get_or (all_pieces placement.sections.items) i d) (whole_laid.within i d lt)
 
     -- the file
-    pub written_with : (headers : Headers) (image : List ℕ) → image ≡ image_file (layout_plan headers placement.sections.items placement.layout (at_each_base (map piece_contents whole))) → IsWritten headers placement plan.names image
+    pub written_with : (headers : Headers) (image : List ℕ) → image ≡ image_file (layout_plan headers placement.sections.items placement.layout (at_each_base (map piece_contents whole))) → IsWritten headers placement (kept_parts plan) image
     written_with headers image is = record {
       rest = are.rest;
       holds = are.holds;

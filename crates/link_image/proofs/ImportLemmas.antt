@@ -29,41 +29,36 @@ use Rattle.image_writer.specs.ExpectedImage.{ImagePlan, MeansPlan, permits, expe
 use Rattle.image_writer.specs.HeaderTable.{size_of_headers}
 use Rattle.image_writer.specs.WrittenImage.{written_plan, layout_plan}
 use Rattle.synthetic_sections.specs.LinkerPieces.{EXPORTS, size_at}
-use Rattle.link_pieces.specs.LinkParts.{LinkParts}
-use Rattle.link_imports.specs.Imports.{import_rows}
-use Rattle.link_pieces.specs.LinkerPieces.{table_sizes}
-use Rattle.link_pieces.specs.PieceIndex.{linker_index}
+use Rattle.link_pieces.specs.TablePieces.{KeptParts, kept_rows, table_sizes, table_index, whole_pieces, whole_piece}
 use Rattle.link_pieces.proofs.CallerLemmas.{table_there}
-use Rattle.link_pieces.specs.Pieces.{link_pieces}
 use Rattle.link_words.specs.Outcome.{LinkOptions}
 use Rattle.link_plan.specs.declared.planning.LinkPlan.{LinkPlan}
-use Rattle.link_plan.specs.Fixes.{piece_at}
-use Rattle.link_plan.specs.Plan.{IsPlanOf}
+use Rattle.link_plan.specs.Plan.{IsPlanOf, kept_parts}
 use Rattle.link_image.specs.declared.placement.Placement.{Placement}
 use Rattle.link_image.specs.ImageHeaders.{headers_of}
 use Rattle.link_image.specs.LinkedBytes.{section_of, owners_in, rva_of, table_rva, table_rvas, import_tables_at, exported_rows, export_table_at, tables_at, contents_at, image_contents}
 use Rattle.link_image.specs.ExportFaults.{in_table_fault}
 use Rattle.link_image.specs.LinkedImage.{extent_of, table_extent, directories_of, HoldsImports, HoldsExports}
 use Rattle.link_image.specs.Steps.{reloc_tables, IsGiven, IsPlaced, IsReady}
-use Rattle.link_image.proofs.HeldLemmas.{piece_count, same_size, table_contents, table_fixes}
+use Rattle.link_image.proofs.HeldLemmas.{piece_count, exports_are, same_size, table_contents, table_fixes}
 use Rattle.link_image.proofs.ExportLemmas.{HasTable, has_table, length-tables, import_size, import_table, export_size, export_table_is}
 use Rattle.link_image.proofs.ExportReadLemmas.{readable, exports_read, exports_read_by_ordinal, none_read as none_read_name, none_read_by_ordinal as none_read_ordinal, no_rows}
 use Rattle.link_image.proofs.MemoryLemmas.{directory_reads, directory_sized, above_headers, in_memory}
 use Rattle.link_image.proofs.MoveLemmas.{contents_room}
 use Rattle.link_image.proofs.PieceMoves.{piece_read}
 use Rattle.link_image.proofs.StandsLemmas.{OwnerAt, owner_at}
-use Rattle.link_image.proofs.TableLemmas.{IsTableAt, found_table}
+use Rattle.link_image.proofs.TableLemmas.{IsTableAt, found_table, table_used}
 
 -- ---- every table that has bytes is made
 
-abbrev AreMade : LinkParts → Type 0
+abbrev AreMade : KeptParts → Type 0
 AreMade link =
-    (number : ℕ) → number < 6 → 0 < size_at (table_sizes link) number → (k : ℕ) × (linker_index link number ≡ Some k)
+    (number : ℕ) → number < 6 → 0 < size_at (table_sizes link) number → (k : ℕ) × (table_index link number ≡ Some k)
 
-pub are_made : (link : LinkParts) → AreMade link
-are_made link number few sized = by (linker_index link number) refl
+pub are_made : (link : KeptParts) → AreMade link
+are_made link number few sized = by (table_index link number) refl
   where
-    by : (place : Option ℕ) → linker_index link number ≡ place → (k : ℕ) × (linker_index link number ≡ Some k)
+    by : (place : Option ℕ) → table_index link number ≡ place → (k : ℕ) × (table_index link number ≡ Some k)
     by None none = absurd (table_there link number few sized none)
     by (Some k) found = (k, found)
 
@@ -147,11 +142,11 @@ extent_rva pieces rvas (Some k) = refl
 
 -- ---- the image of a plan
 
-module _ (options : LinkOptions) (plan : LinkPlan) (placement : Placement) (owner : List ℕ) (planned : IsPlanOf options plan.names plan) (placed : IsPlaced options plan placement)
-    (ready : IsReady plan.names plan.pieces.items plan.fixes.items placement.sections.items placement.layout owner (reloc_tables placement.table))
+module _ (options : LinkOptions) (plan : LinkPlan) (placement : Placement) (owner : List ℕ) (planned : IsPlanOf options plan.modules.items plan) (placed : IsPlaced options plan placement)
+    (ready : IsReady (kept_parts plan) plan.pieces.items plan.fixes.items placement.sections.items placement.layout owner (reloc_tables placement.table))
     (headers : Headers) where
-  abbrev link : LinkParts
-  link = plan.names
+  abbrev link : KeptParts
+  link = kept_parts plan
 
   abbrev layout : Layout
   layout = placement.layout
@@ -160,57 +155,58 @@ module _ (options : LinkOptions) (plan : LinkPlan) (placement : Placement) (owne
   sections = placement.sections.items
 
   abbrev contents : ℕ → List (List ℕ)
-  contents base = image_contents plan.names (rows_of placement.sections.items) placement.layout (reloc_tables placement.table) base
+  contents base = image_contents (kept_parts plan) (rows_of placement.sections.items) placement.layout (reloc_tables placement.table) base
 
   abbrev image : ImagePlan
   image = layout_plan headers placement.sections.items placement.layout contents
 
   abbrev table : ℕ → List ℕ
-  table number = get_or (tables_at plan.names placement.layout) number []
+  table number = get_or (tables_at (kept_parts plan) placement.layout) number []
 
   abbrev size : ℕ → ℕ
-  size number = size_at (table_sizes plan.names) number
+  size number = size_at (table_sizes (kept_parts plan)) number
 
   long : (number : ℕ) → length (table number) ≡ size number
   long number =
-      length-tables plan.names placement.layout (export_rows options plan.names.modules) (dll_name options.out) options.time planned.exports_are planned.told number
+      length-tables (kept_parts plan) placement.layout (export_rows options plan.modules.items) (dll_name options.out) options.time (exports_are options plan planned) planned.told number
 
   -- a table in the memory at a base
   record Stands (base number : ℕ) : Type 0 where
-    held : Holds (expected_image image base) (table_rva plan.names placement.layout number) (table number)
-    ends : table_rva plan.names placement.layout number + size number < 2 ^ 32
-    above : 0 < size number → 0 < table_rva plan.names placement.layout number
+    held : Holds (expected_image image base) (table_rva (kept_parts plan) placement.layout number) (table number)
+    ends : table_rva (kept_parts plan) placement.layout number + size number < 2 ^ 32
+    above : 0 < size number → 0 < table_rva (kept_parts plan) placement.layout number
 
   -- what its piece holds in the image
-  table_linked : (base number k : ℕ) → IsTableAt plan.names number k → get_or (contents base) k [] ≡ table number
+  table_linked : (base number k : ℕ) → IsTableAt (kept_parts plan) number k → get_or (contents base) k [] ≡ table number
   table_linked base number k at =
       let rva = get_or placement.layout.pieces.items k 0 in
       let owners = owners_in (rows_of placement.sections.items) placement.layout in
-      piece_read plan.names (rows_of placement.sections.items) placement.layout base (reloc_tables placement.table) k at.there
-      ∙ ap (λ (fixes : List Fix). patched_bytes base rva placement.layout owners fixes (contents_at plan.names placement.layout k)) (table_fixes plan.names k at.table)
-      ∙ nothing_patched base rva placement.layout owners (contents_at plan.names placement.layout k)
-      ∙ table_contents plan.names placement.layout k at.table
+      piece_read (kept_parts plan) (rows_of placement.sections.items) placement.layout base (reloc_tables placement.table) k at.there
+      ∙ ap (λ (fixes : List Fix). patched_bytes base rva placement.layout owners fixes (contents_at (kept_parts plan) placement.layout k)) (table_fixes (kept_parts plan) k at.table)
+      ∙ nothing_patched base rva placement.layout owners (contents_at (kept_parts plan) placement.layout k)
+      ∙ table_contents (kept_parts plan) placement.layout k at.table
       ∙ ap table at.number_is
 
-  table_size : (number k : ℕ) → IsTableAt plan.names number k → (piece_at plan.names k).size ≡ size number
+  table_size : (number k : ℕ) → IsTableAt (kept_parts plan) number k → (whole_piece (kept_parts plan) k).size ≡ size number
   table_size number k at = at.is.size ∙ ap size at.number_is
 
-  made_stands : (base number k : ℕ) → IsTableAt plan.names number k → table_rva plan.names placement.layout number ≡ get_or placement.layout.pieces.items k 0 → Stands base number
+  made_stands : (base number k : ℕ) → IsTableAt (kept_parts plan) number k → table_rva (kept_parts plan) placement.layout number ≡ get_or placement.layout.pieces.items k 0 → Stands base number
   made_stands base number k at rva =
       let lt : k < length plan.pieces.items = omega (arith, at.there, piece_count options plan planned) in
       let same = same_size options plan planned k lt in
       let sized = table_size number k at in
       let some : 0 < (get_or plan.pieces.items k no_piece).size = omega (arith, same, at.is.some) in
-      let own : OwnerAt placement.sections.items k = owner_at placement.sections.items k (ready.stands k lt (inl some)) in
+      let used = table_used options plan planned number k at in
+      let own : OwnerAt placement.sections.items k = owner_at placement.sections.items k (ready.stands k lt used (inl some)) in
       let i = section_of (rows_of placement.sections.items) k in
-      let room = contents_room plan.names plan.pieces.items plan.fixes.items placement.sections.items placement.layout owner (reloc_tables placement.table) ready base in
+      let room = contents_room (kept_parts plan) plan.pieces.items plan.fixes.items placement.sections.items placement.layout owner (reloc_tables placement.table) ready base in
       let linked = table_linked base number k at in
       let len : length (get_or (contents base) k []) ≡ size number = ap length linked ∙ long number in
       let there = in_memory headers (plan.pieces.items ++ ready.rest) placement.sections.items placement.layout contents base ready.laid room i own.number own.there own.within in
       let here = subst (λ (n : ℕ). bytes_at (expected_image image base) (get_or placement.layout.pieces.items n 0) (length (get_or (contents base) n [])) ≡ get_or (contents base) n []) own.is there in
       let low = subst (λ (n : ℕ). 0 < length (get_or (contents base) n []) → placement.layout.headers ≤ get_or placement.layout.pieces.items n 0) own.is
       (above_headers headers (plan.pieces.items ++ ready.rest) placement.sections.items placement.layout contents base ready.laid room i own.number own.there own.within) in
-      let end = placed.ends k lt some in
+      let end = placed.ends k lt used some in
       record {
         held =
             subst (λ (r : ℕ). Holds (expected_image image base) r (table number)) (sym rva)
@@ -219,18 +215,18 @@ module _ (options : LinkOptions) (plan : LinkPlan) (placement : Placement) (owne
         above = λ any. omega (arith, rva, low (omega (arith, len, any)), some_headers (length placement.sections.items) placement.layout.headers ready.laid.headers);
       }
 
-  module _ (made : AreMade plan.names) where
-    none_stands : (base number : ℕ) → number < 6 → linker_index plan.names number ≡ None → table_rva plan.names placement.layout number ≡ 0 → Stands base number
+  module _ (made : AreMade (kept_parts plan)) where
+    none_stands : (base number : ℕ) → number < 6 → table_index (kept_parts plan) number ≡ None → table_rva (kept_parts plan) placement.layout number ≡ 0 → Stands base number
     none_stands base number few none rva =
         let nothing : size number ≡ 0 = by (cases_lt 0 (size number)) in
         let empty : table number ≡ [] = empty_is (table number) (long number ∙ nothing) in
         record {
-          held = subst (λ (bytes : List ℕ). Holds (expected_image image base) (table_rva plan.names placement.layout number) bytes) (sym empty) refl;
+          held = subst (λ (bytes : List ℕ). Holds (expected_image image base) (table_rva (kept_parts plan) placement.layout number) bytes) (sym empty) refl;
           ends = omega (arith, rva, nothing);
           above = λ any. absurd (omega (arith, any, nothing));
         }
       where
-        nowhere : (k : ℕ) → linker_index plan.names number ≡ Some k → ⊥
+        nowhere : (k : ℕ) → table_index (kept_parts plan) number ≡ Some k → ⊥
         nowhere k found = nothing_some k (sym none ∙ found)
 
         by : (0 < size number) ⊎ (size number ≤ 0) → size number ≡ 0
@@ -238,57 +234,57 @@ module _ (options : LinkOptions) (plan : LinkPlan) (placement : Placement) (owne
         by (inr zero) = omega arith
 
     stands : (base number : ℕ) → number < 6 → Stands base number
-    stands base number few = by (linker_index plan.names number) refl
+    stands base number few = by (table_index (kept_parts plan) number) refl
       where
-        by : (place : Option ℕ) → linker_index plan.names number ≡ place → Stands base number
+        by : (place : Option ℕ) → table_index (kept_parts plan) number ≡ place → Stands base number
         by None none = none_stands base number few none (ap (rva_of placement.layout.pieces.items) none)
-        by (Some k) found = made_stands base number k (found_table plan.names number k (omega (arith, few)) found) (ap (rva_of placement.layout.pieces.items) found)
+        by (Some k) found = made_stands base number k (found_table (kept_parts plan) number k (omega (arith, few)) found) (ap (rva_of placement.layout.pieces.items) found)
 
-    rva_is : (number : ℕ) → number < 5 → slice_index (table_rvas plan.names placement.layout) number ≡ table_rva plan.names placement.layout number
+    rva_is : (number : ℕ) → number < 5 → slice_index (table_rvas (kept_parts plan) placement.layout) number ≡ table_rva (kept_parts plan) placement.layout number
     unfolding table_rvas
-    rva_is number few = get_or-map-range_with_len (table_rva plan.names placement.layout) 0 5 number number 0 few (omega arith)
+    rva_is number few = get_or-map-range_with_len (table_rva (kept_parts plan) placement.layout) 0 5 number number 0 few (omega arith)
 
-    some_read : (base : ℕ) → 0 < length (import_rows plan.names.modules) → AreReadable (import_rows plan.names.modules) → imports_of (expected_image image base) (table_rva plan.names placement.layout 0) ≡ Imports (found_of (import_rows plan.names.modules) (table_rvas plan.names placement.layout))
+    some_read : (base : ℕ) → 0 < length (kept_rows (kept_parts plan)) → AreReadable (kept_rows (kept_parts plan)) → imports_of (expected_image image base) (table_rva (kept_parts plan) placement.layout 0) ≡ Imports (found_of (kept_rows (kept_parts plan)) (table_rvas (kept_parts plan) placement.layout))
     unfolding import_tables_at
     some_read base some readable =
-        let rows = import_rows plan.names.modules in
-        let rvas = table_rvas plan.names placement.layout in
+        let rows = kept_rows (kept_parts plan) in
+        let rvas = table_rvas (kept_parts plan) placement.layout in
         let memory = expected_image image base in
         ap (imports_of memory) (sym (rva_is 0 (omega arith)))
         ∙ tables_read_back rows rvas memory some readable
-        (end_all rows rvas (λ number few. let rva = rva_is number few in let end = (stands base number (omega (arith, few))).ends in omega (arith, rva, end, import_size plan.names number few)))
-        (above_all rows rvas some (λ number few any. let rva = rva_is number few in let above = (stands base number (omega (arith, few))).above (omega (arith, any, import_size plan.names number few)) in omega (arith, rva, above)))
-        (held_all memory rows rvas (λ number few. subst (λ (bytes : List ℕ). Holds memory (slice_index rvas number) bytes) (import_table plan.names placement.layout number few) (subst (λ (r : ℕ). Holds memory r (table number)) (sym (rva_is number few)) (stands base number (omega (arith, few))).held)))
+        (end_all rows rvas (λ number few. let rva = rva_is number few in let end = (stands base number (omega (arith, few))).ends in omega (arith, rva, end, import_size (kept_parts plan) number few)))
+        (above_all rows rvas some (λ number few any. let rva = rva_is number few in let above = (stands base number (omega (arith, few))).above (omega (arith, any, import_size (kept_parts plan) number few)) in omega (arith, rva, above)))
+        (held_all memory rows rvas (λ number few. subst (λ (bytes : List ℕ). Holds memory (slice_index rvas number) bytes) (import_table (kept_parts plan) placement.layout number few) (subst (λ (r : ℕ). Holds memory r (table number)) (sym (rva_is number few)) (stands base number (omega (arith, few))).held)))
 
-    none_read_here : (base : ℕ) → import_rows plan.names.modules ≡ [] → imports_of (expected_image image base) (table_rva plan.names placement.layout 0) ≡ Imports (found_of (import_rows plan.names.modules) (table_rvas plan.names placement.layout))
+    none_read_here : (base : ℕ) → kept_rows (kept_parts plan) ≡ [] → imports_of (expected_image image base) (table_rva (kept_parts plan) placement.layout 0) ≡ Imports (found_of (kept_rows (kept_parts plan)) (table_rvas (kept_parts plan) placement.layout))
     none_read_here base none =
-        ap (imports_of (expected_image image base)) (by (linker_index plan.names 0) refl)
+        ap (imports_of (expected_image image base)) (by (table_index (kept_parts plan) 0) refl)
         ∙ none_read (expected_image image base)
-        ∙ ap Imports (sym (none_found (import_rows plan.names.modules) (table_rvas plan.names placement.layout) none))
+        ∙ ap Imports (sym (none_found (kept_rows (kept_parts plan)) (table_rvas (kept_parts plan) placement.layout) none))
       where
-        by : (place : Option ℕ) → linker_index plan.names 0 ≡ place → table_rva plan.names placement.layout 0 ≡ 0
+        by : (place : Option ℕ) → table_index (kept_parts plan) 0 ≡ place → table_rva (kept_parts plan) placement.layout 0 ≡ 0
         by None nowhere = ap (rva_of placement.layout.pieces.items) nowhere
         by (Some k) found =
-            let at = found_table plan.names 0 k (omega arith) found in
-            absurd (omega (arith, at.is.some, table_size 0 k at, import_size plan.names 0 (omega arith), no_size (import_rows plan.names.modules) none))
+            let at = found_table (kept_parts plan) 0 k (omega arith) found in
+            absurd (omega (arith, at.is.some, table_size 0 k at, import_size (kept_parts plan) 0 (omega arith), no_size (kept_rows (kept_parts plan)) none))
 
-    imports_read : (base : ℕ) → AreReadable (import_rows plan.names.modules) → imports_of (expected_image image base) (table_rva plan.names placement.layout 0) ≡ Imports (found_of (import_rows plan.names.modules) (table_rvas plan.names placement.layout))
+    imports_read : (base : ℕ) → AreReadable (kept_rows (kept_parts plan)) → imports_of (expected_image image base) (table_rva (kept_parts plan) placement.layout 0) ≡ Imports (found_of (kept_rows (kept_parts plan)) (table_rvas (kept_parts plan) placement.layout))
     imports_read base readable =
-        elim (cases_lt 0 (length (import_rows plan.names.modules))) [
+        elim (cases_lt 0 (length (kept_rows (kept_parts plan)))) [
           | inl some ↦ some_read base some readable
-          | inr none ↦ none_read_here base (empty_is (import_rows plan.names.modules) (omega (arith, none)))
+          | inr none ↦ none_read_here base (empty_is (kept_rows (kept_parts plan)) (omega (arith, none)))
         ]
 
     -- the directory that the headers name
-    directory_is : (entry : ℕ) → headers ≡ headers_of options entry (directories_of plan.names placement.layout (reloc_tables placement.table)) → directory_rva (image_file image) 1 ≡ table_rva plan.names placement.layout 0
+    directory_is : (entry : ℕ) → headers ≡ headers_of options entry (directories_of (kept_parts plan) placement.layout (reloc_tables placement.table)) → directory_rva (image_file image) 1 ≡ table_rva (kept_parts plan) placement.layout 0
     unfolding written_plan
     directory_is entry is =
-        let rva = extent_rva (link_pieces plan.names) placement.layout.pieces.items (linker_index plan.names 0) in
+        let rva = extent_rva (whole_pieces (kept_parts plan)) placement.layout.pieces.items (table_index (kept_parts plan) 0) in
         let end = (stands 0 0 (omega arith)).ends in
-        directory_reads image 1 (table_extent plan.names placement.layout 0) (ap (λ (h : Headers). slice_get h.directories 1) is) (omega (arith, rva, end))
+        directory_reads image 1 (table_extent (kept_parts plan) placement.layout 0) (ap (λ (h : Headers). slice_get h.directories 1) is) (omega (arith, rva, end))
         ∙ rva
 
-    pub imports_there : (entry : ℕ) (file : List ℕ) → headers ≡ headers_of options entry (directories_of plan.names placement.layout (reloc_tables placement.table)) → file ≡ image_file image → MeansPlan image file → AreReadable (import_rows plan.names.modules) → HoldsImports plan.names placement.layout file
+    pub imports_there : (entry : ℕ) (file : List ℕ) → headers ≡ headers_of options entry (directories_of (kept_parts plan) placement.layout (reloc_tables placement.table)) → file ≡ image_file image → MeansPlan image file → AreReadable (kept_rows (kept_parts plan)) → HoldsImports (kept_parts plan) placement.layout file
     imports_there entry file is written means readable base memory loads =
         ap (λ (m : List ℕ). imports_of m (directory_rva file 1)) (loaded_is image file means base memory loads)
         ∙ ap (imports_of (expected_image image base)) (ap (λ (bytes : List ℕ). directory_rva bytes 1) written ∙ directory_is entry is)
@@ -296,85 +292,85 @@ module _ (options : LinkOptions) (plan : LinkPlan) (placement : Placement) (owne
 
     -- ---- exports
 
-    export_ends : table_rva plan.names placement.layout EXPORTS + plan.names.exports.size < 2 ^ 32
-    export_ends = let end = (stands 0 EXPORTS (omega arith)).ends in omega (arith, end, export_size plan.names)
+    export_ends : table_rva (kept_parts plan) placement.layout EXPORTS + plan.names.exports.size < 2 ^ 32
+    export_ends = let end = (stands 0 EXPORTS (omega arith)).ends in omega (arith, end, export_size (kept_parts plan))
 
-    exports_directory : (entry : ℕ) → headers ≡ headers_of options entry (directories_of plan.names placement.layout (reloc_tables placement.table)) → (directory_rva (image_file image) 0 ≡ (table_extent plan.names placement.layout EXPORTS).0) × (directory_size (image_file image) 0 ≡ (table_extent plan.names placement.layout EXPORTS).1)
+    exports_directory : (entry : ℕ) → headers ≡ headers_of options entry (directories_of (kept_parts plan) placement.layout (reloc_tables placement.table)) → (directory_rva (image_file image) 0 ≡ (table_extent (kept_parts plan) placement.layout EXPORTS).0) × (directory_size (image_file image) 0 ≡ (table_extent (kept_parts plan) placement.layout EXPORTS).1)
     unfolding written_plan
     exports_directory entry is =
-        let rva = extent_rva (link_pieces plan.names) placement.layout.pieces.items (linker_index plan.names EXPORTS) in
-        let sized = by (linker_index plan.names EXPORTS) refl in
+        let rva = extent_rva (whole_pieces (kept_parts plan)) placement.layout.pieces.items (table_index (kept_parts plan) EXPORTS) in
+        let sized = by (table_index (kept_parts plan) EXPORTS) refl in
         let first = ap (λ (h : Headers). slice_get h.directories 0) is in
-        (directory_reads image 0 (table_extent plan.names placement.layout EXPORTS) first (omega (arith, rva, export_ends)), directory_sized image 0 (table_extent plan.names placement.layout EXPORTS) first (omega (arith, sized, export_ends)))
+        (directory_reads image 0 (table_extent (kept_parts plan) placement.layout EXPORTS) first (omega (arith, rva, export_ends)), directory_sized image 0 (table_extent (kept_parts plan) placement.layout EXPORTS) first (omega (arith, sized, export_ends)))
       where
-        by : (place : Option ℕ) → linker_index plan.names EXPORTS ≡ place → (extent_of (link_pieces plan.names) placement.layout.pieces.items (linker_index plan.names EXPORTS)).1 ≤ plan.names.exports.size
-        by None none = omega (arith, ap (λ (place : Option ℕ). (extent_of (link_pieces plan.names) placement.layout.pieces.items place).1) none)
+        by : (place : Option ℕ) → table_index (kept_parts plan) EXPORTS ≡ place → (extent_of (whole_pieces (kept_parts plan)) placement.layout.pieces.items (table_index (kept_parts plan) EXPORTS)).1 ≤ plan.names.exports.size
+        by None none = omega (arith, ap (λ (place : Option ℕ). (extent_of (whole_pieces (kept_parts plan)) placement.layout.pieces.items place).1) none)
         by (Some k) found =
-            let at = found_table plan.names EXPORTS k (omega arith) found in
-            omega (arith, ap (λ (place : Option ℕ). (extent_of (link_pieces plan.names) placement.layout.pieces.items place).1) found, table_size EXPORTS k at, export_size plan.names)
+            let at = found_table (kept_parts plan) EXPORTS k (omega arith) found in
+            omega (arith, ap (λ (place : Option ℕ). (extent_of (whole_pieces (kept_parts plan)) placement.layout.pieces.items place).1) found, table_size EXPORTS k at, export_size (kept_parts plan))
 
-    module _ (outside : in_table_fault plan.names placement.layout.pieces.items ≡ None) (given : 0 < plan.names.exports.size → All (λ row. IsGiven row.what) (exported_rows plan.names placement.layout.pieces.items)) where
+    module _ (outside : in_table_fault (kept_parts plan) placement.layout.pieces.items ≡ None) (given : 0 < plan.names.exports.size → All (λ row. IsGiven row.what) (exported_rows (kept_parts plan) placement.layout.pieces.items)) where
       abbrev rows : List ExportRow
-      rows = exported_rows plan.names placement.layout.pieces.items
+      rows = exported_rows (kept_parts plan) placement.layout.pieces.items
 
-      held_exports : (base : ℕ) → bytes_at (expected_image image base) (table_rva plan.names placement.layout EXPORTS) (length (export_table_at plan.names placement.layout)) ≡ export_table_at plan.names placement.layout
-      held_exports base = subst (Holds (expected_image image base) (table_rva plan.names placement.layout EXPORTS)) (export_table_is plan.names placement.layout) (stands base EXPORTS (omega arith)).held
+      held_exports : (base : ℕ) → bytes_at (expected_image image base) (table_rva (kept_parts plan) placement.layout EXPORTS) (length (export_table_at (kept_parts plan) placement.layout)) ≡ export_table_at (kept_parts plan) placement.layout
+      held_exports base = subst (Holds (expected_image image base) (table_rva (kept_parts plan) placement.layout EXPORTS)) (export_table_is (kept_parts plan) placement.layout) (stands base EXPORTS (omega arith)).held
 
-      table_has : 0 < plan.names.exports.size → HasTable plan.names
-      table_has some = has_table plan.names (export_rows options plan.names.modules) (dll_name options.out) options.time planned.exports_are planned.told some
+      table_has : 0 < plan.names.exports.size → HasTable (kept_parts plan)
+      table_has some = has_table (kept_parts plan) (export_rows options plan.modules.items) (dll_name options.out) options.time (exports_are options plan planned) planned.told some
 
-      are_readable : 0 < plan.names.exports.size → AreReadableExports rows (table_rva plan.names placement.layout EXPORTS) plan.names.exports.size
-      are_readable some = readable plan.names placement.layout.pieces.items (table_has some) planned.told (given some) outside
+      are_readable : 0 < plan.names.exports.size → AreReadableExports rows (table_rva (kept_parts plan) placement.layout EXPORTS) plan.names.exports.size
+      are_readable some = readable (kept_parts plan) placement.layout.pieces.items (table_has some) planned.told (given some) outside
 
       without : plan.names.exports.size ≡ 0 → length plan.names.exports.rows ≡ 0
-      without none = ap length (no_rows plan.names (export_rows options plan.names.modules) (dll_name options.out) options.time planned.exports_are placed.means.grouped.exports none)
+      without none = ap length (no_rows (kept_parts plan) (export_rows options plan.modules.items) (dll_name options.out) options.time (exports_are options plan planned) placed.means.grouped.exports none)
 
       record Extends : Type 0 where
-        rva_zero : plan.names.exports.size ≡ 0 → (table_extent plan.names placement.layout EXPORTS) ≡ (0, 0)
-        extent_is : 0 < plan.names.exports.size → (table_extent plan.names placement.layout EXPORTS) ≡ (table_rva plan.names placement.layout EXPORTS, plan.names.exports.size)
+        rva_zero : plan.names.exports.size ≡ 0 → (table_extent (kept_parts plan) placement.layout EXPORTS) ≡ (0, 0)
+        extent_is : 0 < plan.names.exports.size → (table_extent (kept_parts plan) placement.layout EXPORTS) ≡ (table_rva (kept_parts plan) placement.layout EXPORTS, plan.names.exports.size)
 
       extends : Extends
-      extends = by (linker_index plan.names EXPORTS) refl
+      extends = by (table_index (kept_parts plan) EXPORTS) refl
         where
-          by : (place : Option ℕ) → linker_index plan.names EXPORTS ≡ place → Extends
+          by : (place : Option ℕ) → table_index (kept_parts plan) EXPORTS ≡ place → Extends
           by None none = record {
-            rva_zero = λ zero. ap (extent_of (link_pieces plan.names) placement.layout.pieces.items) none;
-            extent_is = λ some. absurd (let there = made EXPORTS (omega arith) (omega (arith, some, export_size plan.names)) in nothing_some there.0 (sym none ∙ there.1));
+            rva_zero = λ zero. ap (extent_of (whole_pieces (kept_parts plan)) placement.layout.pieces.items) none;
+            extent_is = λ some. absurd (let there = made EXPORTS (omega arith) (omega (arith, some, export_size (kept_parts plan))) in nothing_some there.0 (sym none ∙ there.1));
           }
           by (Some k) found =
-              let at = found_table plan.names EXPORTS k (omega arith) found in
-              let size : (get_or (link_pieces plan.names) k no_piece).size ≡ plan.names.exports.size = table_size EXPORTS k at ∙ export_size plan.names in
+              let at = found_table (kept_parts plan) EXPORTS k (omega arith) found in
+              let size : (get_or (whole_pieces (kept_parts plan)) k no_piece).size ≡ plan.names.exports.size = table_size EXPORTS k at ∙ export_size (kept_parts plan) in
               record {
                 rva_zero = λ zero. absurd (omega (arith, at.is.some, size, zero));
                 extent_is = λ some.
-                    ap (extent_of (link_pieces plan.names) placement.layout.pieces.items) found
+                    ap (extent_of (whole_pieces (kept_parts plan)) placement.layout.pieces.items) found
                     ∙ ap (λ (n : ℕ). (get_or placement.layout.pieces.items k 0, n)) size
                     ∙ ap (λ (r : ℕ). (r, plan.names.exports.size)) (sym (ap (rva_of placement.layout.pieces.items) found));
               }
 
-      name_read : (base : ℕ) (name : List ℕ) → export_of_name (expected_image image base) (table_extent plan.names placement.layout EXPORTS).0 (table_extent plan.names placement.layout EXPORTS).1 name ≡ exported_name rows name
+      name_read : (base : ℕ) (name : List ℕ) → export_of_name (expected_image image base) (table_extent (kept_parts plan) placement.layout EXPORTS).0 (table_extent (kept_parts plan) placement.layout EXPORTS).1 name ≡ exported_name rows name
       name_read base name =
           elim (cases_lt 0 plan.names.exports.size) [
             | inl some ↦
                 ap (λ (e : ℕ × ℕ). export_of_name (expected_image image base) e.0 e.1 name) (extends.extent_is some)
-                ∙ exports_read plan.names placement.layout (expected_image image base) (table_has some) (are_readable some) export_ends (held_exports base) name
+                ∙ exports_read (kept_parts plan) placement.layout (expected_image image base) (table_has some) (are_readable some) export_ends (held_exports base) name
             | inr none ↦
                 ap (λ (e : ℕ × ℕ). export_of_name (expected_image image base) e.0 e.1 name) (extends.rva_zero (omega (arith, none)))
-                ∙ none_read_name plan.names (expected_image image base) placement.layout.pieces.items name (without (omega (arith, none)))
+                ∙ none_read_name (kept_parts plan) (expected_image image base) placement.layout.pieces.items name (without (omega (arith, none)))
           ]
 
-      ordinal_read : (base ordinal : ℕ) → export_of_ordinal (expected_image image base) (table_extent plan.names placement.layout EXPORTS).0 (table_extent plan.names placement.layout EXPORTS).1 ordinal ≡ exported_ordinal rows plan.names.exports.ordinals ordinal
+      ordinal_read : (base ordinal : ℕ) → export_of_ordinal (expected_image image base) (table_extent (kept_parts plan) placement.layout EXPORTS).0 (table_extent (kept_parts plan) placement.layout EXPORTS).1 ordinal ≡ exported_ordinal rows plan.names.exports.ordinals ordinal
       ordinal_read base ordinal =
           elim (cases_lt 0 plan.names.exports.size) [
             | inl some ↦
                 ap (λ (e : ℕ × ℕ). export_of_ordinal (expected_image image base) e.0 e.1 ordinal) (extends.extent_is some)
-                ∙ exports_read_by_ordinal plan.names placement.layout (expected_image image base) (table_has some) (are_readable some) export_ends (held_exports base) ordinal
+                ∙ exports_read_by_ordinal (kept_parts plan) placement.layout (expected_image image base) (table_has some) (are_readable some) export_ends (held_exports base) ordinal
             | inr none ↦
                 ap (λ (e : ℕ × ℕ). export_of_ordinal (expected_image image base) e.0 e.1 ordinal) (extends.rva_zero (omega (arith, none)))
-                ∙ none_read_ordinal plan.names (export_rows options plan.names.modules) (dll_name options.out) options.time (expected_image image base) placement.layout.pieces.items ordinal planned.exports_are (without (omega (arith, none)))
+                ∙ none_read_ordinal (kept_parts plan) (export_rows options plan.modules.items) (dll_name options.out) options.time (expected_image image base) placement.layout.pieces.items ordinal (exports_are options plan planned) (without (omega (arith, none)))
           ]
 
-      pub exports_there : (entry : ℕ) (file : List ℕ) → headers ≡ headers_of options entry (directories_of plan.names placement.layout (reloc_tables placement.table)) → file ≡ image_file image → MeansPlan image file → HoldsExports plan.names placement.layout file
+      pub exports_there : (entry : ℕ) (file : List ℕ) → headers ≡ headers_of options entry (directories_of (kept_parts plan) placement.layout (reloc_tables placement.table)) → file ≡ image_file image → MeansPlan image file → HoldsExports (kept_parts plan) placement.layout file
       exports_there entry file is written means =
           let at = exports_directory entry is in
           let rva = ap (λ (bytes : List ℕ). directory_rva bytes 0) written ∙ at.0 in
@@ -383,11 +379,11 @@ module _ (options : LinkOptions) (plan : LinkPlan) (placement : Placement) (owne
             by_name = λ base memory name loads.
                 ap (λ (m : List ℕ). export_of_name m (directory_rva file 0) (directory_size file 0) name) (loaded_is image file means base memory loads)
                 ∙ ap (λ (r : ℕ). export_of_name (expected_image image base) r (directory_size file 0) name) rva
-                ∙ ap (λ (s : ℕ). export_of_name (expected_image image base) (table_extent plan.names placement.layout EXPORTS).0 s name) size
+                ∙ ap (λ (s : ℕ). export_of_name (expected_image image base) (table_extent (kept_parts plan) placement.layout EXPORTS).0 s name) size
                 ∙ name_read base name;
             by_ordinal = λ base memory ordinal loads.
                 ap (λ (m : List ℕ). export_of_ordinal m (directory_rva file 0) (directory_size file 0) ordinal) (loaded_is image file means base memory loads)
                 ∙ ap (λ (r : ℕ). export_of_ordinal (expected_image image base) r (directory_size file 0) ordinal) rva
-                ∙ ap (λ (s : ℕ). export_of_ordinal (expected_image image base) (table_extent plan.names placement.layout EXPORTS).0 s ordinal) size
+                ∙ ap (λ (s : ℕ). export_of_ordinal (expected_image image base) (table_extent (kept_parts plan) placement.layout EXPORTS).0 s ordinal) size
                 ∙ ordinal_read base ordinal;
           }

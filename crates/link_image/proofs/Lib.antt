@@ -1,4 +1,6 @@
 pub mod HeldLemmas
+pub mod UsedLemmas
+pub mod TargetLemmas
 pub mod SectionLemmas
 pub mod OwnerLemmas
 pub mod MixedLemmas

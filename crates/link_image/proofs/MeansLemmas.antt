@@ -26,13 +26,12 @@ use Rattle.image_writer.proofs.PieceInFileLemmas.{pieces_link}
 use Rattle.image_writer.proofs.TableLemmas.{length-section_rows}
 use Rattle.image_writer.proofs.CallerLemmas.{stays_means, moves_means}
 use Rattle.relocate.specs.Field.{fix_at}
-use Rattle.link_pieces.specs.LinkParts.{LinkParts}
-use Rattle.link_pieces.specs.Pieces.{link_pieces}
+use Rattle.link_pieces.specs.TablePieces.{KeptParts, whole_pieces}
 use Rattle.link_words.specs.Outcome.{LinkOptions}
-use Rattle.link_plan.specs.declared.entry.EntryPlace.{EntryPlace}
+use Rattle.link_fields.specs.declared.entry.EntryPlace.{EntryPlace}
 use Rattle.link_plan.specs.declared.planning.LinkPlan.{LinkPlan}
-use Rattle.link_plan.specs.Fixes.{piece_fixes}
-use Rattle.link_plan.specs.Plan.{IsPlanOf}
+use Rattle.link_plan.specs.Planned.{planned_fixes}
+use Rattle.link_plan.specs.Plan.{IsPlanOf, kept_parts}
 use Rattle.link_plan.proofs.CallerLemmas.{plan_count}
 use Rattle.link_image.specs.declared.make.Built.{Built}
 use Rattle.link_image.specs.declared.placement.Placement.{Placement}
@@ -42,6 +41,7 @@ use Rattle.link_image.specs.LinkedBytes.{exported_rows, linked_contents, image_c
 use Rattle.link_image.specs.ExportFaults.{in_table_fault}
 use Rattle.link_image.specs.LinkedImage.{base_rule, entry_rva, table_row, directories_of, HasTable, IsWhole, IsBuilt}
 use Rattle.link_image.specs.Steps.{reloc_tables, file_of, IsGiven, IsPlaced, IsReady}
+use Rattle.link_image.proofs.HeldLemmas.{imports_are}
 use Rattle.link_image.proofs.FieldLemmas.{total_is}
 use Rattle.link_image.proofs.ImportLemmas.{are_made, imports_there, exports_there}
 use Rattle.link_image.proofs.MoveLemmas.{one_length, contents_room, contents_stay, contents_moved}
@@ -86,7 +86,7 @@ grown len = go (eqb len 0) refl
 
 -- ---- fields by RVAs that agree
 
-fields_agree : (link : LinkParts) (rvas other : List ℕ) (fields : List BaseField) → ((k : ℕ) → k < length (link_pieces link) → get_or rvas k 0 ≡ get_or other k 0) → AreBaseFields link rvas fields → AreBaseFields link other fields
+fields_agree : (link : KeptParts) (rvas other : List ℕ) (fields : List BaseField) → ((k : ℕ) → k < length (whole_pieces link) → get_or rvas k 0 ≡ get_or other k 0) → AreBaseFields link rvas fields → AreBaseFields link other fields
 fields_agree link rvas other fields same are = record {
   ascending = are.ascending;
   apart = are.apart;
@@ -94,22 +94,22 @@ fields_agree link rvas other fields same are = record {
   all = λ field is. are.all field (moved other rvas (λ k lt. sym (same k lt)) field is);
 }
   where
-    moved : (xs ys : List ℕ) → ((k : ℕ) → k < length (link_pieces link) → get_or xs k 0 ≡ get_or ys k 0) → (field : BaseField) → IsBaseField link xs field → IsBaseField link ys field
+    moved : (xs ys : List ℕ) → ((k : ℕ) → k < length (whole_pieces link) → get_or xs k 0 ≡ get_or ys k 0) → (field : BaseField) → IsBaseField link xs field → IsBaseField link ys field
     moved xs ys same field is = record {
       piece = is.piece;
       index = is.index;
       there = is.there;
       within = is.within;
       based = is.based;
-      is = is.is ∙ ap (λ (rva : ℕ). base_field rva (fix_at (piece_fixes link is.piece) is.index)) (same is.piece is.there);
+      is = is.is ∙ ap (λ (rva : ℕ). base_field rva (fix_at (planned_fixes link is.piece) is.index)) (same is.piece is.there);
     }
 
 -- ---- the image of a plan
 
-module _ (options : LinkOptions) (plan : LinkPlan) (placement : Placement) (owner : List ℕ) (planned : IsPlanOf options plan.names plan) (placed : IsPlaced options plan placement)
-    (ready : IsReady plan.names plan.pieces.items plan.fixes.items placement.sections.items placement.layout owner (reloc_tables placement.table)) where
-  abbrev link : LinkParts
-  link = plan.names
+module _ (options : LinkOptions) (plan : LinkPlan) (placement : Placement) (owner : List ℕ) (planned : IsPlanOf options plan.modules.items plan) (placed : IsPlaced options plan placement)
+    (ready : IsReady (kept_parts plan) plan.pieces.items plan.fixes.items placement.sections.items placement.layout owner (reloc_tables placement.table)) where
+  abbrev link : KeptParts
+  link = kept_parts plan
 
   abbrev sections : List OutSection
   sections = placement.sections.items
@@ -121,10 +121,10 @@ module _ (options : LinkOptions) (plan : LinkPlan) (placement : Placement) (owne
   tables = reloc_tables placement.table
 
   abbrev headers : Headers
-  headers = headers_of options (entry_rva placement.layout.pieces.items plan.entry) (directories_of plan.names placement.layout (reloc_tables placement.table))
+  headers = headers_of options (entry_rva placement.layout.pieces.items plan.entry) (directories_of (kept_parts plan) placement.layout (reloc_tables placement.table))
 
   abbrev contents : ℕ → List (List ℕ)
-  contents base = image_contents plan.names (rows_of placement.sections.items) placement.layout (reloc_tables placement.table) base
+  contents base = image_contents (kept_parts plan) (rows_of placement.sections.items) placement.layout (reloc_tables placement.table) base
 
   abbrev image : ImagePlan
   image = layout_plan headers placement.sections.items placement.layout contents
@@ -136,34 +136,34 @@ module _ (options : LinkOptions) (plan : LinkPlan) (placement : Placement) (owne
   whole : List Piece
   whole = plan.pieces.items ++ ready.rest
 
-  total : length plan.pieces.items ≡ length (link_pieces plan.names)
-  total = total_is plan.names plan.pieces.items plan.fixes.items placement.sections.items placement.layout owner (reloc_tables placement.table) ready
+  total : length plan.pieces.items ≡ length (whole_pieces (kept_parts plan))
+  total = total_is (kept_parts plan) plan.pieces.items plan.fixes.items placement.sections.items placement.layout owner (reloc_tables placement.table) ready
 
   -- without a table
-  stays : is_relocated options plan.names ≡ false → tables ≡ [] → Stay headers sections layout contents
+  stays : is_relocated options (kept_parts plan) ≡ false → tables ≡ [] → Stay headers sections layout contents
   stays alone none = record {
-    directory = ap (λ (ts : List (List ℕ)). slice_get (directory_list (directories_of plan.names placement.layout ts)) 5) none;
+    directory = ap (λ (ts : List (List ℕ)). slice_get (directory_list (directories_of (kept_parts plan) placement.layout ts)) 5) none;
     same = λ base allowed. by options.fixed refl base (sym (permits_are base) ∙ allowed);
   }
     where
       by : (b : Bool) → options.fixed ≡ b → (base : ℕ) → is_permitted (base_rule options) placement.layout.image base ≡ true → contents base ≡ contents options.base
       by true fixed base allowed = ap contents (own_base (base_rule options) placement.layout.image base fixed allowed)
       by false moves base allowed =
-          contents_stay plan.names plan.pieces.items plan.fixes.items placement.sections.items placement.layout owner (reloc_tables placement.table) ready
-          (sym (ap (λ (b : Bool). not b && holds_address plan.names) moves) ∙ alone) base options.base
+          contents_stay (kept_parts plan) plan.pieces.items plan.fixes.items placement.sections.items placement.layout owner (reloc_tables placement.table) ready
+          (sym (ap (λ (b : Bool). not b && holds_address (kept_parts plan)) moves) ∙ alone) base options.base
 
   -- with one
-  moves : (piece_rows : List OutRow) (before : Layout) → length before.pieces.items ≡ length plan.pieces.items → is_permitted (base_rule options) placement.layout.image options.base ≡ true → (table : HasTable plan.names piece_rows before (rows_of placement.sections.items) placement.layout (reloc_tables placement.table)) → Move headers sections layout contents table.fields
+  moves : (piece_rows : List OutRow) (before : Layout) → length before.pieces.items ≡ length plan.pieces.items → is_permitted (base_rule options) placement.layout.image options.base ≡ true → (table : HasTable (kept_parts plan) piece_rows before (rows_of placement.sections.items) placement.layout (reloc_tables placement.table)) → Move headers sections layout contents table.fields
   moves piece_rows before count permitted table = record {
     ascending = table.based.ascending;
     apart = table.based.apart;
-    moved = λ base allowed. contents_moved plan.names plan.pieces.items plan.fixes.items placement.sections.items placement.layout owner (reloc_tables placement.table) ready options.base base table.fields (low_base (base_rule options) placement.layout.image options.base permitted) based;
+    moved = λ base allowed. contents_moved (kept_parts plan) plan.pieces.items plan.fixes.items placement.sections.items placement.layout owner (reloc_tables placement.table) ready options.base base table.fields (low_base (base_rule options) placement.layout.image options.base permitted) based;
     section = length piece_rows;
     number = 0;
     there = omega (arith, ap length table.rows_are, length-append piece_rows (table_row k ∷ []), length-map placement.sections.items row_of);
     below = subst (λ (ks : List ℕ). 0 < length ks) (sym row) (omega arith);
     table = ap (λ (i : ℕ). get_or (contents options.base) i []) index ∙ last_contents;
-    directory = ap (λ (ts : List (List ℕ)). slice_get (directory_list (directories_of plan.names placement.layout ts)) 5) table.tables_are ∙ ap (λ (i : ℕ). Some (get_or layout.pieces.items i 0, length (blocks_of table.fields))) (ends ∙ sym index);
+    directory = ap (λ (ts : List (List ℕ)). slice_get (directory_list (directories_of (kept_parts plan) placement.layout ts)) 5) table.tables_are ∙ ap (λ (i : ℕ). Some (get_or layout.pieces.items i 0, length (blocks_of table.fields))) (ends ∙ sym index);
     inside = omega (arith, ap (λ (i : ℕ). get_or layout.pieces.items i 0) index, last_rva, table.added.size, table.added.image.above, grown (length (blocks_of table.fields)));
   }
     where
@@ -181,8 +181,8 @@ module _ (options : LinkOptions) (plan : LinkPlan) (placement : Placement) (owne
 
       last_contents : get_or (contents options.base) (length before.pieces.items) [] ≡ blocks_of table.fields
       last_contents =
-          let len = length_linked plan.names (rows_of placement.sections.items) placement.layout options.base in
-          get_or-append_right (linked_contents plan.names (rows_of placement.sections.items) placement.layout options.base) (reloc_tables placement.table) (length before.pieces.items) (length before.pieces.items) [] (omega (arith, len, count, total)) (omega arith)
+          let len = length_linked (kept_parts plan) (rows_of placement.sections.items) placement.layout options.base in
+          get_or-append_right (linked_contents (kept_parts plan) (rows_of placement.sections.items) placement.layout options.base) (reloc_tables placement.table) (length before.pieces.items) (length before.pieces.items) [] (omega (arith, len, count, total)) (omega arith)
           ∙ ap (λ (i : ℕ). get_or (reloc_tables placement.table) i []) (nothing (length before.pieces.items))
           ∙ ap (λ (ts : List (List ℕ)). get_or ts 0 []) table.tables_are
         where
@@ -195,27 +195,27 @@ module _ (options : LinkOptions) (plan : LinkPlan) (placement : Placement) (owne
       last_rva : get_or placement.layout.pieces.items (length before.pieces.items) 0 ≡ table.added.placed.rva
       last_rva = ap (λ (rvas : List ℕ). get_or rvas (length before.pieces.items) 0) table.added.pieces ∙ get_or-append_seam before.pieces.items table.added.placed.rva [] 0
 
-      based : AreBaseFields plan.names placement.layout.pieces.items table.fields
+      based : AreBaseFields (kept_parts plan) placement.layout.pieces.items table.fields
       based =
-          fields_agree plan.names before.pieces.items placement.layout.pieces.items table.fields (λ i lt. sym (ap (λ (rvas : List ℕ). get_or rvas i 0) table.added.pieces ∙ get_or_append_left before.pieces.items (table.added.placed.rva ∷ []) 0 i (omega (arith, lt, count, total)))) table.based
+          fields_agree (kept_parts plan) before.pieces.items placement.layout.pieces.items table.fields (λ i lt. sym (ap (λ (rvas : List ℕ). get_or rvas i 0) table.added.pieces ∙ get_or_append_left before.pieces.items (table.added.placed.rva ∷ []) 0 i (omega (arith, lt, count, total)))) table.based
 
   means : is_permitted (base_rule options) placement.layout.image options.base ≡ true → MeansPlan image (image_file image)
-  means permitted = by (is_relocated options plan.names) refl placed.means.whole
+  means permitted = by (is_relocated options (kept_parts plan)) refl placed.means.whole
     where
       before_count : length placed.means.before.pieces.items ≡ length plan.pieces.items
-      before_count = placed.means.placed.layout_of.standing.rva_for_each ∙ plan_count options plan.names ∙ sym total
+      before_count = placed.means.placed.layout_of.standing.rva_for_each ∙ plan_count options (kept_parts plan) ∙ sym total
 
-      by : (b : Bool) → is_relocated options plan.names ≡ b → IsWhole b plan.names (rows_of placed.means.sections) placed.means.before (rows_of placement.sections.items) placement.layout (reloc_tables placement.table) → MeansPlan image (image_file image)
+      by : (b : Bool) → is_relocated options (kept_parts plan) ≡ b → IsWhole b (kept_parts plan) (rows_of placed.means.sections) placed.means.before (rows_of placement.sections.items) placement.layout (reloc_tables placement.table) → MeansPlan image (image_file image)
       by true relocated table =
-          moves_means headers (plan.pieces.items ++ ready.rest) placement.sections.items placement.layout contents table.fields ready.laid (contents_room plan.names plan.pieces.items plan.fixes.items placement.sections.items placement.layout owner (reloc_tables placement.table) ready) (one_length plan.names plan.pieces.items plan.fixes.items placement.sections.items placement.layout owner (reloc_tables placement.table) ready) refl (permits_are options.base ∙ permitted)
+          moves_means headers (plan.pieces.items ++ ready.rest) placement.sections.items placement.layout contents table.fields ready.laid (contents_room (kept_parts plan) plan.pieces.items plan.fixes.items placement.sections.items placement.layout owner (reloc_tables placement.table) ready) (one_length (kept_parts plan) plan.pieces.items plan.fixes.items placement.sections.items placement.layout owner (reloc_tables placement.table) ready) refl (permits_are options.base ∙ permitted)
           (moves (rows_of placed.means.sections) placed.means.before before_count permitted table)
       by false alone same =
-          stays_means headers (plan.pieces.items ++ ready.rest) placement.sections.items placement.layout contents ready.laid (contents_room plan.names plan.pieces.items plan.fixes.items placement.sections.items placement.layout owner (reloc_tables placement.table) ready options.base) (one_length plan.names plan.pieces.items plan.fixes.items placement.sections.items placement.layout owner (reloc_tables placement.table) ready) refl (permits_are options.base ∙ permitted)
+          stays_means headers (plan.pieces.items ++ ready.rest) placement.sections.items placement.layout contents ready.laid (contents_room (kept_parts plan) plan.pieces.items plan.fixes.items placement.sections.items placement.layout owner (reloc_tables placement.table) ready options.base) (one_length (kept_parts plan) plan.pieces.items plan.fixes.items placement.sections.items placement.layout owner (reloc_tables placement.table) ready) refl (permits_are options.base ∙ permitted)
           (stays alone same.2)
 
   -- what is written of the plan means it
-  pub built : (made : Built) → is_permitted (base_rule options) placement.layout.image options.base ≡ true → in_table_fault plan.names placement.layout.pieces.items ≡ None → (0 < plan.names.exports.size → All (λ row. IsGiven row.what) (exported_rows plan.names placement.layout.pieces.items)) → fields_range_fault plan.names (rows_of placement.sections.items) placement.layout options.base ≡ None
-      → made.image.items ≡ file_of headers placement.sections.items placement.layout (linked_contents plan.names (rows_of placement.sections.items) placement.layout options.base) (reloc_tables placement.table) → made.sections ≡ length placement.sections.items → IsBuilt options plan.names made
+  pub built : (made : Built) → is_permitted (base_rule options) placement.layout.image options.base ≡ true → in_table_fault (kept_parts plan) placement.layout.pieces.items ≡ None → (0 < plan.names.exports.size → All (λ row. IsGiven row.what) (exported_rows (kept_parts plan) placement.layout.pieces.items)) → fields_range_fault (kept_parts plan) (rows_of placement.sections.items) placement.layout options.base ≡ None
+      → made.image.items ≡ file_of headers placement.sections.items placement.layout (linked_contents (kept_parts plan) (rows_of placement.sections.items) placement.layout options.base) (reloc_tables placement.table) → made.sections ≡ length placement.sections.items → IsBuilt options (kept_parts plan) made
   unfolding written_plan
   built made permitted outside given in_range is count =
       let file : made.image.items ≡ image_file image = is ∙ same_file headers placement.sections.items placement.layout (at_each_base (contents options.base)) contents refl in
@@ -229,13 +229,13 @@ module _ (options : LinkOptions) (plan : LinkPlan) (placement : Placement) (owne
           permitted = permitted;
           outside = outside;
           in_range = in_range;
-          is = ap (λ (place : Option EntryPlace). layout_plan (headers_of options (entry_rva placement.layout.pieces.items place) (directories_of plan.names placement.layout (reloc_tables placement.table))) placement.sections.items placement.layout contents) planned.entry_is;
+          is = ap (λ (place : Option EntryPlace). layout_plan (headers_of options (entry_rva placement.layout.pieces.items place) (directories_of (kept_parts plan) placement.layout (reloc_tables placement.table))) placement.sections.items placement.layout contents) planned.entry_is;
         };
         file = file;
         means = subst (MeansPlan image) (sym file) (means permitted);
         imports =
-            imports_there options plan placement owner planned placed ready headers (are_made plan.names) (entry_rva placement.layout.pieces.items plan.entry) made.image.items refl file (subst (MeansPlan image) (sym file) (means permitted)) planned.imports.readable;
+            imports_there options plan placement owner planned placed ready headers (are_made (kept_parts plan)) (entry_rva placement.layout.pieces.items plan.entry) made.image.items refl file (subst (MeansPlan image) (sym file) (means permitted)) (imports_are options plan planned).readable;
         exports =
-            exports_there options plan placement owner planned placed ready headers (are_made plan.names) outside given (entry_rva placement.layout.pieces.items plan.entry) made.image.items refl file (subst (MeansPlan image) (sym file) (means permitted));
+            exports_there options plan placement owner planned placed ready headers (are_made (kept_parts plan)) outside given (entry_rva placement.layout.pieces.items plan.entry) made.image.items refl file (subst (MeansPlan image) (sym file) (means permitted));
         count = count ∙ sym (length-section_rows (plan.pieces.items ++ ready.rest) placement.sections.items placement.layout ready.laid);
       }

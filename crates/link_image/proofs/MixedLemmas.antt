@@ -8,16 +8,15 @@ use Rattle.section_group.specs.Uniqueness.{SectionRow}
 use Rattle.address_layout.specs.declared.layout.Layout.{Layout}
 use Rattle.relocate.proofs.CallerLemmas.{length_patched}
 use Rattle.image_writer.specs.PieceInFile.{DiffersAt}
-use Rattle.link_pieces.specs.LinkParts.{LinkParts}
-use Rattle.link_pieces.specs.Pieces.{link_pieces}
-use Rattle.link_plan.specs.Fixes.{piece_fixes}
+use Rattle.link_pieces.specs.TablePieces.{KeptParts, whole_pieces}
+use Rattle.link_plan.specs.Planned.{planned_fixes}
 use Rattle.link_image.specs.LinkedBytes.{owners_in, contents_at, placed_contents, linked_bytes, linked_contents}
 use Rattle.link_image.specs.Steps.{mixed_at, mixed_contents}
 use Rattle.link_image.proofs.HeldLemmas.{length-placed, placed_read}
 
-module _ (link : LinkParts) (rows : List SectionRow) (layout : Layout) (base : ℕ) where
+module _ (link : KeptParts) (rows : List SectionRow) (layout : Layout) (base : ℕ) where
   abbrev total : ℕ
-  total = length (link_pieces link)
+  total = length (whole_pieces link)
 
   abbrev mixed : ℕ → List (List ℕ)
   mixed count = mixed_contents link rows layout base count
@@ -41,7 +40,7 @@ module _ (link : LinkParts) (rows : List SectionRow) (layout : Layout) (base : �
   unpatched_at count k le = rw (le-ltb k count le) refl
 
   length_linked : (k : ℕ) → length (linked_bytes link rows layout base k) ≡ length (contents_at link layout k)
-  length_linked k = length_patched base (get_or layout.pieces.items k 0) layout (owners_in rows layout) (piece_fixes link k) (contents_at link layout k)
+  length_linked k = length_patched base (get_or layout.pieces.items k 0) layout (owners_in rows layout) (planned_fixes link k) (contents_at link layout k)
 
   pub length_at : (count k : ℕ) → length (at count k) ≡ length (contents_at link layout k)
   length_at count k =

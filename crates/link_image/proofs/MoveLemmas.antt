@@ -26,14 +26,14 @@ use Rattle.relocate.proofs.CallerLemmas.{bytes_moved, byte_stays, ends_within, b
 use Rattle.image_writer.specs.WrittenImage.{HaveRoom}
 use Rattle.image_writer.specs.MovedContents.{HaveOneLength, IsMoved, AreMoved}
 use Rattle.image_writer.specs.PieceInFile.{piece_at}
-use Rattle.link_pieces.specs.LinkParts.{LinkParts}
-use Rattle.link_pieces.specs.Pieces.{link_pieces}
-use Rattle.link_plan.specs.Fixes.{piece_fixes, HaveFields}
+use Rattle.link_pieces.specs.TablePieces.{KeptParts, whole_pieces}
+use Rattle.link_plan.specs.Planned.{planned_fixes, HaveFields}
 use Rattle.link_plan.proofs.CallerLemmas.{plan_count}
 use Rattle.link_image.specs.BaseFields.{holds_address, base_field, IsBaseField, AreBaseFields}
 use Rattle.link_image.specs.LinkedBytes.{section_of, owners_in, contents_at, placed_contents, linked_bytes, image_contents}
 use Rattle.link_image.specs.Steps.{IsHeld, IsReady}
 use Rattle.link_image.proofs.HeldLemmas.{patchable_at, have_room_for, length-placed, placed_read, placed_held}
+use Rattle.link_image.proofs.UsedLemmas.{fields_used}
 use Rattle.link_image.proofs.StandsLemmas.{OwnerAt, owner_at}
 use Rattle.link_image.proofs.PieceMoves.{piece_read, table_read, length_piece, based_some, based_has_field, image_stays}
 
@@ -62,12 +62,12 @@ outside_fix rva t fix based (inr behind) = inr (let w = width_is rva fix based i
 
 -- ---- what is ready
 
-module _ (link : LinkParts) (pieces : List Piece) (fixups : List (List Fix)) (sections : List OutSection) (layout : Layout) (owner : List ℕ) (tables : List (List ℕ)) (ready : IsReady link pieces fixups sections layout owner tables) where
+module _ (link : KeptParts) (pieces : List Piece) (fixups : List (List Fix)) (sections : List OutSection) (layout : Layout) (owner : List ℕ) (tables : List (List ℕ)) (ready : IsReady link pieces fixups sections layout owner tables) where
   abbrev rows : List SectionRow
   rows = rows_of sections
 
   abbrev count : ℕ
-  count = length (link_pieces link)
+  count = length (whole_pieces link)
 
   abbrev contents : ℕ → List (List ℕ)
   contents base = image_contents link rows layout tables base
@@ -111,10 +111,10 @@ module _ (link : LinkParts) (pieces : List Piece) (fixups : List (List Fix)) (se
 
   -- ---- fields
 
-  have : HaveFields link (length (link_pieces link)) fixups
+  have : HaveFields link (length (whole_pieces link)) fixups
   have = subst (λ (n : ℕ). HaveFields link n fixups) count_is ready.fields
 
-  are_fields : (k : ℕ) → k < count → AreTheFields (piece_fixes link k) (get_or fixups k [])
+  are_fields : (k : ℕ) → k < count → AreTheFields (planned_fixes link k) (get_or fixups k [])
   are_fields k lt = have.fields k lt
 
   are_patchable : (k : ℕ) → k < count → ArePatchable (length (contents_at link layout k)) (get_or fixups k [])
@@ -130,10 +130,10 @@ module _ (link : LinkParts) (pieces : List Piece) (fixups : List (List Fix)) (se
   read_at base k place is lt = ap (λ (j : ℕ). get_or (contents base) j []) is ∙ piece_read link rows layout base tables k lt
 
   -- a piece with a field has bytes, so it stands in a section
-  stands_at : (k : ℕ) → k < count → 0 < length (contents_at link layout k) → OwnerAt sections k
-  stands_at k lt some =
+  stands_at : (k : ℕ) → k < count → 0 < length (planned_fixes link k) → 0 < length (contents_at link layout k) → OwnerAt sections k
+  stands_at k lt field some =
       let within : k < length pieces = omega (arith, lt, count_is) in
-      owner_at sections k (ready.stands k within (inl (sized (get_or pieces k no_piece) (ready.held k within))))
+      owner_at sections k (ready.stands k within (fields_used ready.options link k ready.kept_are field) (inl (sized (get_or pieces k no_piece) (ready.held k within))))
     where
       sized : (piece : Piece) → IsHeld piece (contents_at link layout k) → 0 < piece.size
       sized piece held = by piece.init refl
@@ -151,21 +151,21 @@ module _ (link : LinkParts) (pieces : List Piece) (fixups : List (List Fix)) (se
     judged_raised k lt =
         All-from_get_or (RaisesFix (bytes_of own k) (bytes_of base k) delta) (get_or fixups k []) no_fix (λ i within based. (
           let end = ends_within (length (contents_at link layout k)) (get_or fixups k []) i (are_patchable k lt) within in omega (arith, end, length_piece link rows layout own k),
-          bytes_moved own base (get_or layout.pieces.items k 0) layout (owners_in rows layout) (piece_fixes link k) (get_or fixups k []) (contents_at link layout k) (are_fields k lt) (are_patchable k lt) low i within based,
+          bytes_moved own base (get_or layout.pieces.items k 0) layout (owners_in rows layout) (planned_fixes link k) (get_or fixups k []) (contents_at link layout k) (are_fields k lt) (are_patchable k lt) low i within based,
         ))
 
-    fix_raised : (k i : ℕ) → k < count → i < length (piece_fixes link k) → RaisesFix (bytes_of own k) (bytes_of base k) delta (fix_at (piece_fixes link k) i)
+    fix_raised : (k i : ℕ) → k < count → i < length (planned_fixes link k) → RaisesFix (bytes_of own k) (bytes_of base k) delta (fix_at (planned_fixes link k) i)
     fix_raised k i lt within based =
-        among_fields (RaisesFix (bytes_of own k) (bytes_of base k) delta) (piece_fixes link k) (get_or fixups k []) i (are_fields k lt) (judged_raised k lt) within (based_has_field (fix_at (piece_fixes link k) i) based) based
+        among_fields (RaisesFix (bytes_of own k) (bytes_of base k) delta) (planned_fixes link k) (get_or fixups k []) i (are_fields k lt) (judged_raised k lt) within (based_has_field (fix_at (planned_fixes link k) i) based) based
 
     field_moved : (field : BaseField) → IsBaseField link layout.pieces.items field → IsMoved sections layout (contents own) (contents base) delta field
     field_moved field here =
         let k = here.piece in
-        let fix : Fix = fix_at (piece_fixes link k) here.index in
+        let fix : Fix = fix_at (planned_fixes link k) here.index in
         let raised = fix_raised k here.index here.there here.within here.based in
         let some : 0 < field_width fix.kind = based_some fix here.based in
         let end = raised.0 in
-        let at : OwnerAt sections k = stands_at k here.there (omega (arith, some, end, length_piece link rows layout own k)) in
+        let at : OwnerAt sections k = stands_at k here.there (omega (arith, here.within)) (omega (arith, some, end, length_piece link rows layout own k)) in
         let place = piece_at sections (section_of rows k) at.number in
         let was = read_at own k place at.is here.there in
         let is = read_at base k place at.is here.there in
@@ -190,7 +190,7 @@ module _ (link : LinkParts) (pieces : List Piece) (fixups : List (List Fix)) (se
       outside_judged k t lt outside i within based =
           let rva = get_or layout.pieces.items k 0 in
           let fix : Fix = fix_at (get_or fixups k []) i in
-          let among = (field_among (piece_fixes link k) (get_or fixups k []) i (are_fields k lt) within).1 in
+          let among = (field_among (planned_fixes link k) (get_or fixups k []) i (are_fields k lt) within).1 in
           let field : BaseField = base_field rva fix in
           let listed = are.all field (record {
             piece = k;
@@ -207,7 +207,7 @@ module _ (link : LinkParts) (pieces : List Piece) (fixups : List (List Fix)) (se
           elim (cases_lt k count) [
             | inl lt ↦
                 ap (λ (bs : List ℕ). slice_index bs t) (piece_read link rows layout base tables k lt)
-                ∙ byte_stays own base (get_or layout.pieces.items k 0) layout (owners_in rows layout) (piece_fixes link k) (get_or fixups k []) (contents_at link layout k) (are_fields k lt) (are_patchable k lt) t (outside_judged k t lt outside)
+                ∙ byte_stays own base (get_or layout.pieces.items k 0) layout (owners_in rows layout) (planned_fixes link k) (get_or fixups k []) (contents_at link layout k) (are_fields k lt) (are_patchable k lt) t (outside_judged k t lt outside)
                 ∙ sym (ap (λ (bs : List ℕ). slice_index bs t) (piece_read link rows layout own tables k lt))
             | inr le ↦ ap (λ (bs : List ℕ). slice_index bs t) (table_read link rows layout base tables k le ∙ sym (table_read link rows layout own tables k le))
           ]

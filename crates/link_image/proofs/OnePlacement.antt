@@ -13,9 +13,9 @@ use Rattle.address_layout.specs.Places.{IsLeastMultiple, end_before, file_before
 use Rattle.address_layout.proofs.CallerLemmas.{layout_same_rows, one_layout}
 use Rattle.base_reloc.specs.declared.field.BaseField.{BaseField}
 use Rattle.base_reloc.specs.PageBlocks.{IsAscending, blocks_of}
-use Rattle.link_pieces.specs.LinkParts.{LinkParts}
+use Rattle.link_pieces.specs.TablePieces.{KeptParts}
 use Rattle.link_words.specs.Outcome.{LinkOptions}
-use Rattle.link_plan.specs.Fixes.{plan_pieces}
+use Rattle.link_plan.specs.Planned.{plan_pieces}
 use Rattle.link_image.specs.BaseFields.{is_relocated, IsBaseField, AreBaseFields}
 use Rattle.link_image.specs.LinkedImage.{link_input, table_row, AreGrouped, ArePlaced, IsWhole, IsPlacement}
 
@@ -77,10 +77,10 @@ one_list low (x ∷ xs) (y ∷ ys) up down there back =
       | inr later ↦ later
     ]
 
-members : (link : LinkParts) (rvas : List ℕ) (xs ys : List BaseField) → AreBaseFields link rvas xs → AreBaseFields link rvas ys → (f : BaseField) → Contains xs f → Contains ys f
+members : (link : KeptParts) (rvas : List ℕ) (xs ys : List BaseField) → AreBaseFields link rvas xs → AreBaseFields link rvas ys → (f : BaseField) → Contains xs f → Contains ys f
 members link rvas xs ys x y f inside = y.all f (subst (IsBaseField link rvas) inside.2 (x.listed inside.0 f inside.1))
 
-pub one_base_fields : (link : LinkParts) (rvas : List ℕ) (xs ys : List BaseField) → AreBaseFields link rvas xs → AreBaseFields link rvas ys → xs ≡ ys
+pub one_base_fields : (link : KeptParts) (rvas : List ℕ) (xs ys : List BaseField) → AreBaseFields link rvas xs → AreBaseFields link rvas ys → xs ≡ ys
 one_base_fields link rvas xs ys x y =
     one_list 0 xs ys (rises_from 0 xs (λ some. omega arith) x.ascending) (rises_from 0 ys (λ some. omega arith) y.ascending) (members link rvas xs ys x y) (members link rvas ys xs y x)
 
@@ -142,15 +142,15 @@ one_refused_size old other len first second same has other_has =
 
 -- ---- one placement
 
-pub same_rows : (options : LinkOptions) (link : LinkParts) (xs ys : List OutSection) → AreGrouped options link (plan_pieces options link) xs → AreGrouped options link (plan_pieces options link) ys → rows_of xs ≡ rows_of ys
+pub same_rows : (options : LinkOptions) (link : KeptParts) (xs ys : List OutSection) → AreGrouped options link (plan_pieces options link) xs → AreGrouped options link (plan_pieces options link) ys → rows_of xs ≡ rows_of ys
 same_rows options link xs ys x y = one_grouping (link_input options link (plan_pieces options link)) xs ys x.grouping y.grouping
 
-pub same_layout : (options : LinkOptions) (link : LinkParts) (xs ys : List OutSection) (reloc : Bool) (a b : Layout) → AreGrouped options link (plan_pieces options link) xs → AreGrouped options link (plan_pieces options link) ys → ArePlaced (plan_pieces options link) xs reloc a → ArePlaced (plan_pieces options link) ys reloc b → SameLayout a b
+pub same_layout : (options : LinkOptions) (link : KeptParts) (xs ys : List OutSection) (reloc : Bool) (a b : Layout) → AreGrouped options link (plan_pieces options link) xs → AreGrouped options link (plan_pieces options link) ys → ArePlaced (plan_pieces options link) xs reloc a → ArePlaced (plan_pieces options link) ys reloc b → SameLayout a b
 same_layout options link xs ys reloc a b gx gy px py =
     one_layout (plan_pieces options link) ys reloc a b (layout_same_rows (plan_pieces options link) xs ys reloc a (same_rows options link xs ys gx gy) px.layout_of) py.layout_of
 
 -- the lists of two layouts of the same pieces
-pub same_fields : (options : LinkOptions) (link : LinkParts) (a b : Layout) (fields other : List BaseField) → SameLayout a b → AreBaseFields link a.pieces.items fields → AreBaseFields link b.pieces.items other → fields ≡ other
+pub same_fields : (options : LinkOptions) (link : KeptParts) (a b : Layout) (fields other : List BaseField) → SameLayout a b → AreBaseFields link a.pieces.items fields → AreBaseFields link b.pieces.items other → fields ≡ other
 same_fields options link a b fields other same x y =
     one_base_fields link b.pieces.items fields other (subst (λ (rvas : List ℕ). AreBaseFields link rvas fields) (sym same.pieces) x) y
 
@@ -159,7 +159,7 @@ pub record SamePlacement (rows other_rows : List SectionRow) (layout other : Lay
   pub layouts : SameLayout layout other
   pub tables_same : tables ≡ other_tables
 
-pub one_placement : (options : LinkOptions) (link : LinkParts) (rows other_rows : List SectionRow) (layout other : Layout) (tables other_tables : List (List ℕ)) → IsPlacement options link rows layout tables → IsPlacement options link other_rows other other_tables → SamePlacement rows other_rows layout other tables other_tables
+pub one_placement : (options : LinkOptions) (link : KeptParts) (rows other_rows : List SectionRow) (layout other : Layout) (tables other_tables : List (List ℕ)) → IsPlacement options link rows layout tables → IsPlacement options link other_rows other other_tables → SamePlacement rows other_rows layout other tables other_tables
 one_placement options link rows other_rows layout other tables other_tables x y = by (is_relocated options link) before x.whole y.whole
   where
     pieces_same : rows_of x.sections ≡ rows_of y.sections

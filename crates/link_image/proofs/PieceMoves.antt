@@ -17,18 +17,17 @@ use Rattle.relocate.specs.Value.{IsOutside as IsOutsideFix}
 use Rattle.relocate.specs.PatchedBytes.{is_based, HaveNoBased}
 use Rattle.relocate.proofs.OrderLemmas.{IsAmong}
 use Rattle.relocate.proofs.CallerLemmas.{length_patched, bytes_stay, fields_suited, field_moved, byte_stays, based_width, field_among, among_fields}
-use Rattle.link_pieces.specs.LinkParts.{LinkParts}
-use Rattle.link_pieces.specs.Pieces.{link_pieces}
-use Rattle.link_plan.specs.Fixes.{piece_fixes, HaveFields}
+use Rattle.link_pieces.specs.TablePieces.{KeptParts, whole_pieces}
+use Rattle.link_plan.specs.Planned.{planned_fixes, HaveFields}
 use Rattle.link_image.specs.BaseFields.{piece_holds_address, holds_address}
 use Rattle.link_image.specs.LinkedBytes.{owners_in, contents_at, linked_bytes, linked_contents, image_contents}
 use Rattle.link_image.proofs.HeldLemmas.{patchable_at}
 
 -- ---- the contents of a piece and a table
 
-module _ (link : LinkParts) (rows : List SectionRow) (layout : Layout) (base : ℕ) where
+module _ (link : KeptParts) (rows : List SectionRow) (layout : Layout) (base : ℕ) where
   abbrev total : ℕ
-  total = length (link_pieces link)
+  total = length (whole_pieces link)
 
   abbrev linked : List (List ℕ)
   linked = linked_contents link rows layout base
@@ -48,7 +47,7 @@ module _ (link : LinkParts) (rows : List SectionRow) (layout : Layout) (base : �
   table_read tables k le = get_or-append_right linked tables total k [] length_linked le
 
   pub length_piece : (k : ℕ) → length (linked_bytes link rows layout base k) ≡ length (contents_at link layout k)
-  length_piece k = length_patched base (get_or layout.pieces.items k 0) layout (owners_in rows layout) (piece_fixes link k) (contents_at link layout k)
+  length_piece k = length_patched base (get_or layout.pieces.items k 0) layout (owners_in rows layout) (planned_fixes link k) (contents_at link layout k)
 
 -- ---- a test that nothing passes
 
@@ -73,9 +72,9 @@ based_has_field fix based = lt-ltb 0 (field_width fix.kind) (based_some fix base
 
 -- ---- judged fields
 
-module _ (link : LinkParts) (fixups : List (List Fix)) (rows : List SectionRow) (layout : Layout) (have : HaveFields link (length (link_pieces link)) fixups) where
+module _ (link : KeptParts) (fixups : List (List Fix)) (rows : List SectionRow) (layout : Layout) (have : HaveFields link (length (whole_pieces link)) fixups) where
   abbrev count : ℕ
-  count = length (link_pieces link)
+  count = length (whole_pieces link)
 
   abbrev bytes_of : ℕ → ℕ → List ℕ
   bytes_of base k = linked_bytes link rows layout base k
@@ -89,10 +88,10 @@ module _ (link : LinkParts) (fixups : List (List Fix)) (rows : List SectionRow) 
       let at : get_or (range_with_len 0 count) k 0 ≡ k = get_or-range_with_len 0 count k 0 lt ∙ omega arith in
       ap (piece_holds_address link) (sym at) ∙ not_any (piece_holds_address link) (range_with_len 0 count) k 0 none (omega (arith, lt, n))
 
-  none_based : holds_address link ≡ false → (k : ℕ) → k < count → HaveNoBased (piece_fixes link k)
-  none_based none k lt = λ i d within some. not_any is_based (piece_fixes link k) i d (holds_none none k lt) within
+  none_based : holds_address link ≡ false → (k : ℕ) → k < count → HaveNoBased (planned_fixes link k)
+  none_based none k lt = λ i d within some. not_any is_based (planned_fixes link k) i d (holds_none none k lt) within
 
-  pub are_fields : (k : ℕ) → k < count → AreTheFields (piece_fixes link k) (get_or fixups k [])
+  pub are_fields : (k : ℕ) → k < count → AreTheFields (planned_fixes link k) (get_or fixups k [])
   are_fields k lt = have.fields k lt
 
   pub are_patchable : (k : ℕ) → k < count → ArePatchable (length (contents_at link layout k)) (get_or fixups k [])
@@ -100,8 +99,8 @@ module _ (link : LinkParts) (fixups : List (List Fix)) (rows : List SectionRow) 
 
   piece_stays : holds_address link ≡ false → (base other k : ℕ) → k < count → bytes_of base k ≡ bytes_of other k
   piece_stays none base other k lt =
-      bytes_stay false false base other (get_or layout.pieces.items k 0) layout (owners_in rows layout) (piece_fixes link k) (contents_at link layout k)
-      (fields_suited (piece_fixes link k) (get_or fixups k []) (length (contents_at link layout k)) (are_fields k lt) (are_patchable k lt))
+      bytes_stay false false base other (get_or layout.pieces.items k 0) layout (owners_in rows layout) (planned_fixes link k) (contents_at link layout k)
+      (fields_suited (planned_fixes link k) (get_or fixups k []) (length (contents_at link layout k)) (are_fields k lt) (are_patchable k lt))
       (none_based none k lt)
 
   pub linked_stay : holds_address link ≡ false → (base other : ℕ) → linked_contents link rows layout base ≡ linked_contents link rows layout other
@@ -122,16 +121,16 @@ module _ (link : LinkParts) (fixups : List (List Fix)) (rows : List SectionRow) 
       is_based fix ≡ true
       → number_at (field_width fix.kind) (bytes_of base k) fix.at ≡ (number_at (field_width fix.kind) (bytes_of own k) fix.at + base_delta own base) % 2 ^ (8 * field_width fix.kind)
 
-  pub fix_moves : (own base : ℕ) → own < 2 ^ 64 → (k i : ℕ) → k < count → i < length (piece_fixes link k) → MovesFix own base k (fix_at (piece_fixes link k) i)
+  pub fix_moves : (own base : ℕ) → own < 2 ^ 64 → (k i : ℕ) → k < count → i < length (planned_fixes link k) → MovesFix own base k (fix_at (planned_fixes link k) i)
   fix_moves own base low k i lt within based =
-      among_fields (MovesFix own base k) (piece_fixes link k) (get_or fixups k []) i (are_fields k lt)
-      (All-from_get_or (MovesFix own base k) (get_or fixups k []) no_fix (λ j inside. field_moved own base (get_or layout.pieces.items k 0) layout (owners_in rows layout) (piece_fixes link k) (get_or fixups k []) (contents_at link layout k) (are_fields k lt) (are_patchable k lt) low j inside))
-      within (based_has_field (fix_at (piece_fixes link k) i) based) based
+      among_fields (MovesFix own base k) (planned_fixes link k) (get_or fixups k []) i (are_fields k lt)
+      (All-from_get_or (MovesFix own base k) (get_or fixups k []) no_fix (λ j inside. field_moved own base (get_or layout.pieces.items k 0) layout (owners_in rows layout) (planned_fixes link k) (get_or fixups k []) (contents_at link layout k) (are_fields k lt) (are_patchable k lt) low j inside))
+      within (based_has_field (fix_at (planned_fixes link k) i) based) based
 
   -- a byte of no such field is the same
-  pub byte_kept : (own base k t : ℕ) → k < count → ((i : ℕ) → i < length (piece_fixes link k) → is_based (fix_at (piece_fixes link k) i) ≡ true → IsOutsideFix t (fix_at (piece_fixes link k) i)) → slice_index (bytes_of base k) t ≡ slice_index (bytes_of own k) t
+  pub byte_kept : (own base k t : ℕ) → k < count → ((i : ℕ) → i < length (planned_fixes link k) → is_based (fix_at (planned_fixes link k) i) ≡ true → IsOutsideFix t (fix_at (planned_fixes link k) i)) → slice_index (bytes_of base k) t ≡ slice_index (bytes_of own k) t
   unfolding IsAmong
   byte_kept own base k t lt outside =
-      byte_stays own base (get_or layout.pieces.items k 0) layout (owners_in rows layout) (piece_fixes link k) (get_or fixups k []) (contents_at link layout k) (are_fields k lt) (are_patchable k lt) t (λ j inside based.
-      let among = (field_among (piece_fixes link k) (get_or fixups k []) j (are_fields k lt) inside).1 in
+      byte_stays own base (get_or layout.pieces.items k 0) layout (owners_in rows layout) (planned_fixes link k) (get_or fixups k []) (contents_at link layout k) (are_fields k lt) (are_patchable k lt) t (λ j inside based.
+      let among = (field_among (planned_fixes link k) (get_or fixups k []) j (are_fields k lt) inside).1 in
       subst (IsOutsideFix t) among.2 (outside among.0 among.1 (ap is_based among.2 ∙ based)))

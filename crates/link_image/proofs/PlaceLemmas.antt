@@ -9,79 +9,75 @@ use Rattle.address_layout.specs.declared.layout.Layout.{Layout}
 use Rattle.relocate.specs.PatchedBytes.{patched_bytes, range_fault}
 use Rattle.relocate.proofs.PlaceLemmas.{bytes_by_places}
 use Rattle.relocate.proofs.PlaceLemmas as places
-use Rattle.link_pieces.specs.LinkParts.{LinkParts}
+use Rattle.link_pieces.specs.TablePieces.{KeptParts, kept_rows, is_table, table_index, whole_pieces, whole_contents, whole_piece}
 use Rattle.import_tables.specs.ImportDirectory.{Imports}
 use Rattle.import_tables.specs.ReadBack.{found_of}
 use Rattle.import_tables.specs.ImportTables.{tables_of as import_tables_of}
-use Rattle.link_imports.specs.Imports.{import_rows}
-use Rattle.link_pieces.specs.LinkerPieces.{is_table}
 use Rattle.synthetic_sections.specs.LinkerPieces.{EXPORTS}
 use Rattle.export_tables.specs.ExportTable.{export_table}
 use Rattle.export_tables.specs.ReadBack.{exported_name, exported_ordinal}
-use Rattle.link_pieces.specs.PieceIndex.{linker_index}
-use Rattle.link_pieces.specs.Pieces.{link_pieces, link_contents}
-use Rattle.link_plan.specs.Fixes.{piece_at, piece_fixes}
+use Rattle.link_plan.specs.Planned.{planned_fixes}
 use Rattle.link_image.specs.declared.headers.Directories.{Directories}
 use Rattle.link_image.specs.LinkedImage.{extent_of, directories_of, HoldsImports, HoldsExports}
 use Rattle.link_image.specs.LinkedBytes.{owners, owners_in, rva_of, table_rvas, import_tables_at, exported_rows, export_table_at, contents_at, linked_bytes, linked_contents, out_of_range, piece_range_fault, fields_range_fault}
 
 module _ (layout other : Layout) (pieces : layout.pieces.items ≡ other.pieces.items) (sections : layout.sections.items ≡ other.sections.items) where
-  held_same : (link : LinkParts) (k : ℕ) → contents_at link layout k ≡ contents_at link other k
+  held_same : (link : KeptParts) (k : ℕ) → contents_at link layout k ≡ contents_at link other k
   unfolding contents_at import_tables_at export_table_at table_rvas
   held_same link k =
-      ap (λ (rvas : List ℕ). cond (is_table (length link.modules) (piece_at link k)) (get_or (import_tables_of (import_rows link.modules) (map (λ number. rva_of rvas (linker_index link number)) (range_with_len 0 5)) ++ cond (eqb link.exports.size 0) [] (export_table (exported_rows link rvas) link.exports.ordinals link.exports.dll link.exports.time (rva_of rvas (linker_index link EXPORTS))) ∷ []) (piece_at link k).number []) (get_or (link_contents link) k [])) pieces
+      ap (λ (rvas : List ℕ). cond (is_table (length link.parts.modules) (whole_piece link k)) (get_or (import_tables_of (kept_rows link) (map (λ number. rva_of rvas (table_index link number)) (range_with_len 0 5)) ++ cond (eqb link.parts.exports.size 0) [] (export_table (exported_rows link rvas) link.parts.exports.ordinals link.parts.exports.dll link.parts.exports.time (rva_of rvas (table_index link EXPORTS))) ∷ []) (whole_piece link k).number []) (get_or (whole_contents link) k [])) pieces
 
-  piece_same : (link : LinkParts) (rows : List SectionRow) (base k : ℕ) → linked_bytes link rows layout base k ≡ linked_bytes link rows other base k
+  piece_same : (link : KeptParts) (rows : List SectionRow) (base k : ℕ) → linked_bytes link rows layout base k ≡ linked_bytes link rows other base k
   piece_same link rows base k =
-      bytes_by_places layout other pieces sections base (get_or layout.pieces.items k 0) (owners_in rows layout) (piece_fixes link k) (contents_at link layout k)
-      ∙ ap (λ (rvas : List ℕ). patched_bytes base (get_or rvas k 0) other (owners rows (length rvas)) (piece_fixes link k) (contents_at link layout k)) pieces
-      ∙ ap (patched_bytes base (get_or other.pieces.items k 0) other (owners_in rows other) (piece_fixes link k)) (held_same link k)
+      bytes_by_places layout other pieces sections base (get_or layout.pieces.items k 0) (owners_in rows layout) (planned_fixes link k) (contents_at link layout k)
+      ∙ ap (λ (rvas : List ℕ). patched_bytes base (get_or rvas k 0) other (owners rows (length rvas)) (planned_fixes link k) (contents_at link layout k)) pieces
+      ∙ ap (patched_bytes base (get_or other.pieces.items k 0) other (owners_in rows other) (planned_fixes link k)) (held_same link k)
 
-  fault_same : (link : LinkParts) (rows : List SectionRow) (base k : ℕ) → piece_range_fault link rows layout base k ≡ piece_range_fault link rows other base k
+  fault_same : (link : KeptParts) (rows : List SectionRow) (base k : ℕ) → piece_range_fault link rows layout base k ≡ piece_range_fault link rows other base k
   fault_same link rows base k =
-      ap (option_map (out_of_range (piece_at link k)))
-      (places.range_by_places layout other pieces sections base (get_or layout.pieces.items k 0) (owners_in rows layout) (piece_fixes link k) (contents_at link layout k)
-      ∙ ap (λ (rvas : List ℕ). range_fault base (get_or rvas k 0) other (owners rows (length rvas)) (piece_fixes link k) (contents_at link layout k)) pieces
-      ∙ ap (range_fault base (get_or other.pieces.items k 0) other (owners_in rows other) (piece_fixes link k)) (held_same link k))
+      ap (option_map (out_of_range (whole_piece link k)))
+      (places.range_by_places layout other pieces sections base (get_or layout.pieces.items k 0) (owners_in rows layout) (planned_fixes link k) (contents_at link layout k)
+      ∙ ap (λ (rvas : List ℕ). range_fault base (get_or rvas k 0) other (owners rows (length rvas)) (planned_fixes link k) (contents_at link layout k)) pieces
+      ∙ ap (range_fault base (get_or other.pieces.items k 0) other (owners_in rows other) (planned_fixes link k)) (held_same link k))
 
-pub contents_by_places : (link : LinkParts) (rows : List SectionRow) (layout other : Layout) → layout.pieces.items ≡ other.pieces.items → layout.sections.items ≡ other.sections.items → linked_contents link rows layout ≡ linked_contents link rows other
+pub contents_by_places : (link : KeptParts) (rows : List SectionRow) (layout other : Layout) → layout.pieces.items ≡ other.pieces.items → layout.sections.items ≡ other.sections.items → linked_contents link rows layout ≡ linked_contents link rows other
 unfolding linked_contents
 contents_by_places link rows layout other pieces sections =
-    fun_ext (λ base. ap (λ (f : ℕ → List ℕ). map f (range_with_len 0 (length (link_pieces link)))) (fun_ext (λ k. piece_same layout other pieces sections link rows base k)))
+    fun_ext (λ base. ap (λ (f : ℕ → List ℕ). map f (range_with_len 0 (length (whole_pieces link)))) (fun_ext (λ k. piece_same layout other pieces sections link rows base k)))
 
-pub range_by_places : (link : LinkParts) (rows : List SectionRow) (layout other : Layout) (base : ℕ) → layout.pieces.items ≡ other.pieces.items → layout.sections.items ≡ other.sections.items → fields_range_fault link rows layout base ≡ fields_range_fault link rows other base
+pub range_by_places : (link : KeptParts) (rows : List SectionRow) (layout other : Layout) (base : ℕ) → layout.pieces.items ≡ other.pieces.items → layout.sections.items ≡ other.sections.items → fields_range_fault link rows layout base ≡ fields_range_fault link rows other base
 unfolding fields_range_fault
 range_by_places link rows layout other base pieces sections =
-    ap (λ (f : ℕ → Option Fault). first_refusal_below (length (link_pieces link)) f) (fun_ext (λ k. fault_same layout other pieces sections link rows base k))
+    ap (λ (f : ℕ → Option Fault). first_refusal_below (length (whole_pieces link)) f) (fun_ext (λ k. fault_same layout other pieces sections link rows base k))
 
 -- the directories, by the RVAs of the pieces and the one of the base relocations
-directories : LinkParts → ℕ × ℕ → List ℕ → Directories
+directories : KeptParts → ℕ × ℕ → List ℕ → Directories
 directories link relocations rvas = record {
-  exports = extent_of (link_pieces link) rvas (linker_index link EXPORTS);
-  imports = extent_of (link_pieces link) rvas (linker_index link 0);
-  slots = extent_of (link_pieces link) rvas (linker_index link 2);
+  exports = extent_of (whole_pieces link) rvas (table_index link EXPORTS);
+  imports = extent_of (whole_pieces link) rvas (table_index link 0);
+  slots = extent_of (whole_pieces link) rvas (table_index link 2);
   relocations = relocations;
 }
 
-pub directories_by_places : (link : LinkParts) (layout other : Layout) (tables : List (List ℕ)) → layout.pieces.items ≡ other.pieces.items → directories_of link layout tables ≡ directories_of link other tables
+pub directories_by_places : (link : KeptParts) (layout other : Layout) (tables : List (List ℕ)) → layout.pieces.items ≡ other.pieces.items → directories_of link layout tables ≡ directories_of link other tables
 unfolding directories
 directories_by_places link layout other [] pieces = ap (directories link (0, 0)) pieces
 directories_by_places link layout other (table ∷ tables) pieces =
     ap (λ (rvas : List ℕ). directories link (get_or rvas (length rvas - 1) 0, length table) rvas) pieces
 
 -- the RVAs of the import tables, and so the imports that an image holds
-rvas_by_places : (link : LinkParts) (layout other : Layout) → layout.pieces.items ≡ other.pieces.items → table_rvas link layout ≡ table_rvas link other
+rvas_by_places : (link : KeptParts) (layout other : Layout) → layout.pieces.items ≡ other.pieces.items → table_rvas link layout ≡ table_rvas link other
 unfolding table_rvas
 rvas_by_places link layout other pieces =
-    ap (λ (rvas : List ℕ). map (λ number. rva_of rvas (linker_index link number)) (range_with_len 0 5)) pieces
+    ap (λ (rvas : List ℕ). map (λ number. rva_of rvas (table_index link number)) (range_with_len 0 5)) pieces
 
-pub imports_by_places : (link : LinkParts) (layout other : Layout) (image : List ℕ) → layout.pieces.items ≡ other.pieces.items → HoldsImports link layout image → HoldsImports link other image
+pub imports_by_places : (link : KeptParts) (layout other : Layout) (image : List ℕ) → layout.pieces.items ≡ other.pieces.items → HoldsImports link layout image → HoldsImports link other image
 imports_by_places link layout other image pieces holds base memory loads =
-    holds base memory loads ∙ ap (λ (rvas : List ℕ). Imports (found_of (import_rows link.modules) rvas)) (rvas_by_places link layout other pieces)
+    holds base memory loads ∙ ap (λ (rvas : List ℕ). Imports (found_of (kept_rows link) rvas)) (rvas_by_places link layout other pieces)
 
 -- and its exports
-pub exports_by_places : (link : LinkParts) (layout other : Layout) (image : List ℕ) → layout.pieces.items ≡ other.pieces.items → HoldsExports link layout image → HoldsExports link other image
+pub exports_by_places : (link : KeptParts) (layout other : Layout) (image : List ℕ) → layout.pieces.items ≡ other.pieces.items → HoldsExports link layout image → HoldsExports link other image
 exports_by_places link layout other image pieces holds = record {
   by_name = λ base memory name loads. holds.by_name base memory name loads ∙ ap (λ (rvas : List ℕ). exported_name (exported_rows link rvas) name) pieces;
-  by_ordinal = λ base memory ordinal loads. holds.by_ordinal base memory ordinal loads ∙ ap (λ (rvas : List ℕ). exported_ordinal (exported_rows link rvas) link.exports.ordinals ordinal) pieces;
+  by_ordinal = λ base memory ordinal loads. holds.by_ordinal base memory ordinal loads ∙ ap (λ (rvas : List ℕ). exported_ordinal (exported_rows link rvas) link.parts.exports.ordinals ordinal) pieces;
 }

@@ -1,8 +1,8 @@
 -- From what grouping and placing say of the pieces of a plan to what they say of the modules.
-use Rattle.std.proofs.Common.{◌≡◌, ℕ, suc, ◌+◌, ◌<◌, ◌^◌, ◌⊎◌, Bool, true, false, ◌≤◌, List, [], ◌∷◌, ◌++◌, length, length-append, map, replicate, get_or, Some, None, refl, sym, ap, ◌∙◌, subst, inl, inr, arith}
+use Rattle.std.proofs.Common.{◌≡◌, ℕ, suc, ◌+◌, ◌<◌, ◌^◌, ◌⊎◌, Bool, true, false, ◌≤◌, List, [], ◌∷◌, ◌++◌, length, length-append, map, get_or, Some, None, refl, sym, ap, ◌∙◌, subst, inl, inr, arith}
 use Rattle.std.specs.List.{All, Contains}
 use Rattle.std.proofs.lemmas.Bool.{lt-ltb, and_from, or_left, or_right}
-use Rattle.std.proofs.lemmas.List.{length-map, map-append, append-nil, get_or-replicate, get_or_append_left}
+use Rattle.std.proofs.lemmas.List.{length-map, map-append, append-nil, get_or_append_left}
 use Rattle.std.proofs.lemmas.List.Elements.{All-nil, All-cons, Contains-append_left}
 use Rattle.std.proofs.lemmas.Grind.{flat_map-append}
 use Rattle.link_base.specs.declared.fault.Fault.TheVariants as faults
@@ -28,14 +28,13 @@ use Rattle.link_base.specs.declared.fault.Fault.{Fault}
 use Rattle.section_group.specs.PieceContents.{piece_contents}
 use Rattle.image_writer.specs.WrittenImage.{section_rows, written_plan, layout_plan, IsLaidOut}
 use Rattle.image_writer.proofs.CallerLemmas.{laid_out, appended_laid_out}
-use Rattle.link_pieces.specs.LinkParts.{LinkParts}
-use Rattle.link_plan.specs.Plan.{merges_of}
-use Rattle.link_plan.specs.Fixes.{plan_pieces}
+use Rattle.link_pieces.specs.TablePieces.{KeptParts}
+use Rattle.link_plan.specs.Plan.{merges_of, IsPlanOf, kept_parts}
+use Rattle.link_plan.specs.Planned.{used_pieces, plan_pieces}
 use Rattle.link_words.specs.Outcome.{LinkOptions}
-use Rattle.link_plan.specs.declared.entry.EntryPlace.{EntryPlace}
+use Rattle.link_fields.specs.declared.entry.EntryPlace.{EntryPlace}
 use Rattle.link_plan.specs.declared.planning.LinkPlan.{LinkPlan}
 use Rattle.link_plan.specs.Laid.{StandsNamed}
-use Rattle.link_plan.specs.Plan.{IsPlanOf}
 use Rattle.base_reloc.specs.declared.field.BaseField.{BaseField}
 use Rattle.base_reloc.specs.PageBlocks.{blocks_of}
 use Rattle.address_layout.specs.Growth.{Appends, IsGrowRefusal}
@@ -52,17 +51,16 @@ use Rattle.link_image.proofs.HeldLemmas.{held_at}
 -- ---- pieces without their bytes
 
 -- the grouping of the pieces of a plan is that of the modules
-pub grouped_modules : (options : LinkOptions) (link : LinkParts) (pieces : List Piece) (sections : List OutSection) → map bare pieces ≡ plan_pieces options link → AreGrouped options link pieces sections → AreGrouped options link (plan_pieces options link) sections
+pub grouped_modules : (options : LinkOptions) (link : KeptParts) (pieces : List Piece) (sections : List OutSection) → map bare pieces ≡ plan_pieces options link → AreGrouped options link pieces sections → AreGrouped options link (plan_pieces options link) sections
 grouped_modules options link pieces sections are grouped =
-    let used : replicate (length pieces) true ≡ replicate (length (map bare pieces)) true = ap (λ (n : ℕ). replicate n true) (sym (length-map pieces bare)) in
-    let bared = subst (λ (u : List Bool). IsGrouping (input_from (map bare pieces) u (merges_of options link)) sections) used (grouping_bare pieces (replicate (length pieces) true) (merges_of options link) sections grouped.grouping) in
+    let bared : IsGrouping (input_from (map bare pieces) (used_pieces link) (merges_of options link.parts)) sections = grouping_bare pieces (used_pieces link) (merges_of options link.parts) sections grouped.grouping in
     record {
       merges = grouped.merges;
       exports = grouped.exports;
       grouping = subst (λ (ps : List Piece). IsGrouping (link_input options link ps) sections) are bared;
     }
 
-pub placed_modules : (options : LinkOptions) (link : LinkParts) (pieces : List Piece) (sections : List OutSection) (reloc : Bool) (layout : Layout) → map bare pieces ≡ plan_pieces options link → ArePlaced pieces sections reloc layout → ArePlaced (plan_pieces options link) sections reloc layout
+pub placed_modules : (options : LinkOptions) (link : KeptParts) (pieces : List Piece) (sections : List OutSection) (reloc : Bool) (layout : Layout) → map bare pieces ≡ plan_pieces options link → ArePlaced pieces sections reloc layout → ArePlaced (plan_pieces options link) sections reloc layout
 placed_modules options link pieces sections reloc layout are placed = record {
   layout_of = subst (λ (ps : List Piece). IsLayout ps sections reloc layout) are (layout_bare pieces sections reloc layout placed.layout_of);
   few = placed.few;
@@ -72,15 +70,15 @@ placed_modules options link pieces sections reloc layout are placed = record {
 
 -- ---- each piece stands once
 
-pub standing : (options : LinkOptions) (link : LinkParts) (pieces : List Piece) (sections : List OutSection) → AreGrouped options link pieces sections → StandOnce pieces sections
+pub standing : (options : LinkOptions) (link : KeptParts) (pieces : List Piece) (sections : List OutSection) → AreGrouped options link pieces sections → StandOnce pieces sections
 standing options link pieces sections grouped = stand_once (link_input options link pieces) sections grouped.grouping
 
 -- ---- why there is no image
 
-pub bad_merge : (options : LinkOptions) (link : LinkParts) (name : List ℕ) → NamesFirstBad (merges_of options link) name → IsBuildFault options link (faults.BadMerge name)
+pub bad_merge : (options : LinkOptions) (link : KeptParts) (name : List ℕ) → NamesFirstBad (merges_of options link.parts) name → IsBuildFault options link (faults.BadMerge name)
 bad_merge options link name named = inl (record { name = name; named = named; is = refl })
 
-pub too_many : (options : LinkOptions) (link : LinkParts) (pieces : List Piece) (sections : List OutSection) (reloc : Bool) (count : ℕ) → map bare pieces ≡ plan_pieces options link → AreGrouped options link pieces sections → reloc ≡ is_relocated options link → IsPlaceRefusal pieces sections reloc (bad.TooManySections count) → IsBuildFault options link (faults.TooManySections count)
+pub too_many : (options : LinkOptions) (link : KeptParts) (pieces : List Piece) (sections : List OutSection) (reloc : Bool) (count : ℕ) → map bare pieces ≡ plan_pieces options link → AreGrouped options link pieces sections → reloc ≡ is_relocated options link → IsPlaceRefusal pieces sections reloc (bad.TooManySections count) → IsBuildFault options link (faults.TooManySections count)
 too_many options link pieces sections reloc count are grouped same refused =
     inr (inr (inl (record {
       sections = sections;
@@ -90,7 +88,7 @@ too_many options link pieces sections reloc count are grouped same refused =
       is = refl;
     })))
 
-pub too_large : (options : LinkOptions) (link : LinkParts) (pieces : List Piece) (sections : List OutSection) (reloc : Bool) (size : ℕ) → map bare pieces ≡ plan_pieces options link → AreGrouped options link pieces sections → reloc ≡ is_relocated options link → IsPlaceRefusal pieces sections reloc (bad.ImageTooLarge size) → IsBuildFault options link (faults.ImageTooLarge size)
+pub too_large : (options : LinkOptions) (link : KeptParts) (pieces : List Piece) (sections : List OutSection) (reloc : Bool) (size : ℕ) → map bare pieces ≡ plan_pieces options link → AreGrouped options link pieces sections → reloc ≡ is_relocated options link → IsPlaceRefusal pieces sections reloc (bad.ImageTooLarge size) → IsBuildFault options link (faults.ImageTooLarge size)
 too_large options link pieces sections reloc size are grouped same refused =
     let bared : IsPlaceRefusal (map bare pieces) sections reloc (bad.ImageTooLarge size) = (refused.0, size_bare pieces sections reloc size refused.1, refused.2) in
     inr (inr (inr (inl (record {
@@ -101,7 +99,7 @@ too_large options link pieces sections reloc size are grouped same refused =
       is = refl;
     }))))
 
-pub large_table : (options : LinkOptions) (link : LinkParts) (pieces : List Piece) (sections : List OutSection) (layout : Layout) (fields : List BaseField) (size : ℕ) → map bare pieces ≡ plan_pieces options link → AreGrouped options link pieces sections → ArePlaced pieces sections true layout → is_relocated options link ≡ true → AreBaseFields link layout.pieces.items fields → IsGrowRefusal layout (length (blocks_of fields)) (bad.ImageTooLarge size) → IsBuildFault options link (faults.ImageTooLarge size)
+pub large_table : (options : LinkOptions) (link : KeptParts) (pieces : List Piece) (sections : List OutSection) (layout : Layout) (fields : List BaseField) (size : ℕ) → map bare pieces ≡ plan_pieces options link → AreGrouped options link pieces sections → ArePlaced pieces sections true layout → is_relocated options link ≡ true → AreBaseFields link layout.pieces.items fields → IsGrowRefusal layout (length (blocks_of fields)) (bad.ImageTooLarge size) → IsBuildFault options link (faults.ImageTooLarge size)
 large_table options link pieces sections layout fields size are grouped placed relocated based refused =
     inr (inr (inr (inl (record {
       sections = sections;
@@ -118,26 +116,26 @@ large_table options link pieces sections layout fields size are grouped placed r
       is = refl;
     }))))
 
-pub bad_base : (options : LinkOptions) (link : LinkParts) (rows : List OutRow) (layout : Layout) (tables : List (List ℕ)) → IsPlacement options link rows layout tables → is_permitted (base_rule options) layout.image options.base ≡ false → IsBuildFault options link (faults.BaseRange options.base)
+pub bad_base : (options : LinkOptions) (link : KeptParts) (rows : List OutRow) (layout : Layout) (tables : List (List ℕ)) → IsPlacement options link rows layout tables → is_permitted (base_rule options) layout.image options.base ≡ false → IsBuildFault options link (faults.BaseRange options.base)
 bad_base options link rows layout tables placement refused =
     inr (inr (inr (inr (inl (record { rows = rows; layout = layout; tables = tables; placement = placement; refused = refused; is = refl })))))
 
 -- a value that does not fit
-pub bad_range : (options : LinkOptions) (link : LinkParts) (rows : List OutRow) (layout : Layout) (tables : List (List ℕ)) (fault : Fault) → IsPlacement options link rows layout tables → is_permitted (base_rule options) layout.image options.base ≡ true → in_table_fault link layout.pieces.items ≡ None → fields_range_fault link rows layout options.base ≡ Some fault → IsBuildFault options link fault
+pub bad_range : (options : LinkOptions) (link : KeptParts) (rows : List OutRow) (layout : Layout) (tables : List (List ℕ)) (fault : Fault) → IsPlacement options link rows layout tables → is_permitted (base_rule options) layout.image options.base ≡ true → in_table_fault link layout.pieces.items ≡ None → fields_range_fault link rows layout options.base ≡ Some fault → IsBuildFault options link fault
 bad_range options link rows layout tables fault placement permitted outside is =
     inr (inr (inr (inr (inr (inr (record { rows = rows; layout = layout; tables = tables; placement = placement; permitted = permitted; outside = outside; is = is }))))))
 
 -- a bad export
-pub bad_export : (options : LinkOptions) (link : LinkParts) (fault : Fault) → HasNoBadMerge (merges_of options link) → export_fault link ≡ Some fault → IsBuildFault options link fault
+pub bad_export : (options : LinkOptions) (link : KeptParts) (fault : Fault) → HasNoBadMerge (merges_of options link.parts) → export_fault link ≡ Some fault → IsBuildFault options link fault
 bad_export options link fault merges is = inr (inl (record { merges = merges; is = is }))
 
 -- one that lies in the table
-pub export_in_table : (options : LinkOptions) (link : LinkParts) (rows : List OutRow) (layout : Layout) (tables : List (List ℕ)) (fault : Fault) → IsPlacement options link rows layout tables → is_permitted (base_rule options) layout.image options.base ≡ true → in_table_fault link layout.pieces.items ≡ Some fault → IsBuildFault options link fault
+pub export_in_table : (options : LinkOptions) (link : KeptParts) (rows : List OutRow) (layout : Layout) (tables : List (List ℕ)) (fault : Fault) → IsPlacement options link rows layout tables → is_permitted (base_rule options) layout.image options.base ≡ true → in_table_fault link layout.pieces.items ≡ Some fault → IsBuildFault options link fault
 export_in_table options link rows layout tables fault placement permitted is =
     inr (inr (inr (inr (inr (inl (record { rows = rows; layout = layout; tables = tables; placement = placement; permitted = permitted; is = is }))))))
 
-pub used_there : (options : LinkOptions) (link : LinkParts) (pieces : List Piece) (k : ℕ) → k < length pieces → is_used (link_input options link pieces) k ≡ true
-used_there options link pieces k lt = and_from _ _ (lt-ltb k (length pieces) lt) (get_or-replicate (length pieces) k true false lt)
+pub used_there : (options : LinkOptions) (link : KeptParts) (pieces : List Piece) (k : ℕ) → k < length pieces → get_or (used_pieces link) k false ≡ true → is_used (link_input options link pieces) k ≡ true
+used_there options link pieces k lt kept = and_from _ _ (lt-ltb k (length pieces) lt) kept
 
 pub needs_there : (input : Input) (k : ℕ) → (0 < (get_or input.pieces k no_piece).size) ⊎ ((get_or input.pieces k no_piece).named ≡ true) → needs_place input k ≡ true
 needs_there input k (inl some) = or_left _ _ (lt-ltb 0 (get_or input.pieces k no_piece).size some)
@@ -146,20 +144,20 @@ needs_there input k (inr named) = or_right _ _ named
 -- ---- the entry
 
 -- a piece that is named stands in a section, so an offset in it has an RVA
-pub entry_fits : (options : LinkOptions) (link : LinkParts) (pieces : List Piece) (sections : List OutSection) (reloc : Bool) (layout : Layout) (place : EntryPlace) → AreGrouped options link pieces sections → ArePlaced pieces sections reloc layout → StandsNamed pieces place → get_or layout.pieces.items place.piece 0 < 2 ^ 32 → get_or layout.pieces.items place.piece 0 + place.value < 2 ^ 32
-entry_fits options link pieces sections reloc layout place grouped placed stand fits =
+pub entry_fits : (options : LinkOptions) (link : KeptParts) (pieces : List Piece) (sections : List OutSection) (reloc : Bool) (layout : Layout) (place : EntryPlace) → AreGrouped options link pieces sections → ArePlaced pieces sections reloc layout → StandsNamed pieces place → get_or (used_pieces link) place.piece false ≡ true → get_or layout.pieces.items place.piece 0 < 2 ^ 32 → get_or layout.pieces.items place.piece 0 + place.value < 2 ^ 32
+entry_fits options link pieces sections reloc layout place grouped placed stand kept fits =
     let piece = place.piece in
     let input = link_input options link pieces in
-    let used : is_used input piece ≡ true = and_from _ _ (lt-ltb piece (length pieces) stand.within) (get_or-replicate (length pieces) piece true false stand.within) in
+    let used = used_there options link pieces piece stand.within kept in
     let needs : needs_place input piece ≡ true = or_right _ _ stand.named in
     name_fits pieces sections reloc layout piece place.value placed.layout_of.standing placed.within (stands input sections piece grouped.grouping used needs) fits stand.inside
 
 -- a piece with bytes ends inside the image
-pub end_fits : (options : LinkOptions) (link : LinkParts) (pieces : List Piece) (sections : List OutSection) (reloc : Bool) (layout : Layout) (k : ℕ) → AreGrouped options link pieces sections → ArePlaced pieces sections reloc layout → k < length pieces → 0 < (get_or pieces k no_piece).size → get_or layout.pieces.items k 0 + (get_or pieces k no_piece).size ≤ IMAGE_LIMIT
-end_fits options link pieces sections reloc layout k grouped placed lt some =
+pub end_fits : (options : LinkOptions) (link : KeptParts) (pieces : List Piece) (sections : List OutSection) (reloc : Bool) (layout : Layout) (k : ℕ) → AreGrouped options link pieces sections → ArePlaced pieces sections reloc layout → k < length pieces → get_or (used_pieces link) k false ≡ true → 0 < (get_or pieces k no_piece).size → get_or layout.pieces.items k 0 + (get_or pieces k no_piece).size ≤ IMAGE_LIMIT
+end_fits options link pieces sections reloc layout k grouped placed lt kept some =
     let input = link_input options link pieces in
     let standing = placed.layout_of.standing in
-    let at = stands_at sections k (stands input sections k grouped.grouping (used_there options link pieces k lt) (needs_there input k (inl some))) in
+    let at = stands_at sections k (stands input sections k grouped.grouping (used_there options link pieces k lt kept) (needs_there input k (inl some))) in
     let size : (piece_in pieces (row_at sections at.section) at.number).size ≡ (get_or pieces k no_piece).size = ap (λ (n : ℕ). (get_or pieces n no_piece).size) at.is in
     let place : get_or layout.pieces.items k 0 ≡ standing.place at.section at.number = ap (λ (n : ℕ). get_or layout.pieces.items n 0) (sym at.is) ∙ standing.written at.section at.number at.there at.within in
     let inside = piece_end_inside (standing.arranged.each at.section at.there) at.number at.within (omega (arith, some, size)) in
@@ -190,7 +188,7 @@ plan_rows headers sections layout contents same =
     rows_count (rows_of sections) layout.sections.items (same ∙ sym count) ∙ count
 
 -- what is placed without a table can be written
-laid : (options : LinkOptions) (link : LinkParts) (pieces : List Piece) (sections : List OutSection) (layout : Layout) → AreGrouped options link pieces sections → ArePlaced pieces sections false layout → IsLaidOut pieces sections layout
+laid : (options : LinkOptions) (link : KeptParts) (pieces : List Piece) (sections : List OutSection) (layout : Layout) → AreGrouped options link pieces sections → ArePlaced pieces sections false layout → IsLaidOut pieces sections layout
 laid options link pieces sections layout grouped placed =
     laid_out pieces sections layout placed.layout_of.standing (standing options link pieces sections grouped) placed.few placed.growth
 
@@ -201,9 +199,9 @@ no_pieces f [] e = refl
 no_pieces f (x ∷ xs) e = absurd cc
 
 -- without a table of base relocations
-pub placed_alone : (options : LinkOptions) (plan : LinkPlan) (placement : Placement) → IsPlanOf options plan.names plan → AreGrouped options plan.names plan.pieces.items placement.sections.items → ArePlaced plan.pieces.items placement.sections.items false placement.layout → is_relocated options plan.names ≡ false → reloc_tables placement.table ≡ [] → IsPlaced options plan placement
+pub placed_alone : (options : LinkOptions) (plan : LinkPlan) (placement : Placement) → IsPlanOf options plan.modules.items plan → AreGrouped options (kept_parts plan) plan.pieces.items placement.sections.items → ArePlaced plan.pieces.items placement.sections.items false placement.layout → is_relocated options (kept_parts plan) ≡ false → reloc_tables placement.table ≡ [] → IsPlaced options plan placement
 placed_alone options plan placement planned grouped placed alone none =
-    let link = plan.names in
+    let link = kept_parts plan in
     let pieces = plan.pieces.items in
     let sections = placement.sections.items in
     let layout = placement.layout in
@@ -219,10 +217,10 @@ placed_alone options plan placement planned grouped placed alone none =
       laid = λ rest holds.
           let empty : rest ≡ [] = no_pieces piece_contents rest (holds.contents ∙ none) in
           subst (λ (ps : List Piece). IsLaidOut ps sections layout) (sym (append-nil pieces) ∙ ap (λ (r : List Piece). pieces ++ r) (sym empty)) (laid options link pieces sections layout grouped placed);
-      stands = λ k lt needs. stands input sections k grouped.grouping (used_there options link pieces k lt) (needs_there input k needs);
+      stands = λ k lt kept needs. stands input sections k grouped.grouping (used_there options link pieces k lt kept) (needs_there input k needs);
       room = omega (arith, placed.layout_of.standing.rva_for_each);
-      fits = λ place stand small. entry_fits options link pieces sections false layout place grouped placed stand small;
-      ends = λ k lt some. end_fits options link pieces sections false layout k grouped placed lt some;
+      fits = λ place stand kept small. entry_fits options link pieces sections false layout place grouped placed stand kept small;
+      ends = λ k lt kept some. end_fits options link pieces sections false layout k grouped placed lt kept some;
       few = omega (arith, placed.few);
       small = subst (λ (ts : List (List ℕ)). All (λ table. length table < 2 ^ 32) ts) (sym none) (All-nil (λ (table : List ℕ). length table < 2 ^ 32));
     }
@@ -236,9 +234,9 @@ sections_more : (sections : List OutSection) (section : OutSection) → all_piec
 sections_more sections section = flat_map-append (λ (s : OutSection). s.pieces.items) sections (section ∷ [])
 
 -- with a table after all other sections
-pub placed_with_table : (options : LinkOptions) (plan : LinkPlan) (sections : List OutSection) (before : Layout) (fields : List BaseField) (placement : Placement) → IsPlanOf options plan.names plan → AreGrouped options plan.names plan.pieces.items sections → ArePlaced plan.pieces.items sections true before → is_relocated options plan.names ≡ true → AreBaseFields plan.names before.pieces.items fields → EndsWithTable sections placement.sections.items (length plan.pieces.items) → Appends before placement.layout (length (blocks_of fields)) → placement.layout.image ≤ IMAGE_LIMIT → reloc_tables placement.table ≡ blocks_of fields ∷ [] → length (blocks_of fields) < 2 ^ 32 → IsPlaced options plan placement
+pub placed_with_table : (options : LinkOptions) (plan : LinkPlan) (sections : List OutSection) (before : Layout) (fields : List BaseField) (placement : Placement) → IsPlanOf options plan.modules.items plan → AreGrouped options (kept_parts plan) plan.pieces.items sections → ArePlaced plan.pieces.items sections true before → is_relocated options (kept_parts plan) ≡ true → AreBaseFields (kept_parts plan) before.pieces.items fields → EndsWithTable sections placement.sections.items (length plan.pieces.items) → Appends before placement.layout (length (blocks_of fields)) → placement.layout.image ≤ IMAGE_LIMIT → reloc_tables placement.table ≡ blocks_of fields ∷ [] → length (blocks_of fields) < 2 ^ 32 → IsPlaced options plan placement
 placed_with_table options plan sections before fields placement planned grouped placed relocated based ends added within tables small =
-    let link = plan.names in
+    let link = kept_parts plan in
     let pieces = plan.pieces.items in
     let layout = placement.layout in
     let section = ends.section in
@@ -263,20 +261,20 @@ placed_with_table options plan sections before fields placement planned grouped 
           subst (λ (ss : List OutSection). IsLaidOut (pieces ++ rest) ss layout) (sym ends.is)
           (subst (λ (r : List Piece). IsLaidOut (pieces ++ r) (sections ++ section ∷ []) layout) (sym one.1)
           (appended_laid_out pieces one.0 sections section before layout (length (blocks_of fields)) placed.layout_of.standing planned.aligned (standing options link pieces sections grouped) placed.few added within last size));
-      stands = λ k lt needs.
+      stands = λ k lt kept needs.
           subst (λ (ss : List OutSection). Contains (all_pieces ss) k) (sym ends.is)
           (subst (λ (ks : List ℕ). Contains ks k) (sym (sections_more sections section))
-          (Contains-append_left (all_pieces sections) (all_pieces (section ∷ [])) k (stands input sections k grouped.grouping (used_there options link pieces k lt) (needs_there input k needs))));
+          (Contains-append_left (all_pieces sections) (all_pieces (section ∷ [])) k (stands input sections k grouped.grouping (used_there options link pieces k lt kept) (needs_there input k needs))));
       room = omega (arith, count, ap length added.pieces, length-append before.pieces.items (added.placed.rva ∷ []));
-      fits = λ place stand fits.
+      fits = λ place stand kept fits.
           let same : get_or layout.pieces.items place.piece 0 ≡ get_or before.pieces.items place.piece 0 =
           ap (λ (rvas : List ℕ). get_or rvas place.piece 0) added.pieces ∙ get_or_append_left before.pieces.items (added.placed.rva ∷ []) 0 place.piece (omega (arith, stand.within, count)) in
-          let here = entry_fits options link pieces sections true before place grouped placed stand (omega (arith, same, fits)) in
+          let here = entry_fits options link pieces sections true before place grouped placed stand kept (omega (arith, same, fits)) in
           omega (arith, same, here);
-      ends = λ k lt some.
+      ends = λ k lt kept some.
           let same : get_or layout.pieces.items k 0 ≡ get_or before.pieces.items k 0 =
           ap (λ (rvas : List ℕ). get_or rvas k 0) added.pieces ∙ get_or_append_left before.pieces.items (added.placed.rva ∷ []) 0 k (omega (arith, lt, count)) in
-          let here = end_fits options link pieces sections true before k grouped placed lt some in
+          let here = end_fits options link pieces sections true before k grouped placed lt kept some in
           omega (arith, same, here);
       few = omega (arith, placed.few, ap length ends.is, length-append sections (section ∷ []));
       small = subst (λ (ts : List (List ℕ)). All (λ table. length table < 2 ^ 32) ts) (sym tables) (All-cons (λ (table : List ℕ). length table < 2 ^ 32) (blocks_of fields) [] small (All-nil (λ (table : List ℕ). length table < 2 ^ 32)));
@@ -285,9 +283,10 @@ placed_with_table options plan sections before fields placement planned grouped 
 -- ---- what is ready
 
 -- the pieces of a plan with their fields, where they stand
-pub ready : (options : LinkOptions) (plan : LinkPlan) (placement : Placement) (headers : Headers) (image owner : List ℕ) → IsPlanOf options plan.names plan → IsPlaced options plan placement → IsWritten headers placement plan.names image → owner ≡ owners_in (rows_of placement.sections.items) placement.layout → IsReady plan.names plan.pieces.items plan.fixes.items placement.sections.items placement.layout owner (reloc_tables placement.table)
+pub ready : (options : LinkOptions) (plan : LinkPlan) (placement : Placement) (headers : Headers) (image owner : List ℕ) → IsPlanOf options plan.modules.items plan → IsPlaced options plan placement → IsWritten headers placement (kept_parts plan) image → owner ≡ owners_in (rows_of placement.sections.items) placement.layout → IsReady (kept_parts plan) plan.pieces.items plan.fixes.items placement.sections.items placement.layout owner (reloc_tables placement.table)
 ready options plan placement headers image owner planned placed written is = record {
   options = options;
+  kept_are = planned.link_is.kept_are;
   pieces_are = planned.pieces_are;
   held = held_at options plan planned placement.layout;
   fields = planned.fields;

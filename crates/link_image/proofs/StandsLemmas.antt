@@ -1,5 +1,5 @@
 -- The section of a piece that stands in one, and the places that fields mean.
-use Rattle.std.proofs.Common.{◌≡◌, ℕ, zero, suc, ◌<◌, Bool, true, false, ◌||◌, eqb, List, [], ◌∷◌, length, filter, get_or, Option, Some, None, unwrap_or, refl, sym, ap, subst, ◌∙◌, inr, eq-eqb, eqb-true, length-append, arith}
+use Rattle.std.proofs.Common.{◌≡◌, ℕ, zero, suc, ◌<◌, ◌⊎◌, Bool, true, false, ◌||◌, eqb, List, [], ◌∷◌, length, filter, get_or, Option, Some, None, unwrap_or, refl, sym, ap, subst, ◌∙◌, eq-eqb, eqb-true, length-append, arith}
 use Rattle.std.specs.List.{Contains, list_any}
 use Rattle.std.proofs.lemmas.Bool.{false≢true}
 use Rattle.std.proofs.lemmas.List.{length-map}
@@ -25,10 +25,9 @@ use Rattle.relocate.specs.declared.fix.Target.TheVariants as target
 use Rattle.relocate.specs.Field.{has_field}
 use Rattle.relocate.specs.Judged.{AreTheFields}
 use Rattle.relocate.specs.Value.{target_of, HasEntry, HaveEntries}
-use Rattle.link_pieces.specs.LinkParts.{LinkParts}
-use Rattle.link_pieces.specs.Pieces.{link_pieces}
-use Rattle.link_plan.specs.Fixes.{piece_fixes}
-use Rattle.link_plan.proofs.CallerLemmas.{Stands, fields_stand, planned_at, plan_count}
+use Rattle.link_pieces.specs.TablePieces.{KeptParts, whole_pieces}
+use Rattle.link_plan.specs.Planned.{plan_pieces, planned_fixes}
+use Rattle.link_plan.proofs.CallerLemmas.{Stands, fields_stand, plan_count}
 use Rattle.link_image.specs.LinkedBytes.{no_row, row_holds, section_of, owners}
 use Rattle.link_image.specs.Steps.{IsReady}
 use Rattle.std.proofs.Math.ListN.{get_or-map}
@@ -105,8 +104,8 @@ owner_read rows count k lt = get_or-map-range_with_len (section_of rows) 0 count
 
 -- ---- what fields mean
 
-module _ (link : LinkParts) (pieces : List Piece) (fixups : List (List Fix)) (sections : List OutSection) (layout : Layout) (owner : List ℕ) (tables : List (List ℕ)) (ready : IsReady link pieces fixups sections layout owner tables) where
-  pub pieces_count : length pieces ≡ length (link_pieces link)
+module _ (link : KeptParts) (pieces : List Piece) (fixups : List (List Fix)) (sections : List OutSection) (layout : Layout) (owner : List ℕ) (tables : List (List ℕ)) (ready : IsReady link pieces fixups sections layout owner tables) where
+  pub pieces_count : length pieces ≡ length (whole_pieces link)
   pieces_count = sym (length-map pieces bare) ∙ ap (λ (ps : List Piece). length ps) ready.pieces_are ∙ plan_count ready.options link
 
   -- there is an RVA and an owner for each piece
@@ -120,19 +119,19 @@ module _ (link : LinkParts) (pieces : List Piece) (fixups : List (List Fix)) (se
   length_owner = ap length ready.owner_is ∙ length-owners (rows_of sections) (length layout.pieces.items)
 
   -- a piece that a field means has a place
-  entry_of : (t : Target) → Stands link t → HasEntry layout owner t
+  entry_of : (t : Target) → Stands ready.options link t → HasEntry layout owner t
   entry_of (target.Piece piece value) stand =
       let within : piece < length pieces = omega (arith, stand.0, pieces_count) in
-      let named : (get_or pieces piece no_piece).named ≡ true =
-      ap (λ (p : Piece). p.named) (sym (get_or-map bare pieces piece no_piece) ∙ ap (λ (ps : List Piece). get_or ps piece no_piece) ready.pieces_are ∙ planned_at ready.options link piece stand.0) ∙ stand.1 ready.options in
-      let at = owner_at sections piece (ready.stands piece within (inr named)) in
+      let is : bare (get_or pieces piece no_piece) ≡ get_or (plan_pieces ready.options link) piece no_piece = sym (get_or-map bare pieces piece no_piece) ∙ ap (λ (ps : List Piece). get_or ps piece no_piece) ready.pieces_are in
+      let needs : (0 < (get_or pieces piece no_piece).size) ⊎ ((get_or pieces piece no_piece).named ≡ true) = subst (λ (p : Piece). (0 < p.size) ⊎ (p.named ≡ true)) (sym is) stand.2 in
+      let at = owner_at sections piece (ready.stands piece within stand.1 needs) in
       let there = rva_there piece within in
       let owned = owner_at_piece piece within in
       (there, omega (arith, there, length_owner), omega (arith, owned, at.there, ready.laid.section_for_each))
   entry_of (target.Absolute value) stand = tt
   entry_of target.ImageBase stand = tt
 
-  pub entries : (k : ℕ) (fields : List Fix) → k < length pieces → AreTheFields (piece_fixes link k) fields → HaveEntries layout owner fields
+  pub entries : (k : ℕ) (fields : List Fix) → k < length pieces → AreTheFields (planned_fixes link k) fields → HaveEntries layout owner fields
   entries k fields lt are =
-      All-permutation (λ fix. HasEntry layout owner (target_of fix)) (filter has_field (piece_fixes link k)) fields are
-      (All-weaker (λ fix. Stands link (target_of fix)) (λ fix. HasEntry layout owner (target_of fix)) (λ fix stand. entry_of (target_of fix) stand) (filter has_field (piece_fixes link k)) (fields_stand link k (omega (arith, lt, pieces_count))))
+      All-permutation (λ fix. HasEntry layout owner (target_of fix)) (filter has_field (planned_fixes link k)) fields are
+      (All-weaker (λ fix. Stands ready.options link (target_of fix)) (λ fix. HasEntry layout owner (target_of fix)) (λ fix stand. entry_of (target_of fix) stand) (filter has_field (planned_fixes link k)) (fields_stand ready.options link k ready.kept_are))

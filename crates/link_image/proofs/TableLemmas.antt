@@ -1,5 +1,5 @@
 -- The pieces of the import tables, where they stand, and that they end below 4 GiB.
-use Rattle.std.proofs.Common.{◌≡◌, ℕ, zero, suc, ◌+◌, ◌^◌, ◌<◌, ◌≤◌, Bool, true, cond, eqb, ltb, List, length, map, take, get_or, slice_index, Option, Some, None, IfSome, refl, sym, ap, ◌∙◌, subst, lt-ltb, arith}
+use Rattle.std.proofs.Common.{◌≡◌, ℕ, zero, suc, ◌+◌, ◌^◌, ◌<◌, ◌≤◌, Bool, true, false, cond, eqb, ltb, List, length, map, take, get_or, slice_index, Option, Some, None, IfSome, refl, sym, ap, ◌∙◌, subst, lt-ltb, arith}
 use Rattle.std.specs.List.{All, range_with_len}
 use Rattle.std.specs.Option.{option_or}
 use Rattle.std.proofs.Math.Path.{fun_ext}
@@ -13,22 +13,21 @@ use Rattle.section_group.specs.SectionOrder.{no_piece}
 use Rattle.address_layout.specs.declared.layout.Layout.{Layout}
 use Rattle.import_tables.specs.ImportTables.{EndBelow4G}
 use Rattle.synthetic_sections.specs.LinkerPieces.{FIRST_THUNK, size_at}
-use Rattle.module_view.specs.Module.{ModuleView}
-use Rattle.link_pieces.specs.LinkParts.{LinkParts}
+use Rattle.link_pieces.specs.TablePieces.{KeptParts, is_table, table_sizes, IsLinkTable, table_index, whole_pieces, whole_piece, kept_imports}
 use Rattle.link_imports.specs.Imports.{import_sizes}
-use Rattle.link_pieces.specs.LinkerPieces.{is_table, table_sizes, IsLinkTable}
-use Rattle.link_pieces.specs.PieceIndex.{is_numbered, holds, linker_index}
+use Rattle.link_pieces.specs.PieceIndex.{is_numbered, holds}
 use Rattle.link_pieces.specs.Pieces.{link_pieces}
 use Rattle.link_pieces.proofs.CallerLemmas.{table_is}
 use Rattle.link_words.specs.Outcome.{LinkOptions}
+use Rattle.link_plan.specs.Planned.{used_pieces}
 use Rattle.link_plan.specs.declared.planning.LinkPlan.{LinkPlan}
-use Rattle.link_plan.specs.Fixes.{piece_at}
-use Rattle.link_plan.specs.Plan.{IsPlanOf}
+use Rattle.link_plan.proofs.CallerLemmas.{used_last}
+use Rattle.link_plan.specs.Plan.{IsPlanOf, kept_parts}
 use Rattle.link_image.specs.declared.placement.Placement.{Placement}
 use Rattle.link_image.specs.LinkedBytes.{rva_of, table_rva, table_rvas}
 use Rattle.link_image.specs.LinkedImage.{extent_of}
 use Rattle.link_image.specs.Steps.{numbered_index, numbered_indexes, IsPlaced}
-use Rattle.link_image.proofs.HeldLemmas.{piece_count, planned_is, same_size}
+use Rattle.link_image.proofs.HeldLemmas.{table_behind, piece_count, planned_is, names_count, same_size}
 use Rattle.link_image.proofs.ExportLemmas.{import_size}
 
 -- ---- the first piece of a number
@@ -59,43 +58,49 @@ all_noted position pieces places count each =
 
 -- ---- the pieces of a link
 
-pub record IsTableAt (link : LinkParts) (number k : ℕ) : Type 0 where
-  pub there : k < length (link_pieces link)
-  pub table : is_table (length link.modules) (piece_at link k) ≡ true
-  pub number_is : (piece_at link k).number ≡ number
-  pub is : IsLinkTable link (piece_at link k)
+pub record IsTableAt (link : KeptParts) (number k : ℕ) : Type 0 where
+  pub there : k < length (whole_pieces link)
+  pub behind : length (link_pieces link.parts) ≤ k
+  pub table : is_table (length link.parts.modules) (whole_piece link k) ≡ true
+  pub number_is : (whole_piece link k).number ≡ number
+  pub is : IsLinkTable link (whole_piece link k)
 
-pub found_table : (link : LinkParts) (number k : ℕ) → number < FIRST_THUNK → linker_index link number ≡ Some k → IsTableAt link number k
+pub found_table : (link : KeptParts) (number k : ℕ) → number < FIRST_THUNK → table_index link number ≡ Some k → IsTableAt link number k
 found_table link number k few found =
-    let at = first_below-some (length (link_pieces link)) k (holds (is_numbered (length link.modules) number) (link_pieces link)) found in
-    let piece = piece_at link k in
-    let both = and_parts (eqb piece.«module» (length link.modules)) (eqb piece.number number) at.1.0 in
+    let at = first_below-some (length (whole_pieces link)) k (holds (is_numbered (length link.parts.modules) number) (whole_pieces link)) found in
+    let piece = whole_piece link k in
+    let both = and_parts (eqb piece.«module» (length link.parts.modules)) (eqb piece.number number) at.1.0 in
     let same : piece.number ≡ number = eqb-true piece.number number both.1 in
-    let table : is_table (length link.modules) piece ≡ true = and_from (eqb piece.«module» (length link.modules)) (ltb piece.number FIRST_THUNK) both.0 (lt-ltb piece.number FIRST_THUNK (omega (arith, same, few))) in
-    record { there = at.0; table = table; number_is = same; is = table_is link k at.0 table }
+    let table : is_table (length link.parts.modules) piece ≡ true = and_from (eqb piece.«module» (length link.parts.modules)) (ltb piece.number FIRST_THUNK) both.0 (lt-ltb piece.number FIRST_THUNK (omega (arith, same, few))) in
+    let behind = table_behind link k table in
+    record { there = at.0; behind = behind; table = table; number_is = same; is = table_is link k behind at.0 }
 
-module _ (options : LinkOptions) (plan : LinkPlan) (planned : IsPlanOf options plan.names plan) where
-  numbered_is : (number : ℕ) → numbered_index (length plan.modules.items) plan.pieces.items number ≡ linker_index plan.names number
+module _ (options : LinkOptions) (plan : LinkPlan) (planned : IsPlanOf options plan.modules.items plan) where
+  numbered_is : (number : ℕ) → numbered_index (length plan.modules.items) plan.pieces.items number ≡ table_index (kept_parts plan) number
   numbered_is number =
-      ap (λ (ms : List ModuleView). numbered_index (length ms) plan.pieces.items number) planned.modules_are
-      ∙ first_same (length plan.pieces.items) (holds (is_numbered (length plan.names.modules) number) plan.pieces.items) (holds (is_numbered (length plan.names.modules) number) (link_pieces plan.names)) (λ k lt. ap (is_numbered (length plan.names.modules) number) (planned_is options plan planned k lt))
-      ∙ ap (λ (n : ℕ). first_below n (holds (is_numbered (length plan.names.modules) number) (link_pieces plan.names))) (piece_count options plan planned)
+      ap (λ (count : ℕ). numbered_index count plan.pieces.items number) (names_count options plan planned)
+      ∙ first_same (length plan.pieces.items) (holds (is_numbered (length plan.names.modules) number) plan.pieces.items) (holds (is_numbered (length plan.names.modules) number) (whole_pieces (kept_parts plan))) (λ k lt. ap (is_numbered (length plan.names.modules) number) (planned_is options plan planned k))
+      ∙ ap (λ (n : ℕ). first_below n (holds (is_numbered (length plan.names.modules) number) (whole_pieces (kept_parts plan)))) (piece_count options plan planned)
 
-  pub places_are : (places : List (Option ℕ)) → places ≡ numbered_indexes (length plan.modules.items) plan.pieces.items → places ≡ map (linker_index plan.names) (range_with_len 0 6)
+  pub places_are : (places : List (Option ℕ)) → places ≡ numbered_indexes (length plan.modules.items) plan.pieces.items → places ≡ map (table_index (kept_parts plan)) (range_with_len 0 6)
   places_are places is = is ∙ ap (λ (f : ℕ → Option ℕ). map f (range_with_len 0 6)) (fun_ext numbered_is)
 
-  -- each is a piece of the plan
-  pub place_there : (number : ℕ) → number < 6 → IfSome (linker_index plan.names number) (λ k. k < length plan.pieces.items)
-  place_there number few = by (linker_index plan.names number) refl
+  -- each is used
+  pub table_used : (number k : ℕ) → IsTableAt (kept_parts plan) number k → get_or (used_pieces (kept_parts plan)) k false ≡ true
+  table_used number k at = used_last options (kept_parts plan) k planned.link_is.kept_are at.behind at.there
+
+  -- and is a piece of the plan
+  pub place_there : (number : ℕ) → number < 6 → IfSome (table_index (kept_parts plan) number) (λ k. k < length plan.pieces.items)
+  place_there number few = by (table_index (kept_parts plan) number) refl
     where
-      by : (place : Option ℕ) → linker_index plan.names number ≡ place → IfSome place (λ k. k < length plan.pieces.items)
+      by : (place : Option ℕ) → table_index (kept_parts plan) number ≡ place → IfSome place (λ k. k < length plan.pieces.items)
       by None none = tt
-      by (Some k) found = let at = found_table plan.names number k (omega (arith, few)) found in omega (arith, at.there, piece_count options plan planned)
+      by (Some k) found = let at = found_table (kept_parts plan) number k (omega (arith, few)) found in omega (arith, at.there, piece_count options plan planned)
 
   pub place_within : (places : List (Option ℕ)) (number bound : ℕ) → places ≡ numbered_indexes (length plan.modules.items) plan.pieces.items → number < 6 → length plan.pieces.items ≤ bound → IfSome (get_or places number None) (λ k. k < bound)
   place_within places number bound is few room =
-      subst (λ (place : Option ℕ). IfSome place (λ k. k < bound)) (sym (ap (λ (ps : List (Option ℕ)). get_or ps number None) (places_are places is) ∙ get_or-map-range_with_len (linker_index plan.names) 0 6 number number None few (omega arith)))
-      (wider (linker_index plan.names number) (place_there number few))
+      subst (λ (place : Option ℕ). IfSome place (λ k. k < bound)) (sym (ap (λ (ps : List (Option ℕ)). get_or ps number None) (places_are places is) ∙ get_or-map-range_with_len (table_index (kept_parts plan)) 0 6 number number None few (omega arith)))
+      (wider (table_index (kept_parts plan) number) (place_there number few))
     where
       wider : (place : Option ℕ) → IfSome place (λ k. k < length plan.pieces.items) → IfSome place (λ k. k < bound)
       wider None there = tt
@@ -107,37 +112,37 @@ module _ (options : LinkOptions) (plan : LinkPlan) (planned : IsPlanOf options p
       subst (λ (place : Option ℕ). IfSome place (λ k. k < bound)) (get_or_default places number None d lt) (place_within places number bound is (omega (arith, lt, count)) room)
 
   -- their RVAs
-  pub rvas_are : (layout : Layout) (places : List (Option ℕ)) (rvas : List ℕ) → places ≡ numbered_indexes (length plan.modules.items) plan.pieces.items → rvas ≡ map (rva_of layout.pieces.items) (take 5 places) → rvas ≡ table_rvas plan.names layout
+  pub rvas_are : (layout : Layout) (places : List (Option ℕ)) (rvas : List ℕ) → places ≡ numbered_indexes (length plan.modules.items) plan.pieces.items → rvas ≡ map (rva_of layout.pieces.items) (take 5 places) → rvas ≡ table_rvas (kept_parts plan) layout
   unfolding table_rvas
   rvas_are layout places rvas is read = read ∙ ap (λ (ps : List (Option ℕ)). map (rva_of layout.pieces.items) (take 5 ps)) (places_are places is)
 
   -- and sizes
-  pub extent_is : (rvas : List ℕ) (places : List (Option ℕ)) (number : ℕ) → number < 6 → places ≡ numbered_indexes (length plan.modules.items) plan.pieces.items → extent_of plan.pieces.items rvas (get_or places number None) ≡ extent_of (link_pieces plan.names) rvas (linker_index plan.names number)
+  pub extent_is : (rvas : List ℕ) (places : List (Option ℕ)) (number : ℕ) → number < 6 → places ≡ numbered_indexes (length plan.modules.items) plan.pieces.items → extent_of plan.pieces.items rvas (get_or places number None) ≡ extent_of (whole_pieces (kept_parts plan)) rvas (table_index (kept_parts plan) number)
   extent_is rvas places number few is =
-      ap (extent_of plan.pieces.items rvas) (ap (λ (ps : List (Option ℕ)). get_or ps number None) (places_are places is) ∙ get_or-map-range_with_len (linker_index plan.names) 0 6 number number None few (omega arith))
-      ∙ by (linker_index plan.names number) (place_there number few)
+      ap (extent_of plan.pieces.items rvas) (ap (λ (ps : List (Option ℕ)). get_or ps number None) (places_are places is) ∙ get_or-map-range_with_len (table_index (kept_parts plan)) 0 6 number number None few (omega arith))
+      ∙ by (table_index (kept_parts plan) number) (place_there number few)
     where
-      by : (place : Option ℕ) → IfSome place (λ k. k < length plan.pieces.items) → extent_of plan.pieces.items rvas place ≡ extent_of (link_pieces plan.names) rvas place
+      by : (place : Option ℕ) → IfSome place (λ k. k < length plan.pieces.items) → extent_of plan.pieces.items rvas place ≡ extent_of (whole_pieces (kept_parts plan)) rvas place
       by None there = refl
       by (Some k) there = ap (λ (size : ℕ). (get_or rvas k 0, size)) (same_size options plan planned k there)
 
   -- ---- each ends below 4 GiB
 
   module _ (placement : Placement) (placed : IsPlaced options plan placement) where
-    table_ends : (number : ℕ) → number < 5 → size_at (import_sizes plan.names.modules) number < 2 ^ 32 → table_rva plan.names placement.layout number + size_at (import_sizes plan.names.modules) number < 2 ^ 32
-    table_ends number few small = by (linker_index plan.names number) refl
+    table_ends : (number : ℕ) → number < 5 → size_at (import_sizes plan.names.modules (kept_imports (kept_parts plan))) number < 2 ^ 32 → table_rva (kept_parts plan) placement.layout number + size_at (import_sizes plan.names.modules (kept_imports (kept_parts plan))) number < 2 ^ 32
+    table_ends number few small = by (table_index (kept_parts plan) number) refl
       where
-        by : (place : Option ℕ) → linker_index plan.names number ≡ place → rva_of placement.layout.pieces.items place + size_at (import_sizes plan.names.modules) number < 2 ^ 32
+        by : (place : Option ℕ) → table_index (kept_parts plan) number ≡ place → rva_of placement.layout.pieces.items place + size_at (import_sizes plan.names.modules (kept_imports (kept_parts plan))) number < 2 ^ 32
         by None none = omega (arith, small)
         by (Some k) found =
-            let at = found_table plan.names number k (omega (arith, few)) found in
+            let at = found_table (kept_parts plan) number k (omega (arith, few)) found in
             let lt : k < length plan.pieces.items = omega (arith, at.there, piece_count options plan planned) in
             let same = same_size options plan planned k lt in
-            let size : (piece_at plan.names k).size ≡ size_at (import_sizes plan.names.modules) number = at.is.size ∙ ap (size_at (table_sizes plan.names)) at.number_is ∙ import_size plan.names number few in
-            let end = placed.ends k lt (omega (arith, same, at.is.some)) in
+            let size : (whole_piece (kept_parts plan) k).size ≡ size_at (import_sizes plan.names.modules (kept_imports (kept_parts plan))) number = at.is.size ∙ ap (size_at (table_sizes (kept_parts plan))) at.number_is ∙ import_size (kept_parts plan) number few in
+            let end = placed.ends k lt (table_used number k at) (omega (arith, same, at.is.some)) in
             omega (arith, end, same, size)
 
-    pub tables_end : (rvas sizes : List ℕ) → rvas ≡ table_rvas plan.names placement.layout → sizes ≡ import_sizes plan.names.modules → ((n : ℕ) → n < 5 → slice_index sizes n < 2 ^ 32) → EndBelow4G rvas sizes
+    pub tables_end : (rvas sizes : List ℕ) → rvas ≡ table_rvas (kept_parts plan) placement.layout → sizes ≡ import_sizes plan.names.modules (kept_imports (kept_parts plan)) → ((n : ℕ) → n < 5 → slice_index sizes n < 2 ^ 32) → EndBelow4G rvas sizes
     unfolding table_rvas
     tables_end rvas sizes are same small = record {
       directory = at 0 (omega arith);
@@ -147,13 +152,13 @@ module _ (options : LinkOptions) (plan : LinkPlan) (planned : IsPlanOf options p
       names = at 4 (omega arith);
     }
       where
-        rva_is : (n : ℕ) → n < 5 → slice_index rvas n ≡ table_rva plan.names placement.layout n
-        rva_is n lt = ap (λ (xs : List ℕ). get_or xs n 0) are ∙ get_or-map-range_with_len (table_rva plan.names placement.layout) 0 5 n n 0 lt (omega arith)
+        rva_is : (n : ℕ) → n < 5 → slice_index rvas n ≡ table_rva (kept_parts plan) placement.layout n
+        rva_is n lt = ap (λ (xs : List ℕ). get_or xs n 0) are ∙ get_or-map-range_with_len (table_rva (kept_parts plan) placement.layout) 0 5 n n 0 lt (omega arith)
 
         at : (n : ℕ) → n < 5 → slice_index rvas n + slice_index sizes n < 2 ^ 32
         at n lt =
             let rva = rva_is n lt in
-            let size : slice_index sizes n ≡ size_at (import_sizes plan.names.modules) n = ap (λ (xs : List ℕ). get_or xs n 0) same in
+            let size : slice_index sizes n ≡ size_at (import_sizes plan.names.modules (kept_imports (kept_parts plan))) n = ap (λ (xs : List ℕ). get_or xs n 0) same in
             let fits = small n lt in
             let end = table_ends n lt (omega (arith, size, fits)) in
             omega (arith, rva, size, end)

@@ -13,6 +13,7 @@ use Rattle.section_group.specs.Uniqueness.{SectionRow, row_of, rows_of}
 use Rattle.address_layout.specs.declared.layout.Layout.{Layout}
 use Rattle.address_layout.specs.Layout.{all_pieces}
 use Rattle.relocate.specs.declared.fix.Fix.{Fix}
+use Rattle.relocate.specs.declared.fix.Target.{Target}
 use Rattle.relocate.specs.declared.range.RelocRange.{RelocRange}
 use Rattle.base_reloc.specs.declared.field.BaseField.{BaseField}
 use Rattle.base_reloc.specs.PageBlocks.{blocks_of}
@@ -24,11 +25,13 @@ use Rattle.image_writer.specs.WrittenImage.{layout_plan, at_each_base, IsLaidOut
 use Rattle.link_pieces.specs.TablePieces.{KeptParts, whole_pieces, is_table}
 use Rattle.link_pieces.specs.PieceIndex.{is_numbered, holds}
 use Rattle.link_plan.specs.Reach.{AreKept}
-use Rattle.link_plan.specs.Planned.{HaveFields, used_pieces, plan_pieces}
+use Rattle.link_plan.specs.Planned.{HaveFields, used_pieces, plan_pieces, planned_target}
 use Rattle.link_base.specs.Limits.{SECTION_LIMIT, IMAGE_LIMIT}
 use Rattle.link_words.specs.Outcome.{LinkOptions}
 use Rattle.link_plan.specs.declared.planning.LinkPlan.{LinkPlan}
 use Rattle.link_fields.specs.declared.entry.EntryPlace.{EntryPlace}
+use Rattle.link_fields.specs.ExportTargets.{export_target}
+use Rattle.directives.specs.declared.item.Export.{Export}
 use Rattle.link_plan.specs.Laid.{StandsNamed}
 use Rattle.link_image.specs.declared.placement.Placement.{Placement}
 use Rattle.link_image.specs.BaseFields.{base_field, AreBaseFields}
@@ -94,7 +97,7 @@ pub record IsPlaced (options : LinkOptions) (plan : LinkPlan) (placement : Place
   pub laid : (rest : List Piece) → HoldTables (reloc_tables placement.table) rest → IsLaidOut (plan.pieces.items ++ rest) placement.sections.items placement.layout
   pub stands : (k : ℕ) → k < length plan.pieces.items → slice_index_or (used_pieces (kept_parts plan)) k false ≡ true → ((0 < (slice_index_or plan.pieces.items k no_piece).size) ⊎ ((slice_index_or plan.pieces.items k no_piece).named ≡ true)) → Contains (all_pieces placement.sections.items) k
   pub room : length plan.pieces.items ≤ length placement.layout.pieces.items
-  pub fits : (place : EntryPlace) → StandsNamed plan.pieces.items place → slice_index placement.layout.pieces.items place.piece < 2 ^ 32 → slice_index placement.layout.pieces.items place.piece + place.value < 2 ^ 32
+  pub fits : (place : EntryPlace) → StandsNamed plan.pieces.items place → slice_index_or (used_pieces (kept_parts plan)) place.piece false ≡ true → slice_index placement.layout.pieces.items place.piece < 2 ^ 32 → slice_index placement.layout.pieces.items place.piece + place.value < 2 ^ 32
   pub ends : (k : ℕ) → k < length plan.pieces.items → slice_index_or (used_pieces (kept_parts plan)) k false ≡ true → 0 < (slice_index_or plan.pieces.items k no_piece).size → slice_index placement.layout.pieces.items k + (slice_index_or plan.pieces.items k no_piece).size ≤ IMAGE_LIMIT
   pub few : length placement.sections.items ≤ SECTION_LIMIT
   pub small : All (λ table. length table < 2 ^ 32) (reloc_tables placement.table)
@@ -108,6 +111,10 @@ numbered_index position pieces number = first_below (length pieces) (holds (is_n
 -- the pieces of the tables, where they are made
 abbrev pub numbered_indexes : ℕ → List Piece → List (Option ℕ)
 numbered_indexes position pieces = map (numbered_index position pieces) (range_with_len 0 6)
+
+-- what some exports of a link stand for
+abbrev pub targets_of : KeptParts → List Export → List (Option Target)
+targets_of link rows = map (planned_target link) (map (export_target link.parts) rows)
 
 -- an export stands for another image, or for an address that is not 0 and has four bytes
 abbrev pub IsGiven : ExportTo → Type 0

@@ -5,16 +5,16 @@ ghost use Rattle.std.specs.List.{All};
 ghost use Rattle.link_base.specs.Refusals.{first_standing};
 ghost use Rattle.address_layout.specs.PermittedBase.{is_permitted};
 ghost use Rattle.synthetic_sections.specs.LinkerPieces as linker;
-ghost use Rattle.link_pieces.specs.LinkParts.{LinkParts};
-ghost use Rattle.link_pieces.specs.PieceIndex.{linker_index};
+ghost use Rattle.link_pieces.specs.TablePieces.{KeptParts, table_index};
 ghost use Rattle.link_words.specs.Outcome.{options_said};
-ghost use Rattle.link_plan.specs.ExportTargets.{export_target, export_targets};
-ghost use Rattle.link_plan.specs.Plan.{IsPlanOf};
+ghost use Rattle.link_fields.specs.ExportTargets.{export_target};
+ghost use Rattle.link_plan.specs.Planned.{planned_target, planned_targets};
+ghost use Rattle.link_plan.specs.Plan.{IsPlanOf, kept_parts};
 ghost use Rattle.link_image.specs.LinkedBytes.{exported_row, exported_rows, target_rva, export_table_at};
 ghost use Rattle.link_image.specs.ExportFaults.{absolute_fault, export_fault, inside_of, in_table_fault, is_absolute, lies_in};
 ghost use Rattle.link_image.specs.LinkedImage.{base_rule};
 ghost use Rattle.link_image.specs.BuildFaults.{RefusesBuild};
-ghost use Rattle.link_image.specs.Steps.{numbered_indexes, IsGiven, IsPlaced};
+ghost use Rattle.link_image.specs.Steps.{numbered_indexes, targets_of, IsGiven, IsPlaced};
 
 use crate::placement::Placement;
 use directives::Export;
@@ -30,9 +30,9 @@ use synthetic_sections::EXPORTS;
 /// That the ordinals of the exports can be given, and that each export stands for a place. The first that is wrong is refused.
 #[tactic(auto, unfolding(crate::specs::ExportFaults::export_fault))]
 pub(crate) fn check_exports<'a>(plan: &LinkPlan<'a>) -> Result<(), Fault<'a>>
-    requires { plan.now.exported.items ≡ export_targets plan.now.names }
-    ensures accepted { OnOk result (export_fault plan.now.names ≡ None) }
-    ensures refused { IfErr result (λ fault. export_fault plan.now.names ≡ Some fault) }
+    requires { plan.now.exported.items ≡ planned_targets (kept_parts plan.now) }
+    ensures accepted { OnOk result (export_fault (kept_parts plan.now) ≡ None) }
+    ensures refused { IfErr result (λ fault. export_fault (kept_parts plan.now) ≡ Some fault) }
 {
     let exports = plan.names.exports();
     if let Some(fault) = exports.fault() {
@@ -44,8 +44,8 @@ pub(crate) fn check_exports<'a>(plan: &LinkPlan<'a>) -> Result<(), Fault<'a>>
 /// That each of some exports stands for a place, by what they stand for.
 fn check_places<'a>(rows: &[Export<'a>], targets: &[Option<Target>]) -> Result<(), Fault<'a>>
     requires { length targets.now ≡ length rows.now }
-    ensures accepted { OnOk result ((link : LinkParts) → targets.now ≡ map (export_target link) rows.now → first_standing (map (absolute_fault link) rows.now) ≡ None) }
-    ensures refused { IfErr result (λ fault. (link : LinkParts) → targets.now ≡ map (export_target link) rows.now → first_standing (map (absolute_fault link) rows.now) ≡ Some fault) }
+    ensures accepted { OnOk result ((link : KeptParts) → targets.now ≡ targets_of link rows.now → first_standing (map (absolute_fault link) rows.now) ≡ None) }
+    ensures refused { IfErr result (λ fault. (link : KeptParts) → targets.now ≡ targets_of link rows.now → first_standing (map (absolute_fault link) rows.now) ≡ Some fault) }
 {
     for k in 0..rows.len() {
         check_place(&rows[k], &targets[k])?;
@@ -55,8 +55,8 @@ fn check_places<'a>(rows: &[Export<'a>], targets: &[Option<Target>]) -> Result<(
 
 /// That an export stands for a place, by what it stands for.
 fn check_place<'a>(row: &Export<'a>, target: &Option<Target>) -> Result<(), Fault<'a>>
-    ensures accepted { OnOk result ((link : LinkParts) → target.now ≡ export_target link row.now → absolute_fault link row.now ≡ None) }
-    ensures refused { IfErr result (λ fault. (link : LinkParts) → target.now ≡ export_target link row.now → absolute_fault link row.now ≡ Some fault) }
+    ensures accepted { OnOk result ((link : KeptParts) → target.now ≡ planned_target link (export_target link.parts row.now) → absolute_fault link row.now ≡ None) }
+    ensures refused { IfErr result (λ fault. (link : KeptParts) → target.now ≡ planned_target link (export_target link.parts row.now) → absolute_fault link row.now ≡ Some fault) }
 {
     if is_absolute(target) {
         return Err(Fault::BadExport {
@@ -86,14 +86,14 @@ pub(crate) fn export_table<'a>(
     placement: &Placement<'a>,
     places: &[Option<usize>; 6],
 ) -> Result<Vec<u8>, Refusal<'a>>
-    requires plan { IsPlanOf (options_said options.now) plan.now.names plan.now }
+    requires plan { IsPlanOf (options_said options.now) plan.now.modules.items plan.now }
     requires placed { IsPlaced (options_said options.now) plan.now placement.now }
     requires permitted { is_permitted (base_rule (options_said options.now)) placement.now.layout.image options.now.base ≡ true }
     requires places { places.now ≡ numbered_indexes (length plan.now.modules.items) plan.now.pieces.items }
-    ensures table { IfOk result (λ table. table.items ≡ export_table_at plan.now.names placement.now.layout) }
-    ensures outside { OnOk result (in_table_fault plan.now.names placement.now.layout.pieces.items ≡ None) }
-    ensures given { OnOk result (0 < plan.now.names.exports.size → All (λ row. IsGiven row.what) (exported_rows plan.now.names placement.now.layout.pieces.items)) }
-    ensures refused { IfErr result (RefusesBuild (options_said options.now) plan.now.names) }
+    ensures table { IfOk result (λ table. table.items ≡ export_table_at (kept_parts plan.now) placement.now.layout) }
+    ensures outside { OnOk result (in_table_fault (kept_parts plan.now) placement.now.layout.pieces.items ≡ None) }
+    ensures given { OnOk result (0 < plan.now.names.exports.size → All (λ row. IsGiven row.what) (exported_rows (kept_parts plan.now) placement.now.layout.pieces.items)) }
+    ensures refused { IfErr result (RefusesBuild (options_said options.now) (kept_parts plan.now)) }
 {
     match places[EXPORTS as usize] {
         None => Ok(Vec::new(alloc)),
@@ -109,14 +109,14 @@ fn table_at<'a>(
     placement: &Placement<'a>,
     k: usize,
 ) -> Result<Vec<u8>, Refusal<'a>>
-    requires plan { IsPlanOf (options_said options.now) plan.now.names plan.now }
+    requires plan { IsPlanOf (options_said options.now) plan.now.modules.items plan.now }
     requires placed { IsPlaced (options_said options.now) plan.now placement.now }
     requires permitted { is_permitted (base_rule (options_said options.now)) placement.now.layout.image options.now.base ≡ true }
-    requires found { linker_index plan.now.names linker.EXPORTS ≡ Some k }
-    ensures table { IfOk result (λ table. table.items ≡ export_table_at plan.now.names placement.now.layout) }
-    ensures outside { OnOk result (in_table_fault plan.now.names placement.now.layout.pieces.items ≡ None) }
-    ensures given { OnOk result (All (λ row. IsGiven row.what) (exported_rows plan.now.names placement.now.layout.pieces.items)) }
-    ensures refused { IfErr result (RefusesBuild (options_said options.now) plan.now.names) }
+    requires found { table_index (kept_parts plan.now) linker.EXPORTS ≡ Some k }
+    ensures table { IfOk result (λ table. table.items ≡ export_table_at (kept_parts plan.now) placement.now.layout) }
+    ensures outside { OnOk result (in_table_fault (kept_parts plan.now) placement.now.layout.pieces.items ≡ None) }
+    ensures given { OnOk result (All (λ row. IsGiven row.what) (exported_rows (kept_parts plan.now) placement.now.layout.pieces.items)) }
+    ensures refused { IfErr result (RefusesBuild (options_said options.now) (kept_parts plan.now)) }
 {
     let exports = plan.names.exports();
     let rvas = &placement.layout.pieces;
@@ -142,7 +142,7 @@ fn placed_rows<'a>(
     rvas: &[u32],
 ) -> Result<Vec<ExportRow<'a>>, Memory>
     requires { length targets.now ≡ length rows.now }
-    ensures rows { IfOk result (λ placed. (link : LinkParts) → targets.now ≡ map (export_target link) rows.now → placed.items ≡ map (exported_row link rvas.now) rows.now) }
+    ensures rows { IfOk result (λ placed. (link : KeptParts) → targets.now ≡ targets_of link rows.now → placed.items ≡ map (exported_row link rvas.now) rows.now) }
     ensures given { IfOk result (λ placed. All (λ row. IsGiven row.what) placed.items) }
 {
     let mut placed = Vec::with_capacity(alloc, rows.len())?;
@@ -159,7 +159,7 @@ fn placed_row<'a>(
     target: &Option<Target>,
     rvas: &[u32],
 ) -> Result<ExportRow<'a>, Memory>
-    ensures row { IfOk result (λ placed. (link : LinkParts) → target.now ≡ export_target link row.now → placed ≡ exported_row link rvas.now row.now) }
+    ensures row { IfOk result (λ placed. (link : KeptParts) → target.now ≡ planned_target link (export_target link.parts row.now) → placed ≡ exported_row link rvas.now row.now) }
     ensures given { IfOk result (λ placed. IsGiven placed.what) }
 {
     let rva = target_rva(rvas, target)?;

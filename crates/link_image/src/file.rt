@@ -4,9 +4,9 @@ ghost use Rattle.std.specs.Prelude.{◌≡◌, ◌<◌, ◌^◌, ◌∷◌, ◌+
 ghost use Rattle.std.specs.List.{All};
 ghost use Rattle.section_group.specs.BarePieces.{bare};
 ghost use Rattle.section_group.specs.PieceContents.{piece_contents};
-ghost use Rattle.link_pieces.specs.LinkerPieces.{is_table};
+ghost use Rattle.link_pieces.specs.TablePieces.{is_table};
 ghost use Rattle.link_words.specs.Outcome.{options_said};
-ghost use Rattle.link_plan.specs.Plan.{IsPlanOf};
+ghost use Rattle.link_plan.specs.Plan.{IsPlanOf, kept_parts};
 ghost use Rattle.link_image.specs.LinkedBytes.{tables_at};
 ghost use Rattle.link_image.specs.Steps.{AreWhole, CanBeGiven, HoldTables, IsPlaced, IsWritten, given_contents, reloc_tables};
 
@@ -30,10 +30,10 @@ pub(crate) fn write_file<'a>(
     tables: &[Vec<u8>; 5],
     exports: &[u8],
 ) -> Result<Vec<u8>, Memory>
-    requires plan { IsPlanOf (options_said options.now) plan.now.names plan.now }
+    requires plan { IsPlanOf (options_said options.now) plan.now.modules.items plan.now }
     requires placed { IsPlaced (options_said options.now) plan.now placement.now }
-    requires tables { map (λ table. table.items) tables.now ++ exports.now ∷ [] ≡ tables_at plan.now.names placement.now.layout }
-    ensures { IfOk result (λ image. IsWritten headers.now placement.now plan.now.names image.items) }
+    requires tables { map (λ table. table.items) tables.now ++ exports.now ∷ [] ≡ tables_at (kept_parts plan.now) placement.now.layout }
+    ensures { IfOk result (λ image. IsWritten headers.now placement.now (kept_parts plan.now) image.items) }
 {
     let position = plan.modules.len();
     let pieces = whole_pieces(

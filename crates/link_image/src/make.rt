@@ -2,7 +2,7 @@
 
 ghost use Rattle.std.specs.Prelude.{◌≡◌, IfOk, IfErr};
 ghost use Rattle.link_words.specs.Outcome.{options_said};
-ghost use Rattle.link_plan.specs.Plan.{IsPlanOf};
+ghost use Rattle.link_plan.specs.Plan.{IsPlanOf, kept_parts};
 ghost use Rattle.link_image.specs.LinkedImage.{IsBuilt};
 ghost use Rattle.link_image.specs.BuildFaults.{RefusesBuild};
 
@@ -35,9 +35,9 @@ pub fn build<'a>(
     plan: &LinkPlan<'a>,
     options: &Options<'a>,
 ) -> Result<Built, Refusal<'a>>
-    requires { IsPlanOf (options_said options.now) plan.now.names plan.now }
-    ensures built { IfOk result (IsBuilt (options_said options.now) plan.now.names) }
-    ensures refused { IfErr result (RefusesBuild (options_said options.now) plan.now.names) }
+    requires { IsPlanOf (options_said options.now) plan.now.modules.items plan.now }
+    ensures built { IfOk result (IsBuilt (options_said options.now) (kept_parts plan.now)) }
+    ensures refused { IfErr result (RefusesBuild (options_said options.now) (kept_parts plan.now)) }
 {
     let placement = place_all(alloc, plan, options)?;
     let count = placement.sections.len() as u32;

@@ -10,6 +10,7 @@ ghost use Rattle.image_writer.specs.PieceInFile.{piece_place, patched};
 ghost use Rattle.relocate.specs.Judged.{ArePatchable};
 ghost use Rattle.relocate.specs.PatchedBytes.{patched_bytes};
 ghost use Rattle.relocate.specs.Value.{HaveEntries, fits};
+ghost use Rattle.link_plan.specs.Plan.{kept_parts};
 ghost use Rattle.link_image.specs.LinkedBytes.{placed_contents, linked_contents, piece_range_fault, fields_range_fault};
 ghost use Rattle.link_image.specs.Steps.{IsReady, RefusesRange, file_of, mixed_file, reloc_tables};
 
@@ -30,13 +31,13 @@ pub(crate) fn patch_pieces<'a>(
     placement: &Placement<'a>,
     owner: &[u32],
 ) -> Result<(), Fault<'a>>
-    requires ready { IsReady plan.now.names plan.now.pieces.items plan.now.fixes.items placement.now.sections.items placement.now.layout owner.now (reloc_tables placement.now.table) }
+    requires ready { IsReady (kept_parts plan.now) plan.now.pieces.items plan.now.fixes.items placement.now.sections.items placement.now.layout owner.now (reloc_tables placement.now.table) }
     requires directories { length headers.now.directories ≡ NUMBEROF_DIRECTORY_ENTRIES }
-    requires file { image.old.items ≡ file_of headers.now placement.now.sections.items placement.now.layout (placed_contents plan.now.names placement.now.layout) (reloc_tables placement.now.table) }
+    requires file { image.old.items ≡ file_of headers.now placement.now.sections.items placement.now.layout (placed_contents (kept_parts plan.now) placement.now.layout) (reloc_tables placement.now.table) }
     ensures patched { OnOk result (image.new.items ≡ file_of headers.now placement.now.sections.items placement.now.layout
-        (linked_contents plan.now.names (rows_of placement.now.sections.items) placement.now.layout headers.now.base) (reloc_tables placement.now.table)) }
-    ensures in_range { OnOk result (fields_range_fault plan.now.names (rows_of placement.now.sections.items) placement.now.layout headers.now.base ≡ None) }
-    ensures refused { IfErr result (λ fault. fields_range_fault plan.now.names (rows_of placement.now.sections.items) placement.now.layout headers.now.base ≡ Some fault) }
+        (linked_contents (kept_parts plan.now) (rows_of placement.now.sections.items) placement.now.layout headers.now.base) (reloc_tables placement.now.table)) }
+    ensures in_range { OnOk result (fields_range_fault (kept_parts plan.now) (rows_of placement.now.sections.items) placement.now.layout headers.now.base ≡ None) }
+    ensures refused { IfErr result (λ fault. fields_range_fault (kept_parts plan.now) (rows_of placement.now.sections.items) placement.now.layout headers.now.base ≡ Some fault) }
 {
     for k in 0..plan.pieces.len() {
         patch_at(image, plan, headers, placement, owner, k)?;
@@ -53,13 +54,13 @@ fn patch_at<'a>(
     owner: &[u32],
     k: usize,
 ) -> Result<(), Fault<'a>>
-    requires ready { IsReady plan.now.names plan.now.pieces.items plan.now.fixes.items placement.now.sections.items placement.now.layout owner.now (reloc_tables placement.now.table) }
+    requires ready { IsReady (kept_parts plan.now) plan.now.pieces.items plan.now.fixes.items placement.now.sections.items placement.now.layout owner.now (reloc_tables placement.now.table) }
     requires directories { length headers.now.directories ≡ NUMBEROF_DIRECTORY_ENTRIES }
     requires piece { k < length plan.now.pieces.items }
-    requires file { image.old.items ≡ mixed_file plan.now.names headers.now placement.now.sections.items placement.now.layout (reloc_tables placement.now.table) k }
-    ensures file { OnOk result (image.new.items ≡ mixed_file plan.now.names headers.now placement.now.sections.items placement.now.layout (reloc_tables placement.now.table) (k + 1)) }
-    ensures in_range { OnOk result (piece_range_fault plan.now.names (rows_of placement.now.sections.items) placement.now.layout headers.now.base k ≡ None) }
-    ensures refused { IfErr result (λ fault. piece_range_fault plan.now.names (rows_of placement.now.sections.items) placement.now.layout headers.now.base k ≡ Some fault) }
+    requires file { image.old.items ≡ mixed_file (kept_parts plan.now) headers.now placement.now.sections.items placement.now.layout (reloc_tables placement.now.table) k }
+    ensures file { OnOk result (image.new.items ≡ mixed_file (kept_parts plan.now) headers.now placement.now.sections.items placement.now.layout (reloc_tables placement.now.table) (k + 1)) }
+    ensures in_range { OnOk result (piece_range_fault (kept_parts plan.now) (rows_of placement.now.sections.items) placement.now.layout headers.now.base k ≡ None) }
+    ensures refused { IfErr result (λ fault. piece_range_fault (kept_parts plan.now) (rows_of placement.now.sections.items) placement.now.layout headers.now.base k ≡ Some fault) }
 {
     let fixups = &plan.fixes[k];
     if fixups.is_empty() {

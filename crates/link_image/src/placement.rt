@@ -4,7 +4,7 @@ ghost use Rattle.std.specs.Prelude.{◌≡◌, ◌<◌, ◌+◌, ◌-◌, ◌^�
 ghost use Rattle.std.specs.List.{All};
 ghost use Rattle.address_layout.specs.PermittedBase.{is_permitted};
 ghost use Rattle.link_words.specs.Outcome.{options_said};
-ghost use Rattle.link_plan.specs.Plan.{IsPlanOf};
+ghost use Rattle.link_plan.specs.Plan.{IsPlanOf, kept_parts};
 ghost use Rattle.link_image.specs.BaseFields.{is_relocated};
 ghost use Rattle.link_image.specs.LinkedImage.{base_rule, entry_rva, table_directory, AreGrouped, ArePlaced};
 ghost use Rattle.link_image.specs.BuildFaults.{RefusesBuild};
@@ -41,9 +41,9 @@ pub(crate) fn place_all<'a>(
     plan: &LinkPlan<'a>,
     options: &Options<'a>,
 ) -> Result<Placement<'a>, Refusal<'a>>
-    requires { IsPlanOf (options_said options.now) plan.now.names plan.now }
+    requires { IsPlanOf (options_said options.now) plan.now.modules.items plan.now }
     ensures placed { IfOk result (IsPlaced (options_said options.now) plan.now) }
-    ensures refused { IfErr result (RefusesBuild (options_said options.now) plan.now.names) }
+    ensures refused { IfErr result (RefusesBuild (options_said options.now) (kept_parts plan.now)) }
 {
     let sections = group_pieces(alloc, plan, options)?;
     let relocated = is_relocated(plan, options);
@@ -62,8 +62,8 @@ pub(crate) fn place_all<'a>(
 
 /// Whether the image has a table of base relocations.
 fn is_relocated<'a>(plan: &LinkPlan<'a>, options: &Options<'a>) -> bool
-    requires { IsPlanOf (options_said options.now) plan.now.names plan.now }
-    ensures { result ≡ is_relocated (options_said options.now) plan.now.names }
+    requires { IsPlanOf (options_said options.now) plan.now.modules.items plan.now }
+    ensures { result ≡ is_relocated (options_said options.now) (kept_parts plan.now) }
 {
     !options.fixed && hold_address(&plan.fixes)
 }
@@ -77,13 +77,13 @@ fn append_table<'a>(
     layout: Layout,
     table: Vec<u8>,
 ) -> Result<Placement<'a>, Refusal<'a>>
-    requires plan { IsPlanOf (options_said options.now) plan.now.names plan.now }
-    requires grouped { AreGrouped (options_said options.now) plan.now.names plan.now.pieces.items sections.items }
+    requires plan { IsPlanOf (options_said options.now) plan.now.modules.items plan.now }
+    requires grouped { AreGrouped (options_said options.now) (kept_parts plan.now) plan.now.pieces.items sections.items }
     requires placed { ArePlaced plan.now.pieces.items sections.items true layout }
-    requires relocated { is_relocated (options_said options.now) plan.now.names ≡ true }
-    requires table { IsTable plan.now.names layout.pieces.items table.items }
+    requires relocated { is_relocated (options_said options.now) (kept_parts plan.now) ≡ true }
+    requires table { IsTable (kept_parts plan.now) layout.pieces.items table.items }
     ensures placed { IfOk result (IsPlaced (options_said options.now) plan.now) }
-    ensures refused { IfErr result (RefusesBuild (options_said options.now) plan.now.names) }
+    ensures refused { IfErr result (RefusesBuild (options_said options.now) (kept_parts plan.now)) }
 {
     let mut sections = sections;
     let mut layout = layout;
@@ -138,10 +138,10 @@ pub(crate) fn check_own_base<'a>(
     options: &Options<'a>,
     placement: &Placement<'a>,
 ) -> Result<(), Refusal<'a>>
-    requires plan { IsPlanOf (options_said options.now) plan.now.names plan.now }
+    requires plan { IsPlanOf (options_said options.now) plan.now.modules.items plan.now }
     requires placed { IsPlaced (options_said options.now) plan.now placement.now }
     ensures permitted { OnOk result (is_permitted (base_rule (options_said options.now)) placement.now.layout.image options.now.base ≡ true) }
-    ensures refused { IfErr result (RefusesBuild (options_said options.now) plan.now.names) }
+    ensures refused { IfErr result (RefusesBuild (options_said options.now) (kept_parts plan.now)) }
 {
     let rule = BaseRule {
         base: options.base,
@@ -160,7 +160,7 @@ pub(crate) fn entry_rva<'a>(
     options: &Options<'a>,
     placement: &Placement<'a>,
 ) -> u32
-    requires plan { IsPlanOf (options_said options.now) plan.now.names plan.now }
+    requires plan { IsPlanOf (options_said options.now) plan.now.modules.items plan.now }
     requires placed { IsPlaced (options_said options.now) plan.now placement.now }
     ensures { result ≡ entry_rva placement.now.layout.pieces.items plan.now.entry }
 {

@@ -4,7 +4,7 @@ ghost use Rattle.std.specs.Prelude.{◌≡◌, ◌<◌, ◌^◌, ℕ, Some, None
 ghost use Rattle.std.specs.Option.{option_or};
 ghost use Rattle.link_pieces.specs.PieceIndex.{is_numbered};
 ghost use Rattle.link_words.specs.Outcome.{options_said};
-ghost use Rattle.link_plan.specs.Plan.{IsPlanOf};
+ghost use Rattle.link_plan.specs.Plan.{IsPlanOf, kept_parts};
 ghost use Rattle.link_image.specs.LinkedBytes.{rva_of, import_tables_at};
 ghost use Rattle.link_image.specs.LinkedImage.{extent_of, directories_of};
 ghost use Rattle.link_image.specs.Steps.{numbered_indexes, reloc_tables, IsPlaced};
@@ -56,10 +56,10 @@ pub(crate) fn import_tables<'a>(
     placement: &Placement<'a>,
     places: &[Option<usize>; 6],
 ) -> Result<[Vec<u8>; 5], Memory>
-    requires plan { IsPlanOf (options_said options.now) plan.now.names plan.now }
+    requires plan { IsPlanOf (options_said options.now) plan.now.modules.items plan.now }
     requires placed { IsPlaced (options_said options.now) plan.now placement.now }
     requires places { places.now ≡ numbered_indexes (length plan.now.modules.items) plan.now.pieces.items }
-    ensures { IfOk result (λ tables. map (λ table. table.items) tables ≡ import_tables_at plan.now.names placement.now.layout) }
+    ensures { IfOk result (λ tables. map (λ table. table.items) tables ≡ import_tables_at (kept_parts plan.now) placement.now.layout) }
 {
     let rvas = table_rvas(&placement.layout.pieces, places);
     are_words(&plan.imports.shape.lengths);
@@ -78,10 +78,10 @@ pub(crate) fn directories_of<'a>(
     placement: &Placement<'a>,
     places: &[Option<usize>; 6],
 ) -> Directories
-    requires plan { IsPlanOf (options_said options.now) plan.now.names plan.now }
+    requires plan { IsPlanOf (options_said options.now) plan.now.modules.items plan.now }
     requires placed { IsPlaced (options_said options.now) plan.now placement.now }
     requires places { places.now ≡ numbered_indexes (length plan.now.modules.items) plan.now.pieces.items }
-    ensures { result ≡ directories_of plan.now.names placement.now.layout (reloc_tables placement.now.table) }
+    ensures { result ≡ directories_of (kept_parts plan.now) placement.now.layout (reloc_tables placement.now.table) }
 {
     let rvas = &placement.layout.pieces;
     Directories {

@@ -3,7 +3,7 @@ use Rattle.std.proofs.lemmas.Result.{err_from_is_err_and}
 use Rattle.std.proofs.lemmas.List.{take_all}
 use Rattle.link_base.specs.Refusals.{first_standing}
 use Rattle.export_tables.specs.declared.row.ExportRow.{ExportRow}
-use Rattle.link_plan.proofs.ReferenceLemmas.{standing_more, standing_found}
+use Rattle.link_fields.proofs.StandingLemmas.{standing_more, standing_found}
 use Rattle.link_image.specs.ExportFaults.{inside_of}
 use Rattle.link_image.proofs.exports.check_outside.Goals as goal
 

@@ -1,20 +1,9 @@
-use Rattle.std.proofs.Common.{◌≡◌, ℕ, ◌<◌, List, Option, length, map, get_or, sym, ap, ◌∙◌, arith}
+use Rattle.std.proofs.Common.{arith}
 use Rattle.std.proofs.lemmas.Result.{err_from_is_err_and}
-use Rattle.std.proofs.lemmas.List.{get_or-map}
-use Rattle.directives.specs.declared.item.Export.{Export}
-use Rattle.relocate.specs.declared.fix.Target.{Target}
-use Rattle.link_pieces.specs.LinkParts.{LinkParts}
-use Rattle.link_plan.specs.ExportTargets.{export_target}
-use Rattle.link_plan.proofs.ReferenceLemmas.{standing_more, standing_found}
+use Rattle.link_fields.proofs.StandingLemmas.{standing_more, standing_found}
 use Rattle.link_image.specs.ExportFaults.{absolute_fault}
+use Rattle.link_image.proofs.TargetLemmas.{target_here}
 use Rattle.link_image.proofs.exports.check_places.Goals as goal
-
--- what an export stands for
-target_here : (link : LinkParts) (rows : List Export) (targets : List (Option Target)) (k : ℕ) (row : Export) (d : Option Target) → k < length rows → row ≡ get_or rows k row → targets ≡ map (export_target link) rows → get_or targets k d ≡ export_target link row
-target_here link rows targets k row d lt here are =
-    ap (λ (ts : List (Option Target)). get_or ts k d) are
-    ∙ get_or-map (export_target link) rows k row d lt
-    ∙ ap (export_target link) (sym here)
 
 pub returns-in_err-check_place-clause-refused : goal.returns-in_err-check_place-clause-refused
 returns-in_err-check_place-clause-refused c =

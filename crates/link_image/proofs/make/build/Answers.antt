@@ -8,6 +8,7 @@ use Rattle.address_layout.specs.Layout.{all_pieces}
 use Rattle.image_writer.specs.declared.headers.Headers.{Headers}
 use Rattle.link_words.specs.Outcome.{LinkOptions, options_said}
 use Rattle.link_plan.specs.declared.planning.LinkPlan.{LinkPlan}
+use Rattle.link_plan.specs.Plan.{kept_parts}
 use Rattle.link_image.specs.declared.placement.Placement.{Placement}
 use Rattle.link_image.specs.ImageHeaders.{headers_of}
 use Rattle.link_image.specs.LinkedBytes.{owners, owners_in, linked_contents, fields_range_fault}
@@ -23,7 +24,7 @@ owners_of-requires-clause-within c =
     let plan : LinkPlan = c.args.plan.now in
     let placement : Placement = c.in_ok-placement.placement in
     let placed : IsPlaced options plan placement = c.in_ok-placement.ensures.placed in
-    let written : IsWritten c.headers_of-headers.result placement plan.names c.in_ok-image.image.items = c.in_ok-image.ensures in
+    let written : IsWritten c.headers_of-headers.result placement (kept_parts plan) c.in_ok-image.image.items = c.in_ok-image.ensures in
     let count : c.len.result ≡ length placement.layout.pieces.items = c.len.ensures ∙ placement.layout.pieces.ok.0 in
     let laid = placed.laid written.rest written.holds in
     subst (λ (ss : List OutSection). All (λ k. k < c.len.result) (all_pieces ss)) (sym c.deref-3.ensures.value)
@@ -35,7 +36,7 @@ patch_pieces-requires-clause-ready c =
     let plan : LinkPlan = c.args.plan.now in
     let placement : Placement = c.in_ok-placement.placement in
     let placed : IsPlaced options plan placement = c.in_ok-placement.ensures.placed in
-    let written : IsWritten c.headers_of-headers.result placement plan.names c.in_ok-image.image.items = c.in_ok-image.ensures in
+    let written : IsWritten c.headers_of-headers.result placement (kept_parts plan) c.in_ok-image.image.items = c.in_ok-image.ensures in
     let count : c.len.result ≡ length placement.layout.pieces.items = c.len.ensures ∙ placement.layout.pieces.ok.0 in
     let owner_is : c.in_ok-owner.owner.items ≡ owners_in (rows_of placement.sections.items) placement.layout =
     c.in_ok-owner.ensures ∙ ap (λ (ss : List OutSection). owners (rows_of ss) c.len.result) c.deref-3.ensures.value ∙ ap (owners (rows_of placement.sections.items)) count in
@@ -47,7 +48,7 @@ patch_pieces-requires-clause-file c =
     let plan : LinkPlan = c.args.plan.now in
     let placement : Placement = c.in_ok-placement.placement in
     let placed : IsPlaced options plan placement = c.in_ok-placement.ensures.placed in
-    let written : IsWritten c.headers_of-headers.result placement plan.names c.in_ok-image.image.items = c.in_ok-image.ensures in
+    let written : IsWritten c.headers_of-headers.result placement (kept_parts plan) c.in_ok-image.image.items = c.in_ok-image.ensures in
     written.file
 
 pub returns-in_err-patch_pieces-clause-refused : goal.returns-in_err-patch_pieces-clause-refused
@@ -56,14 +57,14 @@ returns-in_err-patch_pieces-clause-refused c =
     let plan : LinkPlan = c.args.plan.now in
     let placement : Placement = c.in_ok-placement.placement in
     let placed : IsPlaced options plan placement = c.in_ok-placement.ensures.placed in
-    let begins : c.headers_of-headers.result ≡ headers_of options (entry_rva placement.layout.pieces.items plan.entry) (directories_of plan.names placement.layout (reloc_tables placement.table)) =
+    let begins : c.headers_of-headers.result ≡ headers_of options (entry_rva placement.layout.pieces.items plan.entry) (directories_of (kept_parts plan) placement.layout (reloc_tables placement.table)) =
     c.headers_of-headers.ensures ∙ ap (λ (e : ℕ). headers_of options e c.directories_of-directories.result) c.entry_rva-entry.ensures ∙ ap (headers_of options (entry_rva placement.layout.pieces.items plan.entry)) c.directories_of-directories.ensures in
     let own : c.headers_of-headers.result.base ≡ options.base = ap (λ (h : Headers). h.base) begins in
     let given = err_from_is_err_and c.from_residual-in_err-patch_pieces.result c.from_residual-in_err-patch_pieces.ensures.1 in
     let fault : Fault = c.in_err-patch_pieces.field-0.0 in
-    let refused : fields_range_fault plan.names (rows_of placement.sections.items) placement.layout options.base ≡ Some fault =
-    ap (fields_range_fault plan.names (rows_of placement.sections.items) placement.layout) (sym own) ∙ c.in_err-patch_pieces.ensures.refused in
-    rw (given.1, given.2) (bad_range options plan.names (rows_of placement.sections.items) placement.layout (reloc_tables placement.table) fault placed.means c.in_ok-check_own_base.ensures.permitted c.in_ok-exports.ensures.outside refused)
+    let refused : fields_range_fault (kept_parts plan) (rows_of placement.sections.items) placement.layout options.base ≡ Some fault =
+    ap (fields_range_fault (kept_parts plan) (rows_of placement.sections.items) placement.layout) (sym own) ∙ c.in_err-patch_pieces.ensures.refused in
+    rw (given.1, given.2) (bad_range options (kept_parts plan) (rows_of placement.sections.items) placement.layout (reloc_tables placement.table) fault placed.means c.in_ok-check_own_base.ensures.permitted c.in_ok-exports.ensures.outside refused)
 
 pub returns-clause-built : goal.returns-clause-built
 returns-clause-built c =
@@ -71,19 +72,19 @@ returns-clause-built c =
     let plan : LinkPlan = c.args.plan.now in
     let placement : Placement = c.in_ok-placement.placement in
     let placed : IsPlaced options plan placement = c.in_ok-placement.ensures.placed in
-    let written : IsWritten c.headers_of-headers.result placement plan.names c.in_ok-image.image.items = c.in_ok-image.ensures in
+    let written : IsWritten c.headers_of-headers.result placement (kept_parts plan) c.in_ok-image.image.items = c.in_ok-image.ensures in
     let count : c.len.result ≡ length placement.layout.pieces.items = c.len.ensures ∙ placement.layout.pieces.ok.0 in
     let owner_is : c.in_ok-owner.owner.items ≡ owners_in (rows_of placement.sections.items) placement.layout =
     c.in_ok-owner.ensures ∙ ap (λ (ss : List OutSection). owners (rows_of ss) c.len.result) c.deref-3.ensures.value ∙ ap (owners (rows_of placement.sections.items)) count in
-    let begins : c.headers_of-headers.result ≡ headers_of options (entry_rva placement.layout.pieces.items plan.entry) (directories_of plan.names placement.layout (reloc_tables placement.table)) =
+    let begins : c.headers_of-headers.result ≡ headers_of options (entry_rva placement.layout.pieces.items plan.entry) (directories_of (kept_parts plan) placement.layout (reloc_tables placement.table)) =
     c.headers_of-headers.ensures ∙ ap (λ (e : ℕ). headers_of options e c.directories_of-directories.result) c.entry_rva-entry.ensures ∙ ap (headers_of options (entry_rva placement.layout.pieces.items plan.entry)) c.directories_of-directories.ensures in
     let own : c.headers_of-headers.result.base ≡ options.base = ap (λ (h : Headers). h.base) begins in
     let all = ready options plan placement c.headers_of-headers.result c.in_ok-image.image.items c.in_ok-owner.owner.items c.requires placed written owner_is in
-    let in_range : fields_range_fault plan.names (rows_of placement.sections.items) placement.layout options.base ≡ None =
-    ap (fields_range_fault plan.names (rows_of placement.sections.items) placement.layout) (sym own) ∙ c.in_ok-patch_pieces.ensures.in_range in
-    let file : c.patch_pieces.new.image.items ≡ file_of (headers_of options (entry_rva placement.layout.pieces.items plan.entry) (directories_of plan.names placement.layout (reloc_tables placement.table))) placement.sections.items placement.layout (linked_contents plan.names (rows_of placement.sections.items) placement.layout options.base) (reloc_tables placement.table) =
+    let in_range : fields_range_fault (kept_parts plan) (rows_of placement.sections.items) placement.layout options.base ≡ None =
+    ap (fields_range_fault (kept_parts plan) (rows_of placement.sections.items) placement.layout) (sym own) ∙ c.in_ok-patch_pieces.ensures.in_range in
+    let file : c.patch_pieces.new.image.items ≡ file_of (headers_of options (entry_rva placement.layout.pieces.items plan.entry) (directories_of (kept_parts plan) placement.layout (reloc_tables placement.table))) placement.sections.items placement.layout (linked_contents (kept_parts plan) (rows_of placement.sections.items) placement.layout options.base) (reloc_tables placement.table) =
     c.in_ok-patch_pieces.ensures.patched
-    ∙ ap (λ (h : Headers). file_of h placement.sections.items placement.layout (linked_contents plan.names (rows_of placement.sections.items) placement.layout h.base) (reloc_tables placement.table)) begins in
+    ∙ ap (λ (h : Headers). file_of h placement.sections.items placement.layout (linked_contents (kept_parts plan) (rows_of placement.sections.items) placement.layout h.base) (reloc_tables placement.table)) begins in
     built options plan placement c.in_ok-owner.owner.items c.requires placed all (record { image = c.patch_pieces.new.image; sections = c.len-count.result }) c.in_ok-check_own_base.ensures.permitted c.in_ok-exports.ensures.outside c.in_ok-exports.ensures.given in_range file (c.len-count.ensures ∙ placement.sections.ok.0)
 
 pub overflow_cast-count : goal.overflow_cast-count

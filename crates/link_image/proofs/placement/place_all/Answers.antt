@@ -2,6 +2,7 @@ use Rattle.std.proofs.Common.{◌≡◌, Bool, List, None, refl, sym, ◌∙◌,
 use Rattle.section_group.specs.declared.piece.OutSection.{OutSection}
 use Rattle.base_reloc.specs.PageBlocks.{IsAscending}
 use Rattle.link_words.specs.Outcome.{options_said}
+use Rattle.link_plan.specs.Plan.{kept_parts}
 use Rattle.link_image.specs.BaseFields.{AreBaseFields}
 use Rattle.link_image.specs.LinkedImage.{ArePlaced}
 use Rattle.link_image.specs.Steps.{all_fields}
@@ -59,6 +60,6 @@ append_table-requires-clause-table c =
     rw (← c.deref-2.ensures.value, ← c.deref-3.ensures.value, ← c.deref-4.ensures.value) c.in_ok-fields.ensures in
     record {
       fields = c.deref-5.result.now;
-      based = subst (AreBaseFields c.args.plan.now.names layout.pieces.items) (sym (c.deref-5.ensures.value ∙ listed)) are;
+      based = subst (AreBaseFields (kept_parts c.args.plan.now) layout.pieces.items) (sym (c.deref-5.ensures.value ∙ listed)) are;
       is = c.in_ok-table.ensures;
     }

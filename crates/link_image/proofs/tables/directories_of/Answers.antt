@@ -1,6 +1,7 @@
 use Rattle.std.proofs.Common.{ℕ, length, List, None, get_or, ap, ◌∙◌, arith}
 use Rattle.section_group.specs.declared.piece.Piece.{Piece}
 use Rattle.link_words.specs.Outcome.{options_said}
+use Rattle.link_plan.specs.Plan.{kept_parts}
 use Rattle.link_image.specs.declared.headers.Directories.{Directories}
 use Rattle.link_image.specs.LinkedImage.{extent_of, table_extent}
 use Rattle.link_image.proofs.TableLemmas.{place_within, extent_is}
@@ -44,7 +45,7 @@ returns c =
     ∙ ap (λ (ps : List Piece). extent_of ps c.deref-6.result.now (get_or c.args.places.now 2 None)) c.deref-5.ensures.value
     ∙ ap (λ (rs : List ℕ). extent_of plan.pieces.items rs (get_or c.args.places.now 2 None)) c.deref-6.ensures.value
     ∙ extent_is (options_said c.args.options.now) plan c.requires.plan rvas c.args.places.now 2 (omega arith) c.requires.places in
-    let extent = table_extent plan.names c.args.placement.now.layout in
+    let extent = table_extent (kept_parts plan) c.args.placement.now.layout in
     ap (λ (e : ℕ × ℕ). directories e c.extent_of-2.result c.extent_of-3.result c.table_directory.result) exports
     ∙ ap (λ (e : ℕ × ℕ). directories (extent 5) e c.extent_of-3.result c.table_directory.result) imports
     ∙ ap (λ (e : ℕ × ℕ). directories (extent 5) (extent 0) e c.table_directory.result) slots
