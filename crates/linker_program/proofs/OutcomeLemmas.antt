@@ -24,13 +24,16 @@ use Rattle.image_writer.specs.ExpectedImage.{ImagePlan}
 use Rattle.image_writer.specs.WrittenImage.{written_plan}
 use Rattle.module_view.specs.Module.{ModuleView}
 use Rattle.link_pieces.specs.LinkParts.{LinkParts}
+use Rattle.link_pieces.specs.TablePieces.{KeptParts}
+use Rattle.link_plan.specs.Reach.{AreKept}
 use Rattle.lib_search.proofs.OneLoading.{one_fault, fault_or_loads, one_loading}
-use Rattle.link_plan.specs.Plan.{link_parts, merges_of}
+use Rattle.link_plan.specs.Plan.{link_parts, merges_of, IsLinkOf}
+use Rattle.link_plan.proofs.KeepLemmas.{one_kept}
 use Rattle.link_plan.specs.PlanFaults.{plan_fault}
-use Rattle.link_plan.specs.Fixes.{plan_pieces}
+use Rattle.link_plan.specs.Planned.{plan_pieces}
 use Rattle.link_words.specs.Outcome.{LinkOptions, CommandSaid, Link, At, Show, Gen, Refused as RefusedWord}
 use Rattle.link_words.specs.Commands.{words_say}
-use Rattle.link_plan.specs.Entry.{entry_place}
+use Rattle.link_fields.specs.Entry.{entry_place}
 use Rattle.link_image.specs.BaseFields.{is_relocated}
 use Rattle.image_writer.specs.declared.headers.Headers.{Headers}
 use Rattle.link_image.specs.ImageHeaders.{headers_of}
@@ -42,7 +45,7 @@ use Rattle.link_image.proofs.PlaceLemmas.{range_by_places, contents_by_places, d
 use Rattle.link_image.proofs.OnePlacement.{same_rows, same_layout, same_fields, one_refused_size, one_grown_size, SamePlacement, one_placement}
 use Rattle.linker_program.specs.Unbuilt.{is_unbuilt_link}
 use Rattle.linker_program.specs.Ending.{Plan, Outcome, Usage, Refused, Linked, Shown}
-use Rattle.linker_program.specs.Outcome.{IsPlan, BuildOutcome, OutcomeAfter, ModulesOutcome, LinkOutcome, AtLoading, AtModules, AskedOutcome, CommandOutcome, WordsOutcome, HasOutcome}
+use Rattle.linker_program.specs.Outcome.{IsPlan, KeptOutcome, BuildOutcome, OutcomeAfter, ModulesOutcome, LinkOutcome, AtLoading, AtModules, AskedOutcome, CommandOutcome, WordsOutcome, HasOutcome}
 
 -- ---- the bad merge
 
@@ -55,18 +58,18 @@ one_first given first second x y = elim (cases_lt first second) [
   ]
 ]
 
-same_merge : (options : LinkOptions) (link : LinkParts) (f g : Fault) → IsBadMerge options link f → IsBadMerge options link g → f ≡ g
+same_merge : (options : LinkOptions) (link : KeptParts) (f g : Fault) → IsBadMerge options link f → IsBadMerge options link g → f ≡ g
 same_merge options link f g x y =
-    let place = one_first (merges_of options link) x.named.place y.named.place x.named.first y.named.first in
-    let name : x.name ≡ y.name = x.named.named ∙ ap (λ (k : ℕ). (merge_at (merges_of options link) k).0) place ∙ sym y.named.named in
+    let place = one_first (merges_of options link.parts) x.named.place y.named.place x.named.first y.named.first in
+    let name : x.name ≡ y.name = x.named.named ∙ ap (λ (k : ℕ). (merge_at (merges_of options link.parts) k).0) place ∙ sym y.named.named in
     x.is ∙ ap (λ (n : List ℕ). faults.BadMerge n) name ∙ sym y.is
 
-no_bad_merge : (options : LinkOptions) (link : LinkParts) (pieces : List Piece) (sections : List OutSection) (fault : Fault) → IsBadMerge options link fault → AreGrouped options link pieces sections → ⊥
+no_bad_merge : (options : LinkOptions) (link : KeptParts) (pieces : List Piece) (sections : List OutSection) (fault : Fault) → IsBadMerge options link fault → AreGrouped options link pieces sections → ⊥
 no_bad_merge options link pieces sections fault x grouped = grouped.merges x.named.place x.named.first.within x.named.first.bad
 
 -- ---- one layout
 
-counts : (options : LinkOptions) (link : LinkParts) (reloc : Bool) (xs ys : List OutSection) → AreGrouped options link (plan_pieces options link) xs → AreGrouped options link (plan_pieces options link) ys → section_count xs reloc ≡ section_count ys reloc
+counts : (options : LinkOptions) (link : KeptParts) (reloc : Bool) (xs ys : List OutSection) → AreGrouped options link (plan_pieces options link) xs → AreGrouped options link (plan_pieces options link) ys → section_count xs reloc ≡ section_count ys reloc
 counts options link reloc xs ys x y =
     let rows = same_rows options link xs ys x y in
     ap (λ (n : ℕ). n + cond reloc 1 0) (sym (length-map xs row_of) ∙ ap length rows ∙ length-map ys row_of)
@@ -76,32 +79,32 @@ has_size pieces sections reloc layout is =
     record { headers = layout.headers; placed = placed_at layout.sections.items; place = is.standing.place; arranged = is.standing.arranged }
 
 -- grouped in two ways, the image of the pieces has one size
-sizes : (options : LinkOptions) (link : LinkParts) (reloc : Bool) (xs ys : List OutSection) (size other : ℕ) → AreGrouped options link (plan_pieces options link) xs → AreGrouped options link (plan_pieces options link) ys → HasImageSize (plan_pieces options link) xs reloc size → HasImageSize (plan_pieces options link) ys reloc other → size ≡ other
+sizes : (options : LinkOptions) (link : KeptParts) (reloc : Bool) (xs ys : List OutSection) (size other : ℕ) → AreGrouped options link (plan_pieces options link) xs → AreGrouped options link (plan_pieces options link) ys → HasImageSize (plan_pieces options link) xs reloc size → HasImageSize (plan_pieces options link) ys reloc other → size ≡ other
 sizes options link reloc xs ys size other x y has has_other =
     one_image_size (plan_pieces options link) ys reloc size other (size_same_rows (plan_pieces options link) xs ys reloc size (same_rows options link xs ys x y) has) has_other
 
 -- the pieces of a placement fit
-fits : (options : LinkOptions) (link : LinkParts) (sections : List OutSection) (size : ℕ) (rows : List SectionRow) (layout : Layout) (tables : List (List ℕ)) → AreGrouped options link (plan_pieces options link) sections → HasImageSize (plan_pieces options link) sections (is_relocated options link) size → IsPlacement options link rows layout tables → size ≤ IMAGE_LIMIT
+fits : (options : LinkOptions) (link : KeptParts) (sections : List OutSection) (size : ℕ) (rows : List SectionRow) (layout : Layout) (tables : List (List ℕ)) → AreGrouped options link (plan_pieces options link) sections → HasImageSize (plan_pieces options link) sections (is_relocated options link) size → IsPlacement options link rows layout tables → size ≤ IMAGE_LIMIT
 fits options link sections size rows layout tables grouped has y =
     let same = sizes options link (is_relocated options link) sections y.sections size y.before.image grouped y.grouped has (has_size (plan_pieces options link) y.sections (is_relocated options link) y.before y.placed.layout_of) in
     omega (arith, same, y.placed.within)
 
 -- ---- one fault of what is built
 
-same_many : (options : LinkOptions) (link : LinkParts) (f g : Fault) → HasTooManySections options link f → HasTooManySections options link g → f ≡ g
+same_many : (options : LinkOptions) (link : KeptParts) (f g : Fault) → HasTooManySections options link f → HasTooManySections options link g → f ≡ g
 same_many options link f g x y =
     let count = counts options link (is_relocated options link) x.sections y.sections x.grouped y.grouped in
     x.is ∙ ap (λ (n : ℕ). faults.TooManySections n) (x.refused.0 ∙ count ∙ sym y.refused.0) ∙ sym y.is
 
 -- the pieces are too large, or fit before the table does not
-pieces_or_table : (options : LinkOptions) (link : LinkParts) (xs ys : List OutSection) (size other : ℕ) → AreGrouped options link (plan_pieces options link) xs → AreGrouped options link (plan_pieces options link) ys → IsPlaceRefusal (plan_pieces options link) xs (is_relocated options link) (bad.ImageTooLarge size) → HasLargeTable options link ys other → ⊥
+pieces_or_table : (options : LinkOptions) (link : KeptParts) (xs ys : List OutSection) (size other : ℕ) → AreGrouped options link (plan_pieces options link) xs → AreGrouped options link (plan_pieces options link) ys → IsPlaceRefusal (plan_pieces options link) xs (is_relocated options link) (bad.ImageTooLarge size) → HasLargeTable options link ys other → ⊥
 pieces_or_table options link xs ys size other gx gy x y =
     let has = subst (λ (r : Bool). HasImageSize (plan_pieces options link) xs r size) y.relocated x.1 in
     let same = sizes options link true xs ys size y.layout.image gx gy has (has_size (plan_pieces options link) ys true y.layout y.placed.layout_of) in
     omega (arith, same, x.2, y.placed.within)
 
 -- two sizes that are refused
-same_size : (options : LinkOptions) (link : LinkParts) (xs ys : List OutSection) (size other : ℕ) → AreGrouped options link (plan_pieces options link) xs → AreGrouped options link (plan_pieces options link) ys
+same_size : (options : LinkOptions) (link : KeptParts) (xs ys : List OutSection) (size other : ℕ) → AreGrouped options link (plan_pieces options link) xs → AreGrouped options link (plan_pieces options link) ys
     → IsPlaceRefusal (plan_pieces options link) xs (is_relocated options link) (bad.ImageTooLarge size) ⊎ HasLargeTable options link xs size
     → IsPlaceRefusal (plan_pieces options link) ys (is_relocated options link) (bad.ImageTooLarge other) ⊎ HasLargeTable options link ys other → size ≡ other
 same_size options link xs ys size other gx gy (inl x) (inl y) = sizes options link (is_relocated options link) xs ys size other gx gy x.1 y.1
@@ -112,11 +115,11 @@ same_size options link xs ys size other gx gy (inr x) (inr y) =
     let fields = same_fields options link x.layout y.layout x.fields y.fields same x.based y.based in
     one_refused_size x.layout y.layout (length (blocks_of y.fields)) size other same (subst (λ (fs : List BaseField). HasGrownSize x.layout (length (blocks_of fs)) size) fields x.refused.0) y.refused.0
 
-same_large : (options : LinkOptions) (link : LinkParts) (f g : Fault) → IsTooLarge options link f → IsTooLarge options link g → f ≡ g
+same_large : (options : LinkOptions) (link : KeptParts) (f g : Fault) → IsTooLarge options link f → IsTooLarge options link g → f ≡ g
 same_large options link f g x y =
     x.is ∙ ap (λ (n : ℕ). faults.ImageTooLarge n) (same_size options link x.sections y.sections x.size y.size x.grouped y.grouped x.refused y.refused) ∙ sym y.is
 
-many_or_large : (options : LinkOptions) (link : LinkParts) (f g : Fault) → HasTooManySections options link f → IsTooLarge options link g → ⊥
+many_or_large : (options : LinkOptions) (link : KeptParts) (f g : Fault) → HasTooManySections options link f → IsTooLarge options link g → ⊥
 many_or_large options link f g x y =
     let count = counts options link (is_relocated options link) x.sections y.sections x.grouped y.grouped in
     by count y.refused
@@ -125,12 +128,12 @@ many_or_large options link f g x y =
     by count (inl pieces) = omega (arith, x.refused.0, x.refused.1, count, pieces.0)
     by count (inr table) = omega (arith, x.refused.0, x.refused.1, count, subst (λ (r : Bool). section_count y.sections r ≤ SECTION_LIMIT) (sym table.relocated) table.placed.few)
 
-many_or_placement : (options : LinkOptions) (link : LinkParts) (f : Fault) (rows : List SectionRow) (layout : Layout) (tables : List (List ℕ)) → HasTooManySections options link f → IsPlacement options link rows layout tables → ⊥
+many_or_placement : (options : LinkOptions) (link : KeptParts) (f : Fault) (rows : List SectionRow) (layout : Layout) (tables : List (List ℕ)) → HasTooManySections options link f → IsPlacement options link rows layout tables → ⊥
 many_or_placement options link f rows layout tables x y =
     let count = counts options link (is_relocated options link) x.sections y.sections x.grouped y.grouped in
     omega (arith, x.refused.0, x.refused.1, count, y.placed.few)
 
-large_or_placement : (options : LinkOptions) (link : LinkParts) (f : Fault) (rows : List SectionRow) (layout : Layout) (tables : List (List ℕ)) → IsTooLarge options link f → IsPlacement options link rows layout tables → ⊥
+large_or_placement : (options : LinkOptions) (link : KeptParts) (f : Fault) (rows : List SectionRow) (layout : Layout) (tables : List (List ℕ)) → IsTooLarge options link f → IsPlacement options link rows layout tables → ⊥
 large_or_placement options link f rows layout tables x y = by x.refused
   where
     table : (reloc : Bool) → reloc ≡ true → (large : HasLargeTable options link x.sections x.size) → ArePlaced (plan_pieces options link) y.sections reloc y.before → IsWhole reloc link (rows_of y.sections) y.before rows layout tables → ⊥
@@ -149,17 +152,17 @@ large_or_placement options link f rows layout tables x y = by x.refused
 same_permitted : (options : LinkOptions) (rows other_rows : List SectionRow) (layout other : Layout) (tables other_tables : List (List ℕ)) → SamePlacement rows other_rows layout other tables other_tables → is_permitted (base_rule options) layout.image options.base ≡ is_permitted (base_rule options) other.image options.base
 same_permitted options rows other_rows layout other tables other_tables same = ap (λ (n : ℕ). is_permitted (base_rule options) n options.base) (sym same.layouts.image)
 
-same_ranges : (options : LinkOptions) (link : LinkParts) (rows other_rows : List SectionRow) (layout other : Layout) (tables other_tables : List (List ℕ)) → SamePlacement rows other_rows layout other tables other_tables → fields_range_fault link rows layout options.base ≡ fields_range_fault link other_rows other options.base
+same_ranges : (options : LinkOptions) (link : KeptParts) (rows other_rows : List SectionRow) (layout other : Layout) (tables other_tables : List (List ℕ)) → SamePlacement rows other_rows layout other tables other_tables → fields_range_fault link rows layout options.base ≡ fields_range_fault link other_rows other options.base
 same_ranges options link rows other_rows layout other tables other_tables same =
     ap (λ (r : List SectionRow). fields_range_fault link r layout options.base) same.rows_same
     ∙ range_by_places link other_rows layout other options.base (sym same.layouts.pieces) (sym same.layouts.sections)
 
-base_or_range : (options : LinkOptions) (link : LinkParts) (f g : Fault) → HasBadBase options link f → HasBadRange options link g → ⊥
+base_or_range : (options : LinkOptions) (link : KeptParts) (f g : Fault) → HasBadBase options link f → HasBadRange options link g → ⊥
 base_or_range options link f g x y =
     let same = one_placement options link x.rows y.rows x.layout y.layout x.tables y.tables x.placement y.placement in
     false≢true (sym x.refused ∙ same_permitted options x.rows y.rows x.layout y.layout x.tables y.tables same ∙ y.permitted)
 
-same_range : (options : LinkOptions) (link : LinkParts) (f g : Fault) → HasBadRange options link f → HasBadRange options link g → f ≡ g
+same_range : (options : LinkOptions) (link : KeptParts) (f g : Fault) → HasBadRange options link f → HasBadRange options link g → f ≡ g
 same_range options link f g x y =
     let same = one_placement options link x.rows y.rows x.layout y.layout x.tables y.tables x.placement y.placement in
     some_same (sym x.is ∙ same_ranges options link x.rows y.rows x.layout y.layout x.tables y.tables same ∙ y.is)
@@ -174,39 +177,39 @@ some_fault f g e = cc
 none_fault : (f : Fault) → None ≡ Some f → ⊥
 none_fault f e = cc
 
-same_export : (options : LinkOptions) (link : LinkParts) (f g : Fault) → IsBadExport options link f → IsBadExport options link g → f ≡ g
+same_export : (options : LinkOptions) (link : KeptParts) (f g : Fault) → IsBadExport options link f → IsBadExport options link g → f ≡ g
 same_export options link f g x y = some_fault f g (sym x.is ∙ y.is)
 
-merge_or_export : (options : LinkOptions) (link : LinkParts) (f g : Fault) → IsBadMerge options link f → IsBadExport options link g → ⊥
+merge_or_export : (options : LinkOptions) (link : KeptParts) (f g : Fault) → IsBadMerge options link f → IsBadExport options link g → ⊥
 merge_or_export options link f g x y = y.merges x.named.place x.named.first.within x.named.first.bad
 
-export_or : (options : LinkOptions) (link : LinkParts) (fault : Fault) (sections : List OutSection) → IsBadExport options link fault → AreGrouped options link (plan_pieces options link) sections → ⊥
+export_or : (options : LinkOptions) (link : KeptParts) (fault : Fault) (sections : List OutSection) → IsBadExport options link fault → AreGrouped options link (plan_pieces options link) sections → ⊥
 export_or options link fault sections x grouped = none_fault fault (sym grouped.exports ∙ x.is)
 
 -- one that lies in the table
-same_inside : (link : LinkParts) (rows other_rows : List SectionRow) (layout other : Layout) (tables other_tables : List (List ℕ)) → SamePlacement rows other_rows layout other tables other_tables → in_table_fault link layout.pieces.items ≡ in_table_fault link other.pieces.items
+same_inside : (link : KeptParts) (rows other_rows : List SectionRow) (layout other : Layout) (tables other_tables : List (List ℕ)) → SamePlacement rows other_rows layout other tables other_tables → in_table_fault link layout.pieces.items ≡ in_table_fault link other.pieces.items
 same_inside link rows other_rows layout other tables other_tables same = ap (in_table_fault link) (sym same.layouts.pieces)
 
-same_in_table : (options : LinkOptions) (link : LinkParts) (f g : Fault) → HasExportInTable options link f → HasExportInTable options link g → f ≡ g
+same_in_table : (options : LinkOptions) (link : KeptParts) (f g : Fault) → HasExportInTable options link f → HasExportInTable options link g → f ≡ g
 same_in_table options link f g x y =
     let same = one_placement options link x.rows y.rows x.layout y.layout x.tables y.tables x.placement y.placement in
     some_fault f g (sym x.is ∙ same_inside link x.rows y.rows x.layout y.layout x.tables y.tables same ∙ y.is)
 
-base_or_inside : (options : LinkOptions) (link : LinkParts) (f g : Fault) → HasBadBase options link f → HasExportInTable options link g → ⊥
+base_or_inside : (options : LinkOptions) (link : KeptParts) (f g : Fault) → HasBadBase options link f → HasExportInTable options link g → ⊥
 base_or_inside options link f g x y =
     let same = one_placement options link x.rows y.rows x.layout y.layout x.tables y.tables x.placement y.placement in
     false≢true (sym x.refused ∙ same_permitted options x.rows y.rows x.layout y.layout x.tables y.tables same ∙ y.permitted)
 
-inside_or : (options : LinkOptions) (link : LinkParts) (f : Fault) (rows : List SectionRow) (layout : Layout) (tables : List (List ℕ)) → HasExportInTable options link f → IsPlacement options link rows layout tables → in_table_fault link layout.pieces.items ≡ None → ⊥
+inside_or : (options : LinkOptions) (link : KeptParts) (f : Fault) (rows : List SectionRow) (layout : Layout) (tables : List (List ℕ)) → HasExportInTable options link f → IsPlacement options link rows layout tables → in_table_fault link layout.pieces.items ≡ None → ⊥
 inside_or options link f rows layout tables x placement outside =
     let same = one_placement options link x.rows rows x.layout layout x.tables tables x.placement placement in
     none_fault f (sym outside ∙ sym (same_inside link x.rows rows x.layout layout x.tables tables same) ∙ x.is)
 
 -- no bad merge stands where the pieces are grouped
-merge_or : (options : LinkOptions) (link : LinkParts) (fault : Fault) (sections : List OutSection) → IsBadMerge options link fault → AreGrouped options link (plan_pieces options link) sections → ⊥
+merge_or : (options : LinkOptions) (link : KeptParts) (fault : Fault) (sections : List OutSection) → IsBadMerge options link fault → AreGrouped options link (plan_pieces options link) sections → ⊥
 merge_or options link fault sections x grouped = no_bad_merge options link (plan_pieces options link) sections fault x grouped
 
-same_fault : (options : LinkOptions) (link : LinkParts) (f g : Fault) → IsBuildFault options link f → IsBuildFault options link g → f ≡ g
+same_fault : (options : LinkOptions) (link : KeptParts) (f g : Fault) → IsBuildFault options link f → IsBuildFault options link g → f ≡ g
 same_fault options link f g (inl x) (inl y) = same_merge options link f g x y
 same_fault options link f g (inl x) (inr (inl y)) = absurd (merge_or_export options link f g x y)
 same_fault options link f g (inl x) (inr (inr (inl y))) = absurd (merge_or options link f y.sections x y.grouped)
@@ -258,7 +261,7 @@ same_fault options link f g (inr (inr (inr (inr (inr (inr (x))))))) (inr (inr (i
 same_fault options link f g (inr (inr (inr (inr (inr (inr (x))))))) (inr (inr (inr (inr (inr (inr (y))))))) = same_range options link f g x y
 
 -- modules have a fault, or an image
-fault_or_image : (options : LinkOptions) (link : LinkParts) (f : Fault) (image : ImagePlan) → IsBuildFault options link f → IsImageOf options link image → ⊥
+fault_or_image : (options : LinkOptions) (link : KeptParts) (f : Fault) (image : ImagePlan) → IsBuildFault options link f → IsImageOf options link image → ⊥
 fault_or_image options link f image (inl x) y = merge_or options link f y.placement.sections x y.placement.grouped
 fault_or_image options link f image (inr (inl x)) y = export_or options link f y.placement.sections x y.placement.grouped
 fault_or_image options link f image (inr (inr (inl x))) y = many_or_placement options link f y.rows y.layout y.tables x y.placement
@@ -273,9 +276,9 @@ fault_or_image options link f image (inr (inr (inr (inr (inr (inr (x))))))) y =
 
 -- ---- the plan
 
-same_image : (options : LinkOptions) (link : LinkParts) (a b : ImagePlan) → IsImageOf options link a → IsImageOf options link b → a ≡ b
+same_image : (options : LinkOptions) (link : KeptParts) (a b : ImagePlan) → IsImageOf options link a → IsImageOf options link b → a ≡ b
 same_image options link a b x y =
-    let place = entry_place link options.entry_name in
+    let place = entry_place link.parts options.entry_name in
     let same = one_placement options link x.rows y.rows x.layout y.layout x.tables y.tables x.placement y.placement in
     let linked : linked_contents link x.rows x.layout ≡ linked_contents link y.rows y.layout =
     ap (λ (r : List SectionRow). linked_contents link r x.layout) same.rows_same ∙ contents_by_places link y.rows x.layout y.layout (sym same.layouts.pieces) (sym same.layouts.sections) in
@@ -307,23 +310,41 @@ same_parts p q options modules image =
     ∙ ap (λ (i : ImagePlan). plan_from q.options q.modules i) image
     ∙ sym end
 
-same_plan : (options : LinkOptions) (modules : List ModuleView) (p q : Plan) → IsPlan options modules p → IsPlan options modules q → p ≡ q
-same_plan options modules p q x y =
-    same_parts p q (x.options_are ∙ sym y.options_are) (x.modules_are ∙ sym y.modules_are) (same_image options (link_parts options modules) p.image q.image x.image_is y.image_is)
+same_plan : (options : LinkOptions) (modules : List ModuleView) (link : KeptParts) (p q : Plan) → IsPlan options modules link p → IsPlan options modules link q → p ≡ q
+same_plan options modules link p q x y =
+    same_parts p q (x.options_are ∙ sym y.options_are) (x.modules_are ∙ sym y.modules_are) (same_image options link p.image q.image x.image_is y.image_is)
+
+-- ---- what is kept
+
+kept_of : LinkParts → List Bool → KeptParts
+kept_of parts kept = record { parts = parts; kept = kept }
+
+pub one_link : (options : LinkOptions) (modules : List ModuleView) (a b : KeptParts) → IsLinkOf options modules a → IsLinkOf options modules b → a ≡ b
+unfolding kept_of
+one_link options modules a b x y =
+    let parts : a.parts ≡ b.parts = x.parts_are ∙ sym y.parts_are in
+    let kept : a.kept ≡ b.kept = one_kept options b.parts a.kept b.kept (subst (λ (link : LinkParts). AreKept options link a.kept) parts x.kept_are) y.kept_are in
+    let start : a ≡ kept_of a.parts a.kept = refl in
+    let end : b ≡ kept_of b.parts b.kept = refl in
+    start ∙ ap (λ (link : LinkParts). kept_of link a.kept) parts ∙ ap (kept_of b.parts) kept ∙ sym end
 
 -- ---- the outcome
 
+same_later : (options : LinkOptions) (modules : List ModuleView) (link : KeptParts) (a b : Outcome) → KeptOutcome options modules link a → KeptOutcome options modules link b → a ≡ b
+same_later options modules link (Usage index kind) b x y = absurd x
+same_later options modules link (Refused f) (Usage index kind) x y = absurd y
+same_later options modules link (Refused f) (Refused g) x y = ap (λ (h : Fault). Refused h) (same_fault options link f g x y)
+same_later options modules link (Refused f) (Linked q) x y = absurd (fault_or_image options link f q.image x y.image_is)
+same_later options modules link (Refused f) (Shown line) x y = absurd y
+same_later options modules link (Shown line) b x y = absurd x
+same_later options modules link (Linked p) (Shown line) x y = absurd y
+same_later options modules link (Linked p) (Usage index kind) x y = absurd y
+same_later options modules link (Linked p) (Refused g) x y = absurd (fault_or_image options link g p.image y x.image_is)
+same_later options modules link (Linked p) (Linked q) x y = ap (λ (r : Plan). Linked r) (same_plan options modules link p q x y)
+
 same_built : (options : LinkOptions) (modules : List ModuleView) (a b : Outcome) → BuildOutcome options modules a → BuildOutcome options modules b → a ≡ b
-same_built options modules (Usage index kind) b x y = absurd x
-same_built options modules (Refused f) (Usage index kind) x y = absurd y
-same_built options modules (Refused f) (Refused g) x y = ap (λ (h : Fault). Refused h) (same_fault options (link_parts options modules) f g x y)
-same_built options modules (Refused f) (Linked q) x y = absurd (fault_or_image options (link_parts options modules) f q.image x y.image_is)
-same_built options modules (Refused f) (Shown line) x y = absurd y
-same_built options modules (Shown line) b x y = absurd x
-same_built options modules (Linked p) (Shown line) x y = absurd y
-same_built options modules (Linked p) (Usage index kind) x y = absurd y
-same_built options modules (Linked p) (Refused g) x y = absurd (fault_or_image options (link_parts options modules) g p.image y x.image_is)
-same_built options modules (Linked p) (Linked q) x y = ap (λ (r : Plan). Linked r) (same_plan options modules p q x y)
+same_built options modules a b x y =
+    same_later options modules y.link a b (subst (λ (link : KeptParts). KeptOutcome options modules link a) (one_link options modules x.link y.link x.link_is y.link_is) x.is) y.is
 
 -- a stage before a later one that has one outcome
 same_after : (fault : Option Fault) (later : Outcome → Type 0) (a b : Outcome) → ((c d : Outcome) → later c → later d → c ≡ d) → OutcomeAfter fault later a → OutcomeAfter fault later b → a ≡ b

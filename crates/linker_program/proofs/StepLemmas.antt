@@ -15,7 +15,8 @@ use Rattle.link_words.specs.UsageWord.{usage_word}
 use Rattle.link_words.specs.Commands.{words_say}
 use Rattle.link_plan.specs.PlanFaults.{plan_fault}
 use Rattle.file_search.specs.Reading.{LeavesFiles}
-use Rattle.link_plan.specs.Plan.{link_parts}
+use Rattle.link_pieces.specs.TablePieces.{KeptParts}
+use Rattle.link_plan.specs.Plan.{link_parts, IsLinkOf}
 use Rattle.lib_search.specs.Loading.{HasLoadingFault}
 use Rattle.lib_search.specs.Completion.{FailsLoading}
 use Rattle.link_plan.specs.declared.planning.LinkPlan.{LinkPlan}
@@ -30,7 +31,8 @@ use Rattle.linker_program.specs.declared.linked.Linked.{Linked as LinkedBytes}
 use Rattle.linker_program.specs.declared.status.Status.{Status}
 use Rattle.linker_program.specs.declared.status.Status.TheVariants as status
 use Rattle.linker_program.specs.Ending.{Outcome, Usage, Refused, Linked, Plan}
-use Rattle.linker_program.specs.Outcome.{IsPlan, LinkOutcome, AtLoading, AtModules, unbuilt, CommandOutcome, HasOutcome}
+use Rattle.linker_program.proofs.OutcomeLemmas.{one_link}
+use Rattle.linker_program.specs.Outcome.{IsPlan, BuildOutcome, LinkOutcome, AtLoading, AtModules, unbuilt, CommandOutcome, HasOutcome}
 use Rattle.linker_program.specs.Unbuilt.{is_unbuilt_link}
 use Rattle.linker_program.specs.RunLines.{write_failure_line}
 use Rattle.linker_program.specs.LinkRun.{outputs_of, Expects, IsMade, LinkTries, ImageTries, LinkAnswers, ShowAnswers, CommandAnswers, LeftByMemory, Answers}
@@ -225,31 +227,44 @@ left_alone has before after leaves = inl (record { store = leaves.store; writes 
 -- ---- the image of a plan
 
 -- pieces that make no image
-pub refused_build : (options : LinkOptions) (modules : List ModuleView) (r : Refusal) → plan_fault options (link_parts options modules) ≡ None → RefusesBuild options (link_parts options modules) r → RefusesModules options modules r
-refused_build options modules (refusal.Fault fault) planned is = rw planned is
-refused_build options modules refusal.Memory planned is = tt
+pub refused_build : (options : LinkOptions) (modules : List ModuleView) (link : KeptParts) (r : Refusal) → IsLinkOf options modules link → plan_fault options (link_parts options modules) ≡ None → RefusesBuild options link r → RefusesModules options modules r
+refused_build options modules link (refusal.Fault fault) link_is planned is =
+    let outcome : BuildOutcome options modules (Refused fault) = record { link = link; link_is = link_is; is = is } in
+    rw planned outcome
+refused_build options modules link refusal.Memory link_is planned is = tt
 
 -- an image that is made
-pub linked : (options : LinkOptions) (modules : List ModuleView) (built : Built) (made : LinkedBytes) → plan_fault options (link_parts options modules) ≡ None → IsBuilt options (link_parts options modules) built → made.image ≡ built.image → made.sections ≡ built.sections → made.modules ≡ length modules → IsLinked options modules made
-linked options modules built made planned is image sections count =
+pub linked : (options : LinkOptions) (modules : List ModuleView) (link : KeptParts) (built : Built) (made : LinkedBytes) → IsLinkOf options modules link → plan_fault options (link_parts options modules) ≡ None → IsBuilt options link built → made.image ≡ built.image → made.sections ≡ built.sections → made.modules ≡ length modules → IsLinked options modules made
+linked options modules link built made link_is planned is image sections count =
     let plan : Plan = record { options = options; modules = modules; image = is.image } in
-    let made_plan : IsPlan options modules plan = record { options_are = refl; modules_are = refl; image_is = is.is_image } in
+    let made_plan : IsPlan options modules link plan = record { options_are = refl; modules_are = refl; image_is = is.is_image } in
+    let outcome : BuildOutcome options modules (Linked plan) = record { link = link; link_is = link_is; is = made_plan } in
     record {
       plan = plan;
       asked = refl;
-      outcome = rw planned made_plan;
+      outcome = rw planned outcome;
       means = rw image is.means;
-      imports = λ other.
-          let link = link_parts options modules in
-          let same = one_placement options link is.is_image.rows other.rows is.is_image.layout other.layout is.is_image.tables other.tables is.is_image.placement other.placement in
-          rw image (imports_by_places link is.is_image.layout other.layout built.image.items (sym same.layouts.pieces) is.imports);
-      exports = λ other.
-          let link = link_parts options modules in
-          let same = one_placement options link is.is_image.rows other.rows is.is_image.layout other.layout is.is_image.tables other.tables is.is_image.placement other.placement in
-          rw image (exports_by_places link is.is_image.layout other.layout built.image.items (sym same.layouts.pieces) is.exports);
+      imports = λ other other_is. by_imports other (one_link options modules link other link_is other_is);
+      exports = λ other other_is. by_exports other (one_link options modules link other link_is other_is);
       modules_are = count;
       sections_are = sections ∙ is.count;
     }
+  where
+    own_imports : (other : IsImageOf options link is.image) → HoldsImports link other.layout made.image.items
+    own_imports other =
+        let same = one_placement options link is.is_image.rows other.rows is.is_image.layout other.layout is.is_image.tables other.tables is.is_image.placement other.placement in
+        rw image (imports_by_places link is.is_image.layout other.layout built.image.items (sym same.layouts.pieces) is.imports)
+
+    own_exports : (other : IsImageOf options link is.image) → HoldsExports link other.layout made.image.items
+    own_exports other =
+        let same = one_placement options link is.is_image.rows other.rows is.is_image.layout other.layout is.is_image.tables other.tables is.is_image.placement other.placement in
+        rw image (exports_by_places link is.is_image.layout other.layout built.image.items (sym same.layouts.pieces) is.exports)
+
+    by_imports : (other : KeptParts) → link ≡ other → (it : IsImageOf options other is.image) → HoldsImports other it.layout made.image.items
+    by_imports other same = subst (λ (l : KeptParts). (it : IsImageOf options l is.image) → HoldsImports l it.layout made.image.items) same own_imports
+
+    by_exports : (other : KeptParts) → link ≡ other → (it : IsImageOf options other is.image) → HoldsExports other it.layout made.image.items
+    by_exports other same = subst (λ (l : KeptParts). (it : IsImageOf options l is.image) → HoldsExports l it.layout made.image.items) same own_exports
 
 -- ---- the words
 

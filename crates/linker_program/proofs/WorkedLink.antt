@@ -12,8 +12,8 @@ use Rattle.link_words.specs.Options.{default_entry, options_of, outputs_clash}
 use Rattle.link_words.specs.Outcome.{LinkOptions, Link}
 use Rattle.link_words.specs.LinkWords.{word_refusal, settings, line_refusal, link_refusal, link_says}
 use Rattle.link_words.specs.Commands.{words_say}
-use Rattle.link_plan.specs.Fixes.{fixes_from}
-use Rattle.link_plan.specs.Entry.{entry_place}
+use Rattle.link_fields.specs.Fixes.{fixes_from}
+use Rattle.link_fields.specs.Entry.{entry_place}
 use Rattle.file_search.specs.FoundFiles.{FoundFile}
 use Rattle.link_plan.specs.Plan.{link_parts}
 use Rattle.link_directives.specs.LinkDirectives.{mismatch_of}

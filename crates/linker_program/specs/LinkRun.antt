@@ -13,7 +13,8 @@ use Rattle.link_words.specs.Outcome.{LinkOptions, CommandSaid, Link, At}
 use Rattle.link_words.specs.Commands.{words_say}
 use Rattle.file_search.specs.Reading.{TriesInput}
 use Rattle.lib_search.specs.Loading.{TriesDefault}
-use Rattle.link_plan.specs.Plan.{link_parts}
+use Rattle.link_pieces.specs.TablePieces.{KeptParts}
+use Rattle.link_plan.specs.Plan.{IsLinkOf}
 use Rattle.link_image.specs.LinkedImage.{IsImageOf, HoldsImports, HoldsExports}
 use Rattle.linker_program.specs.declared.status.Status.{Status}
 use Rattle.linker_program.specs.declared.status.Status.TheVariants as status
@@ -40,18 +41,16 @@ outputs_of plan image = record { name = plan.options.out; bytes = image } ∷ []
 pub record Expects (has : Store → Outcome → Type 0) (files : FilesView) (outcome : Outcome) : Type 0 where
   pub told : ForSome files.store (λ store. has store outcome)
 
--- wherever an image is loaded, its import directory names the imports of the modules, each with the slot that the layout gives
--- it, and no other
+-- wherever an image is loaded, its import directory names the imports of the modules that are kept, each with the slot that the
+-- layout gives it, and no other
 abbrev pub HasImports : Plan → List ℕ → Type 0
 HasImports plan image =
-    let link = link_parts plan.options plan.modules in
-    (is : IsImageOf plan.options link plan.image) → HoldsImports link is.layout image
+    (link : KeptParts) → IsLinkOf plan.options plan.modules link → (is : IsImageOf plan.options link plan.image) → HoldsImports link is.layout image
 
 -- and its export directory says of each name and of each number what the exports of the link say, and of no other
 abbrev pub HasExports : Plan → List ℕ → Type 0
 HasExports plan image =
-    let link = link_parts plan.options plan.modules in
-    (is : IsImageOf plan.options link plan.image) → HoldsExports link is.layout image
+    (link : KeptParts) → IsLinkOf plan.options plan.modules link → (is : IsImageOf plan.options link plan.image) → HoldsExports link is.layout image
 
 -- the plan is the outcome, and the image means it and has the imports and exports
 pub record IsMade (has : Store → Outcome → Type 0) (files : FilesView) (plan : Plan) (image : List ℕ) : Type 0 where

@@ -8,7 +8,8 @@ use Rattle.link_words.specs.Outcome.{Refused as RefusedWord}
 use Rattle.link_words.specs.Outcome.{LinkOptions, CommandSaid, Link, At}
 use Rattle.link_words.specs.Commands.{words_say}
 use Rattle.link_words.specs.UsageWord.{usage_word}
-use Rattle.link_plan.specs.Plan.{link_parts}
+use Rattle.link_pieces.specs.TablePieces.{KeptParts}
+use Rattle.link_plan.specs.Plan.{link_parts, IsLinkOf}
 use Rattle.lib_search.specs.Loading.{HasLoadingFault, Loads}
 use Rattle.link_plan.specs.PlanFaults.{plan_fault}
 use Rattle.link_image.specs.LinkedImage.{IsImageOf}
@@ -19,18 +20,24 @@ use Rattle.linker_program.specs.Unbuilt.{is_unbuilt_link}
 
 -- ---- the modules of a link
 
--- the plan of modules
-pub record IsPlan (options : LinkOptions) (modules : List ModuleView) (plan : Plan) : Type 0 where
+-- the plan of modules, with what is kept of the link
+pub record IsPlan (options : LinkOptions) (modules : List ModuleView) (link : KeptParts) (plan : Plan) : Type 0 where
   pub options_are : plan.options ≡ options
   pub modules_are : plan.modules ≡ modules
-  pub image_is : IsImageOf options (link_parts options modules) plan.image
+  pub image_is : IsImageOf options link plan.image
 
 -- modules that come to the tables have a fault there or later, or a plan
-abbrev pub BuildOutcome : LinkOptions → List ModuleView → Outcome → Type 0
-BuildOutcome options modules (Usage index kind) = ⊥
-BuildOutcome options modules (Refused fault) = IsBuildFault options (link_parts options modules) fault
-BuildOutcome options modules (Linked plan) = IsPlan options modules plan
-BuildOutcome options modules (Shown line) = ⊥
+abbrev pub KeptOutcome : LinkOptions → List ModuleView → KeptParts → Outcome → Type 0
+KeptOutcome options modules link (Usage index kind) = ⊥
+KeptOutcome options modules link (Refused fault) = IsBuildFault options link fault
+KeptOutcome options modules link (Linked plan) = IsPlan options modules link plan
+KeptOutcome options modules link (Shown line) = ⊥
+
+-- with what is kept of their link
+pub record BuildOutcome (options : LinkOptions) (modules : List ModuleView) (outcome : Outcome) : Type 0 where
+  pub link : KeptParts
+  pub link_is : IsLinkOf options modules link
+  pub is : KeptOutcome options modules link outcome
 
 -- a fault that stands is the outcome
 abbrev pub OutcomeAfter : Option Fault → (Outcome → Type 0) → Outcome → Type 0

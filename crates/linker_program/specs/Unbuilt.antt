@@ -1,5 +1,5 @@
 -- Commands and options that are read and not carried out yet. Own; each goes as it is built.
-use Rattle.std.specs.Prelude.{ℕ, Bool, false, ◌||◌, not, List, Option, Some, None, is_some}
+use Rattle.std.specs.Prelude.{ℕ, Bool, ◌||◌, not, List, is_some}
 use Rattle.std.specs.List.{list_any}
 use Rattle.module_view.specs.Unbuilt.{is_loader_name}
 use Rattle.link_words.specs.Outcome.{LinkOptions}
@@ -13,15 +13,10 @@ abbrev pub asks_for_loader_names : LinkOptions → Bool
 asks_for_loader_names options =
     list_any is_loader_name options.includes || list_any is_unbuilt_alternate options.alternates
 
--- unreferenced sections are to be dropped
-abbrev pub drops_sections : Option Bool → Bool
-drops_sections None = false
-drops_sections (Some refs) = refs
-
 -- a program database, by itself or by its name, or a map
 abbrev pub asks_for_outputs : LinkOptions → Bool
 asks_for_outputs options = options.debug || (not (has_default_pdb options) || is_some options.map_file)
 
 unfoldable pub is_unbuilt_link : LinkOptions → Bool
 is_unbuilt_link options =
-    asks_for_outputs options || (drops_sections options.refs || asks_for_loader_names options)
+    asks_for_outputs options || asks_for_loader_names options

@@ -3,7 +3,7 @@
 ghost use Rattle.std.specs.Prelude.{◌≡◌, ◌<◌, ◌-◌, ◌^◌, IfOk, IfErr, OnErr};
 ghost use Rattle.link_files.specs.Outside.{files_of};
 ghost use Rattle.link_words.specs.Outcome.{options_said};
-ghost use Rattle.link_plan.specs.Plan.{link_parts, IsPlanOf};
+ghost use Rattle.link_plan.specs.Plan.{IsPlanOf};
 ghost use Rattle.linker_program.specs.Outcome.{LinkOutcome};
 ghost use Rattle.linker_program.specs.LinkRun.{LinkAnswers, LinkTries, LeftByMemory};
 ghost use Rattle.linker_program.specs.Steps.{ModulesHave, IsLinked, RefusesModules};
@@ -54,7 +54,7 @@ fn link_planned<'a, F: Files>(
 ) -> Result<Answer, Memory>
     requires reads_below { F.read_faults files.old < 2 ^ 64 - 1 }
     requires writes_below { F.write_faults files.old < 2 ^ 64 - 1 }
-    requires planned { IsPlanOf (options_said options.now) (link_parts (options_said options.now) plan.now.modules.items) plan.now }
+    requires planned { IsPlanOf (options_said options.now) plan.now.modules.items plan.now }
     ensures answered { IfOk result (λ answer. LinkAnswers (ModulesHave (options_said options.now) plan.now.modules.items) (LinkTries (options_said options.now))
         (files_of F.store F.read_faults F.write_faults files.old)
         (files_of F.store F.read_faults F.write_faults files.new) answer.status answer.line.items) }
@@ -75,7 +75,7 @@ fn make<'a>(
     options: &Options<'a>,
     plan: &LinkPlan<'a>,
 ) -> Result<Linked, Refusal<'a>>
-    requires { IsPlanOf (options_said options.now) (link_parts (options_said options.now) plan.now.modules.items) plan.now }
+    requires { IsPlanOf (options_said options.now) plan.now.modules.items plan.now }
     ensures linked { IfOk result (IsLinked (options_said options.now) plan.now.modules.items) }
     ensures refused { IfErr result (RefusesModules (options_said options.now) plan.now.modules.items) }
 {

@@ -4,7 +4,7 @@ ghost use Rattle.std.specs.Prelude.{◌≡◌};
 ghost use Rattle.std.specs.List.{list_any};
 ghost use Rattle.module_view.specs.Unbuilt.{is_loader_name};
 ghost use Rattle.link_words.specs.Outcome.{options_said};
-ghost use Rattle.linker_program.specs.Unbuilt.{is_unbuilt_alternate, drops_sections, asks_for_loader_names, asks_for_outputs, is_unbuilt_link};
+ghost use Rattle.linker_program.specs.Unbuilt.{is_unbuilt_alternate, asks_for_loader_names, asks_for_outputs, is_unbuilt_link};
 
 use link_base::Name;
 use link_words::{Options, has_default_pdb};
@@ -15,7 +15,7 @@ use module_view::is_loader_name;
 pub(crate) fn is_unbuilt_link(options: &Options<'_>) -> bool
     ensures { result ≡ is_unbuilt_link (options_said options.now) }
 {
-    asks_for_outputs(options) || drops_sections(options.refs) || asks_for_loader_names(options)
+    asks_for_outputs(options) || asks_for_loader_names(options)
 }
 
 /// A program database, by itself or by its name, or a map.
@@ -23,16 +23,6 @@ fn asks_for_outputs(options: &Options<'_>) -> bool
     ensures { result ≡ asks_for_outputs (options_said options.now) }
 {
     options.debug || !has_default_pdb(options) || options.map.is_some()
-}
-
-/// Whether unreferenced sections are to be dropped.
-fn drops_sections(refs: Option<bool>) -> bool
-    ensures { result ≡ drops_sections refs }
-{
-    match refs {
-        Some(refs) => refs,
-        None => false,
-    }
 }
 
 /// A name that is included or has an alternate, and that the loader of a program looks for.
