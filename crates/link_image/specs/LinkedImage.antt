@@ -137,7 +137,7 @@ pub record IsImageOf (options : LinkOptions) (link : KeptParts) (image : ImagePl
 
 -- ---- its imports
 
--- at each base that a file is loaded at, its import directory names the imports of the modules, each with its slot, and no other
+-- at each base that a file is loaded at, its import directory names the imports that are kept, each with its slot, and no other
 abbrev pub HoldsImports : KeptParts → Layout → List ℕ → Type 0
 HoldsImports link layout image =
     (base : ℕ) (memory : List ℕ) → loaded image base ≡ Some memory

@@ -1,4 +1,4 @@
-//! The image of a link. It takes the plan of `link_plan` and the options, has `section_group` order the pieces,
+//! The image of a link. It takes the plan of `link_plan` and the options, has `section_group` order the pieces that are kept,
 //! `address_layout` place them, `import_tables` fill the import tables, `image_writer` write all and `relocate` patch the
 //! fields of the pieces where they stand, and gives the bytes to the program that stores them. Its contract promises the
 //! image that the definitions give, whose file loads as planned at every permitted base, or the first fault of the stages

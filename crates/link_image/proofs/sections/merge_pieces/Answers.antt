@@ -12,7 +12,6 @@ used_pieces-requires-clause-count c =
 pub returns-in-Ok-clause-merged : goal.returns-in-Ok-clause-merged
 returns-in-Ok-clause-merged c =
     let plan = c.args.plan.now in
-    let sections = c.in-Ok.sections.items in
     let first : c.len.result - c.len-2.result ≡ length plan.kept.items - length plan.modules.items = omega (arith, c.len.ensures ∙ plan.kept.ok.0, c.len-2.ensures ∙ plan.modules.ok.0) in
     let listed = c.in_ok-used.ensures ∙ ap (λ (ks : List Bool). take (c.len.result - c.len-2.result) ks ++ replicate (c.len-3.result - (c.len.result - c.len-2.result)) true) c.deref.ensures.value in
     let used = used_are (options_said c.args.options.now) plan c.requires (c.len.result - c.len-2.result) c.len-3.result c.in_ok-used.used.items first (c.len-3.ensures ∙ plan.pieces.ok.0) listed in
