@@ -22,7 +22,7 @@ use Rattle.lib_search.specs.Completion.{FailsLoading}
 use Rattle.link_plan.specs.declared.planning.LinkPlan.{LinkPlan}
 use Rattle.link_plan.specs.Planning.{GivesPlan, JoinsBadly, FaultsPlan}
 use Rattle.link_image.specs.declared.make.Built.{Built}
-use Rattle.link_image.specs.LinkedImage.{IsBuilt}
+use Rattle.link_image.specs.LinkedImage.{IsImageOf, IsBuilt, HoldsImports, HoldsExports}
 use Rattle.link_image.proofs.PlaceLemmas.{imports_by_places, exports_by_places}
 use Rattle.link_image.proofs.OnePlacement.{one_placement}
 use Rattle.link_image.specs.BuildFaults.{RefusesBuild}

@@ -34,8 +34,8 @@ pub use laws::{
 };
 pub use link_base::{RelocKind, TargetFault};
 pub use patching::patch;
-pub use redirect::redirected;
 pub use range::RelocRange;
+pub use redirect::redirected;
 pub use target::is_based;
 
 #[cfg(test)]
