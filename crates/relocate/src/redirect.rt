@@ -1,11 +1,10 @@
 //! Targets that are given other places.
 
-ghost use Rattle.std.specs.Prelude.{◌≡◌, map, slice_index_or, option_map};
-ghost use Rattle.relocate.specs.Redirected.{redirected, redirected_if, redirected_fix};
+ghost use Rattle.std.specs.Prelude.{◌≡◌, map, slice_index_or};
+ghost use Rattle.relocate.specs.Redirected.{redirected, redirected_fix};
 
 use crate::fix::{Fix, Target};
 use crate::fixups::Fixups;
-use link_base::TargetFault;
 
 impl Fixups {
     /// Gives other places to the targets in pieces from `first` on: each stands for an offset in the one piece `home`, by
@@ -14,34 +13,22 @@ impl Fixups {
         ensures { self.new ≡ map (redirected_fix first home offsets.now) self.old }
     {
         for fix in self.fixes.iter_mut() {
-            *fix = redirected_fix(fix, first, home, offsets);
+            redirect_fix(fix, first, home, offsets);
         }
     }
 }
 
-/// A relocation with the place that its target stands for.
-fn redirected_fix(fix: &Fix, first: u32, home: u32, offsets: &[u32]) -> Fix
-    ensures { result ≡ redirected_fix first home offsets.now fix.now }
+/// Gives another place to a relocation's target, where it is in a piece from `first` on; others are not written.
+fn redirect_fix(fix: &mut Fix, first: u32, home: u32, offsets: &[u32])
+    ensures { fix.new ≡ redirected_fix first home offsets.now fix.old }
 {
-    Fix {
-        index: fix.index,
-        at: fix.at,
-        kind: fix.kind,
-        target: redirected_target(fix.target, first, home, offsets),
-    }
-}
-
-fn redirected_target(
-    target: Option<Result<Target, TargetFault>>,
-    first: u32,
-    home: u32,
-    offsets: &[u32],
-) -> Option<Result<Target, TargetFault>>
-    ensures { result ≡ option_map (redirected_if first home offsets.now) target }
-{
-    match target {
-        Some(Ok(target)) => Some(Ok(redirected(target, first, home, offsets))),
-        other => other,
+    if let Some(Ok(Target::Piece { piece, .. })) = fix.target {
+        if piece >= first {
+            fix.target = Some(Ok(Target::Piece {
+                piece: home,
+                value: offset_at(offsets, piece - first),
+            }));
+        }
     }
 }
 
