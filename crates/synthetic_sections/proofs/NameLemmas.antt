@@ -5,8 +5,8 @@ use Rattle.link_base.specs.Bytes.{is_nul}
 use Rattle.link_base.specs.NameText.{begins_import, behind_import, with_import}
 use Rattle.link_base.proofs.SectionNameLemmas.{text_made}
 
-pub plain_name : (name : List ℕ) → list_any is_nul (behind_import name) ≡ false → list_any is_nul name ≡ false
-plain_name name plain = ap (list_any is_nul) (text_made name) ∙ by_prefix (begins_import name) ∙ plain
+pub plain_name : (name : List ℕ) → list_any is_nul name ≡ list_any is_nul (behind_import name)
+plain_name name = ap (list_any is_nul) (text_made name) ∙ by_prefix (begins_import name)
   where
     by_prefix : (b : Bool) → list_any is_nul (with_import b (behind_import name)) ≡ list_any is_nul (behind_import name)
     by_prefix true = refl
