@@ -12,7 +12,6 @@ use Rattle.link_base.specs.Refusals.{first_standing}
 use Rattle.link_base.specs.declared.kinds.form.Kind.TheVariants as form
 use Rattle.link_base.specs.declared.kinds.object.ObjFault.TheVariants as kind
 use Rattle.module_view.specs.declared.error.ModuleError.TheVariants as error
-use Rattle.module_view.specs.Unbuilt.{has_unbuilt_section, has_unbuilt_symbol, has_unbuilt_directive}
 use Rattle.module_view.specs.Module.{ModuleView, module_at}
 use Rattle.coff_aux.specs.AuxFaults.{has_no_selection, has_no_parent, first_comdat, aux_place, parent_place, aux_fault}
 use Rattle.coff_aux.specs.Comdats.{comdat_record_of, parent_in, parents_of}
@@ -51,7 +50,7 @@ no_place (Some one) (Some other) none = go (nat_lt other one) none
 no_aux_fault : (bytes : List ℕ) → content_error bytes ≡ None → aux_fault bytes ≡ None
 unfolding content_error
 no_aux_fault bytes stand =
-    none_mapped error.Object (aux_fault bytes) (third_none (unsupported (has_linker_section bytes) form.LinkerSection) (unsupported (has_long_section_name bytes || has_long_symbol_name bytes) form.LongName) (option_map error.Object (aux_fault bytes)) (directive_error bytes ∷ unsupported (has_unbuilt_section bytes || (has_unbuilt_symbol bytes || has_unbuilt_directive bytes)) form.NotBuilt ∷ []) stand)
+    none_mapped error.Object (aux_fault bytes) (third_none (unsupported (has_linker_section bytes) form.LinkerSection) (unsupported (has_long_section_name bytes || has_long_symbol_name bytes) form.LongName) (option_map error.Object (aux_fault bytes)) (directive_error bytes ∷ []) stand)
 
 no_parent_place : (bytes : List ℕ) → aux_fault bytes ≡ None → parent_place bytes ≡ None
 unfolding aux_fault

@@ -58,7 +58,6 @@ kind_word form.Anonymous = codes "Anonymous"
 kind_word form.LinkerSection = codes "LinkerSection"
 kind_word form.LongName = codes "LongName"
 kind_word form.SecondResource = codes "SecondResource"
-kind_word form.NotBuilt = codes "NotBuilt"
 
 abbrev pub target_fault_word : TargetFault → List ℕ
 target_fault_word target.Local = codes "Local"

@@ -67,7 +67,6 @@ pub(crate) fn kind_word(kind: Kind) -> &'static [u8]
         Kind::LinkerSection => b"LinkerSection",
         Kind::LongName => b"LongName",
         Kind::SecondResource => b"SecondResource",
-        Kind::NotBuilt => b"NotBuilt",
     }
 }
 

@@ -15,6 +15,7 @@ use Rattle.module_view.specs.SymbolLists.{definitions_of, references_of, weaks_o
 use Rattle.module_view.specs.ModuleParts.{KeepsLists}
 use Rattle.module_view.specs.ImportModule.{no_object}
 use Rattle.module_view.specs.Opening.{resource_start, form_error, content_error, opening_error}
+use Rattle.module_view.specs.Resources.{has_resources}
 use Rattle.module_view.proofs.CallerLemmas.{opened_sound}
 
 pub nothing_opens : opening_error no_object ≡ None
@@ -41,11 +42,15 @@ no_directives : [] ≡ module_directives no_object
 unfolding module_says number_at big_object_class is_big_object header_size section_total no_object
 no_directives = refl
 
+no_resources : false ≡ has_resources no_object
+unfolding has_resources number_at big_object_class is_big_object header_size section_total no_object
+no_resources = refl
+
 -- it has no lists
-pub nothing_kept : (bytes object : List ℕ) → bytes ≡ no_object → object ≡ no_object → KeepsLists bytes object [] [] [] [] [] [] []
+pub nothing_kept : (bytes object : List ℕ) → bytes ≡ no_object → object ≡ no_object → KeepsLists bytes object [] [] [] [] [] [] [] false
 unfolding definitions_of references_of weaks_of commons_of starts_symbol
 nothing_kept bytes object nothing same =
-    subst (λ (bs : List ℕ). KeepsLists bs object [] [] [] [] [] [] []) (sym nothing)
+    subst (λ (bs : List ℕ). KeepsLists bs object [] [] [] [] [] [] [] false) (sym nothing)
     record {
       opened = nothing_opens;
       viewed = same;
@@ -56,4 +61,5 @@ nothing_kept bytes object nothing same =
       started = λ some. absurd cc;
       comdats = none_kept no_object [] no_comdat;
       said_are = no_directives;
+      resources_are = no_resources;
     }

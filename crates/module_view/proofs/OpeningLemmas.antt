@@ -9,9 +9,7 @@ use Rattle.coff_object.specs.ObjectFaults.{object_fault}
 use Rattle.coff_object.specs.declared.error.ObjError.{ObjError}
 use Rattle.module_view.specs.declared.error.ModuleError.{ModuleError}
 use Rattle.module_view.specs.declared.error.ModuleError.TheVariants as error
-use Rattle.directives.specs.declared.item.BadDirective.{BadDirective}
 use Rattle.module_view.specs.ModuleDirectives.{bad_directive}
-use Rattle.module_view.specs.Unbuilt.{has_unbuilt_section, has_unbuilt_symbol, has_unbuilt_directive}
 use Rattle.module_view.specs.Opening.{opening_error, form_error, content_error, unsupported, has_linker_section, has_long_section_name, has_long_symbol_name, bad_directive_error, directive_error, RefusesToOpen}
 use Rattle.coff_aux.specs.AuxFaults.{aux_fault}
 use Rattle.module_view.specs.Steps.{section_form}
@@ -24,13 +22,9 @@ in_stages true long_section long_symbol later = refl
 in_stages false true long_symbol later = refl
 in_stages false false long_symbol later = refl
 
-abbrev unbuilt_error : List ℕ → Option ModuleError
-unbuilt_error bytes =
-    unsupported (has_unbuilt_section bytes || (has_unbuilt_symbol bytes || has_unbuilt_directive bytes)) form.NotBuilt
-
 -- what is shown after names
 abbrev last_errors : List ℕ → List (Option ModuleError)
-last_errors bytes = option_map error.Object (aux_fault bytes) ∷ directive_error bytes ∷ unbuilt_error bytes ∷ []
+last_errors bytes = option_map error.Object (aux_fault bytes) ∷ directive_error bytes ∷ []
 
 -- what is shown after sections
 abbrev later_error : List ℕ → Option ModuleError
@@ -88,32 +82,20 @@ by_aux bytes read sound sections short =
 pub refused_aux : (bytes : List ℕ) (e : ModuleError) → None ≡ form_error bytes → object_fault bytes ≡ None → section_form bytes ≡ None → has_long_symbol_name bytes ≡ false → RefusesToOpen (option_map error.Object (aux_fault bytes)) e → RefusesToOpen (opening_error bytes) e
 refused_aux bytes e read sound sections short h =
     subst (λ (o : Option ModuleError). RefusesToOpen o e) (sym (by_aux bytes read sound sections short))
-    (refuses_earlier (option_map error.Object (aux_fault bytes)) (first_standing (directive_error bytes ∷ unbuilt_error bytes ∷ [])) e h)
+    (refuses_earlier (option_map error.Object (aux_fault bytes)) (first_standing (directive_error bytes ∷ [])) e h)
 
--- the auxiliary records are well formed: a malformed directive stands, or what is not linked yet
-by_directives : (bytes : List ℕ) → None ≡ form_error bytes → object_fault bytes ≡ None → section_form bytes ≡ None → has_long_symbol_name bytes ≡ false → aux_fault bytes ≡ None → opening_error bytes ≡ option_or (directive_error bytes) (unbuilt_error bytes)
+-- the auxiliary records are well formed: only a malformed directive is refused
+by_directives : (bytes : List ℕ) → None ≡ form_error bytes → object_fault bytes ≡ None → section_form bytes ≡ None → has_long_symbol_name bytes ≡ false → aux_fault bytes ≡ None → opening_error bytes ≡ directive_error bytes
 by_directives bytes read sound sections short aux =
     by_aux bytes read sound sections short
-    ∙ ap (λ (o : Option ObjError). option_or (option_map error.Object o) (first_standing (directive_error bytes ∷ unbuilt_error bytes ∷ []))) aux
-    ∙ ap (option_or (directive_error bytes)) (or_none (unbuilt_error bytes))
+    ∙ ap (λ (o : Option ObjError). option_or (option_map error.Object o) (first_standing (directive_error bytes ∷ []))) aux
+    ∙ or_none (directive_error bytes)
 
 pub refused_directive : (bytes : List ℕ) (e : ModuleError) → None ≡ form_error bytes → object_fault bytes ≡ None → section_form bytes ≡ None → has_long_symbol_name bytes ≡ false → aux_fault bytes ≡ None → RefusesToOpen (directive_error bytes) e → RefusesToOpen (opening_error bytes) e
 refused_directive bytes e read sound sections short aux h =
-    subst (λ (o : Option ModuleError). RefusesToOpen o e) (sym (by_directives bytes read sound sections short aux))
-    (refuses_earlier (directive_error bytes) (unbuilt_error bytes) e h)
+    subst (λ (o : Option ModuleError). RefusesToOpen o e) (sym (by_directives bytes read sound sections short aux)) h
 
-or_or : (a b c : Bool) → (a || (b || c)) ≡ ((a || b) || c)
-or_or true b c = refl
-or_or false b c = refl
-
--- the directives are well formed: only what is not linked yet is refused
-pub by_unbuilt : (bytes : List ℕ) (sections symbols directives unbuilt : Bool) → None ≡ form_error bytes → object_fault bytes ≡ None → section_form bytes ≡ None → has_long_symbol_name bytes ≡ false → aux_fault bytes ≡ None → bad_directive bytes ≡ None → sections ≡ has_unbuilt_section bytes → symbols ≡ has_unbuilt_symbol bytes → directives ≡ has_unbuilt_directive bytes → ((sections || symbols) || directives) ≡ unbuilt → opening_error bytes ≡ unsupported unbuilt form.NotBuilt
-by_unbuilt bytes sections symbols directives unbuilt read sound shown_none short aux well first second third is =
-    by_directives bytes read sound shown_none short aux
-    ∙ ap (λ (o : Option BadDirective). option_or (option_map bad_directive_error o) (unbuilt_error bytes)) well
-    ∙ ap (λ (b : Bool). unsupported b form.NotBuilt)
-    (ap (λ (b : Bool). b || (has_unbuilt_symbol bytes || has_unbuilt_directive bytes)) (sym first)
-    ∙ ap (λ (b : Bool). sections || (b || has_unbuilt_directive bytes)) (sym second)
-    ∙ ap (λ (b : Bool). sections || (symbols || b)) (sym third)
-    ∙ or_or sections symbols directives
-    ∙ is)
+-- the directives are well formed: nothing is refused
+pub opens : (bytes : List ℕ) → None ≡ form_error bytes → object_fault bytes ≡ None → section_form bytes ≡ None → has_long_symbol_name bytes ≡ false → aux_fault bytes ≡ None → bad_directive bytes ≡ None → opening_error bytes ≡ None
+opens bytes read sound sections short aux well =
+    by_directives bytes read sound sections short aux ∙ ap (option_map bad_directive_error) well

@@ -1,12 +1,11 @@
 -- One more symbol in a loop over the symbols of an object, and what a symbol that is not external is not.
-use Rattle.std.proofs.Common.{◌≡◌, ℕ, ◌<◌, Bool, true, false, cond, ◌||◌, ◌&&◌, eqb, List, [], ◌∷◌, ◌++◌, length, map, filter, get_or, set, inl, inr, refl, sym, ap, ◌∙◌, append_assoc, append-nil, arith}
+use Rattle.std.proofs.Common.{◌≡◌, ℕ, ◌<◌, Bool, true, false, cond, ◌||◌, eqb, List, [], ◌∷◌, ◌++◌, length, map, filter, get_or, set, inl, inr, refl, sym, ap, ◌∙◌, append_assoc, append-nil, arith}
 use Rattle.std.specs.List.{list_any}
 use Rattle.std.proofs.lemmas.Bool.Decides.{eqb_tells}
 use Rattle.std.proofs.lemmas.List.{get_or-set_same, get_or-set_other}
 use Rattle.link_base.proofs.TestLemmas.{or_left, or_right}
-use Rattle.coff_records.specs.ObjectFile.{SymbolView, SymbolEntry, class_in, name_in}
-use Rattle.module_view.specs.SymbolLists.{is_definition, is_weak, is_undefined, is_reference, is_common}
-use Rattle.module_view.specs.Unbuilt.{is_external_name, is_loader_name, is_unbuilt_symbol}
+use Rattle.coff_records.specs.ObjectFile.{SymbolView, SymbolEntry, class_in}
+use Rattle.module_view.specs.SymbolLists.{is_external_name, is_definition, is_weak, is_undefined, is_reference, is_common}
 
 -- ---- what is told of symbols, after one more
 
@@ -25,7 +24,7 @@ or_or : (a b c : Bool) → ((a || b) || c) ≡ (a || (b || c))
 or_or true b c = refl
 or_or false b c = refl
 
-pub one_noted : {X : Type 0} (test : X → Bool) (before after : List X) (x : X) (noted b whole : Bool) → before ≡ x ∷ after → (noted || list_any test before) ≡ whole → b ≡ test x → ((noted || b) || list_any test after) ≡ whole
+one_noted : {X : Type 0} (test : X → Bool) (before after : List X) (x : X) (noted b whole : Bool) → before ≡ x ∷ after → (noted || list_any test before) ≡ whole → b ≡ test x → ((noted || b) || list_any test after) ≡ whole
 one_noted {X} test before after x noted b whole is was said =
     or_or noted b (list_any test after)
     ∙ ap (λ (c : Bool). noted || (c || list_any test after)) said
@@ -98,10 +97,3 @@ no_common symbol other = rw (no_class symbol other) refl
 
 pub none_more : {X : Type 0} (xs more : List X) (b : Bool) → b ≡ false → xs ≡ xs ++ cond b more []
 none_more xs more b e = rw e (sym (append-nil xs))
-
-or_none : (b : Bool) → b ≡ (b || false)
-or_none true = refl
-or_none false = refl
-
-pub not_unbuilt : (symbol : SymbolView) (noted : Bool) → is_external_name symbol ≡ false → noted ≡ (noted || is_unbuilt_symbol symbol)
-not_unbuilt symbol noted other = or_none noted ∙ ap (λ (c : Bool). noted || (c && is_loader_name (name_in symbol))) (sym other)

@@ -4,6 +4,6 @@ pub mod PlacedSection
 pub mod SymbolLists
 pub mod ImportModule
 pub mod ModuleDirectives
-pub mod Unbuilt
+pub mod Resources
 pub mod Steps
 pub mod ModuleParts

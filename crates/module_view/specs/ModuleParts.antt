@@ -1,5 +1,5 @@
 -- What a module keeps beside its bytes. Own.
-use Rattle.std.specs.Prelude.{◌≡◌, ℕ, Bool, List, [], map, Option, None, Some}
+use Rattle.std.specs.Prelude.{◌≡◌, ℕ, Bool, false, List, [], map, Option, None, Some}
 use Rattle.coff_aux.specs.declared.comdat.SectionSymbols.{SectionSymbols}
 use Rattle.coff_aux.specs.Steps.{KeepsSymbols}
 use Rattle.module_view.specs.declared.input_module.Origin.{Origin}
@@ -17,6 +17,7 @@ use Rattle.directives.specs.Said.{said}
 use Rattle.directives.specs.declared.item.Directive.{Directive}
 use Rattle.module_view.specs.ModuleDirectives.{module_directives}
 use Rattle.module_view.specs.Opening.{opening_error}
+use Rattle.module_view.specs.Resources.{has_resources}
 use Rattle.module_view.specs.Steps.{KeepsStarts}
 
 -- a module with the object of these bytes, and this short import
@@ -34,7 +35,7 @@ imported_by (content.Object parts) = None
 imported_by (content.Import import) = Some import
 
 -- the bytes open, and the object and the lists are those of the bytes
-pub record KeepsLists (bytes object : List ℕ) (definitions : List Definition) (references : List Reference) (weaks : List Weak) (commons : List Common) (starts : List Bool) (symbols : List SectionSymbols) (directives : List Directive) : Type 0 where
+pub record KeepsLists (bytes object : List ℕ) (definitions : List Definition) (references : List Reference) (weaks : List Weak) (commons : List Common) (starts : List Bool) (symbols : List SectionSymbols) (directives : List Directive) (resources : Bool) : Type 0 where
   pub opened : opening_error bytes ≡ None
   pub viewed : object ≡ bytes
   pub defined : definitions ≡ definitions_of bytes
@@ -44,9 +45,10 @@ pub record KeepsLists (bytes object : List ℕ) (definitions : List Definition) 
   pub started : KeepsStarts bytes weaks starts
   pub comdats : KeepsSymbols bytes symbols
   pub said_are : map said directives ≡ module_directives bytes
+  pub resources_are : resources ≡ has_resources bytes
 
 -- those that were read, or none where a short import goes as the object
 abbrev pub KeepsContent : List ℕ → List ℕ → Content → Type 0
 KeepsContent bytes object (content.Object parts) =
-    KeepsLists bytes object parts.lists.definitions.items parts.lists.references.items parts.lists.weaks.items parts.lists.commons.items parts.lists.starts.items parts.comdats.items parts.directives.items
-KeepsContent bytes object (content.Import import) = KeepsLists bytes object [] [] [] [] [] [] []
+    KeepsLists bytes object parts.lists.definitions.items parts.lists.references.items parts.lists.weaks.items parts.lists.commons.items parts.lists.starts.items parts.comdats.items parts.directives.items parts.has_resources
+KeepsContent bytes object (content.Import import) = KeepsLists bytes object [] [] [] [] [] [] [] false

@@ -1,6 +1,6 @@
 -- Which bytes do not open as a module, and why. Of a short import: its faults, then a name that is too long. Of other bytes: the
 -- forms that the first bytes show, then the faults of the object, then the forms that its names show, then the faults of
--- auxiliary records, then malformed directives, then the forms that are not linked yet. The order is own.
+-- auxiliary records, then malformed directives. The order is own.
 use Rattle.std.specs.Prelude.{◌≡◌, ℕ, Bool, ◌||◌, ◌&&◌, not, ◌==◌, nat_lt, if◌then◌else◌, List, [], ◌∷◌, length, Option, Some, None, option_map, codes}
 use Rattle.std.specs.List.{list_any}
 use Rattle.link_base.specs.Bytes.{u16_at, has_bytes}
@@ -21,7 +21,6 @@ use Rattle.module_view.specs.ModuleDirectives.{sections_in, bad_directive}
 use Rattle.short_import.specs.ShortImport.{symbol_of, dll_of}
 use Rattle.short_import.specs.ImportFaults.{import_fault}
 use Rattle.module_view.specs.ImportModule.{is_short_import}
-use Rattle.module_view.specs.Unbuilt.{has_unbuilt_section, has_unbuilt_symbol, has_unbuilt_directive}
 
 -- ---- the first bytes
 
@@ -71,7 +70,7 @@ form_error bytes =
 abbrev pub object_error : List ℕ → Option ModuleError
 object_error bytes = option_map error.Object (object_fault bytes)
 
--- ---- its names, its auxiliary records, its directives, and what is not linked yet
+-- ---- its names, its auxiliary records and its directives
 
 -- a section that the linker makes itself: a part of the import tables, or the base relocations (PE Format, "The
 -- .idata Section" and "The .reloc Section (Image Only)"); that it is refused is own
@@ -104,7 +103,6 @@ content_error bytes =
     ∷ unsupported (has_long_section_name bytes || has_long_symbol_name bytes) form.LongName
     ∷ option_map error.Object (aux_fault bytes)
     ∷ directive_error bytes
-    ∷ unsupported (has_unbuilt_section bytes || (has_unbuilt_symbol bytes || has_unbuilt_directive bytes)) form.NotBuilt
     ∷ [])
 
 -- ---- the error

@@ -7,7 +7,7 @@ use Rattle.coff_records.specs.ObjectFile.{starts_symbol}
 use Rattle.module_view.specs.declared.reference.Weak.{Weak}
 use Rattle.module_view.specs.Opening.{has_linker_section, has_long_section_name}
 
--- the first form that sections show, but for those that are not linked yet
+-- the first form that sections show
 unfoldable pub section_form : List ℕ → Option Kind
 section_form bytes =
     first_standing

@@ -7,7 +7,7 @@ ghost use Rattle.link_base.specs.SectionName.{base_name};
 use link_base::Name;
 
 /// Whether this is the base name of a section. A name is cut only where it begins so.
-pub(crate) fn has_base_name(name: &Name<'_>, base: &[u8]) -> bool
+pub fn has_base_name(name: &Name<'_>, base: &[u8]) -> bool
     requires { begins_import base.now ≡ false }
     ensures { result ≡ same_name (base_name name.now) base.now }
 {

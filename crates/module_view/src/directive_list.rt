@@ -8,22 +8,12 @@ ghost use Rattle.directives.specs.Said.{said};
 ghost use Rattle.directives.specs.Words.{directives_of};
 ghost use Rattle.module_view.specs.ModuleDirectives.{sections_in, has_directives_by, holds_directives, sections_say, module_directives, bad_directive, well_formed, malformed};
 ghost use Rattle.module_view.specs.Opening.{bad_directive_error, directive_error, RefusesToOpen};
-ghost use Rattle.module_view.specs.Unbuilt.{is_unbuilt_directive};
 
 use crate::error::ModuleError;
-use crate::unbuilt::is_unbuilt_directive;
 use coff_object::{Object, Section};
 use directives::{Directive, Directives};
 use link_base::{Memory, Name};
 use std::alloc::Global;
-
-/// Directives, and whether one of them has a form that is not linked yet.
-#[derive(Drop)]
-pub(crate) struct DirectiveList<'a> {
-    pub(crate) directives: Vec<Directive<'a>>,
-    pub(crate) is_unbuilt: bool,
-    ghost unbuilt: { is_unbuilt ≡ list_any is_unbuilt_directive (map said directives.items) },
-}
 
 /// Whether a section holds directives: it has their name, and data.
 pub(crate) fn holds_directives(section: &Section<'_>) -> bool
@@ -38,37 +28,27 @@ pub(crate) fn read_directives<'a>(
     alloc: Global,
     object: &Object<'a>,
     has_any: bool,
-) -> Result<DirectiveList<'a>, ModuleError>
+) -> Result<Vec<Directive<'a>>, ModuleError>
     requires { has_any ≡ list_any (holds_directives object.now) (sections_in object.now) }
-    ensures directives { IfOk result (λ list. map said list.directives.items ≡ module_directives object.now) }
+    ensures directives { IfOk result (λ list. map said list.items ≡ module_directives object.now) }
     ensures accepted { OnOk result (bad_directive object.now ≡ None) }
     ensures refused { IfErr result (RefusesToOpen (directive_error object.now)) }
 {
     if !has_any {
-        return Ok(no_directives(alloc));
+        return Ok(Vec::new(alloc));
     }
     let mut list = read_sections(alloc, object)?;
-    list.directives.shrink_to_fit();
+    list.shrink_to_fit();
     Ok(list)
 }
 
-/// No directives yet.
-fn no_directives<'a>(alloc: Global) -> DirectiveList<'a>
-    ensures { result.directives.items ≡ [] }
-{
-    DirectiveList {
-        directives: Vec::new(alloc),
-        is_unbuilt: false,
-    }
-}
-
 /// The directives of all sections of an object.
-fn read_sections<'a>(alloc: Global, object: &Object<'a>) -> Result<DirectiveList<'a>, ModuleError>
-    ensures directives { IfOk result (λ list. map said list.directives.items ≡ module_directives object.now) }
+fn read_sections<'a>(alloc: Global, object: &Object<'a>) -> Result<Vec<Directive<'a>>, ModuleError>
+    ensures directives { IfOk result (λ list. map said list.items ≡ module_directives object.now) }
     ensures accepted { OnOk result (bad_directive object.now ≡ None) }
     ensures refused { IfErr result (RefusesToOpen (directive_error object.now)) }
 {
-    let mut list = no_directives(alloc);
+    let mut list = Vec::new(alloc);
     for index in 0..object.section_count() {
         append_section(&mut list, object, index + 1)?;
     }
@@ -77,14 +57,14 @@ fn read_sections<'a>(alloc: Global, object: &Object<'a>) -> Result<DirectiveList
 
 /// Appends the directives of a section, where it holds any.
 fn append_section<'a>(
-    list: &mut DirectiveList<'a>,
+    list: &mut Vec<Directive<'a>>,
     object: &Object<'a>,
     section: u32,
 ) -> Result<(), ModuleError>
     requires first { 1 ≤ section }
     requires last { section ≤ section_total object.now }
-    ensures directives { OnOk result (map said list.new.directives.items
-        ≡ map said list.old.directives.items ++ filter_map well_formed (sections_say object.now (section ∷ []))) }
+    ensures directives { OnOk result (map said list.new.items
+        ≡ map said list.old.items ++ filter_map well_formed (sections_say object.now (section ∷ []))) }
     ensures accepted { OnOk result (first_standing (map malformed (sections_say object.now (section ∷ []))) ≡ None) }
     ensures refused { IfErr result (RefusesToOpen (option_map bad_directive_error (first_standing (map malformed (sections_say object.now (section ∷ [])))))) }
 {
@@ -99,9 +79,9 @@ fn append_section<'a>(
 }
 
 /// Appends the directives of a text, up to the first that is malformed.
-fn append<'a>(list: &mut DirectiveList<'a>, text: &'a [u8]) -> Result<(), ModuleError>
-    ensures directives { OnOk result (map said list.new.directives.items
-        ≡ map said list.old.directives.items ++ filter_map well_formed (directives_of text.now)) }
+fn append<'a>(list: &mut Vec<Directive<'a>>, text: &'a [u8]) -> Result<(), ModuleError>
+    ensures directives { OnOk result (map said list.new.items
+        ≡ map said list.old.items ++ filter_map well_formed (directives_of text.now)) }
     ensures accepted { OnOk result (first_standing (map malformed (directives_of text.now)) ≡ None) }
     ensures refused { IfErr result (RefusesToOpen (option_map bad_directive_error (first_standing (map malformed (directives_of text.now))))) }
 {
@@ -115,11 +95,9 @@ fn append<'a>(list: &mut DirectiveList<'a>, text: &'a [u8]) -> Result<(), Module
 }
 
 /// Appends a directive.
-fn keep<'a>(list: &mut DirectiveList<'a>, directive: Directive<'a>) -> Result<(), Memory>
-    ensures { OnOk result (list.new.directives.items ≡ list.old.directives.items ++ directive.entry ∷ []) }
+fn keep<'a>(list: &mut Vec<Directive<'a>>, directive: Directive<'a>) -> Result<(), Memory>
+    ensures { OnOk result (list.new.items ≡ list.old.items ++ directive.entry ∷ []) }
 {
-    let is_unbuilt = is_unbuilt_directive(&directive);
-    list.directives.push(directive)?;
-    list.is_unbuilt |= is_unbuilt;
+    list.push(directive)?;
     Ok(())
 }

@@ -9,6 +9,7 @@ ghost use Rattle.coff_aux.specs.Comdats.{comdat_of};
 ghost use Rattle.directives.specs.Said.{said};
 ghost use Rattle.module_view.specs.ModuleDirectives.{module_directives};
 ghost use Rattle.module_view.specs.Opening.{IsOpened};
+ghost use Rattle.module_view.specs.Resources.{has_resources};
 ghost use Rattle.module_view.specs.Steps.{KeepsStarts};
 
 use crate::definition::{Common, Definition};
@@ -53,6 +54,8 @@ pub(crate) struct ObjectLists<'a> {
     /// The first two symbols of each section, where one is a COMDAT.
     pub(crate) comdats: Vec<SectionSymbols>,
     pub(crate) directives: Vec<Directive<'a>>,
+    /// One of the sections holds resources.
+    pub(crate) has_resources: bool,
 }
 
 impl<'a> Model for Module<'a> {
@@ -172,6 +175,16 @@ impl<'a> Module<'a> {
         match &self.content {
             Content::Object(parts) => &parts.directives,
             Content::Import(_) => &[],
+        }
+    }
+
+    /// Whether a section of the object holds resources, by its base name.
+    pub fn has_resources(&self) -> bool
+        ensures { result ≡ has_resources self.now.bytes }
+    {
+        match &self.content {
+            Content::Object(parts) => parts.has_resources,
+            Content::Import(_) => false,
         }
     }
 

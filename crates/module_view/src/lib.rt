@@ -21,8 +21,8 @@ mod reference;
 mod sections;
 mod symbol_starts;
 mod symbols;
-mod unbuilt;
 
+pub use base_name::has_base_name;
 pub use coff_aux::Comdat;
 pub use definition::{Common, Definition, Place};
 pub use error::ModuleError;
@@ -31,7 +31,6 @@ pub use laws::modules_are_shared;
 pub use opening::open_module;
 pub use placed_section::comes_in;
 pub use reference::{Reference, Weak};
-pub use unbuilt::is_loader_name;
 
 #[cfg(test)]
 mod tests;

@@ -15,14 +15,12 @@ use crate::open_import::OpenImport;
 use crate::sections::judge_sections;
 use crate::symbols::read_symbols;
 use coff_object::{LongTexts, Object};
-use link_base::Kind;
 use std::alloc::Global;
 
 /// The module with these bytes. A short import is refused for its first fault (`Import`), and then for a name of more than
 /// 32,000 bytes (`Unsupported`). Other bytes are refused for the first of: a form that the first bytes show (`Unsupported`), a
 /// fault of the object (`Object`), a section that the linker makes itself, a name of more than 32,000 bytes (`Unsupported`), a
-/// fault of an auxiliary record (`Object`), a malformed directive (`Directive`), and a form that is not linked yet
-/// (`Unsupported`).
+/// fault of an auxiliary record (`Object`), and a malformed directive (`Directive`).
 #[tactic(auto, unfolding(crate::specs::Opening::file_error))]
 pub fn open_module<'a>(
     alloc: Global,
@@ -93,10 +91,6 @@ fn open_object<'a>(
         Ok(directives) => directives,
         Err(error) => return Err(error),
     };
-    let is_unbuilt = sections.is_unbuilt | lists.is_unbuilt | directives.is_unbuilt;
-    if is_unbuilt {
-        return Err(ModuleError::Unsupported(Kind::NotBuilt));
-    }
     Ok(Module {
         origin,
         bytes,
@@ -104,7 +98,8 @@ fn open_object<'a>(
         content: Content::Object(ObjectLists {
             lists,
             comdats,
-            directives: directives.directives,
+            directives,
+            has_resources: sections.has_resources,
         }),
     })
 }

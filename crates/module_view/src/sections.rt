@@ -6,13 +6,12 @@ ghost use Rattle.coff_records.specs.ObjectFile.{section_total, section_name_of, 
 ghost use Rattle.coff_aux.specs.Comdats.{is_comdat, has_comdat};
 ghost use Rattle.std.specs.List.{list_any};
 ghost use Rattle.module_view.specs.ModuleDirectives.{sections_in, holds_directives};
-ghost use Rattle.module_view.specs.Unbuilt.{is_unbuilt_section, has_unbuilt_section};
+ghost use Rattle.module_view.specs.Resources.{holds_resources, is_resources, has_resources};
 ghost use Rattle.module_view.specs.Opening.{is_linker_section, is_long};
 ghost use Rattle.module_view.specs.Steps.{section_form};
 
 use crate::base_name::has_base_name;
 use crate::directive_list::holds_directives;
-use crate::unbuilt::is_unbuilt_section;
 use coff_aux::is_comdat;
 use coff_object::{LongTexts, Object};
 use link_base::{Kind, Name};
@@ -25,57 +24,57 @@ const LINKER_NAME_START: usize = 7;
 struct SectionForm {
     is_linker: bool,
     is_long: bool,
-    is_unbuilt: bool,
     is_comdat: bool,
     holds_directives: bool,
+    holds_resources: bool,
 }
 
 /// What the sections of an object show.
 #[derive(Clone, Copy)]
 pub(crate) struct SectionForms {
-    /// One of them has a form that is not linked yet.
-    pub(crate) is_unbuilt: bool,
     /// One of them is a COMDAT.
     pub(crate) has_comdat: bool,
     /// One of them holds directives.
     pub(crate) has_directives: bool,
+    /// One of them holds resources.
+    pub(crate) has_resources: bool,
 }
 
 /// Judges the sections of an object. It is refused where one is a section that the linker makes itself, and else where one
 /// has a name that is too long.
-#[tactic(auto, unfolding(crate::specs::Steps::section_form))]
+#[tactic(auto, unfolding(crate::specs::Steps::section_form, crate::specs::Resources::has_resources))]
 pub(crate) fn judge_sections(
     object: &Object<'_>,
     texts: &LongTexts<'_>,
 ) -> Result<SectionForms, Kind>
     requires { texts.now ≡ string_table object.now }
-    ensures unbuilt { IfOk result (λ forms. forms.is_unbuilt ≡ has_unbuilt_section object.now) }
     ensures comdat { IfOk result (λ forms. forms.has_comdat ≡ has_comdat object.now) }
     ensures directives { IfOk result (λ forms. forms.has_directives ≡ list_any (holds_directives object.now) (sections_in object.now)) }
+    ensures resources { IfOk result (λ forms. forms.has_resources ≡ has_resources object.now) }
     ensures accepted { OnOk result (section_form object.now ≡ None) }
     ensures refused { IfErr result (λ kind. section_form object.now ≡ Some kind) }
 {
     let mut long = false;
-    let mut is_unbuilt = false;
     let mut has_comdat = false;
     let mut has_directives = false;
+    let mut has_resources = false;
     for index in 0..object.section_count() {
         let form = section_form(object, texts, index + 1);
         if form.is_linker {
             return Err(Kind::LinkerSection);
         }
         long |= form.is_long;
-        is_unbuilt |= form.is_unbuilt;
         has_comdat |= form.is_comdat;
         has_directives |= form.holds_directives;
+        has_resources |= form.holds_resources;
     }
     if long {
         return Err(Kind::LongName);
     }
     Ok(SectionForms {
-        is_unbuilt,
         has_comdat,
         has_directives,
+        has_resources,
     })
 }
 
@@ -86,27 +85,27 @@ fn section_form(object: &Object<'_>, texts: &LongTexts<'_>, number: u32) -> Sect
     requires last { number ≤ section_total object.now }
     ensures linker { result.is_linker ≡ is_linker_section (section_name_of object.now number) }
     ensures long { result.is_long ≡ is_long (section_name_of object.now number) }
-    ensures unbuilt { result.is_long ≡ false → result.is_unbuilt ≡ is_unbuilt_section object.now number }
     ensures comdat { result.is_long ≡ false → result.is_comdat ≡ is_comdat object.now number }
     ensures directives { result.is_long ≡ false → result.holds_directives ≡ holds_directives object.now number }
+    ensures resources { result.is_long ≡ false → result.holds_resources ≡ holds_resources object.now number }
 {
     if texts.is_long_section(object, number) {
         let name = object.section_name_start(number, LINKER_NAME_START);
         return SectionForm {
             is_linker: is_linker_section(&name),
             is_long: true,
-            is_unbuilt: false,
             is_comdat: false,
             holds_directives: false,
+            holds_resources: false,
         };
     }
     let section = object.section(number);
     SectionForm {
         is_linker: is_linker_section(&section.name),
         is_long: false,
-        is_unbuilt: is_unbuilt_section(&section.name, section.flags),
         is_comdat: is_comdat(section.flags),
         holds_directives: holds_directives(&section),
+        holds_resources: is_resources(&section.name),
     }
 }
 
@@ -116,6 +115,13 @@ fn is_linker_section(name: &Name<'_>) -> bool
     ensures { result ≡ is_linker_section name.now }
 {
     begins_import_table(name) || has_base_name(name, b".reloc")
+}
+
+/// Whether a section of this name holds resources.
+fn is_resources(name: &Name<'_>) -> bool
+    ensures { result ≡ is_resources name.now }
+{
+    has_base_name(name, b".rsrc")
 }
 
 /// Whether a section of this name is a part of the import tables.

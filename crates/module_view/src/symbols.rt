@@ -6,16 +6,14 @@ ghost use Rattle.link_base.specs.PeFormat as pe;
 ghost use Rattle.link_base.specs.declared.kinds.form.Kind.TheVariants as form;
 ghost use Rattle.coff_records.specs.ObjectFile.{name_in, starts_symbol, string_table, symbol_at};
 ghost use Rattle.coff_aux.specs.AuxRecords.{said_by, tag_in, characteristics_in};
-ghost use Rattle.module_view.specs.SymbolLists.{is_definition, place_of, definition_of, definitions_of, is_weak, weak_of, weaks_of, is_common, common_of, commons_of, is_undefined, is_reference, asks_for_search, reference_of, references_of};
+ghost use Rattle.module_view.specs.SymbolLists.{is_external_name, is_definition, place_of, definition_of, definitions_of, is_weak, weak_of, weaks_of, is_common, common_of, commons_of, is_undefined, is_reference, asks_for_search, reference_of, references_of};
 ghost use Rattle.module_view.specs.Steps.{KeepsStarts};
-ghost use Rattle.module_view.specs.Unbuilt.{is_unbuilt_symbol, has_unbuilt_symbol};
 ghost use Rattle.module_view.specs.Opening.{unsupported, has_long_symbol_name, RefusesToOpen};
 
 use crate::definition::{Common, Definition, Place};
 use crate::error::ModuleError;
 use crate::reference::{Reference, Weak};
 use crate::symbol_starts::symbol_starts;
-use crate::unbuilt::{is_external_name, is_loader_name};
 use coff_aux::aux_records::WEAK_EXTERN_SEARCH_LIBRARY;
 use coff_aux::{characteristics_in, first_aux, tag_in};
 use coff_object::{LongTexts, Object, SymbolRecord};
@@ -34,8 +32,6 @@ pub(crate) struct SymbolLists<'a> {
     pub(crate) commons: Vec<Common<'a>>,
     /// For each symbol record, whether a symbol starts there: made where there are weak externals.
     pub(crate) starts: Vec<bool>,
-    /// One of them has a form that is not linked yet.
-    pub(crate) is_unbuilt: bool,
 }
 
 /// Reads the symbols of an object. It is refused where a symbol's name is too long.
@@ -50,7 +46,6 @@ pub(crate) fn read_symbols<'a>(
     ensures weaks { IfOk result (λ lists. lists.weaks.items ≡ weaks_of object.now) }
     ensures commons { IfOk result (λ lists. lists.commons.items ≡ commons_of object.now) }
     ensures starts { IfOk result (λ lists. KeepsStarts object.now lists.weaks.items lists.starts.items) }
-    ensures unbuilt { IfOk result (λ lists. lists.is_unbuilt ≡ has_unbuilt_symbol object.now) }
     ensures accepted { OnOk result (has_long_symbol_name object.now ≡ false) }
     ensures refused { IfErr result (RefusesToOpen (unsupported (has_long_symbol_name object.now) form.LongName)) }
 {
@@ -74,7 +69,6 @@ fn no_lists<'a>(alloc: Global) -> SymbolLists<'a>
     ensures references { result.references.items ≡ [] }
     ensures weaks { result.weaks.items ≡ [] }
     ensures commons { result.commons.items ≡ [] }
-    ensures unbuilt { result.is_unbuilt ≡ false }
 {
     SymbolLists {
         definitions: Vec::new(alloc),
@@ -82,7 +76,6 @@ fn no_lists<'a>(alloc: Global) -> SymbolLists<'a>
         weaks: Vec::new(alloc),
         commons: Vec::new(alloc),
         starts: Vec::new(alloc),
-        is_unbuilt: false,
     }
 }
 
@@ -103,18 +96,24 @@ fn note_symbol<'a>(
         ++ (if is_weak symbol.now then weak_of object.now (index, symbol.now) ∷ [] else [])) }
     ensures commons { OnOk result (lists.new.commons.items ≡ lists.old.commons.items
         ++ (if is_common symbol.now then common_of (index, symbol.now) ∷ [] else [])) }
-    ensures unbuilt { OnOk result (lists.new.is_unbuilt ≡ (lists.old.is_unbuilt || is_unbuilt_symbol symbol.now)) }
 {
     if !is_external_name(symbol) {
         return Ok(());
     }
     let name = symbol.name();
-    lists.is_unbuilt |= is_loader_name(&name);
     push_definition(&mut lists.definitions, index, symbol, &name)?;
     push_reference(&mut lists.references, object, index, symbol, &name)?;
     push_weak(&mut lists.weaks, object, index, symbol, &name)?;
     push_common(&mut lists.commons, index, symbol, &name)?;
     Ok(())
+}
+
+/// Whether a symbol is external or weak.
+fn is_external_name(symbol: &SymbolRecord<'_>) -> bool
+    ensures { result ≡ is_external_name symbol.now }
+{
+    let class = symbol.class();
+    class == SYM_CLASS_EXTERNAL || class == SYM_CLASS_WEAK_EXTERNAL
 }
 
 // ---- definitions

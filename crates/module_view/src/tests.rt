@@ -48,7 +48,7 @@ const SYMBOL: &[u8] = b"\0\0\0\0\x01\0\x20\0\x02\0";
 
 /// The name fields of the section and the symbol, how long the one name of the string table is, and the form that they
 /// show; with none the object opens.
-const NAMES: [(&[u8], &[u8], u16, Option<Kind>); 10] = [
+const NAMES: [(&[u8], &[u8], u16, Option<Kind>); 8] = [
     (b".text\0\0\0", b"main\0\0\0\0", 0, None),
     (b".idata$2", b"main\0\0\0\0", 0, Some(Kind::LinkerSection)),
     (b".reloc$x", b"main\0\0\0\0", 0, Some(Kind::LinkerSection)),
@@ -66,13 +66,6 @@ const NAMES: [(&[u8], &[u8], u16, Option<Kind>); 10] = [
         b"\0\0\0\0\x04\0\0\0",
         32_001,
         Some(Kind::LinkerSection),
-    ),
-    (b".rsrc$01", b"main\0\0\0\0", 0, Some(Kind::NotBuilt)),
-    (
-        b".pdata\0\0",
-        b"\0\0\0\0\x04\0\0\0",
-        9,
-        Some(Kind::NotBuilt),
     ),
 ];
 

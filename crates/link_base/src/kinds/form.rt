@@ -1,6 +1,6 @@
 //! Forms of input that are refused.
 
-/// A form of input that is refused, or not read yet.
+/// A form of input that is refused.
 #[derive(Clone, Copy, Debug, PartialEq, Eq)]
 pub enum Kind {
     /// An archive that names its members and does not hold them.
@@ -19,6 +19,4 @@ pub enum Kind {
     LongName,
     /// A second module with a section of resources.
     SecondResource,
-    /// A form that this linker does not read yet.
-    NotBuilt,
 }

@@ -4,7 +4,7 @@ use crate::error::ModuleError;
 use crate::input_module::Origin;
 use crate::opening::open_module;
 use directives::Directive;
-use link_base::{Kind, Name};
+use link_base::Name;
 use std::alloc::Global;
 use std::str;
 use std::test::Fail;
@@ -13,7 +13,7 @@ use std::test::Fail;
 type Section = (&'static [u8], &'static [u8]);
 
 /// What a row shows, the sections of an object, and what they say.
-const ROWS: [(&str, &[Section], &str); 8] = [
+const ROWS: [(&str, &[Section], &str); 7] = [
     (
         "sections in their order",
         &[
@@ -56,21 +56,6 @@ const ROWS: [(&str, &[Section], &str); 8] = [
         ],
         "12",
     ),
-    (
-        "a malformed one before one that is not linked yet",
-        &[
-            (b".drectve", b"/include:_tls_used"),
-            (b".drectve", b"  /merge:.b"),
-        ],
-        "2",
-    ),
-];
-
-/// Directives that are not linked yet.
-const UNBUILT: [&str; 3] = [
-    "/include:_tls_used",
-    "/include:_load_config_used",
-    "/alternatename:x=_tls_used",
 ];
 
 /// An object with these sections, and no symbols.
@@ -136,7 +121,6 @@ fn answer(alloc: Global, sections: &[(&[u8], &[u8])]) -> Result<String, Fail> {
             }
         }
         Err(ModuleError::Directive { at }) => line.push_str(at.to_string(alloc)?.as_str())?,
-        Err(ModuleError::Unsupported(Kind::NotBuilt)) => line.push_str("not built")?,
         Err(_) => line.push_str("another error")?,
     }
     Ok(line)
@@ -146,10 +130,6 @@ fn answer(alloc: Global, sections: &[(&[u8], &[u8])]) -> Result<String, Fail> {
 fn reads_directives(rt: HostRuntime) -> Result<(), Fail> {
     for (title, sections, said) in ROWS {
         assert_eq!(rt; answer(rt.alloc(), sections)?.as_str(), said, "{title}");
-    }
-    for text in UNBUILT {
-        let said = answer(rt.alloc(), &[(b".drectve", text.as_bytes())])?;
-        assert_eq!(rt; said.as_str(), "not built", "{text}");
     }
     Ok(())
 }

@@ -9,6 +9,6 @@ use Rattle.module_view.proofs.directive_list.append.Given as goal
 
 abbrev pub invariant-loop-item : goal.invariant-loop-item
 invariant-loop-item l = record {
-  directives : map said l.list.directives.items ++ filter_map well_formed (items_left l.item-iterator) ≡ map said l.fn.list.directives.items ++ filter_map well_formed (directives_of l.text);
+  directives : map said l.list.items ++ filter_map well_formed (items_left l.item-iterator) ≡ map said l.fn.list.items ++ filter_map well_formed (directives_of l.text);
   bad : first_bad (items_left l.item-iterator) ≡ first_bad (directives_of l.text);
 }

@@ -6,7 +6,7 @@ use Rattle.module_view.proofs.directive_list.read_directives.Goals as goal
 
 pub returns-then-not-has_any-clause-directives : goal.returns-then-not-has_any-clause-directives
 returns-then-not-has_any-clause-directives c =
-    ap (map said) c.no_directives.ensures
+    ap (map said) c.new.ensures.items
     ∙ ap (filter_map well_formed) (sym (nothing_said c.args.object.now (sym c.requires ∙ c.if-not-has_any.true)))
 
 pub returns-then-not-has_any-clause-accepted : goal.returns-then-not-has_any-clause-accepted

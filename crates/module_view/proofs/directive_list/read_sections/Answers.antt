@@ -11,7 +11,7 @@ loop-index-init c =
     let bytes = c.args.object.now in
     let all = all_left bytes in
     record {
-      directives = ap (λ (ds : List Directive). map said ds ++ filter_map well_formed (sections_say bytes (sections_left bytes 0))) c.no_directives-list.ensures ∙ ap (filter_map well_formed) all;
+      directives = ap (λ (ds : List Directive). map said ds ++ filter_map well_formed (sections_say bytes (sections_left bytes 0))) c.new-list.ensures.items ∙ ap (filter_map well_formed) all;
       bad = ap first_bad all;
     }
 
@@ -34,6 +34,6 @@ loop-index-preserved c =
     let after = sections_say bytes (sections_left bytes (k + 1)) in
     let next = one_left bytes k (omega (arith, c.section_count-index-end.ensures)) in
     record {
-      directives = said_more before here after (map said c.loop-index.list.directives.items) (map said c.append_section.new.list.directives.items) (module_directives bytes) next c.loop-index.invariant.directives c.in_ok-append_section.ensures.directives;
+      directives = said_more before here after (map said c.loop-index.list.items) (map said c.append_section.new.list.items) (module_directives bytes) next c.loop-index.invariant.directives c.in_ok-append_section.ensures.directives;
       bad = bad_later before here after (bad_directive bytes) next c.loop-index.invariant.bad c.in_ok-append_section.ensures.accepted;
     }

@@ -1,5 +1,4 @@
-use Rattle.std.proofs.Common.{ℕ, true, false, List, subst, sym, ap, ◌∙◌}
-use Rattle.std.specs.List.{list_any}
+use Rattle.std.proofs.Common.{ℕ, List, subst, sym, ap, ◌∙◌}
 use Rattle.std.specs.Prelude.{option_map}
 use Rattle.link_base.specs.declared.kinds.form.Kind.TheVariants as form
 use Rattle.coff_records.specs.ObjectFile.{starts_symbol}
@@ -7,11 +6,11 @@ use Rattle.module_view.specs.declared.error.ModuleError.TheVariants as error
 use Rattle.module_view.specs.SymbolLists.{definitions_of, references_of, weaks_of, commons_of}
 use Rattle.coff_aux.specs.AuxFaults.{aux_fault}
 use Rattle.module_view.specs.ModuleDirectives.{module_directives, bad_directive}
-use Rattle.module_view.specs.Unbuilt.{has_unbuilt_section, has_unbuilt_symbol, is_unbuilt_directive}
 use Rattle.coff_aux.specs.Steps.{KeepsSymbols}
 use Rattle.module_view.specs.Opening.{RefusesToOpen, unsupported, has_long_symbol_name, directive_error}
 use Rattle.module_view.specs.Steps.{section_form}
-use Rattle.module_view.proofs.OpeningLemmas.{refused_form, refused_object, refused_sections, refused_symbols, refused_aux, refused_directive, by_unbuilt}
+use Rattle.module_view.specs.Resources.{has_resources}
+use Rattle.module_view.proofs.OpeningLemmas.{refused_form, refused_object, refused_sections, refused_symbols, refused_aux, refused_directive, opens}
 use Rattle.module_view.proofs.opening.open_object.Goals as goal
 
 pub returns-in-Some-clause-refused : goal.returns-in-Some-clause-refused
@@ -45,20 +44,13 @@ returns-in-Err-read_directives-clause-refused c =
     refused_directive c.args.bytes.now c.in-Err-read_directives.error c.in_default.ensures c.in-Ok.ensures.well_formed (ap section_form (sym same) ∙ c.in-Ok-judge_sections.ensures.accepted) (ap has_long_symbol_name (sym same) ∙ c.in-Ok-read_symbols.ensures.accepted) (ap aux_fault (sym same) ∙ c.in-Ok-judge_aux.ensures.accepted)
     (subst (λ (bytes : List ℕ). RefusesToOpen (directive_error bytes) c.in-Err-read_directives.error) same c.in-Err-read_directives.ensures.refused)
 
-pub returns-then-is_unbuilt-clause-refused : goal.returns-then-is_unbuilt-clause-refused
-returns-then-is_unbuilt-clause-refused c =
-    let same = c.in-Ok.ensures.same_bytes in
-    by_unbuilt c.args.bytes.now c.in-Ok-judge_sections.sections.is_unbuilt c.in-Ok-read_symbols.lists.is_unbuilt c.in-Ok-read_directives.directives.is_unbuilt true c.in_default.ensures c.in-Ok.ensures.well_formed (ap section_form (sym same) ∙ c.in-Ok-judge_sections.ensures.accepted) (ap has_long_symbol_name (sym same) ∙ c.in-Ok-read_symbols.ensures.accepted) (ap aux_fault (sym same) ∙ c.in-Ok-judge_aux.ensures.accepted) (ap bad_directive (sym same) ∙ c.in-Ok-read_directives.ensures.accepted) (c.in-Ok-judge_sections.ensures.unbuilt ∙ ap has_unbuilt_section same) (c.in-Ok-read_symbols.ensures.unbuilt ∙ ap has_unbuilt_symbol same)
-    (c.in-Ok-read_directives.directives.unbuilt ∙ ap (list_any is_unbuilt_directive) (c.in-Ok-read_directives.ensures.directives ∙ ap module_directives same)) c.if-is_unbuilt.true
-
 pub invariant_of-result : goal.invariant_of-result
 invariant_of-result c =
     let same = c.in-Ok.ensures.same_bytes in
     let lists = c.in-Ok-read_symbols.ensures in
     let listed = c.in-Ok-read_directives.ensures.directives ∙ ap module_directives same in
     record {
-      opened = by_unbuilt c.args.bytes.now c.in-Ok-judge_sections.sections.is_unbuilt c.in-Ok-read_symbols.lists.is_unbuilt c.in-Ok-read_directives.directives.is_unbuilt false c.in_default.ensures c.in-Ok.ensures.well_formed (ap section_form (sym same) ∙ c.in-Ok-judge_sections.ensures.accepted) (ap has_long_symbol_name (sym same) ∙ lists.accepted) (ap aux_fault (sym same) ∙ c.in-Ok-judge_aux.ensures.accepted) (ap bad_directive (sym same) ∙ c.in-Ok-read_directives.ensures.accepted) (c.in-Ok-judge_sections.ensures.unbuilt ∙ ap has_unbuilt_section same) (lists.unbuilt ∙ ap has_unbuilt_symbol same)
-          (c.in-Ok-read_directives.directives.unbuilt ∙ ap (list_any is_unbuilt_directive) listed) c.if-is_unbuilt.false;
+      opened = opens c.args.bytes.now c.in_default.ensures c.in-Ok.ensures.well_formed (ap section_form (sym same) ∙ c.in-Ok-judge_sections.ensures.accepted) (ap has_long_symbol_name (sym same) ∙ c.in-Ok-read_symbols.ensures.accepted) (ap aux_fault (sym same) ∙ c.in-Ok-judge_aux.ensures.accepted) (ap bad_directive (sym same) ∙ c.in-Ok-read_directives.ensures.accepted);
       viewed = same;
       defined = lists.definitions ∙ ap definitions_of same;
       referred = lists.references ∙ ap references_of same;
@@ -67,10 +59,10 @@ invariant_of-result c =
       started = λ some j. lists.starts some j ∙ ap (λ (bytes : List ℕ). starts_symbol bytes j) same;
       comdats = subst (λ (bytes : List ℕ). KeepsSymbols bytes c.in-Ok-judge_aux.comdats.items) same c.in-Ok-judge_aux.ensures.symbols;
       said_are = listed;
+      resources_are = c.in-Ok-judge_sections.ensures.resources ∙ ap has_resources same;
     }
 
 pub returns-clause-accepted : goal.returns-clause-accepted
 returns-clause-accepted c =
     let same = c.in-Ok.ensures.same_bytes in
-    by_unbuilt c.args.bytes.now c.in-Ok-judge_sections.sections.is_unbuilt c.in-Ok-read_symbols.lists.is_unbuilt c.in-Ok-read_directives.directives.is_unbuilt false c.in_default.ensures c.in-Ok.ensures.well_formed (ap section_form (sym same) ∙ c.in-Ok-judge_sections.ensures.accepted) (ap has_long_symbol_name (sym same) ∙ c.in-Ok-read_symbols.ensures.accepted) (ap aux_fault (sym same) ∙ c.in-Ok-judge_aux.ensures.accepted) (ap bad_directive (sym same) ∙ c.in-Ok-read_directives.ensures.accepted) (c.in-Ok-judge_sections.ensures.unbuilt ∙ ap has_unbuilt_section same) (c.in-Ok-read_symbols.ensures.unbuilt ∙ ap has_unbuilt_symbol same)
-    (c.in-Ok-read_directives.directives.unbuilt ∙ ap (list_any is_unbuilt_directive) (c.in-Ok-read_directives.ensures.directives ∙ ap module_directives same)) c.if-is_unbuilt.false
+    opens c.args.bytes.now c.in_default.ensures c.in-Ok.ensures.well_formed (ap section_form (sym same) ∙ c.in-Ok-judge_sections.ensures.accepted) (ap has_long_symbol_name (sym same) ∙ c.in-Ok-read_symbols.ensures.accepted) (ap aux_fault (sym same) ∙ c.in-Ok-judge_aux.ensures.accepted) (ap bad_directive (sym same) ∙ c.in-Ok-read_directives.ensures.accepted)

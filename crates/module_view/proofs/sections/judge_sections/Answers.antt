@@ -3,7 +3,7 @@ use Rattle.coff_records.specs.ObjectFile.{section_total, section_name_of}
 use Rattle.link_base.proofs.TestLemmas.{or_left, or_right}
 use Rattle.coff_aux.specs.Comdats.{is_comdat}
 use Rattle.module_view.specs.ModuleDirectives.{holds_directives}
-use Rattle.module_view.specs.Unbuilt.{is_unbuilt_section}
+use Rattle.module_view.specs.Resources.{holds_resources}
 use Rattle.module_view.specs.Opening.{is_linker_section, is_long}
 use Rattle.module_view.specs.Steps.{section_form}
 use Rattle.module_view.proofs.SectionLemmas.{some_section, no_section, any_section}
@@ -25,7 +25,7 @@ loop-index-preserved c =
     record {
       linker = no_section (λ section. is_linker_section (section_name_of bytes section)) i (i + 1) (omega arith) c.loop-index.invariant.linker (sym c.section_form-form.ensures.linker ∙ c.if-form.false);
       long = any_section (λ section. is_long (section_name_of bytes section)) i (i + 1) c.loop-index.long form.is_long (omega arith) c.loop-index.invariant.long c.section_form-form.ensures.long;
-      unbuilt = λ short. any_section (is_unbuilt_section bytes) i (i + 1) c.loop-index.is_unbuilt form.is_unbuilt (omega arith) (c.loop-index.invariant.unbuilt (or_left c.loop-index.long form.is_long short)) (c.section_form-form.ensures.unbuilt (or_right c.loop-index.long form.is_long short));
       comdat = λ short. any_section (is_comdat bytes) i (i + 1) c.loop-index.has_comdat form.is_comdat (omega arith) (c.loop-index.invariant.comdat (or_left c.loop-index.long form.is_long short)) (c.section_form-form.ensures.comdat (or_right c.loop-index.long form.is_long short));
       directives = λ short. any_section (holds_directives bytes) i (i + 1) c.loop-index.has_directives form.holds_directives (omega arith) (c.loop-index.invariant.directives (or_left c.loop-index.long form.is_long short)) (c.section_form-form.ensures.directives (or_right c.loop-index.long form.is_long short));
+      resources = λ short. any_section (holds_resources bytes) i (i + 1) c.loop-index.has_resources form.holds_resources (omega arith) (c.loop-index.invariant.resources (or_left c.loop-index.long form.is_long short)) (c.section_form-form.ensures.resources (or_right c.loop-index.long form.is_long short));
     }

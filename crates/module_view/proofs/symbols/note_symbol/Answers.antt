@@ -1,6 +1,6 @@
 use Rattle.std.proofs.Common.{sym, ◌∙◌}
 use Rattle.module_view.specs.SymbolLists.{is_definition, is_reference, is_weak, is_common}
-use Rattle.module_view.proofs.SymbolLemmas.{no_definition, no_reference, no_weak, no_common, none_more, not_unbuilt}
+use Rattle.module_view.proofs.SymbolLemmas.{no_definition, no_reference, no_weak, no_common, none_more}
 use Rattle.module_view.proofs.symbols.note_symbol.Goals as goal
 
 pub returns-then-not-is_external_name-clause-definitions :
@@ -22,8 +22,3 @@ pub returns-then-not-is_external_name-clause-commons :
     goal.returns-then-not-is_external_name-clause-commons
 returns-then-not-is_external_name-clause-commons c =
     none_more c.args.lists.now.commons.items _ (is_common c.args.symbol.now) (no_common c.args.symbol.now (sym c.is_external_name.ensures ∙ c.if-not-is_external_name.true))
-
-pub returns-then-not-is_external_name-clause-unbuilt :
-    goal.returns-then-not-is_external_name-clause-unbuilt
-returns-then-not-is_external_name-clause-unbuilt c =
-    not_unbuilt c.args.symbol.now c.args.lists.now.is_unbuilt (sym c.is_external_name.ensures ∙ c.if-not-is_external_name.true)

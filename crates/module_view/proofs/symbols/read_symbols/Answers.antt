@@ -1,4 +1,4 @@
-use Rattle.std.proofs.Common.{List, Bool, ◌||◌, ◌++◌, map, filter, refl, sym, ap, ◌∙◌}
+use Rattle.std.proofs.Common.{List, Bool, ◌++◌, map, filter, sym, ap, ◌∙◌}
 use Rattle.std.specs.List.{list_any}
 use Rattle.coff_records.specs.SymbolRecord.{name_in}
 use Rattle.coff_records.specs.ObjectFile.{SymbolEntry}
@@ -8,9 +8,8 @@ use Rattle.module_view.specs.declared.definition.Definition.{Definition}
 use Rattle.module_view.specs.declared.reference.Reference.{Reference}
 use Rattle.module_view.specs.declared.reference.Weak.{Weak}
 use Rattle.module_view.specs.SymbolLists.{defines, definition_of, definitions_in, definitions_of, refers, reference_of, references_of, is_weak, weak_of, weaks_of, is_common, common_of, commons_in, commons_of}
-use Rattle.module_view.specs.Unbuilt.{is_unbuilt_symbol}
 use Rattle.module_view.specs.Opening.{is_long}
-use Rattle.module_view.proofs.SymbolLemmas.{still_none, one_noted, listed_more}
+use Rattle.module_view.proofs.SymbolLemmas.{still_none, listed_more}
 use Rattle.module_view.proofs.symbols.read_symbols.Goals as goal
 
 abbrev weak_entry : SymbolEntry → Bool
@@ -30,7 +29,6 @@ loop-index-init c =
       ends = tt;
       left = symbols_left-all bytes entries all;
       long = ap (list_any (λ (entry : SymbolEntry). is_long (name_in entry.1))) all;
-      unbuilt = ap (λ (b : Bool). b || list_any (λ (entry : SymbolEntry). is_unbuilt_symbol entry.1) entries) c.no_lists-lists.ensures.unbuilt ∙ ap (list_any (λ (entry : SymbolEntry). is_unbuilt_symbol entry.1)) all;
       definitions = ap (λ (ds : List Definition). ds ++ definitions_in entries) c.no_lists-lists.ensures.definitions ∙ ap definitions_in all;
       references = ap (λ (rs : List Reference). rs ++ map (reference_of bytes) (filter refers entries)) c.no_lists-lists.ensures.references ∙ ap (λ (es : List SymbolEntry). map (reference_of bytes) (filter refers es)) all;
       weaks = ap (λ (ws : List Weak). ws ++ map (weak_of bytes) (filter weak_entry entries)) c.no_lists-lists.ensures.weaks ∙ ap (λ (es : List SymbolEntry). map (weak_of bytes) (filter weak_entry es)) all;
@@ -65,9 +63,6 @@ loop-index-preserved c =
       ends = tt;
       left = step.left;
       long = still_none (λ (e : SymbolEntry). is_long (name_in e.1)) before after entry _ c.is_long_symbol.result steps c.loop-index.invariant.long c.is_long_symbol.ensures c.if-is_long_symbol.false;
-      unbuilt =
-          ap (λ (b : Bool). b || list_any (λ (e : SymbolEntry). is_unbuilt_symbol e.1) after) told.unbuilt
-          ∙ one_noted (λ (e : SymbolEntry). is_unbuilt_symbol e.1) before after entry c.loop-index.lists.is_unbuilt (is_unbuilt_symbol c.in-Some.symbol) _ steps c.loop-index.invariant.unbuilt refl;
       definitions = listed_more defines definition_of before after entry c.loop-index.lists.definitions.items c.note_symbol.new.lists.definitions.items (definitions_of bytes) steps c.loop-index.invariant.definitions told.definitions;
       references = listed_more refers (reference_of bytes) before after entry c.loop-index.lists.references.items c.note_symbol.new.lists.references.items (references_of bytes) steps c.loop-index.invariant.references told.references;
       weaks = listed_more weak_entry (weak_of bytes) before after entry c.loop-index.lists.weaks.items c.note_symbol.new.lists.weaks.items (weaks_of bytes) steps c.loop-index.invariant.weaks told.weaks;
