@@ -32,12 +32,12 @@ libraries_more files i file lt is =
     ap libraries_among (found_more files i file lt is) ∙ filter-append is_library (files_found (take i files)) (file_found file ∷ [])
 
 -- why the file at an index does not open, after the modules before it
-pub opens_here : (files : List Found) (i : ℕ) (file : Found) (modules : List ModuleView) → i < length files → file ≡ get_or files i file → modules ≡ modules_among (files_found (take i files)) → opening_fault_at (files_found files) i ≡ file_fault (file_found file) (length modules)
+pub opens_here : (files : List Found) (i : ℕ) (file : Found) (modules : List ModuleView) → i < length files → file ≡ get_or files i file → modules ≡ modules_among (files_found (take i files)) → opening_fault_at (files_found files) i ≡ file_fault (file_found file) modules
 opens_here files i file modules lt is so_far =
-    ap (λ (f : FoundFile). file_fault f (length (modules_among (take i (files_found files)))))
+    ap (λ (f : FoundFile). file_fault f (modules_among (take i (files_found files))))
     (get_or-map file_found files i file no_file lt ∙ ap file_found (sym is))
-    ∙ ap (λ (fs : List FoundFile). file_fault (file_found file) (length (modules_among fs))) (take-map file_found i files)
-    ∙ ap (λ (ms : List ModuleView). file_fault (file_found file) (length ms)) (sym so_far)
+    ∙ ap (λ (fs : List FoundFile). file_fault (file_found file) (modules_among fs)) (take-map file_found i files)
+    ∙ ap (file_fault (file_found file)) (sym so_far)
 
 -- the file at an index stops the opening
 pub opening_stops : (files : List Found) (i : ℕ) (r : Refusal) → i < length files → first_refusal_below i (opening_fault_at (files_found files)) ≡ None → RefusesFor (opening_fault_at (files_found files) i) r → RefusesFor (opening_fault (files_found files)) r

@@ -12,6 +12,7 @@ use Rattle.lib_reader.specs.ArchiveMember.{data_of}
 use Rattle.lib_reader.specs.LibraryWalk.{listing_of, long_names_of}
 use Rattle.lib_reader.specs.MemberFault.{member_fault}
 use Rattle.file_search.specs.FoundFiles.{FoundFile, no_file}
+use Rattle.module_view.specs.Module.{ModuleView}
 use Rattle.lib_search.specs.Joining.{bad_library, joining_fault}
 use Rattle.lib_search.specs.OpenLibraries.{ListsBelow, ListsSoFar}
 use Rattle.lib_search.proofs.ListingLemmas.{same_item}
@@ -115,9 +116,9 @@ not_refused None e = refl
 not_refused (Some x) e = absurd cc
 
 -- where its header is well formed, its fault is that of the module
-pub joins_as : (library : FoundFile) (at position : ℕ) (file name bytes : List ℕ) → member_fault (long_names_of library.bytes) library.bytes at ≡ None → file ≡ library.file → name ≡ name_of_member library at → bytes ≡ data_of library.bytes at → joining_fault file (Some name) bytes position ≡ member_fault_in library at position
-joins_as library at position file name bytes none file_is name_is bytes_are =
-    ap (λ (f : List ℕ). joining_fault f (Some name) bytes position) file_is
-    ∙ ap (λ (n : List ℕ). joining_fault library.file (Some n) bytes position) name_is
-    ∙ ap (λ (b : List ℕ). joining_fault library.file (Some (name_of_member library at)) b position) bytes_are
-    ∙ sym (ap (λ (o : Option LibError). option_or (option_map (bad_library library.file) o) (joining_fault library.file (Some (name_of_member library at)) (data_of library.bytes at) position)) none)
+pub joins_as : (library : FoundFile) (at : ℕ) (modules : List ModuleView) (file name bytes : List ℕ) → member_fault (long_names_of library.bytes) library.bytes at ≡ None → file ≡ library.file → name ≡ name_of_member library at → bytes ≡ data_of library.bytes at → joining_fault file (Some name) bytes modules ≡ member_fault_in library at modules
+joins_as library at modules file name bytes none file_is name_is bytes_are =
+    ap (λ (f : List ℕ). joining_fault f (Some name) bytes modules) file_is
+    ∙ ap (λ (n : List ℕ). joining_fault library.file (Some n) bytes modules) name_is
+    ∙ ap (λ (b : List ℕ). joining_fault library.file (Some (name_of_member library at)) b modules) bytes_are
+    ∙ sym (ap (λ (o : Option LibError). option_or (option_map (bad_library library.file) o) (joining_fault library.file (Some (name_of_member library at)) (data_of library.bytes at) modules)) none)

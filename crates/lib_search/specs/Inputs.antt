@@ -26,12 +26,12 @@ modules_among files = map file_module (filter is_module files)
 abbrev pub libraries_among : List FoundFile → List FoundFile
 libraries_among files = filter is_library files
 
--- why a file does not open, after as many modules
-abbrev pub file_fault : FoundFile → ℕ → Option Fault
-file_fault found position = if has_magic found.bytes then no_library found else joining_fault found.file None found.bytes position
+-- why a file does not open, after these modules
+abbrev pub file_fault : FoundFile → List ModuleView → Option Fault
+file_fault found modules = if has_magic found.bytes then no_library found else joining_fault found.file None found.bytes modules
 
 abbrev pub opening_fault_at : List FoundFile → ℕ → Option Fault
-opening_fault_at files k = file_fault (slice_index_or files k no_file) (length (modules_among (take k files)))
+opening_fault_at files k = file_fault (slice_index_or files k no_file) (modules_among (take k files))
 
 -- why the inputs do not all open
 abbrev pub opening_fault : List FoundFile → Option Fault

@@ -1,14 +1,19 @@
 -- Why a file or a member does not open as a module, does not join, or is no library. Own.
-use Rattle.std.specs.Prelude.{ℕ, nat_le, if◌then◌else◌, List, Option, Some, None, option_map}
+use Rattle.std.specs.Prelude.{ℕ, Bool, ◌&&◌, nat_le, if◌then◌else◌, List, length, Option, Some, None, option_map}
+use Rattle.std.specs.List.{list_any}
 use Rattle.std.specs.Option.{option_or}
 use Rattle.link_base.specs.Limits.{MODULE_LIMIT}
 use Rattle.link_base.specs.declared.fault.Fault.{Fault}
+use Rattle.link_base.specs.declared.kinds.form.Kind.TheVariants.{SecondResource}
 use Rattle.link_base.specs.declared.fault.Fault.TheVariants.{InputLimit, BadObject, BadImport, BadLibrary, BadDirective, Unsupported}
 use Rattle.lib_reader.specs.declared.error.LibError.{LibError}
 use Rattle.lib_reader.specs.LibraryWalk.{library_fault}
 use Rattle.module_view.specs.declared.error.ModuleError.{ModuleError}
 use Rattle.module_view.specs.declared.error.ModuleError.TheVariants as bad
+use Rattle.module_view.specs.Module.{ModuleView}
+use Rattle.module_view.specs.ImportModule.{object_bytes}
 use Rattle.module_view.specs.Opening.{file_error}
+use Rattle.module_view.specs.Resources.{has_resources}
 use Rattle.file_search.specs.FoundFiles.{FoundFile}
 
 -- ---- a module
@@ -26,9 +31,20 @@ module_fault file member None = None
 abbrev pub count_fault : ℕ → Option Fault
 count_fault position = if nat_le MODULE_LIMIT position then Some (InputLimit 65535) else None
 
--- why a file, or a member of one, does not join as the module at a position
-abbrev pub joining_fault : List ℕ → Option (List ℕ) → List ℕ → ℕ → Option Fault
-joining_fault file member bytes position = option_or (module_fault file member (file_error bytes)) (count_fault position)
+-- a module has a section of resources: merging those of several modules is left out
+abbrev pub brings_resources : ModuleView → Bool
+brings_resources view = has_resources view.bytes
+
+-- the file has one, and so has a module before it
+abbrev pub second_fault : List ℕ → Option (List ℕ) → List ℕ → List ModuleView → Option Fault
+second_fault file member bytes modules =
+    if has_resources (object_bytes bytes) && list_any brings_resources modules then Some (Unsupported file member SecondResource) else None
+
+-- why a file, or a member of one, does not join after these modules
+abbrev pub joining_fault : List ℕ → Option (List ℕ) → List ℕ → List ModuleView → Option Fault
+joining_fault file member bytes modules =
+    option_or (module_fault file member (file_error bytes))
+    (option_or (second_fault file member bytes modules) (count_fault (length modules)))
 
 -- ---- a library
 

@@ -1,33 +1,42 @@
 //! A file or a member joins as a module.
 
 ghost use Rattle.std.specs.Prelude.{◌≡◌, ◌≤◌, ◌<◌, length, None, Some, IfOk, OnOk, IfErr};
+ghost use Rattle.std.specs.List.{list_any};
 ghost use Rattle.link_base.specs.Limits.{FILE_LIMIT as most_bytes, MODULE_LIMIT as most_modules};
 ghost use Rattle.link_base.specs.Refusals.{RefusesFor};
 ghost use Rattle.module_view.specs.ModuleParts.{view_of};
-ghost use Rattle.lib_search.specs.Joining.{module_fault, joining_fault};
+ghost use Rattle.lib_search.specs.Joining.{module_fault, brings_resources, joining_fault};
 
-use link_base::{Fault, MODULE_LIMIT, Name, Refusal};
+use link_base::{Fault, Kind, MODULE_LIMIT, Name, Refusal};
 use module_view::{Module, ModuleError, Origin, open_module};
 use std::alloc::Global;
 
-/// Opens a file or a member as the module at a position, from 0. One that does not open is refused, and one too many.
+/// Opens a file or a member as a module after these. One that does not open is refused, the second one that brings resources,
+/// and one too many.
 pub(crate) fn join<'a>(
     alloc: Global,
     origin: Origin<'a>,
     bytes: &'a [u8],
-    position: usize,
+    modules: &[Module<'a>],
 ) -> Result<Module<'a>, Refusal<'a>>
     requires { length bytes.now ≤ most_bytes }
     ensures opened { IfOk result (λ opened. opened ≡ view_of origin.entry bytes.now) }
-    ensures accepted { OnOk result (joining_fault origin.entry.file origin.entry.member bytes.now position ≡ None) }
-    ensures few { OnOk result (position < most_modules) }
-    ensures refused { IfErr result (RefusesFor (joining_fault origin.entry.file origin.entry.member bytes.now position)) }
+    ensures accepted { OnOk result (joining_fault origin.entry.file origin.entry.member bytes.now modules.now ≡ None) }
+    ensures few { OnOk result (length modules.now < most_modules) }
+    ensures refused { IfErr result (RefusesFor (joining_fault origin.entry.file origin.entry.member bytes.now modules.now)) }
 {
     let file = origin.file.again();
     let member = again(&origin.member);
     match open_module(alloc, origin, bytes) {
         Ok(module) => {
-            if position >= MODULE_LIMIT {
+            if module.has_resources() && bring_resources(modules) {
+                return Err(Refusal::Fault(Fault::Unsupported {
+                    file,
+                    member,
+                    kind: Kind::SecondResource,
+                }));
+            }
+            if modules.len() >= MODULE_LIMIT {
                 return Err(Refusal::Fault(Fault::InputLimit {
                     sum: MODULE_LIMIT as u64 + 1,
                 }));
@@ -36,6 +45,13 @@ pub(crate) fn join<'a>(
         }
         Err(error) => Err(refusal_of(file, member, error)),
     }
+}
+
+/// Whether one of these modules has a section of resources.
+fn bring_resources(modules: &[Module<'_>]) -> bool
+    ensures { result ≡ list_any brings_resources modules.now }
+{
+    modules.iter().any(|module| module.has_resources())
 }
 
 /// The same name, where there is one.

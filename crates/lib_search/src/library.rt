@@ -52,17 +52,17 @@ impl<'a> OpenLibrary<'a> {
         }
     }
 
-    /// Opens the member whose header stands at an offset as the module at a position. One that does not open is refused.
+    /// Opens the member whose header stands at an offset as a module after these. One that does not open is refused.
     pub(crate) fn open_member(
         &self,
         alloc: Global,
         at: u32,
-        position: usize,
+        modules: &[Module<'a>],
     ) -> Result<Module<'a>, Refusal<'a>>
         ensures opened { IfOk result (λ opened. opened ≡ member_view self.now at) }
-        ensures accepted { OnOk result (member_fault_in self.now at position ≡ None) }
-        ensures few { OnOk result (position < most_modules) }
-        ensures refused { IfErr result (RefusesFor (member_fault_in self.now at position)) }
+        ensures accepted { OnOk result (member_fault_in self.now at modules.now ≡ None) }
+        ensures few { OnOk result (length modules.now < most_modules) }
+        ensures refused { IfErr result (RefusesFor (member_fault_in self.now at modules.now)) }
     {
         let member = match self.library.member(at) {
             Ok(member) => member,
@@ -72,7 +72,7 @@ impl<'a> OpenLibrary<'a> {
             file: self.file.again(),
             member: Some(member.name),
         };
-        join(alloc, origin, member.bytes, position)
+        join(alloc, origin, member.bytes, modules)
     }
 }
 
@@ -146,20 +146,20 @@ impl<'a> Libraries<'a> {
         }
     }
 
-    /// Opens the member at a place as the module at a position. One that does not open is refused.
+    /// Opens the member at a place as a module after these. One that does not open is refused.
     pub(crate) fn open_member(
         &self,
         alloc: Global,
         place: (usize, u32),
-        position: usize,
+        modules: &[Module<'a>],
     ) -> Result<Module<'a>, Refusal<'a>>
         requires { place.0 < length self.now }
         ensures opened { IfOk result (λ opened. opened ≡ member_view (library_at self.now place.0) place.1) }
-        ensures accepted { OnOk result (member_fault_in (library_at self.now place.0) place.1 position ≡ None) }
-        ensures few { OnOk result (position < most_modules) }
-        ensures refused { IfErr result (RefusesFor (member_fault_in (library_at self.now place.0) place.1 position)) }
+        ensures accepted { OnOk result (member_fault_in (library_at self.now place.0) place.1 modules.now ≡ None) }
+        ensures few { OnOk result (length modules.now < most_modules) }
+        ensures refused { IfErr result (RefusesFor (member_fault_in (library_at self.now place.0) place.1 modules.now)) }
     {
-        self.list[place.0].open_member(alloc, place.1, position)
+        self.list[place.0].open_member(alloc, place.1, modules)
     }
 }
 

@@ -53,8 +53,8 @@ fn open_one<'a>(
     ensures modules { OnOk result (opened.new.modules.items ≡ opened.old.modules.items ++ modules_among (file_found file.now ∷ [])) }
     ensures libraries { OnOk result (opened.new.libraries.items ≡ opened.old.libraries.items ++ libraries_among (file_found file.now ∷ [])) }
     ensures few { OnOk result (length opened.old.modules.items ≤ most_modules → length opened.new.modules.items ≤ most_modules) }
-    ensures accepted { OnOk result (file_fault (file_found file.now) (length opened.old.modules.items) ≡ None) }
-    ensures refused { IfErr result (RefusesFor (file_fault (file_found file.now) (length opened.old.modules.items))) }
+    ensures accepted { OnOk result (file_fault (file_found file.now) opened.old.modules.items ≡ None) }
+    ensures refused { IfErr result (RefusesFor (file_fault (file_found file.now) opened.old.modules.items)) }
 {
     if begins_library(file.bytes) {
         let library = OpenLibrary::open(file.file.again(), file.bytes)?;
@@ -65,7 +65,7 @@ fn open_one<'a>(
         file: file.file.again(),
         member: None,
     };
-    let module = join(alloc, origin, file.bytes, opened.modules.len())?;
+    let module = join(alloc, origin, file.bytes, &opened.modules)?;
     push_module(&mut opened.modules, module)?;
     Ok(())
 }

@@ -111,7 +111,7 @@ impl<'a> Search<'a> {
         ensures few { OnOk result (length self.now.searched.link.modules < most_modules) }
         ensures refused { IfErr result (RefusesFor (join_fault self.now.searched place)) }
     {
-        self.searched.open_member(alloc, place, self.modules.len())
+        self.searched.open_member(alloc, place, &self.modules)
     }
 
     /// The member at a place joins as this module. It may ask for the left names of alternates, and say some.

@@ -115,16 +115,16 @@ impl<'a> Searched<'a> {
         &self,
         alloc: Global,
         place: (usize, u32),
-        position: usize,
+        modules: &[Module<'a>],
     ) -> Result<Module<'a>, Refusal<'a>>
         requires within { place.0 < length self.now.libraries }
-        requires next { position ≡ length self.now.link.modules }
+        requires joined { modules.now ≡ self.now.link.modules }
         ensures opened { IfOk result (λ opened. opened ≡ member_at self.now place) }
         ensures accepted { OnOk result (join_fault self.now place ≡ None) }
         ensures few { OnOk result (length self.now.link.modules < most_modules) }
         ensures refused { IfErr result (RefusesFor (join_fault self.now place)) }
     {
-        self.libraries.open_member(alloc, place, position)
+        self.libraries.open_member(alloc, place, modules)
     }
 
     /// The member at a place joins as this module.
