@@ -1,4 +1,4 @@
--- An entry that has a place stands in a piece of the link, and inside it.
+-- An entry that has a place stands in a piece of the link, and inside it, and so does what the loader of a program looks for.
 use Rattle.std.proofs.Common.{◌≡◌, ℕ, ◌+◌, ◌<◌, ◌≤◌, Bool, List, length, Option, Some, None, Result, Ok, Err, inl, inr, refl, ap, subst, arith}
 use Rattle.std.specs.Prelude.{nat_le}
 use Rattle.std.specs.List.{All}
@@ -26,6 +26,9 @@ use Rattle.link_pieces.proofs.CallerLemmas.{found_piece, found_common, found_lin
 use Rattle.link_fields.specs.declared.entry.EntryPlace.{EntryPlace}
 use Rattle.link_fields.specs.Entry.{meant, place_in, meant_place, entry_place}
 use Rattle.link_fields.specs.Fixes.{piece_at}
+use Rattle.link_fields.specs.LoaderPlaces.{own_place, loader_place}
+use Rattle.link_fields.specs.Targets.{target_in, meant_target}
+use Rattle.relocate.specs.declared.fix.Target.TheVariants as target
 
 -- ---- a place that a name means is inside its section
 
@@ -86,3 +89,40 @@ by_meaning link name place (Err none) opened is e = absurd cc
 pub entry_inside : (link : LinkParts) (entry : Option (List ℕ)) (place : EntryPlace) → All IsOpened link.modules → entry_place link entry ≡ Some place → IsInside link place
 entry_inside link None place opened e = absurd cc
 entry_inside link (Some name) place opened e = by_meaning link name place (name_meaning link name) opened refl e
+
+-- ---- what the loader of a program looks for
+
+-- a place of its own is that of an entry with the same meaning
+own_meant : (link : LinkParts) (r : Result Meaning NoMeaning) (place : EntryPlace) → own_place link r ≡ Some place → meant_place link (meant r) ≡ Some place
+own_meant link (Ok (meaning.Section position section value)) place e = e
+own_meant link (Ok (meaning.Common position symbol)) place e = e
+own_meant link (Ok (meaning.Slot position)) place e = absurd cc
+own_meant link (Ok (meaning.Thunk position)) place e = absurd cc
+own_meant link (Ok (meaning.LocalSlot pointed)) place e = absurd cc
+own_meant link (Ok (meaning.Absolute value)) place e = absurd cc
+own_meant link (Ok meaning.ImageBase) place e = absurd cc
+own_meant link (Err none) place e = absurd cc
+
+pub loader_inside : (link : LinkParts) (name : List ℕ) (place : EntryPlace) → All IsOpened link.modules → loader_place link name ≡ Some place → IsInside link place
+loader_inside link name place opened e =
+    by_meaning link name place (name_meaning link name) opened refl (own_meant link (name_meaning link name) place e)
+
+target_there : (value : ℕ) (found : Option ℕ) (place : EntryPlace) → place_in value found ≡ Some place → target_in value found ≡ Ok (target.Piece place.piece place.value)
+target_there value None place e = absurd cc
+target_there value (Some piece) place e =
+    let same : record { piece = piece; value = value } ≡ place = cc in
+    subst (λ (p : EntryPlace). target_in value (Some piece) ≡ Ok (target.Piece p.piece p.value)) same refl
+
+own_target : (link : LinkParts) (r : Result Meaning NoMeaning) (place : EntryPlace) → own_place link r ≡ Some place → meant_target link r ≡ Ok (target.Piece place.piece place.value)
+own_target link (Ok (meaning.Section position section value)) place e = target_there value (piece_index link position section) place e
+own_target link (Ok (meaning.Common position symbol)) place e = target_there 0 (common_index link position symbol) place e
+own_target link (Ok (meaning.Slot position)) place e = absurd cc
+own_target link (Ok (meaning.Thunk position)) place e = absurd cc
+own_target link (Ok (meaning.LocalSlot pointed)) place e = absurd cc
+own_target link (Ok (meaning.Absolute value)) place e = absurd cc
+own_target link (Ok meaning.ImageBase) place e = absurd cc
+own_target link (Err none) place e = absurd cc
+
+-- it is what its name means to a relocation
+pub loader_target : (link : LinkParts) (name : List ℕ) (place : EntryPlace) → loader_place link name ≡ Some place → meant_target link (name_meaning link name) ≡ Ok (target.Piece place.piece place.value)
+loader_target link name place e = own_target link (name_meaning link name) place e

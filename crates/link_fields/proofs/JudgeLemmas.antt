@@ -19,6 +19,7 @@ use Rattle.relocate.specs.Judged.{AreTheFields, ArePatchable}
 use Rattle.link_pieces.specs.LinkParts.{LinkParts}
 use Rattle.link_pieces.specs.Pieces.{link_pieces, link_contents, IsPieceOf}
 use Rattle.link_pieces.proofs.CallerLemmas.{piece_is, bare_at}
+use Rattle.link_fields.specs.Pdata.{is_pdata}
 use Rattle.link_fields.specs.Fixes.{fixes_in, piece_at, piece_fixes, judged_fault, piece_fault, HaveFields, edges_by, edges_of}
 
 -- ---- no relocations
@@ -55,6 +56,7 @@ fixes_read link k piece read = ap (fixes_in link) read.is
 
 -- and so is their fault
 pub fault_read : (link : LinkParts) (k : ℕ) (piece : Piece) (large : Bool) (fixes : List Fix) → IsRead link k piece → fixes ≡ fixes_in link piece → judged_fault piece (piece_contents piece) large fixes ≡ piece_fault link large k
+unfolding is_pdata
 fault_read link k piece large fixes read are =
     ap (judged_fault piece (piece_contents piece) large) (are ∙ fixes_read link k piece read)
     ∙ ap (λ (bytes : List ℕ). judged_fault piece bytes large (piece_fixes link k)) read.contents

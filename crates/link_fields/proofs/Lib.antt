@@ -6,3 +6,4 @@ pub mod EntryLemmas
 pub mod StandingLemmas
 pub mod ListLemmas
 pub mod PlaceLemmas
+pub mod PdataLemmas

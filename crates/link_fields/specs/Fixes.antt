@@ -1,6 +1,6 @@
 -- The relocations of the pieces of a link, each with what its symbol means, the first that has a fault, and what they lead to.
 -- Own.
-use Rattle.std.specs.Prelude.{◌≡◌, ℕ, ◌+◌, ◌-◌, ◌<◌, ◌==◌, nat_lt, Bool, false, if◌then◌else◌, List, [], ◌∷◌, length, filter_map, slice_index_or, Option, Some, None, option_map, option_and_then}
+use Rattle.std.specs.Prelude.{◌≡◌, ℕ, ◌+◌, ◌-◌, ◌<◌, ◌==◌, nat_lt, Bool, if◌then◌else◌, List, [], ◌∷◌, length, filter_map, slice_index_or, Option, Some, None, option_map, option_and_then}
 use Rattle.std.specs.List.{range_with_len, flat_map}
 use Rattle.link_base.specs.Refusals.{first_refusal_below}
 use Rattle.link_base.specs.declared.fault.Fault.{Fault}
@@ -24,6 +24,7 @@ use Rattle.synthetic_sections.specs.LinkerPieces.{FIRST_THUNK, FIRST_LOCAL_SLOT}
 use Rattle.synthetic_sections.specs.LinkerFields.{thunk_field, slot_field}
 use Rattle.link_pieces.specs.NameMeaning.{name_meaning}
 use Rattle.link_pieces.specs.LocalSlots.{slot_names}
+use Rattle.link_fields.specs.Pdata.{is_pdata}
 use Rattle.link_fields.specs.Targets.{record_target, import_target, meant_target, piece_in}
 use Rattle.link_fields.specs.Entry.{pointer_fault}
 
@@ -102,7 +103,7 @@ len_if init contents = if init then Some (length contents) else None
 -- the first relocation of a piece with these bytes that has a fault
 abbrev pub judged_fault : Piece → List ℕ → Bool → List Fix → Option Fault
 judged_fault piece contents large fixes =
-    option_and_then (refused_at piece) (field_fault (len_if piece.init contents) large false fixes)
+    option_and_then (refused_at piece) (field_fault (len_if piece.init contents) large (is_pdata piece) fixes)
 
 abbrev pub piece_fault : LinkParts → Bool → ℕ → Option Fault
 piece_fault link large k =

@@ -9,11 +9,13 @@ ghost use Rattle.relocate.specs.FieldFaults.{field_fault, RefusesFor as RefusesF
 ghost use Rattle.relocate.specs.Judged.{AreTheFields, ArePatchable, len_of};
 ghost use Rattle.link_pieces.specs.Pieces.{link_pieces, link_contents, IsPieceOf};
 ghost use Rattle.link_pieces.specs.PieceIndex.{IsPieceIndex};
+ghost use Rattle.link_fields.specs.Pdata.{is_pdata};
 ghost use Rattle.link_fields.specs.Fixes.{judged_fault, refused_at, fixes_in, fixes_fault, field_edges, len_if, HaveFields};
 ghost use Rattle.link_fields.specs.Steps.{HoldsTargets};
 
 use crate::edges::push_edges;
 use crate::fixes::{LastTargets, linker_fixes, section_fixes};
+use crate::pdata::is_pdata;
 use link_base::{Fault, Memory, Refusal};
 use link_pieces::{FIRST_COMMON, LinkNames, PieceIndex};
 use module_view::Module;
@@ -118,12 +120,18 @@ fn judge(alloc: Global, piece: &Piece<'_>, fixes: &[Fix], large: bool) -> Result
     ensures fields { IfOk result (λ fixups. AreTheFields fixes.now fixups) }
     ensures patchable { IfOk result (ArePatchable (length (piece_contents piece.now))) }
     ensures accepted { OnOk result (judged_fault piece.now (piece_contents piece.now) large fixes.now ≡ None) }
-    ensures refused { IfErr result (RefusesField (field_fault (len_if piece.now.init (piece_contents piece.now)) large false fixes.now)) }
+    ensures refused { IfErr result (RefusesField (field_fault (len_if piece.now.init (piece_contents piece.now)) large (is_pdata piece.now) fixes.now)) }
 {
     if fixes.is_empty() {
         return Ok(Fixups::none(alloc));
     }
-    check(alloc, initialised_bytes(piece), fixes, large, false)
+    check(
+        alloc,
+        initialised_bytes(piece),
+        fixes,
+        large,
+        is_pdata(piece),
+    )
 }
 
 /// The refusal for a relocation of a piece.
