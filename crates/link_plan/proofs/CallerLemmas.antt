@@ -1,5 +1,5 @@
 -- What callers may cite of a plan: what the fields of what is kept mean is kept and stands in a section, and so does what is
--- exported.
+-- exported, the entry and what the loader of a program looks for; no field of the exception table holds an address.
 use Rattle.std.proofs.Common.{◌≡◌, ◌⊎◌, ℕ, zero, suc, ◌+◌, ◌-◌, ◌<◌, ◌≤◌, Bool, true, false, cond, ◌&&◌, ◌||◌, eqb, ltb, List, [], ◌∷◌, ◌++◌, length, map, filter, take, get_or, replicate, Option, Some, None, option_map, option_and_then, Result, Ok, Err, inl, inr, refl, sym, ap, subst, ◌∙◌, eq-eqb, arith}
 use Rattle.std.specs.Prelude.{filter_map, unwrap_or}
 use Rattle.std.specs.List.{All, Contains, list_any, range_with_len, flat_map, cons_option}
@@ -16,8 +16,9 @@ use Rattle.relocate.specs.Field.{has_field}
 use Rattle.relocate.specs.Value.{target_of}
 use Rattle.relocate.specs.Value.{meant}
 use Rattle.relocate.specs.Redirected.{redirected_if}
-use Rattle.relocate.specs.PatchedBytes.{AreNumbered}
-use Rattle.relocate.proofs.CallerLemmas.{numbered_redirected}
+use Rattle.relocate.specs.PatchedBytes.{is_based, AreNumbered, AreSuited, HaveNoBased}
+use Rattle.relocate.proofs.CallerLemmas.{numbered_redirected, suited_redirected}
+use Rattle.relocate.proofs.JudgeLemmas.{or_none}
 use Rattle.link_base.specs.declared.kinds.target.TargetFault.{TargetFault}
 use Rattle.reach.proofs.CallerLemmas.{root_kept, next_kept}
 use Rattle.synthetic_sections.specs.LinkerPieces.{SLOTS, size_at}
@@ -29,12 +30,18 @@ use Rattle.link_pieces.specs.TablePieces.{KeptParts, kept_imports, tables_of, ta
 use Rattle.link_pieces.proofs.TableLemmas.{import_size}
 use Rattle.link_pieces.proofs.CallerLemmas.{table_is, table_there, table_found}
 use Rattle.link_fields.specs.declared.entry.EntryPlace.{EntryPlace}
-use Rattle.link_fields.specs.Entry.{entry_place, piece_of_place}
+use Rattle.link_fields.specs.Entry.{entry_meant, entry_place, piece_of_place}
+use Rattle.link_fields.specs.LoaderPlaces.{loader_place, TLS_NAME, LOAD_CONFIG_NAME}
+use Rattle.link_fields.specs.Pdata.{is_pdata}
+use Rattle.link_fields.specs.Places.{places_fault}
 use Rattle.link_fields.specs.ExportTargets.{export_targets}
-use Rattle.link_fields.specs.Fixes.{piece_at, piece_fixes, meant_in, edge_by, edges_of, field_edges}
+use Rattle.link_fields.specs.Fixes.{piece_at, piece_fixes, fixes_fault, meant_in, edge_by, edges_of, field_edges}
 use Rattle.link_fields.specs.Targets.{piece_in}
+use Rattle.link_fields.proofs.EntryLemmas.{loader_target}
+use Rattle.link_fields.proofs.PdataLemmas.{fixes_suited, pdata_no_based}
 use Rattle.link_fields.proofs.CallerLemmas.{IsWithin, IsImportNode, fields_within, exports_within, fixes_numbered}
-use Rattle.link_plan.specs.Reach.{AreKept, IsToKeep, node_count, child_edges, link_edges, link_roots, named_nodes, name_node, loader_names, drops}
+use Rattle.link_plan.specs.PlanFaults.{fields_fault}
+use Rattle.link_plan.specs.Reach.{AreKept, IsToKeep, node_count, child_edges, link_edges, link_roots, named_nodes, node_of, name_node, loader_names, drops}
 use Rattle.link_plan.specs.Planned.{is_kept, is_meant, is_sought, is_at, leads_there, used_pieces, planned_piece, plan_pieces, slot_offsets, slot_table, placed_target, placed_fix, fixes_if, planned_fixes, planned_target, planned_targets}
 
 -- ---- the pieces of a plan
@@ -61,6 +68,14 @@ plan_count options link =
     length-append (map (planned_piece options link) (range_with_len 0 n)) (tables_of link)
     ∙ ap (λ (m : ℕ). m + length (tables_of link)) (length-map-range_with_len (planned_piece options link) 0 n)
     ∙ sym (length-append (link_pieces link.parts) (tables_of link))
+
+-- the piece of a plan has the name of the link's, and is one of the exception table where that is
+pub planned_name : (options : LinkOptions) (link : KeptParts) (k : ℕ) → k < length (link_pieces link.parts) → (get_or (plan_pieces options link) k no_piece).name ≡ (piece_at link.parts k).name
+planned_name options link k lt = ap (λ (piece : Piece). piece.name) (planned_at options link k lt)
+
+pub planned_pdata : (options : LinkOptions) (link : KeptParts) (k : ℕ) → k < length (link_pieces link.parts) → is_pdata (get_or (plan_pieces options link) k no_piece) ≡ is_pdata (piece_at link.parts k)
+unfolding is_pdata
+planned_pdata options link k lt = rw (planned_name options link k lt) refl
 
 -- ---- which of them are used
 
@@ -268,21 +283,29 @@ planned_numbered link k = by (is_kept link k)
     by true i lt = numbered_redirected (length (link_pieces link.parts)) (slot_table link) (slot_offsets link) (piece_fixes link.parts k) (fixes_numbered link.parts k) i lt
     by false i lt = absurd (omega arith)
 
--- ---- the entry and the exports
+-- ---- the entry, the exports and what a loader looks for
+
+-- what is named besides the entry
+behind_entry : (entry : Option ℕ) (others : List ℕ) (node : ℕ) → Contains others node → Contains (cons_option entry others) node
+behind_entry None others node there = there
+behind_entry (Some first) others node there = later_there first others node there
 
 named_export : (options : LinkOptions) (link : LinkParts) (row : ℕ) (t : Target) (node : ℕ) → get_or (export_targets link) row None ≡ Some t → piece_in t ≡ Some node → Contains (named_nodes options link) node
 named_export options link row t node is piece =
     elim (cases_lt row (length (export_targets link))) [
-      | inl lt ↦ behind (piece_of_place (entry_place link options.entry_name)) (Contains-append_left (filter_map (option_and_then piece_in) (export_targets link)) (filter_map (name_node link) loader_names) node (made_there (option_and_then piece_in) (export_targets link) row None node lt (ap (option_and_then piece_in) is ∙ piece)))
+      | inl lt ↦ behind_entry (piece_of_place (entry_place link options.entry_name)) (filter_map (option_and_then piece_in) (export_targets link) ++ filter_map (name_node link) loader_names) node (Contains-append_left (filter_map (option_and_then piece_in) (export_targets link)) (filter_map (name_node link) loader_names) node (made_there (option_and_then piece_in) (export_targets link) row None node lt (ap (option_and_then piece_in) is ∙ piece)))
       | inr past ↦ absurd (none_past (sym (get_or_past (export_targets link) row None past) ∙ is))
     ]
   where
     none_past : None ≡ Some t → ⊥
     none_past e = cc
 
-    behind : (o : Option ℕ) → Contains (filter_map (option_and_then piece_in) (export_targets link) ++ filter_map (name_node link) loader_names) node → Contains (cons_option o (filter_map (option_and_then piece_in) (export_targets link) ++ filter_map (name_node link) loader_names)) node
-    behind None there = there
-    behind (Some first) there = later_there first _ node there
+named_loader : (options : LinkOptions) (link : LinkParts) (name : List ℕ) (place : EntryPlace) → Contains loader_names name → loader_place link name ≡ Some place → Contains (named_nodes options link) place.piece
+named_loader options link name place among is =
+    let own : name_node link name ≡ Some place.piece = ap node_of (loader_target link name place is) in
+    behind_entry (piece_of_place (entry_place link options.entry_name)) (filter_map (option_and_then piece_in) (export_targets link) ++ filter_map (name_node link) loader_names) place.piece
+    (Contains-append_right (filter_map (option_and_then piece_in) (export_targets link)) (filter_map (name_node link) loader_names) place.piece
+    (made_there (name_node link) loader_names among.0 name place.piece among.1 (ap (name_node link) among.2 ∙ own)))
 
 -- what is named is a root
 sought_kept : (options : LinkOptions) (link : KeptParts) (node : ℕ) → AreKept options link.parts link.kept → Contains (named_nodes options link.parts) node → node < node_count link.parts → (get_or link.kept node false ≡ true) × ((is_meant link node || is_sought options link node) ≡ true)
@@ -312,10 +335,43 @@ exports_stand options link row t are is =
         (named_export options link.parts row u node own node_is)
         (node_there link.parts u node within node_is)))
 
+named_used : (options : LinkOptions) (link : KeptParts) (k : ℕ) → AreKept options link.parts link.kept → k < length (link_pieces link.parts) → Contains (named_nodes options link.parts) k → (get_or (used_pieces link) k false ≡ true) × (is_sought options link k ≡ true)
+named_used options link k are inside there = (
+  used_first options link k are inside ∙ (sought_kept options link k are there (omega (arith, inside))).0,
+  any_there (is_at k) (named_nodes options link.parts) k there (eq-eqb k k refl),
+)
+
 pub entry_used : (options : LinkOptions) (link : KeptParts) (place : EntryPlace) → AreKept options link.parts link.kept → place.piece < length (link_pieces link.parts) → entry_place link.parts options.entry_name ≡ Some place → (get_or (used_pieces link) place.piece false ≡ true) × (is_sought options link place.piece ≡ true)
 entry_used options link place are inside is =
     let there : Contains (named_nodes options link.parts) place.piece =
-    subst (λ (o : Option EntryPlace). Contains (cons_option (piece_of_place o) (filter_map (option_and_then piece_in) (export_targets link.parts) ++ filter_map (name_node link.parts) loader_names)) place.piece) (sym is) (first_there place.piece _) in (
-      used_first options link place.piece are inside ∙ (sought_kept options link place.piece are there (omega (arith, inside))).0,
-      any_there (is_at place.piece) (named_nodes options link.parts) place.piece there (eq-eqb place.piece place.piece refl),
-    )
+    subst (λ (o : Option EntryPlace). Contains (cons_option (piece_of_place o) (filter_map (option_and_then piece_in) (export_targets link.parts) ++ filter_map (name_node link.parts) loader_names)) place.piece) (sym is) (first_there place.piece _) in
+    named_used options link place.piece are inside there
+
+-- one of the names that a loader looks for
+pub loader_used : (options : LinkOptions) (link : KeptParts) (name : List ℕ) (place : EntryPlace) → Contains loader_names name → AreKept options link.parts link.kept → place.piece < length (link_pieces link.parts) → loader_place link.parts name ≡ Some place → (get_or (used_pieces link) place.piece false ≡ true) × (is_sought options link place.piece ≡ true)
+loader_used options link name place among are inside is =
+    named_used options link place.piece are inside (named_loader options link.parts name place among is)
+
+-- those names
+pub tls_sought : Contains loader_names TLS_NAME
+tls_sought = (0, omega arith, refl)
+
+pub load_config_sought : Contains loader_names LOAD_CONFIG_NAME
+load_config_sought = (1, omega arith, refl)
+
+-- ---- the exception table
+
+-- where no relocation has a fault, no field of a piece of it that is kept holds an address
+pub pdata_not_based : (options : LinkOptions) (link : KeptParts) (k : ℕ) → k < length (link_pieces link.parts) → fields_fault options link.parts ≡ None → is_pdata (piece_at link.parts k) ≡ true → HaveNoBased (planned_fixes link k)
+pdata_not_based options link k lt none table = by (is_kept link k)
+  where
+    judged : AreSuited options.large true (piece_fixes link.parts k)
+    judged =
+        subst (λ (b : Bool). AreSuited options.large b (piece_fixes link.parts k)) table
+        (fixes_suited link.parts options.large k lt (or_none (places_fault link.parts (entry_meant link.parts options.entry_name)) (fixes_fault link.parts options.large) none).1)
+
+    by : (b : Bool) → HaveNoBased (fixes_if b (map (placed_fix link) (piece_fixes link.parts k)))
+    by true =
+        pdata_no_based options.large (map (placed_fix link) (piece_fixes link.parts k))
+        (suited_redirected (length (link_pieces link.parts)) (slot_table link) (slot_offsets link) options.large true (piece_fixes link.parts k) judged)
+    by false = All-nil (λ fix. has_field fix ≡ true → is_based fix ≡ false)

@@ -14,6 +14,7 @@ use Rattle.link_pieces.specs.TablePieces.{KeptParts, kept_imports, whole_content
 use Rattle.link_words.specs.Outcome.{LinkOptions}
 use Rattle.link_fields.specs.declared.entry.EntryPlace.{EntryPlace}
 use Rattle.link_fields.specs.Entry.{entry_place}
+use Rattle.link_fields.specs.LoaderPlaces.{loader_place, TLS_NAME, LOAD_CONFIG_NAME}
 use Rattle.link_plan.specs.declared.laid.LaidPieces.{LaidPieces}
 use Rattle.link_plan.specs.Reach.{AreKept}
 use Rattle.link_plan.specs.Planned.{plan_pieces, planned_targets, HaveFields}
@@ -29,7 +30,8 @@ pub record StandsNamed (pieces : List Piece) (place : EntryPlace) : Type 0 where
 abbrev pub laid_link : LinkParts → LaidPieces → KeptParts
 laid_link link laid = record { parts = link; kept = laid.kept.items }
 
--- what is kept of the pieces of the modules, with their fields and the tables, and the places of the entry and the exports
+-- what is kept of the pieces of the modules, with their fields and the tables, and the places of the entry, the exports and what
+-- the loader of a program looks for
 pub record ArePlanned (options : LinkOptions) (link : LinkParts) (laid : LaidPieces) : Type 0 where
   pub kept_are : AreKept options link laid.kept.items
   pub pieces_are : map bare laid.pieces.items ≡ plan_pieces options (laid_link link laid)
@@ -41,10 +43,14 @@ pub record ArePlanned (options : LinkOptions) (link : LinkParts) (laid : LaidPie
   pub imports : AreImports link.modules (kept_imports (laid_link link laid)) laid.imports
   pub entry_is : laid.entry ≡ entry_place link options.entry_name
   pub exported_are : laid.exported.items ≡ planned_targets (laid_link link laid)
+  pub tls_is : laid.loader.tls ≡ loader_place link TLS_NAME
+  pub load_config_is : laid.loader.load_config ≡ loader_place link LOAD_CONFIG_NAME
 
 -- none of them has a fault
 pub record AreLaid (options : LinkOptions) (link : LinkParts) (laid : LaidPieces) : Type 0 where
   pub opened : All IsOpened link.modules
   pub planned : ArePlanned options link laid
   pub stands : ForSome laid.entry (StandsNamed laid.pieces.items)
+  pub tls_stands : ForSome laid.loader.tls (StandsNamed laid.pieces.items)
+  pub load_config_stands : ForSome laid.loader.load_config (StandsNamed laid.pieces.items)
   pub no_fault : fields_fault options link ≡ None

@@ -17,6 +17,7 @@ use Rattle.link_pieces.specs.TablePieces.{KeptParts, kept_imports, whole_content
 use Rattle.link_words.specs.Outcome.{LinkOptions}
 use Rattle.link_plan.specs.declared.planning.LinkPlan.{LinkPlan}
 use Rattle.link_fields.specs.Entry.{entry_place}
+use Rattle.link_fields.specs.LoaderPlaces.{loader_place, TLS_NAME, LOAD_CONFIG_NAME}
 use Rattle.link_plan.specs.Reach.{AreKept}
 use Rattle.link_plan.specs.Planned.{plan_pieces, planned_targets, HaveFields}
 use Rattle.link_plan.specs.PlanFaults.{plan_fault}
@@ -55,5 +56,9 @@ pub record IsPlanOf (options : LinkOptions) (modules : List ModuleView) (plan : 
   pub merges_are : plan.merges.items ≡ merges_of options plan.names
   pub entry_is : plan.entry ≡ entry_place plan.names options.entry_name
   pub stands : ForSome plan.entry (StandsNamed plan.pieces.items)
+  pub tls_is : plan.loader.tls ≡ loader_place plan.names TLS_NAME
+  pub tls_stands : ForSome plan.loader.tls (StandsNamed plan.pieces.items)
+  pub load_config_is : plan.loader.load_config ≡ loader_place plan.names LOAD_CONFIG_NAME
+  pub load_config_stands : ForSome plan.loader.load_config (StandsNamed plan.pieces.items)
   pub exported_are : plan.exported.items ≡ planned_targets (kept_parts plan)
   pub no_fault : plan_fault options plan.names ≡ None

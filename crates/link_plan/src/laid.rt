@@ -12,6 +12,7 @@ ghost use Rattle.link_pieces.specs.Pieces.{link_pieces, link_contents};
 ghost use Rattle.link_pieces.specs.PieceIndex.{IsPieceIndex};
 ghost use Rattle.link_fields.specs.Entry.{entry_meant, entry_place};
 ghost use Rattle.link_fields.specs.ExportTargets.{export_targets};
+ghost use Rattle.link_fields.specs.LoaderPlaces.{loader_place, TLS_NAME, LOAD_CONFIG_NAME};
 ghost use Rattle.link_fields.specs.Fixes.{HaveFields, field_edges};
 ghost use Rattle.link_plan.specs.PlanFaults.{fields_fault};
 ghost use Rattle.link_plan.specs.Laid.{ArePlanned, AreLaid};
@@ -21,7 +22,7 @@ use crate::kept_fields::{SlotPlaces, keep_fields, place_exports, push_none, slot
 use crate::meanings::Meanings;
 use crate::named::name_meant;
 use link_base::{Memory, Refusal};
-use link_fields::{EntryPlace, JudgedFixes, NamedPlaces, judge_pieces, named_places};
+use link_fields::{EntryPlace, JudgedFixes, LoaderPlaces, NamedPlaces, judge_pieces, named_places};
 use link_imports::{LinkImports, link_imports};
 use link_pieces::{LinkNames, PieceIndex, pieces_of, push_tables};
 use link_words::Options;
@@ -30,8 +31,8 @@ use relocate::{Fixups, Target};
 use section_group::Piece;
 use std::alloc::Global;
 
-/// The pieces of a link with the fields of each, what is kept of them, the imports that are, where its entry stands, and what its
-/// exports stand for.
+/// The pieces of a link with the fields of each, what is kept of them, the imports that are, where its entry stands, what its
+/// exports stand for, and where the names stand that the loader of a program looks for.
 #[derive(Drop)]
 pub(crate) struct LaidPieces<'a> {
     pub(crate) pieces: Vec<Piece<'a>>,
@@ -40,6 +41,7 @@ pub(crate) struct LaidPieces<'a> {
     pub(crate) imports: LinkImports<'a>,
     pub(crate) entry: Option<EntryPlace>,
     pub(crate) exported: Vec<Option<Target>>,
+    pub(crate) loader: LoaderPlaces,
 }
 
 /// The pieces of these modules, by what the link refers to, and what is kept of them. The first of the entry, the exports and the
@@ -93,6 +95,8 @@ fn keep_pieces<'a>(
     requires edges { fixes.edges.items ≡ field_edges names.now }
     requires entry { places.entry ≡ entry_place names.now (options_said options.now).entry_name }
     requires exported { places.exported.items ≡ export_targets names.now }
+    requires tls { places.loader.tls ≡ loader_place names.now TLS_NAME }
+    requires load_config { places.loader.load_config ≡ loader_place names.now LOAD_CONFIG_NAME }
     ensures { IfOk result (ArePlanned (options_said options.now) names.now) }
 {
     let JudgedFixes { fixups, edges } = fixes;
@@ -121,6 +125,7 @@ fn keep_pieces<'a>(
     let NamedPlaces {
         entry,
         mut exported,
+        loader,
     } = places;
     place_exports(&mut exported, &slots);
     Ok(LaidPieces {
@@ -130,5 +135,6 @@ fn keep_pieces<'a>(
         imports,
         entry,
         exported,
+        loader,
     })
 }

@@ -18,7 +18,7 @@ use lib_search::{LinkList, complete};
 use link_base::{Name, Refusal, Stop};
 use link_directives::link_merges;
 use link_exports::link_exports;
-use link_fields::EntryPlace;
+use link_fields::{EntryPlace, LoaderPlaces};
 use link_files::Files;
 use link_imports::LinkImports;
 use link_pieces::{LinkNames, check_clash, link_names};
@@ -50,6 +50,8 @@ pub struct LinkPlan<'a> {
     pub entry: Option<EntryPlace>,
     /// What each export stands for, in the order of the exports of `names`; nothing where it is a forwarder.
     pub exported: Vec<Option<Target>>,
+    /// Where the names stand that the loader of a program looks for.
+    pub loader: LoaderPlaces,
 }
 
 /// The plan of a link with these options. Its inputs are read and opened, and the search of libraries joins what these ask
@@ -107,6 +109,7 @@ fn plan_of<'a>(
         imports,
         entry,
         exported,
+        loader,
     } = laid;
     Ok(LinkPlan {
         modules,
@@ -118,5 +121,6 @@ fn plan_of<'a>(
         merges,
         entry,
         exported,
+        loader,
     })
 }

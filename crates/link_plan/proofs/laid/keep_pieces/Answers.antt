@@ -109,4 +109,6 @@ returns c =
       imports = imports;
       entry_is = c.requires.entry;
       exported_are = targets_planned link c.len-count.result c.slot_table.result c.deref-5.result.now c.args.places.exported.items c.place_exports.new.targets.items places c.requires.exported c.place_exports.ensures;
+      tls_is = c.requires.tls;
+      load_config_is = c.requires.load_config;
     }

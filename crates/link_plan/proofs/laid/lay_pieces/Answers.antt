@@ -12,7 +12,9 @@ use Rattle.link_fields.specs.Entry.{meant_place}
 use Rattle.link_fields.specs.Places.{places_fault}
 use Rattle.link_fields.specs.Fixes.{HaveFields}
 use Rattle.link_plan.specs.Laid.{laid_link}
-use Rattle.link_plan.proofs.EntryLemmas.{entry_stands}
+use Rattle.link_fields.specs.LoaderPlaces.{TLS_NAME, LOAD_CONFIG_NAME}
+use Rattle.link_plan.proofs.CallerLemmas.{tls_sought, load_config_sought}
+use Rattle.link_plan.proofs.EntryLemmas.{entry_stands, loader_stands}
 use Rattle.link_plan.proofs.StageLemmas.{places_refused, fixes_refused, all_laid}
 use Rattle.link_plan.proofs.laid.lay_pieces.Goals as goal
 
@@ -90,5 +92,7 @@ returns-clause-laid c =
       opened = own;
       planned = planned;
       stands = rw planned.entry_is (entry_stands options (laid_link link laid) laid.pieces.items planned.pieces_are planned.kept_are own);
+      tls_stands = rw planned.tls_is (loader_stands options (laid_link link laid) laid.pieces.items TLS_NAME tls_sought planned.pieces_are planned.kept_are own);
+      load_config_stands = rw planned.load_config_is (loader_stands options (laid_link link laid) laid.pieces.items LOAD_CONFIG_NAME load_config_sought planned.pieces_are planned.kept_are own);
       no_fault = all_laid options link (ap (places_fault link) (sym c.requires.start) ∙ c.in_ok-places.ensures.accepted) c.in_ok-fixes.ensures.accepted;
     }

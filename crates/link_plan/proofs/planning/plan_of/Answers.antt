@@ -124,6 +124,10 @@ returns-clause-planned c =
       merges_are = c.in_ok-merges.ensures ∙ ap (λ (given : List (List ℕ × List ℕ)). link_merges given c.deref-7.result.now) c.deref-6.ensures.value ∙ ap (link_merges options.merges) (c.deref-7.ensures.value ∙ sym own);
       entry_is = planned.entry_is;
       stands = laid.stands;
+      tls_is = planned.tls_is;
+      tls_stands = laid.tls_stands;
+      load_config_is = planned.load_config_is;
+      load_config_stands = laid.load_config_stands;
       exported_are = planned.exported_are;
       no_fault = ap (plan_fault options) names_are ∙ no_stage options link well meant (subst (λ (l : LinkParts). fields_fault options l ≡ None) names_are laid.no_fault);
     }
