@@ -29,7 +29,7 @@ use Rattle.image_writer.specs.ExpectedImage.{ImagePlan, MeansPlan, permits, expe
 use Rattle.image_writer.specs.HeaderTable.{size_of_headers}
 use Rattle.image_writer.specs.WrittenImage.{written_plan, layout_plan}
 use Rattle.synthetic_sections.specs.LinkerPieces.{EXPORTS, size_at}
-use Rattle.link_pieces.specs.TablePieces.{KeptParts, kept_rows, table_sizes, table_index, whole_pieces, whole_piece}
+use Rattle.link_pieces.specs.TablePieces.{KeptParts, kept_rows, table_sizes, table_index, whole_pieces, whole_piece, is_table}
 use Rattle.link_pieces.proofs.CallerLemmas.{table_there}
 use Rattle.link_words.specs.Outcome.{LinkOptions}
 use Rattle.link_plan.specs.declared.planning.LinkPlan.{LinkPlan}
@@ -37,7 +37,7 @@ use Rattle.link_plan.specs.Plan.{IsPlanOf, kept_parts}
 use Rattle.link_image.specs.declared.placement.Placement.{Placement}
 use Rattle.link_image.specs.ImageHeaders.{headers_of}
 use Rattle.link_image.specs.LinkedBytes.{section_of, owners_in, rva_of, table_rva, table_rvas, import_tables_at, exported_rows, export_table_at, tables_at, contents_at, image_contents}
-use Rattle.link_image.specs.ExportFaults.{in_table_fault}
+use Rattle.link_image.specs.ExportFaults.{export_fault, in_table_fault}
 use Rattle.link_image.specs.LinkedImage.{extent_of, table_extent, directories_of, HoldsImports, HoldsExports}
 use Rattle.link_image.specs.Steps.{reloc_tables, IsGiven, IsPlaced, IsReady}
 use Rattle.link_image.proofs.HeldLemmas.{piece_count, exports_are, same_size, table_contents, table_fixes}
@@ -45,6 +45,10 @@ use Rattle.link_image.proofs.ExportLemmas.{HasTable, has_table, length-tables, i
 use Rattle.link_image.proofs.ExportReadLemmas.{readable, exports_read, exports_read_by_ordinal, none_read as none_read_name, none_read_by_ordinal as none_read_ordinal, no_rows}
 use Rattle.link_image.proofs.MemoryLemmas.{directory_reads, directory_sized, above_headers, in_memory}
 use Rattle.link_image.proofs.MoveLemmas.{contents_room}
+use Rattle.pdata_table.specs.SortedContents.{is_among}
+use Rattle.relocate.proofs.JudgeLemmas.{or_none}
+use Rattle.link_image.specs.NamedSections.{pdata_pieces}
+use Rattle.link_image.specs.TableFaults.{pdata_fault}
 use Rattle.link_image.proofs.PieceMoves.{piece_read}
 use Rattle.link_image.proofs.StandsLemmas.{OwnerAt, owner_at}
 use Rattle.link_image.proofs.TableLemmas.{IsTableAt, found_table, table_used}
@@ -176,12 +180,20 @@ module _ (options : LinkOptions) (plan : LinkPlan) (placement : Placement) (owne
     ends : table_rva (kept_parts plan) placement.layout number + size number < 2 ^ 32
     above : 0 < size number → 0 < table_rva (kept_parts plan) placement.layout number
 
+  -- it is no piece of the exception table
+  table_apart : (k : ℕ) → is_table (length plan.names.modules) (whole_piece (kept_parts plan) k) ≡ true → is_among k (pdata_pieces (rows_of placement.sections.items)) ≡ false
+  table_apart k table = by (is_among k (pdata_pieces (rows_of placement.sections.items))) refl
+    where
+      by : (b : Bool) → is_among k (pdata_pieces (rows_of placement.sections.items)) ≡ b → b ≡ false
+      by false e = refl
+      by true among = absurd (false≢true (sym (ready.rows_are k among).no_table ∙ table))
+
   -- what its piece holds in the image
   table_linked : (base number k : ℕ) → IsTableAt (kept_parts plan) number k → get_or (contents base) k [] ≡ table number
   table_linked base number k at =
       let rva = get_or placement.layout.pieces.items k 0 in
       let owners = owners_in (rows_of placement.sections.items) placement.layout in
-      piece_read (kept_parts plan) (rows_of placement.sections.items) placement.layout base (reloc_tables placement.table) k at.there
+      piece_read (kept_parts plan) (rows_of placement.sections.items) placement.layout base (reloc_tables placement.table) k at.there (table_apart k at.table)
       ∙ ap (λ (fixes : List Fix). patched_bytes base rva placement.layout owners fixes (contents_at (kept_parts plan) placement.layout k)) (table_fixes (kept_parts plan) k at.table)
       ∙ nothing_patched base rva placement.layout owners (contents_at (kept_parts plan) placement.layout k)
       ∙ table_contents (kept_parts plan) placement.layout k at.table
@@ -276,7 +288,7 @@ module _ (options : LinkOptions) (plan : LinkPlan) (placement : Placement) (owne
         ]
 
     -- the directory that the headers name
-    directory_is : (entry : ℕ) → headers ≡ headers_of options entry (directories_of (kept_parts plan) placement.layout (reloc_tables placement.table)) → directory_rva (image_file image) 1 ≡ table_rva (kept_parts plan) placement.layout 0
+    directory_is : (entry : ℕ) → headers ≡ headers_of options entry (directories_of (kept_parts plan) (rows_of placement.sections.items) placement.layout (reloc_tables placement.table)) → directory_rva (image_file image) 1 ≡ table_rva (kept_parts plan) placement.layout 0
     unfolding written_plan
     directory_is entry is =
         let rva = extent_rva (whole_pieces (kept_parts plan)) placement.layout.pieces.items (table_index (kept_parts plan) 0) in
@@ -284,7 +296,7 @@ module _ (options : LinkOptions) (plan : LinkPlan) (placement : Placement) (owne
         directory_reads image 1 (table_extent (kept_parts plan) placement.layout 0) (ap (λ (h : Headers). slice_get h.directories 1) is) (omega (arith, rva, end))
         ∙ rva
 
-    pub imports_there : (entry : ℕ) (file : List ℕ) → headers ≡ headers_of options entry (directories_of (kept_parts plan) placement.layout (reloc_tables placement.table)) → file ≡ image_file image → MeansPlan image file → AreReadable (kept_rows (kept_parts plan)) → HoldsImports (kept_parts plan) placement.layout file
+    pub imports_there : (entry : ℕ) (file : List ℕ) → headers ≡ headers_of options entry (directories_of (kept_parts plan) (rows_of placement.sections.items) placement.layout (reloc_tables placement.table)) → file ≡ image_file image → MeansPlan image file → AreReadable (kept_rows (kept_parts plan)) → HoldsImports (kept_parts plan) placement.layout file
     imports_there entry file is written means readable base memory loads =
         ap (λ (m : List ℕ). imports_of m (directory_rva file 1)) (loaded_is image file means base memory loads)
         ∙ ap (imports_of (expected_image image base)) (ap (λ (bytes : List ℕ). directory_rva bytes 1) written ∙ directory_is entry is)
@@ -295,7 +307,7 @@ module _ (options : LinkOptions) (plan : LinkPlan) (placement : Placement) (owne
     export_ends : table_rva (kept_parts plan) placement.layout EXPORTS + plan.names.exports.size < 2 ^ 32
     export_ends = let end = (stands 0 EXPORTS (omega arith)).ends in omega (arith, end, export_size (kept_parts plan))
 
-    exports_directory : (entry : ℕ) → headers ≡ headers_of options entry (directories_of (kept_parts plan) placement.layout (reloc_tables placement.table)) → (directory_rva (image_file image) 0 ≡ (table_extent (kept_parts plan) placement.layout EXPORTS).0) × (directory_size (image_file image) 0 ≡ (table_extent (kept_parts plan) placement.layout EXPORTS).1)
+    exports_directory : (entry : ℕ) → headers ≡ headers_of options entry (directories_of (kept_parts plan) (rows_of placement.sections.items) placement.layout (reloc_tables placement.table)) → (directory_rva (image_file image) 0 ≡ (table_extent (kept_parts plan) placement.layout EXPORTS).0) × (directory_size (image_file image) 0 ≡ (table_extent (kept_parts plan) placement.layout EXPORTS).1)
     unfolding written_plan
     exports_directory entry is =
         let rva = extent_rva (whole_pieces (kept_parts plan)) placement.layout.pieces.items (table_index (kept_parts plan) EXPORTS) in
@@ -323,7 +335,7 @@ module _ (options : LinkOptions) (plan : LinkPlan) (placement : Placement) (owne
       are_readable some = readable (kept_parts plan) placement.layout.pieces.items (table_has some) planned.told (given some) outside
 
       without : plan.names.exports.size ≡ 0 → length plan.names.exports.rows ≡ 0
-      without none = ap length (no_rows (kept_parts plan) (export_rows options plan.modules.items) (dll_name options.out) options.time (exports_are options plan planned) placed.means.grouped.exports none)
+      without none = ap length (no_rows (kept_parts plan) (export_rows options plan.modules.items) (dll_name options.out) options.time (exports_are options plan planned) (or_none (pdata_fault (kept_parts plan)) (export_fault (kept_parts plan)) placed.means.grouped.tables).1 none)
 
       record Extends : Type 0 where
         rva_zero : plan.names.exports.size ≡ 0 → (table_extent (kept_parts plan) placement.layout EXPORTS) ≡ (0, 0)
@@ -370,7 +382,7 @@ module _ (options : LinkOptions) (plan : LinkPlan) (placement : Placement) (owne
                 ∙ none_read_ordinal (kept_parts plan) (export_rows options plan.modules.items) (dll_name options.out) options.time (expected_image image base) placement.layout.pieces.items ordinal (exports_are options plan planned) (without (omega (arith, none)))
           ]
 
-      pub exports_there : (entry : ℕ) (file : List ℕ) → headers ≡ headers_of options entry (directories_of (kept_parts plan) placement.layout (reloc_tables placement.table)) → file ≡ image_file image → MeansPlan image file → HoldsExports (kept_parts plan) placement.layout file
+      pub exports_there : (entry : ℕ) (file : List ℕ) → headers ≡ headers_of options entry (directories_of (kept_parts plan) (rows_of placement.sections.items) placement.layout (reloc_tables placement.table)) → file ≡ image_file image → MeansPlan image file → HoldsExports (kept_parts plan) placement.layout file
       exports_there entry file is written means =
           let at = exports_directory entry is in
           let rva = ap (λ (bytes : List ℕ). directory_rva bytes 0) written ∙ at.0 in

@@ -25,6 +25,7 @@ use Rattle.image_writer.proofs.PieceLemmas.{pieces_of}
 use Rattle.image_writer.proofs.PieceInFileLemmas.{pieces_link}
 use Rattle.image_writer.proofs.TableLemmas.{length-section_rows}
 use Rattle.image_writer.proofs.CallerLemmas.{stays_means, moves_means}
+use Rattle.pdata_table.specs.SortedContents.{sorted_contents}
 use Rattle.relocate.specs.Field.{fix_at}
 use Rattle.link_pieces.specs.TablePieces.{KeptParts, whole_pieces}
 use Rattle.link_words.specs.Outcome.{LinkOptions}
@@ -36,6 +37,7 @@ use Rattle.link_plan.proofs.CallerLemmas.{plan_count}
 use Rattle.link_image.specs.declared.make.Built.{Built}
 use Rattle.link_image.specs.declared.placement.Placement.{Placement}
 use Rattle.link_image.specs.BaseFields.{holds_address, is_relocated, base_field, IsBaseField, AreBaseFields}
+use Rattle.link_image.specs.NamedSections.{pdata_pieces}
 use Rattle.link_image.specs.ImageHeaders.{directory_list, headers_of}
 use Rattle.link_image.specs.LinkedBytes.{exported_rows, linked_contents, image_contents, fields_range_fault}
 use Rattle.link_image.specs.ExportFaults.{in_table_fault}
@@ -45,7 +47,7 @@ use Rattle.link_image.proofs.HeldLemmas.{imports_are}
 use Rattle.link_image.proofs.FieldLemmas.{total_is}
 use Rattle.link_image.proofs.ImportLemmas.{are_made, imports_there, exports_there}
 use Rattle.link_image.proofs.MoveLemmas.{one_length, contents_room, contents_stay, contents_moved}
-use Rattle.link_image.proofs.PieceMoves.{length_linked}
+use Rattle.link_image.proofs.PieceMoves.{length_sorted}
 
 -- ---- a file is of the contents at its own base
 
@@ -121,7 +123,7 @@ module _ (options : LinkOptions) (plan : LinkPlan) (placement : Placement) (owne
   tables = reloc_tables placement.table
 
   abbrev headers : Headers
-  headers = headers_of options (entry_rva placement.layout.pieces.items plan.entry) (directories_of (kept_parts plan) placement.layout (reloc_tables placement.table))
+  headers = headers_of options (entry_rva placement.layout.pieces.items plan.entry) (directories_of (kept_parts plan) (rows_of placement.sections.items) placement.layout (reloc_tables placement.table))
 
   abbrev contents : ℕ → List (List ℕ)
   contents base = image_contents (kept_parts plan) (rows_of placement.sections.items) placement.layout (reloc_tables placement.table) base
@@ -142,7 +144,7 @@ module _ (options : LinkOptions) (plan : LinkPlan) (placement : Placement) (owne
   -- without a table
   stays : is_relocated options (kept_parts plan) ≡ false → tables ≡ [] → Stay headers sections layout contents
   stays alone none = record {
-    directory = ap (λ (ts : List (List ℕ)). slice_get (directory_list (directories_of (kept_parts plan) placement.layout ts)) 5) none;
+    directory = ap (λ (ts : List (List ℕ)). slice_get (directory_list (directories_of (kept_parts plan) (rows_of placement.sections.items) placement.layout ts)) 5) none;
     same = λ base allowed. by options.fixed refl base (sym (permits_are base) ∙ allowed);
   }
     where
@@ -163,7 +165,7 @@ module _ (options : LinkOptions) (plan : LinkPlan) (placement : Placement) (owne
     there = omega (arith, ap length table.rows_are, length-append piece_rows (table_row k ∷ []), length-map placement.sections.items row_of);
     below = subst (λ (ks : List ℕ). 0 < length ks) (sym row) (omega arith);
     table = ap (λ (i : ℕ). get_or (contents options.base) i []) index ∙ last_contents;
-    directory = ap (λ (ts : List (List ℕ)). slice_get (directory_list (directories_of (kept_parts plan) placement.layout ts)) 5) table.tables_are ∙ ap (λ (i : ℕ). Some (get_or layout.pieces.items i 0, length (blocks_of table.fields))) (ends ∙ sym index);
+    directory = ap (λ (ts : List (List ℕ)). slice_get (directory_list (directories_of (kept_parts plan) (rows_of placement.sections.items) placement.layout ts)) 5) table.tables_are ∙ ap (λ (i : ℕ). Some (get_or layout.pieces.items i 0, length (blocks_of table.fields))) (ends ∙ sym index);
     inside = omega (arith, ap (λ (i : ℕ). get_or layout.pieces.items i 0) index, last_rva, table.added.size, table.added.image.above, grown (length (blocks_of table.fields)));
   }
     where
@@ -181,8 +183,8 @@ module _ (options : LinkOptions) (plan : LinkPlan) (placement : Placement) (owne
 
       last_contents : get_or (contents options.base) (length before.pieces.items) [] ≡ blocks_of table.fields
       last_contents =
-          let len = length_linked (kept_parts plan) (rows_of placement.sections.items) placement.layout options.base in
-          get_or-append_right (linked_contents (kept_parts plan) (rows_of placement.sections.items) placement.layout options.base) (reloc_tables placement.table) (length before.pieces.items) (length before.pieces.items) [] (omega (arith, len, count, total)) (omega arith)
+          let len = length_sorted (kept_parts plan) (rows_of placement.sections.items) placement.layout options.base in
+          get_or-append_right (sorted_contents (pdata_pieces (rows_of placement.sections.items)) (linked_contents (kept_parts plan) (rows_of placement.sections.items) placement.layout options.base)) (reloc_tables placement.table) (length before.pieces.items) (length before.pieces.items) [] (omega (arith, len, count, total)) (omega arith)
           ∙ ap (λ (i : ℕ). get_or (reloc_tables placement.table) i []) (nothing (length before.pieces.items))
           ∙ ap (λ (ts : List (List ℕ)). get_or ts 0 []) table.tables_are
         where
@@ -215,7 +217,7 @@ module _ (options : LinkOptions) (plan : LinkPlan) (placement : Placement) (owne
 
   -- what is written of the plan means it
   pub built : (made : Built) → is_permitted (base_rule options) placement.layout.image options.base ≡ true → in_table_fault (kept_parts plan) placement.layout.pieces.items ≡ None → (0 < plan.names.exports.size → All (λ row. IsGiven row.what) (exported_rows (kept_parts plan) placement.layout.pieces.items)) → fields_range_fault (kept_parts plan) (rows_of placement.sections.items) placement.layout options.base ≡ None
-      → made.image.items ≡ file_of headers placement.sections.items placement.layout (linked_contents (kept_parts plan) (rows_of placement.sections.items) placement.layout options.base) (reloc_tables placement.table) → made.sections ≡ length placement.sections.items → IsBuilt options (kept_parts plan) made
+      → made.image.items ≡ file_of headers placement.sections.items placement.layout (sorted_contents (pdata_pieces (rows_of placement.sections.items)) (linked_contents (kept_parts plan) (rows_of placement.sections.items) placement.layout options.base)) (reloc_tables placement.table) → made.sections ≡ length placement.sections.items → IsBuilt options (kept_parts plan) made
   unfolding written_plan
   built made permitted outside given in_range is count =
       let file : made.image.items ≡ image_file image = is ∙ same_file headers placement.sections.items placement.layout (at_each_base (contents options.base)) contents refl in
@@ -229,7 +231,7 @@ module _ (options : LinkOptions) (plan : LinkPlan) (placement : Placement) (owne
           permitted = permitted;
           outside = outside;
           in_range = in_range;
-          is = ap (λ (place : Option EntryPlace). layout_plan (headers_of options (entry_rva placement.layout.pieces.items place) (directories_of (kept_parts plan) placement.layout (reloc_tables placement.table))) placement.sections.items placement.layout contents) planned.entry_is;
+          is = ap (λ (place : Option EntryPlace). layout_plan (headers_of options (entry_rva placement.layout.pieces.items place) (directories_of (kept_parts plan) (rows_of placement.sections.items) placement.layout (reloc_tables placement.table))) placement.sections.items placement.layout contents) planned.entry_is;
         };
         file = file;
         means = subst (MeansPlan image) (sym file) (means permitted);

@@ -2,7 +2,7 @@
 -- depends on it.
 use Rattle.std.proofs.Common.{◌≡◌, ℕ, ◌+◌, ◌*◌, ◌%◌, ◌^◌, ◌<◌, ◌≤◌, Bool, true, false, cond, List, [], ◌++◌, length, get_or, slice_index, eqb, inl, inr, refl, sym, ap, ◌∙◌, subst, arith}
 use Rattle.std.specs.List.{All}
-use Rattle.std.proofs.lemmas.Bool.{cases_lt}
+use Rattle.std.proofs.lemmas.Bool.{cases_lt, false≢true}
 use Rattle.std.proofs.lemmas.List.{length-map, get_or_append_left, get_or-append_right}
 use Rattle.std.proofs.lemmas.List.Elements.{All-from_get_or}
 use Rattle.link_base.specs.Bytes.{number_at, number_bytes}
@@ -26,16 +26,21 @@ use Rattle.relocate.proofs.CallerLemmas.{bytes_moved, byte_stays, ends_within, b
 use Rattle.image_writer.specs.WrittenImage.{HaveRoom}
 use Rattle.image_writer.specs.MovedContents.{HaveOneLength, IsMoved, AreMoved}
 use Rattle.image_writer.specs.PieceInFile.{piece_at}
+use Rattle.pdata_table.specs.Rows.{HasWholeRows}
+use Rattle.pdata_table.specs.SortedContents.{joined, is_among}
+use Rattle.pdata_table.proofs.CallerLemmas.{length-sorted_at, sorted_agree}
 use Rattle.link_pieces.specs.TablePieces.{KeptParts, whole_pieces}
 use Rattle.link_plan.specs.Planned.{planned_fixes, HaveFields}
 use Rattle.link_plan.proofs.CallerLemmas.{plan_count}
 use Rattle.link_image.specs.BaseFields.{holds_address, base_field, IsBaseField, AreBaseFields}
-use Rattle.link_image.specs.LinkedBytes.{section_of, owners_in, contents_at, placed_contents, linked_bytes, image_contents}
+use Rattle.link_image.specs.LinkedBytes.{section_of, owners_in, contents_at, placed_contents, linked_bytes, linked_contents, image_contents}
+use Rattle.link_image.specs.NamedSections.{pdata_pieces}
 use Rattle.link_image.specs.Steps.{IsHeld, IsReady}
 use Rattle.link_image.proofs.HeldLemmas.{patchable_at, have_room_for, length-placed, placed_read, placed_held}
 use Rattle.link_image.proofs.UsedLemmas.{fields_used}
 use Rattle.link_image.proofs.StandsLemmas.{OwnerAt, owner_at}
-use Rattle.link_image.proofs.PieceMoves.{piece_read, table_read, length_piece, based_some, based_has_field, image_stays}
+use Rattle.link_image.proofs.SortLemmas.{joined_whole}
+use Rattle.link_image.proofs.PieceMoves.{linked_read, length_linked, front_read, piece_read, table_read, length_piece, based_some, based_has_field, piece_stays, image_stays}
 
 -- ---- a field that holds an address
 
@@ -78,8 +83,27 @@ module _ (link : KeptParts) (pieces : List Piece) (fixups : List (List Fix)) (se
   count_is : length pieces ≡ count
   count_is = sym (length-map pieces bare) ∙ ap (λ (ps : List Piece). length ps) ready.pieces_are ∙ plan_count ready.options link
 
+  abbrev linked : ℕ → List (List ℕ)
+  linked base = linked_contents link rows layout base
+
+  abbrev table_pieces : List ℕ
+  table_pieces = pdata_pieces rows
+
+  linked_at : (base k : ℕ) → k < count → length (get_or (linked base) k []) ≡ length (contents_at link layout k)
+  linked_at base k lt = ap length (linked_read link rows layout base k lt) ∙ length_piece link rows layout base k
+
+  -- the exception table has whole rows
+  pub rows_whole : (base : ℕ) → HasWholeRows (joined (linked base) table_pieces)
+  rows_whole base =
+      joined_whole (linked base) table_pieces (λ k among.
+      let row = ready.rows_are k among in
+      ap (λ (n : ℕ). n % 12) (linked_at base k (omega (arith, row.there, count_is))) ∙ row.rows)
+
   length_at : (base k : ℕ) → k < count → length (get_or (contents base) k []) ≡ length (contents_at link layout k)
-  length_at base k lt = ap length (piece_read link rows layout base tables k lt) ∙ length_piece link rows layout base k
+  length_at base k lt =
+      ap length (front_read link rows layout base tables k lt)
+      ∙ length-sorted_at table_pieces (linked base) k (omega (arith, lt, length_linked link rows layout base)) (rows_whole base)
+      ∙ linked_at base k lt
 
   -- each piece and each table has one length
   pub one_length : HaveOneLength contents
@@ -126,8 +150,31 @@ module _ (link : KeptParts) (pieces : List Piece) (fixups : List (List Fix)) (se
 
   -- ---- fields that hold addresses
 
-  read_at : (base k place : ℕ) → place ≡ k → k < count → get_or (contents base) place [] ≡ bytes_of base k
-  read_at base k place is lt = ap (λ (j : ℕ). get_or (contents base) j []) is ∙ piece_read link rows layout base tables k lt
+  read_at : (base k place : ℕ) → place ≡ k → k < count → is_among k table_pieces ≡ false → get_or (contents base) place [] ≡ bytes_of base k
+  read_at base k place is lt other = ap (λ (j : ℕ). get_or (contents base) j []) is ∙ piece_read link rows layout base tables k lt other
+
+  -- a piece with a field that holds an address is none of the exception table
+  based_apart : (k i : ℕ) → i < length (planned_fixes link k) → is_based (fix_at (planned_fixes link k) i) ≡ true → is_among k table_pieces ≡ false
+  based_apart k i within based = by (is_among k table_pieces) refl
+    where
+      by : (b : Bool) → is_among k (pdata_pieces (rows_of sections)) ≡ b → b ≡ false
+      by false e = refl
+      by true among =
+          let none = (ready.rows_are k among).unbased i no_fix within (based_has_field (fix_at (planned_fixes link k) i) based) in
+          absurd (false≢true (sym none ∙ based))
+
+  -- the pieces of the exception table hold the same at each base
+  rows_stay : (own base k : ℕ) → k < count → is_among k table_pieces ≡ true → get_or (contents base) k [] ≡ get_or (contents own) k []
+  rows_stay own base k lt among =
+      front_read link rows layout base tables k lt
+      ∙ sorted_agree table_pieces (linked base) (linked own) k (omega (arith, lt, length_linked link rows layout base)) (omega (arith, lt, length_linked link rows layout own)) (λ p there.
+      let row = ready.rows_are p there in
+      let within : p < count = omega (arith, row.there, count_is) in
+      linked_read link rows layout base p within
+      ∙ piece_stays link fixups rows layout have base own p within row.unbased
+      ∙ sym (linked_read link rows layout own p within))
+      among
+      ∙ sym (front_read link rows layout own tables k lt)
 
   -- a piece with a field has bytes, so it stands in a section
   stands_at : (k : ℕ) → k < count → 0 < length (planned_fixes link k) → 0 < length (contents_at link layout k) → OwnerAt sections k
@@ -167,8 +214,9 @@ module _ (link : KeptParts) (pieces : List Piece) (fixups : List (List Fix)) (se
         let end = raised.0 in
         let at : OwnerAt sections k = stands_at k here.there (omega (arith, here.within)) (omega (arith, some, end, length_piece link rows layout own k)) in
         let place = piece_at sections (section_of rows k) at.number in
-        let was = read_at own k place at.is here.there in
-        let is = read_at base k place at.is here.there in
+        let apart = based_apart k here.index here.within here.based in
+        let was = read_at own k place at.is here.there apart in
+        let is = read_at base k place at.is here.there apart in
         let width : width_of field ≡ field_width fix.kind = ap width_of here.is ∙ width_is (get_or layout.pieces.items k 0) fix here.based in
         record {
           section = section_of rows k;
@@ -205,12 +253,16 @@ module _ (link : KeptParts) (pieces : List Piece) (fixups : List (List Fix)) (se
       others_stay : (k t : ℕ) → IsOutsideAll (get_or layout.pieces.items k 0 + t) fields → slice_index (get_or (contents base) k []) t ≡ slice_index (get_or (contents own) k []) t
       others_stay k t outside =
           elim (cases_lt k count) [
-            | inl lt ↦
-                ap (λ (bs : List ℕ). slice_index bs t) (piece_read link rows layout base tables k lt)
-                ∙ byte_stays own base (get_or layout.pieces.items k 0) layout (owners_in rows layout) (planned_fixes link k) (get_or fixups k []) (contents_at link layout k) (are_fields k lt) (are_patchable k lt) t (outside_judged k t lt outside)
-                ∙ sym (ap (λ (bs : List ℕ). slice_index bs t) (piece_read link rows layout own tables k lt))
+            | inl lt ↦ by (is_among k table_pieces) refl lt
             | inr le ↦ ap (λ (bs : List ℕ). slice_index bs t) (table_read link rows layout base tables k le ∙ sym (table_read link rows layout own tables k le))
           ]
+        where
+          by : (b : Bool) → is_among k (pdata_pieces (rows_of sections)) ≡ b → k < length (whole_pieces link) → slice_index (get_or (image_contents link (rows_of sections) layout tables base) k []) t ≡ slice_index (get_or (image_contents link (rows_of sections) layout tables own) k []) t
+          by true among lt = ap (λ (bs : List ℕ). slice_index bs t) (rows_stay own base k lt among)
+          by false other lt =
+              ap (λ (bs : List ℕ). slice_index bs t) (piece_read link (rows_of sections) layout base tables k lt other)
+              ∙ byte_stays own base (get_or layout.pieces.items k 0) layout (owners_in (rows_of sections) layout) (planned_fixes link k) (get_or fixups k []) (contents_at link layout k) (are_fields k lt) (are_patchable k lt) t (outside_judged k t lt outside)
+              ∙ sym (ap (λ (bs : List ℕ). slice_index bs t) (piece_read link (rows_of sections) layout own tables k lt other))
 
   -- the fields that hold addresses are moved, and no other byte is
   pub contents_moved : (own base : ℕ) (fields : List BaseField) → own < 2 ^ 64 → AreBaseFields link layout.pieces.items fields → AreMoved sections layout (contents own) (contents base) (base_delta own base) fields

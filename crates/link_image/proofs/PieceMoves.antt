@@ -17,8 +17,11 @@ use Rattle.relocate.specs.Value.{IsOutside as IsOutsideFix}
 use Rattle.relocate.specs.PatchedBytes.{is_based, HaveNoBased}
 use Rattle.relocate.proofs.OrderLemmas.{IsAmong}
 use Rattle.relocate.proofs.CallerLemmas.{length_patched, bytes_stay, fields_suited, field_moved, byte_stays, based_width, field_among, among_fields}
+use Rattle.pdata_table.specs.SortedContents.{is_among, sorted_contents}
+use Rattle.pdata_table.proofs.CallerLemmas.{length-sorted, sorted_beside}
 use Rattle.link_pieces.specs.TablePieces.{KeptParts, whole_pieces}
 use Rattle.link_plan.specs.Planned.{planned_fixes, HaveFields}
+use Rattle.link_image.specs.NamedSections.{pdata_pieces}
 use Rattle.link_image.specs.BaseFields.{piece_holds_address, holds_address}
 use Rattle.link_image.specs.LinkedBytes.{owners_in, contents_at, linked_bytes, linked_contents, image_contents}
 use Rattle.link_image.proofs.HeldLemmas.{patchable_at}
@@ -40,11 +43,23 @@ module _ (link : KeptParts) (rows : List SectionRow) (layout : Layout) (base : �
   unfolding linked_contents
   length_linked = length-map-range_with_len (linked_bytes link rows layout base) 0 total
 
-  pub piece_read : (tables : List (List ℕ)) (k : ℕ) → k < total → get_or (image_contents link rows layout tables base) k [] ≡ linked_bytes link rows layout base k
-  piece_read tables k lt = get_or_append_left linked tables [] k (omega (arith, lt, length_linked)) ∙ linked_read k lt
+  -- with the rows of the exception table in order
+  abbrev sorted : List (List ℕ)
+  sorted = sorted_contents (pdata_pieces rows) linked
+
+  pub length_sorted : length sorted ≡ total
+  length_sorted = length-sorted (pdata_pieces rows) linked ∙ length_linked
+
+  pub front_read : (tables : List (List ℕ)) (k : ℕ) → k < total → get_or (image_contents link rows layout tables base) k [] ≡ get_or sorted k []
+  front_read tables k lt = get_or_append_left sorted tables [] k (omega (arith, lt, length_sorted))
+
+  -- a piece that is none of it
+  pub piece_read : (tables : List (List ℕ)) (k : ℕ) → k < total → is_among k (pdata_pieces rows) ≡ false → get_or (image_contents link rows layout tables base) k [] ≡ linked_bytes link rows layout base k
+  piece_read tables k lt other =
+      front_read tables k lt ∙ sorted_beside (pdata_pieces rows) linked k (omega (arith, lt, length_linked)) other ∙ linked_read k lt
 
   pub table_read : (tables : List (List ℕ)) (k : ℕ) → total ≤ k → get_or (image_contents link rows layout tables base) k [] ≡ get_or tables (k - total) []
-  table_read tables k le = get_or-append_right linked tables total k [] length_linked le
+  table_read tables k le = get_or-append_right sorted tables total k [] length_sorted le
 
   pub length_piece : (k : ℕ) → length (linked_bytes link rows layout base k) ≡ length (contents_at link layout k)
   length_piece k = length_patched base (get_or layout.pieces.items k 0) layout (owners_in rows layout) (planned_fixes link k) (contents_at link layout k)
@@ -97,21 +112,22 @@ module _ (link : KeptParts) (fixups : List (List Fix)) (rows : List SectionRow) 
   pub are_patchable : (k : ℕ) → k < count → ArePatchable (length (contents_at link layout k)) (get_or fixups k [])
   are_patchable k lt = patchable_at link layout fixups count have k lt
 
-  piece_stays : holds_address link ≡ false → (base other k : ℕ) → k < count → bytes_of base k ≡ bytes_of other k
-  piece_stays none base other k lt =
+  -- a piece of whose fields none holds an address
+  pub piece_stays : (base other k : ℕ) → k < count → HaveNoBased (planned_fixes link k) → bytes_of base k ≡ bytes_of other k
+  piece_stays base other k lt none =
       bytes_stay false false base other (get_or layout.pieces.items k 0) layout (owners_in rows layout) (planned_fixes link k) (contents_at link layout k)
       (fields_suited (planned_fixes link k) (get_or fixups k []) (length (contents_at link layout k)) (are_fields k lt) (are_patchable k lt))
-      (none_based none k lt)
+      none
 
   pub linked_stay : holds_address link ≡ false → (base other : ℕ) → linked_contents link rows layout base ≡ linked_contents link rows layout other
   linked_stay none base other =
       ext_get_or [] (linked_contents link rows layout base) (linked_contents link rows layout other) (length_linked link rows layout base ∙ sym (length_linked link rows layout other)) (λ k lt.
       let within : k < count = omega (arith, lt, length_linked link rows layout base) in
-      linked_read link rows layout base k within ∙ piece_stays none base other k within ∙ sym (linked_read link rows layout other k within))
+      linked_read link rows layout base k within ∙ piece_stays base other k within (none_based none k within) ∙ sym (linked_read link rows layout other k within))
 
   -- so all contents are the same at each base, those of the tables too
   pub image_stays : (tables : List (List ℕ)) → holds_address link ≡ false → (base other : ℕ) → image_contents link rows layout tables base ≡ image_contents link rows layout tables other
-  image_stays tables none base other = ap (λ (cs : List (List ℕ)). cs ++ tables) (linked_stay none base other)
+  image_stays tables none base other = ap (λ (cs : List (List ℕ)). sorted_contents (pdata_pieces rows) cs ++ tables) (linked_stay none base other)
 
   -- ---- fields that hold addresses
 

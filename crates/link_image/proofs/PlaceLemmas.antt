@@ -1,10 +1,12 @@
 -- What layouts say of the fields of a link: the places of pieces and of sections decide it.
 use Rattle.std.proofs.Common.{◌≡◌, ℕ, ◌-◌, cond, eqb, List, [], ◌∷◌, ◌++◌, length, map, get_or, Option, option_map, ap, ◌∙◌}
+use Rattle.std.specs.Prelude.{codes}
 use Rattle.std.specs.List.{range_with_len}
 use Rattle.std.proofs.Math.Path.{fun_ext}
 use Rattle.link_base.specs.Refusals.{first_refusal_below}
 use Rattle.link_base.specs.declared.fault.Fault.{Fault}
 use Rattle.section_group.specs.Uniqueness.{SectionRow}
+use Rattle.address_layout.specs.declared.layout.Placed.{Placed}
 use Rattle.address_layout.specs.declared.layout.Layout.{Layout}
 use Rattle.relocate.specs.PatchedBytes.{patched_bytes, range_fault}
 use Rattle.relocate.proofs.PlaceLemmas.{bytes_by_places}
@@ -18,7 +20,9 @@ use Rattle.export_tables.specs.ExportTable.{export_table}
 use Rattle.export_tables.specs.ReadBack.{exported_name, exported_ordinal}
 use Rattle.link_plan.specs.Planned.{planned_fixes}
 use Rattle.link_image.specs.declared.headers.Directories.{Directories}
-use Rattle.link_image.specs.LinkedImage.{extent_of, directories_of, HoldsImports, HoldsExports}
+use Rattle.link_image.specs.NamedSections.{section_named}
+use Rattle.link_fields.specs.LoaderPlaces.{loader_place, TLS_NAME, LOAD_CONFIG_NAME}
+use Rattle.link_image.specs.LinkedImage.{place_extent, TLS_SIZE, config_size, extent_of, placed_extent, section_extent, table_directory, directories_of, HoldsImports, HoldsExports}
 use Rattle.link_image.specs.LinkedBytes.{owners, owners_in, rva_of, table_rvas, import_tables_at, exported_rows, export_table_at, contents_at, linked_bytes, linked_contents, out_of_range, piece_range_fault, fields_range_fault}
 
 module _ (layout other : Layout) (pieces : layout.pieces.items ≡ other.pieces.items) (sections : layout.sections.items ≡ other.sections.items) where
@@ -51,19 +55,29 @@ range_by_places link rows layout other base pieces sections =
     ap (λ (f : ℕ → Option Fault). first_refusal_below (length (whole_pieces link)) f) (fun_ext (λ k. fault_same layout other pieces sections link rows base k))
 
 -- the directories, by the RVAs of the pieces and the one of the base relocations
-directories : KeptParts → ℕ × ℕ → List ℕ → Directories
-directories link relocations rvas = record {
+directories : KeptParts → ℕ × ℕ → ℕ × ℕ → ℕ × ℕ → List ℕ → Directories
+directories link resources exceptions relocations rvas = record {
   exports = extent_of (whole_pieces link) rvas (table_index link EXPORTS);
+  resources = resources;
+  exceptions = exceptions;
   imports = extent_of (whole_pieces link) rvas (table_index link 0);
   slots = extent_of (whole_pieces link) rvas (table_index link 2);
   relocations = relocations;
+  tls = place_extent rvas (loader_place link.parts TLS_NAME) TLS_SIZE;
+  load_config = place_extent rvas (loader_place link.parts LOAD_CONFIG_NAME) (config_size link (loader_place link.parts LOAD_CONFIG_NAME));
 }
 
-pub directories_by_places : (link : KeptParts) (layout other : Layout) (tables : List (List ℕ)) → layout.pieces.items ≡ other.pieces.items → directories_of link layout tables ≡ directories_of link other tables
+-- those of sections by their places, and of the rest by the RVAs of the pieces
+pub directories_by_places : (link : KeptParts) (rows : List SectionRow) (layout other : Layout) (tables : List (List ℕ)) → layout.pieces.items ≡ other.pieces.items → layout.sections.items ≡ other.sections.items → directories_of link rows layout tables ≡ directories_of link rows other tables
 unfolding directories
-directories_by_places link layout other [] pieces = ap (directories link (0, 0)) pieces
-directories_by_places link layout other (table ∷ tables) pieces =
-    ap (λ (rvas : List ℕ). directories link (get_or rvas (length rvas - 1) 0, length table) rvas) pieces
+directories_by_places link rows layout other tables pieces sections =
+    by tables
+    ∙ ap (λ (placed : List Placed). directories link (placed_extent placed (section_named rows (codes ".rsrc"))) (placed_extent placed (section_named rows (codes ".pdata"))) (table_directory other tables) other.pieces.items) sections
+  where
+    by : (ts : List (List ℕ)) → directories_of link rows layout ts ≡ directories link (section_extent rows layout (codes ".rsrc")) (section_extent rows layout (codes ".pdata")) (table_directory other ts) other.pieces.items
+    by [] = ap (directories link (section_extent rows layout (codes ".rsrc")) (section_extent rows layout (codes ".pdata")) (0, 0)) pieces
+    by (table ∷ ts) =
+        ap (λ (rvas : List ℕ). directories link (section_extent rows layout (codes ".rsrc")) (section_extent rows layout (codes ".pdata")) (get_or rvas (length rvas - 1) 0, length table) rvas) pieces
 
 -- the RVAs of the import tables, and so the imports that an image holds
 rvas_by_places : (link : KeptParts) (layout other : Layout) → layout.pieces.items ≡ other.pieces.items → table_rvas link layout ≡ table_rvas link other

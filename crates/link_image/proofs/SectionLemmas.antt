@@ -1,6 +1,7 @@
 -- From what grouping and placing say of the pieces of a plan to what they say of the modules.
-use Rattle.std.proofs.Common.{◌≡◌, ℕ, suc, ◌+◌, ◌<◌, ◌^◌, ◌⊎◌, Bool, true, false, ◌≤◌, List, [], ◌∷◌, ◌++◌, length, length-append, map, get_or, Some, None, refl, sym, ap, ◌∙◌, subst, inl, inr, arith}
-use Rattle.std.specs.List.{All, Contains}
+use Rattle.std.proofs.Common.{eqb, eq-eqb, ◌≡◌, ℕ, suc, ◌+◌, ◌<◌, ◌^◌, ◌⊎◌, Bool, true, false, ◌≤◌, List, [], ◌∷◌, ◌++◌, length, length-append, map, get_or, Some, None, refl, sym, ap, ◌∙◌, subst, inl, inr, arith}
+use Rattle.std.specs.Prelude.{codes}
+use Rattle.std.specs.List.{All, Contains, IsDistinct}
 use Rattle.std.proofs.lemmas.Bool.{lt-ltb, and_from, or_left, or_right}
 use Rattle.std.proofs.lemmas.List.{length-map, map-append, append-nil, get_or_append_left}
 use Rattle.std.proofs.lemmas.List.Elements.{All-nil, All-cons, Contains-append_left}
@@ -42,11 +43,19 @@ use Rattle.link_base.specs.Limits.{IMAGE_LIMIT}
 use Rattle.link_image.specs.declared.placement.Placement.{Placement}
 use Rattle.link_image.specs.BaseFields.{is_relocated, AreBaseFields}
 use Rattle.link_image.specs.LinkedBytes.{owners_in, fields_range_fault}
-use Rattle.link_image.specs.ExportFaults.{export_fault, in_table_fault}
+use Rattle.link_image.specs.ExportFaults.{in_table_fault}
+use Rattle.link_image.specs.TableFaults.{tables_fault}
 use Rattle.link_image.specs.Steps.{reloc_tables, EndsWithTable, IsPlaced, IsReady, IsWritten}
 use Rattle.link_image.specs.LinkedImage.{link_input, base_rule, table_row, AreGrouped, ArePlaced, IsWhole, IsPlacement}
 use Rattle.link_image.specs.BuildFaults.{IsBuildFault}
+use Rattle.link_base.specs.NameText.{same_name}
+use Rattle.section_group.specs.Placement.{IsSection}
+use Rattle.pdata_table.specs.SortedContents.{is_among}
+use Rattle.link_image.specs.NamedSections.{no_row, pdata_pieces}
+use Rattle.link_image.specs.Steps.{IsRowPiece}
 use Rattle.link_image.proofs.HeldLemmas.{held_at}
+use Rattle.link_image.proofs.PdataLemmas.{IsPdataSection, member_of, among_contains, section_of_pdata, section_distinct, whole_rows}
+use Rattle.link_image.proofs.RowLemmas.{section_there, member_row}
 
 -- ---- pieces without their bytes
 
@@ -56,7 +65,7 @@ grouped_modules options link pieces sections are grouped =
     let bared : IsGrouping (input_from (map bare pieces) (used_pieces link) (merges_of options link.parts)) sections = grouping_bare pieces (used_pieces link) (merges_of options link.parts) sections grouped.grouping in
     record {
       merges = grouped.merges;
-      exports = grouped.exports;
+      tables = grouped.tables;
       grouping = subst (λ (ps : List Piece). IsGrouping (link_input options link ps) sections) are bared;
     }
 
@@ -125,9 +134,9 @@ pub bad_range : (options : LinkOptions) (link : KeptParts) (rows : List OutRow) 
 bad_range options link rows layout tables fault placement permitted outside is =
     inr (inr (inr (inr (inr (inr (record { rows = rows; layout = layout; tables = tables; placement = placement; permitted = permitted; outside = outside; is = is }))))))
 
--- a bad export
-pub bad_export : (options : LinkOptions) (link : KeptParts) (fault : Fault) → HasNoBadMerge (merges_of options link.parts) → export_fault link ≡ Some fault → IsBuildFault options link fault
-bad_export options link fault merges is = inr (inl (record { merges = merges; is = is }))
+-- a bad table: the exception table, or else that of the exports
+pub bad_table : (options : LinkOptions) (link : KeptParts) (fault : Fault) → HasNoBadMerge (merges_of options link.parts) → tables_fault link ≡ Some fault → IsBuildFault options link fault
+bad_table options link fault merges is = inr (inl (record { merges = merges; is = is }))
 
 -- one that lies in the table
 pub export_in_table : (options : LinkOptions) (link : KeptParts) (rows : List OutRow) (layout : Layout) (tables : List (List ℕ)) (fault : Fault) → IsPlacement options link rows layout tables → is_permitted (base_rule options) layout.image options.base ≡ true → in_table_fault link layout.pieces.items ≡ Some fault → IsBuildFault options link fault
@@ -280,6 +289,42 @@ placed_with_table options plan sections before fields placement planned grouped 
       small = subst (λ (ts : List (List ℕ)). All (λ table. length table < 2 ^ 32) ts) (sym tables) (All-cons (λ (table : List ℕ). length table < 2 ^ 32) (blocks_of fields) [] small (All-nil (λ (table : List ℕ). length table < 2 ^ 32)));
     }
 
+-- ---- the exception table
+
+-- its section, among those that the pieces stand in
+pdata_section : (options : LinkOptions) (plan : LinkPlan) (placement : Placement) → (placed : IsPlaced options plan placement) → (k : ℕ) → is_among k (pdata_pieces (rows_of placement.sections.items)) ≡ true → IsPdataSection placed.means.sections (rows_of placement.sections.items)
+pdata_section options plan placement placed k among =
+    let whole = whole_rows (is_relocated options (kept_parts plan)) (kept_parts plan) placed.means.sections placed.means.before (rows_of placement.sections.items) placement.layout (reloc_tables placement.table) placed.means.whole in
+    section_of_pdata placed.means.sections (rows_of placement.sections.items) whole.0 k whole.1 whole.2 among
+
+row_piece : (options : LinkOptions) (plan : LinkPlan) (placement : Placement) → IsPlanOf options plan.modules.items plan → (placed : IsPlaced options plan placement) → (k : ℕ) → is_among k (pdata_pieces (rows_of placement.sections.items)) ≡ true → IsRowPiece (kept_parts plan) plan.pieces.items placement.layout k
+row_piece options plan placement planned placed k among =
+    let link = kept_parts plan in
+    let sections = placed.means.sections in
+    let grouped = placed.means.grouped in
+    let at = pdata_section options plan placement placed k among in
+    let here = section_there sections at.number at.within in
+    let is : IsSection (link_input options link (plan_pieces options link)) here.section = subst (IsSection (link_input options link (plan_pieces options link))) here.is (grouped.grouping.each at.number here.section at.within) in
+    let there = among_contains (get_or (rows_of sections) at.number no_row).pieces k (ap (is_among k) (sym at.members) ∙ among) in
+    member_row options plan placement.layout k planned grouped.tables
+    (member_of options link here.section k grouped.merges is
+    (ap (λ (row : OutRow). same_name row.name (codes ".pdata")) (sym here.row) ∙ at.named)
+    (subst (λ (row : OutRow). Contains row.pieces k) here.row there))
+
+rows_apart : (options : LinkOptions) (plan : LinkPlan) (placement : Placement) → IsPlanOf options plan.modules.items plan → IsPlaced options plan placement → IsDistinct (λ j k. eqb j k) (pdata_pieces (rows_of placement.sections.items))
+unfolding IsDistinct
+rows_apart options plan placement planned placed = by (pdata_pieces (rows_of placement.sections.items)) refl
+  where
+    by : (members : List ℕ) → pdata_pieces (rows_of placement.sections.items) ≡ members → IsDistinct (λ j k. eqb j k) members
+    by [] is = tt
+    by (k ∷ ks) is =
+        let at = pdata_section options plan placement placed k (ap (is_among k) is ∙ first k ks) in
+        let once = (standing options (kept_parts plan) (plan_pieces options (kept_parts plan)) placed.means.sections placed.means.grouped).once in
+        subst (IsDistinct (λ j i. eqb j i)) (sym at.members ∙ is) (section_distinct placed.means.sections at.number once)
+      where
+        first : (k : ℕ) (ks : List ℕ) → is_among k (k ∷ ks) ≡ true
+        first k ks = rw (eq-eqb k k refl) refl
+
 -- ---- what is ready
 
 -- the pieces of a plan with their fields, where they stand
@@ -295,4 +340,23 @@ ready options plan placement headers image owner planned placed written is = rec
   laid = placed.laid written.rest written.holds;
   stands = placed.stands;
   owner_is = is;
+  rows_are = λ k among. row_piece options plan placement planned placed k among;
+  rows_apart = rows_apart options plan placement planned placed;
 }
+
+-- ---- a place for each section
+
+pub sections_each : (options : LinkOptions) (link : KeptParts) (sections : List OutSection) (layout : Layout) (tables : List (List ℕ)) → IsPlacement options link (rows_of sections) layout tables → length layout.sections.items ≡ length sections
+sections_each options link sections layout tables means = by (is_relocated options link) means.whole
+  where
+    count : length (rows_of sections) ≡ length sections
+    count = length-map sections row_of
+
+    own : length means.before.sections.items ≡ length (rows_of means.sections)
+    own = means.placed.layout_of.standing.section_for_each ∙ sym (length-map means.sections row_of)
+
+    by : (b : Bool) → IsWhole b link (rows_of means.sections) means.before (rows_of sections) layout tables → length layout.sections.items ≡ length sections
+    by true whole =
+        omega (arith, own, length-map sections row_of, ap (λ (rs : List OutRow). length rs) whole.rows_are, length-append (rows_of means.sections) (table_row (length means.before.pieces.items) ∷ []), ap (λ (ps : List Placed). length ps) whole.added.sections, length-append means.before.sections.items (whole.added.placed ∷ []))
+    by false whole =
+        ap (λ (l : Layout). length l.sections.items) whole.1 ∙ own ∙ ap (λ (rs : List OutRow). length rs) (sym whole.0) ∙ length-map sections row_of

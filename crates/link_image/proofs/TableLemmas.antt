@@ -75,6 +75,11 @@ found_table link number k few found =
     let behind = table_behind link k table in
     record { there = at.0; behind = behind; table = table; number_is = same; is = table_is link k behind at.0 }
 
+-- what holds of a value where there is one
+pub if_some : {A : Type 0} (o : Option A) (Q : A → Type 0) → ((x : A) → o ≡ Some x → Q x) → IfSome o Q
+if_some None Q each = tt
+if_some (Some x) Q each = each x refl
+
 module _ (options : LinkOptions) (plan : LinkPlan) (planned : IsPlanOf options plan.modules.items plan) where
   numbered_is : (number : ℕ) → numbered_index (length plan.modules.items) plan.pieces.items number ≡ table_index (kept_parts plan) number
   numbered_is number =

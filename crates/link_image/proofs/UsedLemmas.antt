@@ -1,16 +1,18 @@
 -- Which pieces of a plan are used: those with fields, and as the code lists them.
 use Rattle.std.proofs.Common.{◌≡◌, ℕ, ◌+◌, ◌-◌, ◌<◌, ◌≤◌, Bool, true, false, ltb, List, ◌++◌, length, take, get_or, replicate, Some, inl, inr, sym, ap, ◌∙◌, arith}
+use Rattle.std.specs.List.{Contains}
 use Rattle.std.proofs.lemmas.Bool.{cases_lt, and_parts, ltb-true}
 use Rattle.std.proofs.lemmas.List.{length-append}
 use Rattle.link_words.specs.Outcome.{LinkOptions}
 use Rattle.link_pieces.specs.Pieces.{link_pieces}
 use Rattle.link_pieces.specs.TablePieces.{KeptParts, tables_of}
 use Rattle.link_fields.specs.declared.entry.EntryPlace.{EntryPlace}
-use Rattle.link_plan.specs.Reach.{AreKept}
+use Rattle.link_fields.specs.LoaderPlaces.{loader_place, TLS_NAME, LOAD_CONFIG_NAME}
+use Rattle.link_plan.specs.Reach.{AreKept, loader_names}
 use Rattle.link_plan.specs.Planned.{used_pieces, planned_fixes}
 use Rattle.link_plan.specs.declared.planning.LinkPlan.{LinkPlan}
 use Rattle.link_plan.specs.Plan.{IsPlanOf, kept_parts}
-use Rattle.link_plan.proofs.CallerLemmas.{used_first, used_last, fixes_kept, entry_used}
+use Rattle.link_plan.proofs.CallerLemmas.{used_first, used_last, fixes_kept, entry_used, loader_used, tls_sought, load_config_sought}
 use Rattle.link_image.proofs.HeldLemmas.{piece_count, names_count}
 
 -- a piece with a relocation is used
@@ -31,6 +33,22 @@ module _ (options : LinkOptions) (plan : LinkPlan) (planned : IsPlanOf options p
         | inr behind ↦
             used_last options (kept_parts plan) place.piece kept behind (omega (arith, within, piece_count options plan planned))
       ]
+
+  -- and so are those that a loader looks for
+  loader_place_used : (name : List ℕ) (place : EntryPlace) → Contains loader_names name → place.piece < length plan.pieces.items → loader_place plan.names name ≡ Some place → get_or (used_pieces (kept_parts plan)) place.piece false ≡ true
+  loader_place_used name place among within is =
+      let kept = planned.link_is.kept_are in
+      elim (cases_lt place.piece (length (link_pieces plan.names))) [
+        | inl inside ↦ (loader_used options (kept_parts plan) name place among kept inside is).0
+        | inr behind ↦
+            used_last options (kept_parts plan) place.piece kept behind (omega (arith, within, piece_count options plan planned))
+      ]
+
+  pub tls_used : (place : EntryPlace) → plan.loader.tls ≡ Some place → get_or (used_pieces (kept_parts plan)) place.piece false ≡ true
+  tls_used place is = loader_place_used TLS_NAME place tls_sought (planned.tls_stands place is).within (sym planned.tls_is ∙ is)
+
+  pub load_config_used : (place : EntryPlace) → plan.loader.load_config ≡ Some place → get_or (used_pieces (kept_parts plan)) place.piece false ≡ true
+  load_config_used place is = loader_place_used LOAD_CONFIG_NAME place load_config_sought (planned.load_config_stands place is).within (sym planned.load_config_is ∙ is)
 
   -- ---- as they are listed
 

@@ -20,7 +20,8 @@ use Rattle.link_plan.specs.Plan.{merges_of}
 use Rattle.link_plan.specs.Planned.{plan_pieces}
 use Rattle.link_image.specs.BaseFields.{is_relocated, AreBaseFields}
 use Rattle.link_image.specs.LinkedBytes.{fields_range_fault}
-use Rattle.link_image.specs.ExportFaults.{export_fault, in_table_fault}
+use Rattle.link_image.specs.ExportFaults.{in_table_fault}
+use Rattle.link_image.specs.TableFaults.{tables_fault}
 use Rattle.link_image.specs.LinkedImage.{AreGrouped, ArePlaced, IsPlacement, base_rule}
 
 -- a merge is bad, and no earlier one
@@ -29,10 +30,10 @@ pub record IsBadMerge (options : LinkOptions) (link : KeptParts) (fault : Fault)
   pub named : NamesFirstBad (merges_of options link.parts) name
   pub is : fault ≡ faults.BadMerge name
 
--- an export is bad: its ordinal, or that it stands for no place
-pub record IsBadExport (options : LinkOptions) (link : KeptParts) (fault : Fault) : Type 0 where
+-- a table is bad: the exception table, or else that of the exports, by an ordinal or by an export that stands for no place
+pub record HasBadTable (options : LinkOptions) (link : KeptParts) (fault : Fault) : Type 0 where
   pub merges : HasNoBadMerge (merges_of options link.parts)
-  pub is : export_fault link ≡ Some fault
+  pub is : tables_fault link ≡ Some fault
 
 -- there are too many sections, that of base relocations counted
 pub record HasTooManySections (options : LinkOptions) (link : KeptParts) (fault : Fault) : Type 0 where
@@ -91,7 +92,7 @@ pub record HasBadRange (options : LinkOptions) (link : KeptParts) (fault : Fault
 abbrev pub IsBuildFault : LinkOptions → KeptParts → Fault → Type 0
 IsBuildFault options link fault =
     IsBadMerge options link fault
-    ⊎ (IsBadExport options link fault
+    ⊎ (HasBadTable options link fault
     ⊎ (HasTooManySections options link fault
     ⊎ (IsTooLarge options link fault
     ⊎ (HasBadBase options link fault ⊎ (HasExportInTable options link fault ⊎ HasBadRange options link fault)))))

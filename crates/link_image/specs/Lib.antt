@@ -2,6 +2,8 @@ pub mod BaseFields
 pub mod ImageHeaders
 pub mod LinkedBytes
 pub mod ExportFaults
+pub mod TableFaults
+pub mod NamedSections
 pub mod LinkedImage
 pub mod BuildFaults
 pub mod Steps

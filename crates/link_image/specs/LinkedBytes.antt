@@ -1,5 +1,5 @@
--- What the pieces of a link hold in its image, and the first field whose value does not fit (PE Format, "The .idata Section", "The .edata Section (Image Only)" and
--- "Type Indicators", x64 Processors; the order is own).
+-- What the pieces of a link hold in its image, and the first field whose value does not fit (PE Format, "The .idata
+-- Section", "The .edata Section (Image Only)" and "Type Indicators", x64 Processors; the order is own).
 use Rattle.std.specs.Prelude.{ℕ, ◌+◌, Bool, if◌then◌else◌, List, [], ◌∷◌, ◌++◌, length, map, slice_index, slice_index_or, Option, Some, None, option_map, unwrap_or, ◌==◌}
 use Rattle.std.specs.List.{list_any, range_with_len}
 use Rattle.link_base.specs.Bytes.{first_below}
@@ -22,11 +22,11 @@ use Rattle.import_tables.specs.ImportTables.{tables_of as import_tables_of}
 use Rattle.link_pieces.specs.TablePieces.{KeptParts, kept_rows, whole_pieces, whole_piece, whole_contents, table_index, is_table}
 use Rattle.link_fields.specs.ExportTargets.{export_target}
 use Rattle.link_plan.specs.Planned.{planned_fixes, planned_target}
+pub use Rattle.link_image.specs.NamedSections.{no_row}
+use Rattle.pdata_table.specs.SortedContents.{sorted_contents}
+use Rattle.link_image.specs.NamedSections.{pdata_pieces}
 
 -- ---- the section of a piece
-
-abbrev pub no_row : SectionRow
-no_row = record { name = []; flags = 0; pieces = [] }
 
 abbrev pub row_holds : List SectionRow → ℕ → ℕ → Bool
 row_holds rows k i = list_any (λ member. member == k) (slice_index_or rows i no_row).pieces
@@ -89,8 +89,8 @@ tables_at link layout = import_tables_at link layout ++ export_table_at link lay
 
 -- ---- the bytes
 
--- what a piece holds before its fields are patched: a table of imports or exports its bytes by their places, any other piece
--- what it has without a place
+-- what a piece holds before its fields are patched: a table of imports or exports its bytes by their places, any other
+-- piece what it has without a place
 unfoldable pub contents_at : KeptParts → Layout → ℕ → List ℕ
 contents_at link layout k =
     if is_table (length link.parts.modules) (whole_piece link k)
@@ -109,9 +109,11 @@ unfoldable pub linked_contents : KeptParts → List SectionRow → Layout → �
 linked_contents link rows layout base =
     map (linked_bytes link rows layout base) (range_with_len 0 (length (whole_pieces link)))
 
--- and after them the tables that the linker makes, which are the same at each base
+-- the rows of the exception table are put in order, and after the pieces come the tables that the linker makes, which
+-- are the same at each base
 abbrev pub image_contents : KeptParts → List SectionRow → Layout → List (List ℕ) → ℕ → List (List ℕ)
-image_contents link rows layout tables base = linked_contents link rows layout base ++ tables
+image_contents link rows layout tables base =
+    sorted_contents (pdata_pieces rows) (linked_contents link rows layout base) ++ tables
 
 -- ---- values that do not fit
 

@@ -1,5 +1,6 @@
 -- The image of modules: their pieces in sections, the places of these, and what they make. Own.
-use Rattle.std.specs.Prelude.{◌≡◌, ◌≤◌, ℕ, ◌+◌, ◌-◌, Bool, true, false, List, [], ◌∷◌, ◌++◌, length, slice_index, slice_index_or, Option, Some, None, codes}
+use Rattle.std.specs.Prelude.{◌≡◌, ◌≤◌, ℕ, ◌+◌, ◌-◌, Bool, true, false, if◌then◌else◌, List, [], ◌∷◌, ◌++◌, length, slice_index, slice_index_or, Option, Some, None, codes}
+use Rattle.link_base.specs.Bytes.{u32_at, has_bytes}
 use Rattle.link_base.specs.Limits.{SECTION_LIMIT, IMAGE_LIMIT}
 use Rattle.link_base.specs.PeFormat.{SCN_CNT_INITIALIZED_DATA, SCN_MEM_DISCARDABLE, SCN_MEM_READ, DIRECTORY_ENTRY_EXPORT, DIRECTORY_ENTRY_IMPORT}
 use Rattle.section_group.specs.declared.piece.Piece.{Piece}
@@ -9,10 +10,11 @@ use Rattle.section_group.specs.Merging.{HasNoBadMerge}
 use Rattle.section_group.specs.Placement.{IsGrouping}
 use Rattle.section_group.specs.Uniqueness.{SectionRow, rows_of}
 use Rattle.address_layout.specs.declared.base.BaseRule.{BaseRule}
+use Rattle.address_layout.specs.declared.layout.Placed.{Placed}
 use Rattle.address_layout.specs.declared.layout.Layout.{Layout}
 use Rattle.address_layout.specs.PermittedBase.{is_permitted}
 use Rattle.address_layout.specs.Places.{section_count}
-use Rattle.address_layout.specs.Layout.{IsLayout}
+use Rattle.address_layout.specs.Layout.{IsLayout, placed_at}
 use Rattle.address_layout.specs.Growth.{CanGrow, Appends}
 use Rattle.base_reloc.specs.declared.field.BaseField.{BaseField}
 use Rattle.base_reloc.specs.PageBlocks.{blocks_of}
@@ -24,10 +26,11 @@ use Rattle.export_tables.specs.ReadBack.{exported_name, exported_ordinal}
 use Rattle.image_writer.specs.ExpectedImage.{ImagePlan, MeansPlan, image_file}
 use Rattle.image_writer.specs.WrittenImage.{written_plan}
 use Rattle.synthetic_sections.specs.LinkerPieces.{SLOTS, EXPORTS}
-use Rattle.link_pieces.specs.TablePieces.{KeptParts, kept_rows, whole_pieces, table_index}
+use Rattle.link_pieces.specs.TablePieces.{KeptParts, kept_rows, whole_pieces, whole_contents, table_index}
 use Rattle.link_words.specs.Outcome.{LinkOptions}
 use Rattle.link_fields.specs.declared.entry.EntryPlace.{EntryPlace}
 use Rattle.link_fields.specs.Entry.{entry_place}
+use Rattle.link_fields.specs.LoaderPlaces.{loader_place, TLS_NAME, LOAD_CONFIG_NAME}
 use Rattle.link_plan.specs.Plan.{merges_of}
 use Rattle.link_plan.specs.Planned.{used_pieces, plan_pieces}
 use Rattle.link_image.specs.declared.headers.Directories.{Directories}
@@ -35,7 +38,9 @@ use Rattle.link_image.specs.declared.make.Built.{Built}
 use Rattle.link_image.specs.BaseFields.{is_relocated, AreBaseFields}
 use Rattle.link_image.specs.ImageHeaders.{headers_of}
 use Rattle.link_image.specs.LinkedBytes.{table_rvas, exported_rows, image_contents, fields_range_fault}
-use Rattle.link_image.specs.ExportFaults.{export_fault, in_table_fault}
+use Rattle.link_image.specs.ExportFaults.{in_table_fault}
+use Rattle.link_image.specs.TableFaults.{tables_fault}
+use Rattle.link_image.specs.NamedSections.{section_named}
 
 -- ---- sections
 
@@ -43,10 +48,10 @@ use Rattle.link_image.specs.ExportFaults.{export_fault, in_table_fault}
 abbrev pub link_input : LinkOptions → KeptParts → List Piece → Input
 link_input options link pieces = input_from pieces (used_pieces link) (merges_of options link.parts)
 
--- the sections that pieces stand in, by merges of which none is bad; and no export is
+-- the sections that pieces stand in, by merges of which none is bad; and neither the exception table nor an export is
 pub record AreGrouped (options : LinkOptions) (link : KeptParts) (pieces : List Piece) (sections : List OutSection) : Type 0 where
   pub merges : HasNoBadMerge (merges_of options link.parts)
-  pub exports : export_fault link ≡ None
+  pub tables : tables_fault link ≡ None
   pub grouping : IsGrouping (link_input options link pieces) sections
 
 -- ---- places
@@ -110,16 +115,46 @@ extent_of pieces rvas (Some k) = (slice_index rvas k, (slice_index_or pieces k n
 abbrev pub DIRECTORY : ℕ
 DIRECTORY = 0
 
+-- those of the first section of a name, where there is one
+abbrev pub placed_extent : List Placed → Option ℕ → ℕ × ℕ
+placed_extent placed None = (0, 0)
+placed_extent placed (Some i) = ((placed_at placed i).rva, (placed_at placed i).size)
+
+abbrev pub section_extent : List SectionRow → Layout → List ℕ → ℕ × ℕ
+section_extent rows layout name = placed_extent layout.sections.items (section_named rows name)
+
+-- four bytes as a number, or 0 where there are no four
+abbrev pub u32_or_zero : List ℕ → ℕ → ℕ
+u32_or_zero bytes at = if has_bytes bytes at 4 then u32_at bytes at else 0
+
+-- the RVA of a place in a piece, and a size there, where there is the place
+abbrev pub place_extent : List ℕ → Option EntryPlace → ℕ → ℕ × ℕ
+place_extent rvas None size = (0, 0)
+place_extent rvas (Some place) size = (slice_index rvas place.piece + place.value, size)
+
+-- the directory of thread-local storage has one size (PE Format, "The TLS Directory", for PE32+)
+abbrev pub TLS_SIZE : ℕ
+TLS_SIZE = 40
+
+-- a load configuration begins with its size, which is that of what was read: without four bytes there it is 0
+abbrev pub config_size : KeptParts → Option EntryPlace → ℕ
+config_size link None = 0
+config_size link (Some place) = u32_or_zero (slice_index_or (whole_contents link) place.piece []) place.value
+
 -- those of the table of a number
 abbrev pub table_extent : KeptParts → Layout → ℕ → ℕ × ℕ
 table_extent link layout number = extent_of (whole_pieces link) layout.pieces.items (table_index link number)
 
-abbrev pub directories_of : KeptParts → Layout → List (List ℕ) → Directories
-directories_of link layout tables = record {
+abbrev pub directories_of : KeptParts → List SectionRow → Layout → List (List ℕ) → Directories
+directories_of link rows layout tables = record {
   exports = table_extent link layout EXPORTS;
+  resources = section_extent rows layout (codes ".rsrc");
+  exceptions = section_extent rows layout (codes ".pdata");
   imports = table_extent link layout DIRECTORY;
   slots = table_extent link layout SLOTS;
   relocations = table_directory layout tables;
+  tls = place_extent layout.pieces.items (loader_place link.parts TLS_NAME) TLS_SIZE;
+  load_config = place_extent layout.pieces.items (loader_place link.parts LOAD_CONFIG_NAME) (config_size link (loader_place link.parts LOAD_CONFIG_NAME));
 }
 
 -- ---- the image
@@ -133,11 +168,12 @@ pub record IsImageOf (options : LinkOptions) (link : KeptParts) (image : ImagePl
   pub permitted : is_permitted (base_rule options) layout.image options.base ≡ true
   pub outside : in_table_fault link layout.pieces.items ≡ None
   pub in_range : fields_range_fault link rows layout options.base ≡ None
-  pub is : image ≡ written_plan (headers_of options (entry_rva layout.pieces.items (entry_place link.parts options.entry_name)) (directories_of link layout tables)) rows layout.sections.items layout.pieces.items layout.image (image_contents link rows layout tables)
+  pub is : image ≡ written_plan (headers_of options (entry_rva layout.pieces.items (entry_place link.parts options.entry_name)) (directories_of link rows layout tables)) rows layout.sections.items layout.pieces.items layout.image (image_contents link rows layout tables)
 
 -- ---- its imports
 
--- at each base that a file is loaded at, its import directory names the imports that are kept, each with its slot, and no other
+-- at each base that a file is loaded at, its import directory names the imports that are kept, each with its slot, and
+-- no other
 abbrev pub HoldsImports : KeptParts → Layout → List ℕ → Type 0
 HoldsImports link layout image =
     (base : ℕ) (memory : List ℕ) → loaded image base ≡ Some memory
@@ -145,16 +181,16 @@ HoldsImports link layout image =
 
 -- ---- its exports
 
--- at each base that a file is loaded at, its export directory says of each name and of each number what the exports of the link
--- say, and of no other
+-- at each base that a file is loaded at, its export directory says of each name and of each number what the exports of
+-- the link say, and of no other
 pub record HoldsExports (link : KeptParts) (layout : Layout) (image : List ℕ) : Type 0 where
   pub by_name : (base : ℕ) (memory name : List ℕ) → loaded image base ≡ Some memory → export_of_name memory (directory_rva image DIRECTORY_ENTRY_EXPORT) (directory_size image DIRECTORY_ENTRY_EXPORT) name ≡ exported_name (exported_rows link layout.pieces.items) name
   pub by_ordinal : (base : ℕ) (memory : List ℕ) (ordinal : ℕ) → loaded image base ≡ Some memory → export_of_ordinal memory (directory_rva image DIRECTORY_ENTRY_EXPORT) (directory_size image DIRECTORY_ENTRY_EXPORT) ordinal ≡ exported_ordinal (exported_rows link layout.pieces.items) link.parts.exports.ordinals ordinal
 
 -- ---- what is made
 
--- what was made is the file of the image of the modules, which loads as planned at every permitted base, and then holds their
--- imports and exports
+-- what was made is the file of the image of the modules, which loads as planned at every permitted base, and then holds
+-- their imports and exports
 pub record IsBuilt (options : LinkOptions) (link : KeptParts) (built : Built) : Type 0 where
   pub image : ImagePlan
   pub is_image : IsImageOf options link image

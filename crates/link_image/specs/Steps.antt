@@ -1,8 +1,8 @@
 -- What the steps of the code promise one another. It decides nothing.
-use Rattle.std.specs.Prelude.{◌≡◌, ◌≢◌, ◌<◌, ◌≤◌, ◌⊎◌, ℕ, ◌+◌, ◌^◌, true, false, nat_lt, if◌then◌else◌, List, [], ◌∷◌, ◌++◌, length, map, slice_index, slice_index_or, Option, Some, None}
-use Rattle.std.specs.List.{All, Contains, filter, flat_map, range_with_len}
+use Rattle.std.specs.Prelude.{◌≡◌, ◌≢◌, ◌<◌, ◌≤◌, ◌⊎◌, ℕ, ◌+◌, ◌^◌, ◌%◌, ◌==◌, true, false, nat_lt, if◌then◌else◌, List, [], ◌∷◌, ◌++◌, length, map, take, drop, slice_index, slice_index_or, Option, Some, None}
+use Rattle.std.specs.List.{All, Contains, IsDistinct, filter, flat_map, range_with_len}
 use Rattle.std.specs.declared.vec.Vec.{Vec}
-use Rattle.link_base.specs.Bytes.{first_below}
+use Rattle.link_base.specs.Bytes.{first_below, bytes_at}
 use Rattle.link_base.specs.declared.fault.Fault.{Fault}
 use Rattle.section_group.specs.declared.piece.Piece.{Piece}
 use Rattle.section_group.specs.declared.piece.OutSection.{OutSection}
@@ -11,21 +11,23 @@ use Rattle.section_group.specs.BarePieces.{bare}
 use Rattle.section_group.specs.PieceContents.{piece_contents}
 use Rattle.section_group.specs.Uniqueness.{SectionRow, row_of, rows_of}
 use Rattle.address_layout.specs.declared.layout.Layout.{Layout}
-use Rattle.address_layout.specs.Layout.{all_pieces}
+use Rattle.address_layout.specs.Layout.{all_pieces, placed_at}
 use Rattle.relocate.specs.declared.fix.Fix.{Fix}
 use Rattle.relocate.specs.declared.fix.Target.{Target}
 use Rattle.relocate.specs.declared.range.RelocRange.{RelocRange}
 use Rattle.base_reloc.specs.declared.field.BaseField.{BaseField}
 use Rattle.base_reloc.specs.PageBlocks.{blocks_of}
-use Rattle.relocate.specs.PatchedBytes.{is_based}
+use Rattle.pdata_table.specs.Rows.{ROW_SIZE}
+use Rattle.pdata_table.specs.SortedContents.{is_among}
+use Rattle.relocate.specs.PatchedBytes.{is_based, HaveNoBased}
 use Rattle.relocate.specs.Value.{IsLeastOutside}
 use Rattle.image_writer.specs.declared.headers.Headers.{Headers}
 use Rattle.image_writer.specs.ExpectedImage.{image_file}
 use Rattle.image_writer.specs.WrittenImage.{layout_plan, at_each_base, IsLaidOut}
-use Rattle.link_pieces.specs.TablePieces.{KeptParts, whole_pieces, is_table}
+use Rattle.link_pieces.specs.TablePieces.{KeptParts, whole_pieces, whole_piece, is_table}
 use Rattle.link_pieces.specs.PieceIndex.{is_numbered, holds}
 use Rattle.link_plan.specs.Reach.{AreKept}
-use Rattle.link_plan.specs.Planned.{HaveFields, used_pieces, plan_pieces, planned_target}
+use Rattle.link_plan.specs.Planned.{HaveFields, used_pieces, plan_pieces, planned_fixes, planned_target}
 use Rattle.link_base.specs.Limits.{SECTION_LIMIT, IMAGE_LIMIT}
 use Rattle.link_words.specs.Outcome.{LinkOptions}
 use Rattle.link_plan.specs.declared.planning.LinkPlan.{LinkPlan}
@@ -34,9 +36,11 @@ use Rattle.link_fields.specs.ExportTargets.{export_target}
 use Rattle.directives.specs.declared.item.Export.{Export}
 use Rattle.link_plan.specs.Laid.{StandsNamed}
 use Rattle.link_image.specs.declared.placement.Placement.{Placement}
+use Rattle.link_image.specs.NamedSections.{pdata_pieces}
 use Rattle.link_image.specs.BaseFields.{base_field, AreBaseFields}
 use Rattle.link_image.specs.LinkedBytes.{owners_in, contents_at, placed_contents, linked_bytes, out_of_range}
 use Rattle.link_image.specs.LinkedImage.{link_input, table_row, IsPlacement}
+use Rattle.image_writer.specs.PieceInFile.{piece_place, patched}
 use Rattle.section_group.specs.Merging.{HasNoBadMerge}
 use Rattle.section_group.specs.Placement.{IsGrouping}
 use Rattle.link_plan.specs.Plan.{merges_of, kept_parts}
@@ -121,6 +125,28 @@ abbrev pub IsGiven : ExportTo → Type 0
 IsGiven (Rva address) = (address ≢ 0) × (address < 2 ^ 32)
 IsGiven (Forward text) = Unit {0}
 
+-- ---- the exception table
+
+abbrev pub size_at : List Piece → ℕ → ℕ
+size_at pieces k = (slice_index_or pieces k no_piece).size
+
+-- the bytes of pieces of a section in a file, one after another
+abbrev pub bytes_of_piece : Layout → List Piece → ℕ → List ℕ → ℕ → List ℕ
+bytes_of_piece layout pieces section file k = bytes_at file (piece_place layout section k) (size_at pieces k)
+
+-- the same file with a table in their place
+unfoldable pub written : Layout → List Piece → ℕ → List ℕ → List ℕ → List ℕ → List ℕ
+written layout pieces section [] table file = file
+written layout pieces section (k ∷ ks) table file =
+    written layout pieces section ks (drop (size_at pieces k) table) (patched (piece_place layout section k) (take (size_at pieces k) table) file)
+
+-- a piece of a section that has bytes lies in a file of this length
+pub record LiesIn (layout : Layout) (pieces : List Piece) (section len k : ℕ) : Type 0 where
+  pub there : k < length pieces
+  pub placed : k < length layout.pieces.items
+  pub above : 0 < size_at pieces k → (placed_at layout.sections.items section).rva ≤ slice_index layout.pieces.items k
+  pub inside : 0 < size_at pieces k → piece_place layout section k + size_at pieces k ≤ len
+
 -- the sections that pieces stand in, by merges of which none is bad
 pub record AreMerged (options : LinkOptions) (link : KeptParts) (pieces : List Piece) (sections : List OutSection) : Type 0 where
   pub merges : HasNoBadMerge (merges_of options link.parts)
@@ -150,6 +176,14 @@ pub record IsHeld (piece : Piece) (bytes : List ℕ) : Type 0 where
   pub filled : piece.init ≡ true → length bytes ≡ piece.size
   pub empty : piece.init ≡ false → length bytes ≡ 0
 
+-- a piece of the exception table: it holds whole rows, and none of its fields holds an address
+pub record IsRowPiece (link : KeptParts) (pieces : List Piece) (layout : Layout) (k : ℕ) : Type 0 where
+  pub there : k < length pieces
+  pub no_table : is_table (length link.parts.modules) (whole_piece link k) ≡ false
+  pub size : length (contents_at link layout k) ≡ size_at pieces k
+  pub rows : length (contents_at link layout k) % ROW_SIZE ≡ 0
+  pub unbased : HaveNoBased (planned_fixes link k)
+
 -- ---- what was decided before fields are patched
 
 -- the pieces with their fields, the tables after them, and where all of these stand
@@ -164,6 +198,8 @@ pub record IsReady (link : KeptParts) (pieces : List Piece) (fixups : List (List
   pub laid : IsLaidOut (pieces ++ rest) sections layout
   pub stands : (k : ℕ) → k < length pieces → slice_index_or (used_pieces link) k false ≡ true → ((0 < (slice_index_or pieces k no_piece).size) ⊎ ((slice_index_or pieces k no_piece).named ≡ true)) → Contains (all_pieces sections) k
   pub owner_is : owner ≡ owners_in (rows_of sections) layout
+  pub rows_are : (k : ℕ) → is_among k (pdata_pieces (rows_of sections)) ≡ true → IsRowPiece link pieces layout k
+  pub rows_apart : IsDistinct (λ j i. j == i) (pdata_pieces (rows_of sections))
 
 -- the contents of an image whose first pieces are patched
 abbrev pub mixed_at : KeptParts → List SectionRow → Layout → ℕ → ℕ → ℕ → List ℕ

@@ -27,7 +27,8 @@ use relocate::Target;
 use std::alloc::Global;
 use synthetic_sections::EXPORTS;
 
-/// That the ordinals of the exports can be given, and that each export stands for a place. The first that is wrong is refused.
+/// That the ordinals of the exports can be given, and that each export stands for a place. The first that is wrong is
+/// refused.
 #[tactic(auto, unfolding(crate::specs::ExportFaults::export_fault))]
 pub(crate) fn check_exports<'a>(plan: &LinkPlan<'a>) -> Result<(), Fault<'a>>
     requires { plan.now.exported.items ≡ planned_targets (kept_parts plan.now) }

@@ -53,7 +53,8 @@ pub(crate) fn write_file<'a>(
     )
 }
 
-/// The pieces with the bytes of the tables of imports and exports, whose module is at a position, and the table of base relocations as the last.
+/// The pieces with the bytes of the tables of imports and exports, whose module is at a position, and the table of base
+/// relocations as the last.
 fn whole_pieces<'b, 'a: 'b>(
     alloc: Global,
     position: usize,

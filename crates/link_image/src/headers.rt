@@ -6,9 +6,10 @@ ghost use Rattle.link_image.specs.ImageHeaders.{headers_of, dll_characteristics}
 
 use image_writer::Headers;
 use link_base::pe_format::{
-    DIRECTORY_ENTRY_BASERELOC, DIRECTORY_ENTRY_EXPORT, DIRECTORY_ENTRY_IAT, DIRECTORY_ENTRY_IMPORT,
-    DLLCHARACTERISTICS_DYNAMIC_BASE, DLLCHARACTERISTICS_HIGH_ENTROPY_VA,
-    DLLCHARACTERISTICS_NX_COMPAT,
+    DIRECTORY_ENTRY_BASERELOC, DIRECTORY_ENTRY_EXCEPTION, DIRECTORY_ENTRY_EXPORT,
+    DIRECTORY_ENTRY_IAT, DIRECTORY_ENTRY_IMPORT, DIRECTORY_ENTRY_LOAD_CONFIG,
+    DIRECTORY_ENTRY_RESOURCE, DIRECTORY_ENTRY_TLS, DLLCHARACTERISTICS_DYNAMIC_BASE,
+    DLLCHARACTERISTICS_HIGH_ENTROPY_VA, DLLCHARACTERISTICS_NX_COMPAT,
 };
 use link_words::Options;
 
@@ -16,10 +17,16 @@ use link_words::Options;
 #[derive(Clone, Copy)]
 pub(crate) struct Directories {
     pub(crate) exports: (u32, u32),
+    pub(crate) resources: (u32, u32),
+    /// The exception table.
+    pub(crate) exceptions: (u32, u32),
     pub(crate) imports: (u32, u32),
     /// The slots of the imports.
     pub(crate) slots: (u32, u32),
     pub(crate) relocations: (u32, u32),
+    /// That of thread-local storage.
+    pub(crate) tls: (u32, u32),
+    pub(crate) load_config: (u32, u32),
 }
 
 /// The headers of an image that begins at an RVA, with its directories.
@@ -29,7 +36,11 @@ pub(crate) fn headers_of(options: &Options<'_>, entry: u32, tables: Directories)
     let mut directories = [(0, 0); 16];
     directories[DIRECTORY_ENTRY_EXPORT] = tables.exports;
     directories[DIRECTORY_ENTRY_IMPORT] = tables.imports;
+    directories[DIRECTORY_ENTRY_RESOURCE] = tables.resources;
+    directories[DIRECTORY_ENTRY_EXCEPTION] = tables.exceptions;
     directories[DIRECTORY_ENTRY_BASERELOC] = tables.relocations;
+    directories[DIRECTORY_ENTRY_TLS] = tables.tls;
+    directories[DIRECTORY_ENTRY_LOAD_CONFIG] = tables.load_config;
     directories[DIRECTORY_ENTRY_IAT] = tables.slots;
     Headers {
         base: options.base,

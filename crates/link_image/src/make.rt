@@ -11,6 +11,7 @@ use crate::file::write_file;
 use crate::headers::headers_of;
 use crate::owners::owners_of;
 use crate::patching::patch_pieces;
+use crate::pdata::sort_pdata;
 use crate::placement::{check_own_base, entry_rva, place_all};
 use crate::tables::{directories_of, import_tables, table_places};
 use link_base::Refusal;
@@ -27,9 +28,10 @@ pub struct Built {
     pub sections: u32,
 }
 
-/// The image of a plan. The input is refused for the first of: a bad merge (`BadMerge`), a bad export (`BadExport`), too many
-/// sections (`TooManySections`), an image that is too large (`ImageTooLarge`), a base at which it may not stand (`BaseRange`),
-/// an export that lies in the export table (`BadExport`), and a field whose value does not fit (`RelocRange`).
+/// The image of a plan. The input is refused for the first of: a bad merge (`BadMerge`), an exception table without
+/// whole rows (`BadPdata`), a bad export (`BadExport`), too many sections (`TooManySections`), an image that is too
+/// large (`ImageTooLarge`), a base at which it may not stand (`BaseRange`), an export that lies in the export table
+/// (`BadExport`), and a field whose value does not fit (`RelocRange`).
 pub fn build<'a>(
     alloc: Global,
     plan: &LinkPlan<'a>,
@@ -54,6 +56,7 @@ pub fn build<'a>(
     )?;
     let owner = owners_of(alloc, &placement.sections, placement.layout.pieces.len())?;
     patch_pieces(&mut image, plan, &headers, &placement, &owner)?;
+    sort_pdata(alloc, &mut image, plan, &headers, &placement, &owner)?;
     Ok(Built {
         image,
         sections: count,

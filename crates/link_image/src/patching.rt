@@ -91,7 +91,17 @@ fn file_place(layout: &Layout, owner: &[u32], k: usize) -> usize
     requires above { (placed_at layout.now.sections.items (slice_index owner.now k)).rva ≤ slice_index layout.now.pieces.items k }
     ensures { result ≡ piece_place layout.now (slice_index owner.now k) k }
 {
-    let placed = &layout.sections[owner[k] as usize];
+    place_in_section(layout, owner[k] as usize, k)
+}
+
+/// Where the first byte of a piece of a section stands in the file.
+pub(crate) fn place_in_section(layout: &Layout, section: usize, k: usize) -> usize
+    requires piece { k < length layout.now.pieces.items }
+    requires section { section < length layout.now.sections.items }
+    requires above { (placed_at layout.now.sections.items section).rva ≤ slice_index layout.now.pieces.items k }
+    ensures { result ≡ piece_place layout.now section k }
+{
+    let placed = &layout.sections[section];
     placed.file as usize + (layout.pieces[k] - placed.rva) as usize
 }
 

@@ -171,7 +171,7 @@ pub(crate) fn entry_rva<'a>(
 }
 
 /// The RVA of an offset in a piece, whose RVA is given.
-fn rva_in(rva: u32, offset: u32) -> u32
+pub(crate) fn rva_in(rva: u32, offset: u32) -> u32
     requires { rva < 2 ^ 32 → rva + offset < 2 ^ 32 }
     ensures { result ≡ rva + offset }
 {

@@ -9,6 +9,7 @@ ghost use Rattle.link_image.specs.BuildFaults.{RefusesBuild};
 ghost use Rattle.link_image.specs.Steps.{AreMerged};
 
 use crate::exports::check_exports;
+use crate::pdata::check_pdata;
 use address_layout::{Layout, LayoutError, place};
 use link_base::{Fault, Memory, Refusal};
 use link_plan::LinkPlan;
@@ -16,7 +17,8 @@ use link_words::Options;
 use section_group::{GroupError, OutSection, group};
 use std::alloc::Global;
 
-/// The pieces in sections, by their names and the merges of the link; and that no export is bad.
+/// The pieces in sections, by their names and the merges of the link; and that neither the exception table nor an
+/// export is bad.
 pub(crate) fn group_pieces<'a>(
     alloc: Global,
     plan: &LinkPlan<'a>,
@@ -27,6 +29,7 @@ pub(crate) fn group_pieces<'a>(
     ensures refused { IfErr result (RefusesBuild (options_said options.now) (kept_parts plan.now)) }
 {
     let sections = merge_pieces(alloc, plan, options)?;
+    check_pdata(plan, options)?;
     check_exports(plan)?;
     Ok(sections)
 }

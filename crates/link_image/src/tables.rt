@@ -1,29 +1,37 @@
 //! The import tables, once their pieces have places, and the directories.
 
-ghost use Rattle.std.specs.Prelude.{◌≡◌, ◌<◌, ◌^◌, ℕ, Some, None, length, map, take, slice_index, slice_index_or, if◌then◌else◌, All, IfSome, IfOk};
+ghost use Rattle.std.specs.Prelude.{◌≡◌, ◌<◌, ◌^◌, ◌+◌, ℕ, Some, None, length, map, take, slice_index, slice_index_or, if◌then◌else◌, All, IfSome, IfOk};
 ghost use Rattle.std.specs.Option.{option_or};
+ghost use Rattle.section_group.specs.Uniqueness.{rows_of};
+ghost use Rattle.section_group.specs.PieceContents.{piece_contents};
+ghost use Rattle.link_pieces.specs.TablePieces.{KeptParts, whole_contents};
 ghost use Rattle.link_pieces.specs.PieceIndex.{is_numbered};
 ghost use Rattle.link_words.specs.Outcome.{options_said};
 ghost use Rattle.link_plan.specs.Plan.{IsPlanOf, kept_parts};
 ghost use Rattle.link_image.specs.LinkedBytes.{rva_of, import_tables_at};
-ghost use Rattle.link_image.specs.LinkedImage.{extent_of, directories_of};
+ghost use Rattle.link_image.specs.LinkedImage.{extent_of, section_extent, place_extent, config_size, directories_of};
+ghost use Rattle.link_image.specs.NamedSections.{section_named};
 ghost use Rattle.link_image.specs.Steps.{numbered_indexes, reloc_tables, IsPlaced};
 
 use crate::headers::Directories;
-use crate::placement::{Placement, table_directory};
+use crate::placement::{Placement, rva_in, table_directory};
 use import_tables::fill;
-use link_base::Memory;
+use link_base::{Memory, Name, field_u32};
+use link_fields::EntryPlace;
 use link_plan::LinkPlan;
 use link_words::Options;
-use section_group::Piece;
+use section_group::{OutSection, Piece};
 use std::alloc::Global;
 use synthetic_sections::{EXPORTS, SLOTS};
+
+/// The size of the directory of thread-local storage.
+const TLS_SIZE: u32 = 40;
 
 /// The number of the import directory among the import tables.
 const DIRECTORY: usize = 0;
 
-/// The index of the piece of each table of imports or exports, by its number, where the table is made. The pieces that the linker makes are those of the
-/// module at a position.
+/// The index of the piece of each table of imports or exports, by its number, where the table is made. The pieces that
+/// the linker makes are those of the module at a position.
 pub(crate) fn table_places(position: usize, pieces: &[Piece<'_>]) -> [Option<usize>; 6]
     ensures { result ≡ numbered_indexes position pieces.now }
 {
@@ -81,15 +89,77 @@ pub(crate) fn directories_of<'a>(
     requires plan { IsPlanOf (options_said options.now) plan.now.modules.items plan.now }
     requires placed { IsPlaced (options_said options.now) plan.now placement.now }
     requires places { places.now ≡ numbered_indexes (length plan.now.modules.items) plan.now.pieces.items }
-    ensures { result ≡ directories_of (kept_parts plan.now) placement.now.layout (reloc_tables placement.now.table) }
+    ensures { result ≡ directories_of (kept_parts plan.now) (rows_of placement.now.sections.items) placement.now.layout (reloc_tables placement.now.table) }
 {
     let rvas = &placement.layout.pieces;
     Directories {
         exports: extent_of(&plan.pieces, rvas, places[EXPORTS as usize]),
+        resources: section_extent(placement, b".rsrc"),
+        exceptions: section_extent(placement, b".pdata"),
         imports: extent_of(&plan.pieces, rvas, places[DIRECTORY]),
         slots: extent_of(&plan.pieces, rvas, places[SLOTS as usize]),
         relocations: table_directory(placement),
+        tls: place_extent(rvas, &plan.loader.tls, TLS_SIZE),
+        load_config: place_extent(
+            rvas,
+            &plan.loader.load_config,
+            config_size(&plan.pieces, &plan.loader.load_config),
+        ),
     }
+}
+
+/// The RVA of a place in a piece, and a size there, or zeros where there is no place.
+fn place_extent(rvas: &[u32], place: &Option<EntryPlace>, size: u32) -> (u32, u32)
+    requires piece { IfSome place.now (λ place. place.piece < length rvas.now) }
+    requires fits { IfSome place.now (λ place. slice_index rvas.now place.piece < 2 ^ 32 → slice_index rvas.now place.piece + place.value < 2 ^ 32) }
+    ensures { result ≡ place_extent rvas.now place.now size }
+{
+    match place {
+        None => (0, 0),
+        Some(place) => (rva_in(rvas[place.piece as usize], place.value), size),
+    }
+}
+
+/// What a load configuration says of its size: the four bytes at its place, or 0 where there are none.
+fn config_size(pieces: &[Piece<'_>], place: &Option<EntryPlace>) -> u32
+    requires { IfSome place.now (λ place. place.piece < length pieces.now) }
+    ensures { (link : KeptParts) → map piece_contents pieces.now ≡ whole_contents link → result ≡ config_size link place.now }
+{
+    let Some(place) = place else { return 0 };
+    let piece = &pieces[place.piece as usize];
+    if !piece.init {
+        return 0;
+    }
+    let Some(bytes) = piece.body else { return 0 };
+    match field_u32(bytes, place.value as usize) {
+        Some(size) => size,
+        None => 0,
+    }
+}
+
+/// The RVA and the size of the first section of a name, or zeros where there is none.
+fn section_extent(placement: &Placement<'_>, name: &[u8]) -> (u32, u32)
+    requires { length placement.now.layout.sections.items ≡ length placement.now.sections.items }
+    ensures { result ≡ section_extent (rows_of placement.now.sections.items) placement.now.layout name.now }
+{
+    let Some(index) = section_named(&placement.sections, name) else {
+        return (0, 0);
+    };
+    let placed = &placement.layout.sections[index];
+    (placed.rva, placed.size)
+}
+
+/// The index of the first section of a name.
+pub(crate) fn section_named(sections: &[OutSection<'_>], name: &[u8]) -> Option<usize>
+    ensures named { result ≡ section_named (rows_of sections.now) name.now }
+    ensures within { IfSome result (λ index. index < length sections.now) }
+{
+    for index in 0..sections.len() {
+        if sections[index].name == Name::of(name) {
+            return Some(index);
+        }
+    }
+    None
 }
 
 /// The RVAs of the import tables, which are the first of these pieces.

@@ -10,6 +10,8 @@ use Rattle.link_words.specs.Outcome.{LinkOptions, options_said}
 use Rattle.link_plan.specs.declared.planning.LinkPlan.{LinkPlan}
 use Rattle.link_plan.specs.Plan.{kept_parts}
 use Rattle.link_image.specs.declared.placement.Placement.{Placement}
+use Rattle.pdata_table.specs.SortedContents.{sorted_contents}
+use Rattle.link_image.specs.NamedSections.{pdata_pieces}
 use Rattle.link_image.specs.ImageHeaders.{headers_of}
 use Rattle.link_image.specs.LinkedBytes.{owners, owners_in, linked_contents, fields_range_fault}
 use Rattle.link_image.specs.LinkedImage.{entry_rva, directories_of}
@@ -42,6 +44,18 @@ patch_pieces-requires-clause-ready c =
     c.in_ok-owner.ensures ∙ ap (λ (ss : List OutSection). owners (rows_of ss) c.len.result) c.deref-3.ensures.value ∙ ap (owners (rows_of placement.sections.items)) count in
     rw (c.deref-4.ensures.value) (ready options plan placement c.headers_of-headers.result c.in_ok-image.image.items c.in_ok-owner.owner.items c.requires placed written owner_is)
 
+pub sort_pdata-requires-clause-ready : goal.sort_pdata-requires-clause-ready
+sort_pdata-requires-clause-ready c =
+    let options : LinkOptions = options_said c.args.options.now in
+    let plan : LinkPlan = c.args.plan.now in
+    let placement : Placement = c.in_ok-placement.placement in
+    let placed : IsPlaced options plan placement = c.in_ok-placement.ensures.placed in
+    let written : IsWritten c.headers_of-headers.result placement (kept_parts plan) c.in_ok-image.image.items = c.in_ok-image.ensures in
+    let count : c.len.result ≡ length placement.layout.pieces.items = c.len.ensures ∙ placement.layout.pieces.ok.0 in
+    let owner_is : c.in_ok-owner.owner.items ≡ owners_in (rows_of placement.sections.items) placement.layout =
+    c.in_ok-owner.ensures ∙ ap (λ (ss : List OutSection). owners (rows_of ss) c.len.result) c.deref-3.ensures.value ∙ ap (owners (rows_of placement.sections.items)) count in
+    rw (c.deref-5.ensures.value) (ready options plan placement c.headers_of-headers.result c.in_ok-image.image.items c.in_ok-owner.owner.items c.requires placed written owner_is)
+
 pub patch_pieces-requires-clause-file : goal.patch_pieces-requires-clause-file
 patch_pieces-requires-clause-file c =
     let options : LinkOptions = options_said c.args.options.now in
@@ -57,7 +71,7 @@ returns-in_err-patch_pieces-clause-refused c =
     let plan : LinkPlan = c.args.plan.now in
     let placement : Placement = c.in_ok-placement.placement in
     let placed : IsPlaced options plan placement = c.in_ok-placement.ensures.placed in
-    let begins : c.headers_of-headers.result ≡ headers_of options (entry_rva placement.layout.pieces.items plan.entry) (directories_of (kept_parts plan) placement.layout (reloc_tables placement.table)) =
+    let begins : c.headers_of-headers.result ≡ headers_of options (entry_rva placement.layout.pieces.items plan.entry) (directories_of (kept_parts plan) (rows_of placement.sections.items) placement.layout (reloc_tables placement.table)) =
     c.headers_of-headers.ensures ∙ ap (λ (e : ℕ). headers_of options e c.directories_of-directories.result) c.entry_rva-entry.ensures ∙ ap (headers_of options (entry_rva placement.layout.pieces.items plan.entry)) c.directories_of-directories.ensures in
     let own : c.headers_of-headers.result.base ≡ options.base = ap (λ (h : Headers). h.base) begins in
     let given = err_from_is_err_and c.from_residual-in_err-patch_pieces.result c.from_residual-in_err-patch_pieces.ensures.1 in
@@ -76,16 +90,16 @@ returns-clause-built c =
     let count : c.len.result ≡ length placement.layout.pieces.items = c.len.ensures ∙ placement.layout.pieces.ok.0 in
     let owner_is : c.in_ok-owner.owner.items ≡ owners_in (rows_of placement.sections.items) placement.layout =
     c.in_ok-owner.ensures ∙ ap (λ (ss : List OutSection). owners (rows_of ss) c.len.result) c.deref-3.ensures.value ∙ ap (owners (rows_of placement.sections.items)) count in
-    let begins : c.headers_of-headers.result ≡ headers_of options (entry_rva placement.layout.pieces.items plan.entry) (directories_of (kept_parts plan) placement.layout (reloc_tables placement.table)) =
+    let begins : c.headers_of-headers.result ≡ headers_of options (entry_rva placement.layout.pieces.items plan.entry) (directories_of (kept_parts plan) (rows_of placement.sections.items) placement.layout (reloc_tables placement.table)) =
     c.headers_of-headers.ensures ∙ ap (λ (e : ℕ). headers_of options e c.directories_of-directories.result) c.entry_rva-entry.ensures ∙ ap (headers_of options (entry_rva placement.layout.pieces.items plan.entry)) c.directories_of-directories.ensures in
     let own : c.headers_of-headers.result.base ≡ options.base = ap (λ (h : Headers). h.base) begins in
     let all = ready options plan placement c.headers_of-headers.result c.in_ok-image.image.items c.in_ok-owner.owner.items c.requires placed written owner_is in
     let in_range : fields_range_fault (kept_parts plan) (rows_of placement.sections.items) placement.layout options.base ≡ None =
     ap (fields_range_fault (kept_parts plan) (rows_of placement.sections.items) placement.layout) (sym own) ∙ c.in_ok-patch_pieces.ensures.in_range in
-    let file : c.patch_pieces.new.image.items ≡ file_of (headers_of options (entry_rva placement.layout.pieces.items plan.entry) (directories_of (kept_parts plan) placement.layout (reloc_tables placement.table))) placement.sections.items placement.layout (linked_contents (kept_parts plan) (rows_of placement.sections.items) placement.layout options.base) (reloc_tables placement.table) =
-    c.in_ok-patch_pieces.ensures.patched
-    ∙ ap (λ (h : Headers). file_of h placement.sections.items placement.layout (linked_contents (kept_parts plan) (rows_of placement.sections.items) placement.layout h.base) (reloc_tables placement.table)) begins in
-    built options plan placement c.in_ok-owner.owner.items c.requires placed all (record { image = c.patch_pieces.new.image; sections = c.len-count.result }) c.in_ok-check_own_base.ensures.permitted c.in_ok-exports.ensures.outside c.in_ok-exports.ensures.given in_range file (c.len-count.ensures ∙ placement.sections.ok.0)
+    let file : c.sort_pdata.new.image.items ≡ file_of (headers_of options (entry_rva placement.layout.pieces.items plan.entry) (directories_of (kept_parts plan) (rows_of placement.sections.items) placement.layout (reloc_tables placement.table))) placement.sections.items placement.layout (sorted_contents (pdata_pieces (rows_of placement.sections.items)) (linked_contents (kept_parts plan) (rows_of placement.sections.items) placement.layout options.base)) (reloc_tables placement.table) =
+    c.in_ok-sort_pdata.ensures
+    ∙ ap (λ (h : Headers). file_of h placement.sections.items placement.layout (sorted_contents (pdata_pieces (rows_of placement.sections.items)) (linked_contents (kept_parts plan) (rows_of placement.sections.items) placement.layout h.base)) (reloc_tables placement.table)) begins in
+    built options plan placement c.in_ok-owner.owner.items c.requires placed all (record { image = c.sort_pdata.new.image; sections = c.len-count.result }) c.in_ok-check_own_base.ensures.permitted c.in_ok-exports.ensures.outside c.in_ok-exports.ensures.given in_range file (c.len-count.ensures ∙ placement.sections.ok.0)
 
 pub overflow_cast-count : goal.overflow_cast-count
 overflow_cast-count c =
