@@ -40,7 +40,9 @@ use Rattle.link_image.specs.ImageHeaders.{headers_of}
 use Rattle.link_image.specs.LinkedImage.{base_rule, entry_rva, directories_of, AreGrouped, ArePlaced, IsWhole, IsPlacement, IsImageOf}
 use Rattle.link_image.specs.LinkedBytes.{linked_contents, image_contents, fields_range_fault}
 use Rattle.link_image.specs.ExportFaults.{in_table_fault}
-use Rattle.link_image.specs.BuildFaults.{IsBadMerge, IsBadExport, HasExportInTable, HasTooManySections, HasLargeTable, IsTooLarge, HasBadBase, HasBadRange, IsBuildFault}
+use Rattle.pdata_table.specs.SortedContents.{sorted_contents}
+use Rattle.link_image.specs.NamedSections.{pdata_pieces}
+use Rattle.link_image.specs.BuildFaults.{IsBadMerge, HasBadTable, HasExportInTable, HasTooManySections, HasLargeTable, IsTooLarge, HasBadBase, HasBadRange, IsBuildFault}
 use Rattle.link_image.proofs.PlaceLemmas.{range_by_places, contents_by_places, directories_by_places}
 use Rattle.link_image.proofs.OnePlacement.{same_rows, same_layout, same_fields, one_refused_size, one_grown_size, SamePlacement, one_placement}
 use Rattle.linker_program.specs.Unbuilt.{is_unbuilt_link}
@@ -170,21 +172,21 @@ same_range options link f g x y =
     some_same : Some f ≡ Some g → f ≡ g
     some_same e = cc
 
--- a bad export
+-- a bad table
 some_fault : (f g : Fault) → Some f ≡ Some g → f ≡ g
 some_fault f g e = cc
 
 none_fault : (f : Fault) → None ≡ Some f → ⊥
 none_fault f e = cc
 
-same_export : (options : LinkOptions) (link : KeptParts) (f g : Fault) → IsBadExport options link f → IsBadExport options link g → f ≡ g
-same_export options link f g x y = some_fault f g (sym x.is ∙ y.is)
+same_table : (options : LinkOptions) (link : KeptParts) (f g : Fault) → HasBadTable options link f → HasBadTable options link g → f ≡ g
+same_table options link f g x y = some_fault f g (sym x.is ∙ y.is)
 
-merge_or_export : (options : LinkOptions) (link : KeptParts) (f g : Fault) → IsBadMerge options link f → IsBadExport options link g → ⊥
-merge_or_export options link f g x y = y.merges x.named.place x.named.first.within x.named.first.bad
+merge_or_table : (options : LinkOptions) (link : KeptParts) (f g : Fault) → IsBadMerge options link f → HasBadTable options link g → ⊥
+merge_or_table options link f g x y = y.merges x.named.place x.named.first.within x.named.first.bad
 
-export_or : (options : LinkOptions) (link : KeptParts) (fault : Fault) (sections : List OutSection) → IsBadExport options link fault → AreGrouped options link (plan_pieces options link) sections → ⊥
-export_or options link fault sections x grouped = none_fault fault (sym grouped.exports ∙ x.is)
+table_or : (options : LinkOptions) (link : KeptParts) (fault : Fault) (sections : List OutSection) → HasBadTable options link fault → AreGrouped options link (plan_pieces options link) sections → ⊥
+table_or options link fault sections x grouped = none_fault fault (sym grouped.tables ∙ x.is)
 
 -- one that lies in the table
 same_inside : (link : KeptParts) (rows other_rows : List SectionRow) (layout other : Layout) (tables other_tables : List (List ℕ)) → SamePlacement rows other_rows layout other tables other_tables → in_table_fault link layout.pieces.items ≡ in_table_fault link other.pieces.items
@@ -211,49 +213,49 @@ merge_or options link fault sections x grouped = no_bad_merge options link (plan
 
 same_fault : (options : LinkOptions) (link : KeptParts) (f g : Fault) → IsBuildFault options link f → IsBuildFault options link g → f ≡ g
 same_fault options link f g (inl x) (inl y) = same_merge options link f g x y
-same_fault options link f g (inl x) (inr (inl y)) = absurd (merge_or_export options link f g x y)
+same_fault options link f g (inl x) (inr (inl y)) = absurd (merge_or_table options link f g x y)
 same_fault options link f g (inl x) (inr (inr (inl y))) = absurd (merge_or options link f y.sections x y.grouped)
 same_fault options link f g (inl x) (inr (inr (inr (inl y)))) = absurd (merge_or options link f y.sections x y.grouped)
 same_fault options link f g (inl x) (inr (inr (inr (inr (inl y))))) = absurd (merge_or options link f y.placement.sections x y.placement.grouped)
 same_fault options link f g (inl x) (inr (inr (inr (inr (inr (inl y)))))) = absurd (merge_or options link f y.placement.sections x y.placement.grouped)
 same_fault options link f g (inl x) (inr (inr (inr (inr (inr (inr (y))))))) = absurd (merge_or options link f y.placement.sections x y.placement.grouped)
-same_fault options link f g (inr (inl x)) (inl y) = absurd (merge_or_export options link g f y x)
-same_fault options link f g (inr (inl x)) (inr (inl y)) = same_export options link f g x y
-same_fault options link f g (inr (inl x)) (inr (inr (inl y))) = absurd (export_or options link f y.sections x y.grouped)
-same_fault options link f g (inr (inl x)) (inr (inr (inr (inl y)))) = absurd (export_or options link f y.sections x y.grouped)
-same_fault options link f g (inr (inl x)) (inr (inr (inr (inr (inl y))))) = absurd (export_or options link f y.placement.sections x y.placement.grouped)
-same_fault options link f g (inr (inl x)) (inr (inr (inr (inr (inr (inl y)))))) = absurd (export_or options link f y.placement.sections x y.placement.grouped)
-same_fault options link f g (inr (inl x)) (inr (inr (inr (inr (inr (inr (y))))))) = absurd (export_or options link f y.placement.sections x y.placement.grouped)
+same_fault options link f g (inr (inl x)) (inl y) = absurd (merge_or_table options link g f y x)
+same_fault options link f g (inr (inl x)) (inr (inl y)) = same_table options link f g x y
+same_fault options link f g (inr (inl x)) (inr (inr (inl y))) = absurd (table_or options link f y.sections x y.grouped)
+same_fault options link f g (inr (inl x)) (inr (inr (inr (inl y)))) = absurd (table_or options link f y.sections x y.grouped)
+same_fault options link f g (inr (inl x)) (inr (inr (inr (inr (inl y))))) = absurd (table_or options link f y.placement.sections x y.placement.grouped)
+same_fault options link f g (inr (inl x)) (inr (inr (inr (inr (inr (inl y)))))) = absurd (table_or options link f y.placement.sections x y.placement.grouped)
+same_fault options link f g (inr (inl x)) (inr (inr (inr (inr (inr (inr (y))))))) = absurd (table_or options link f y.placement.sections x y.placement.grouped)
 same_fault options link f g (inr (inr (inl x))) (inl y) = absurd (merge_or options link g x.sections y x.grouped)
-same_fault options link f g (inr (inr (inl x))) (inr (inl y)) = absurd (export_or options link g x.sections y x.grouped)
+same_fault options link f g (inr (inr (inl x))) (inr (inl y)) = absurd (table_or options link g x.sections y x.grouped)
 same_fault options link f g (inr (inr (inl x))) (inr (inr (inl y))) = same_many options link f g x y
 same_fault options link f g (inr (inr (inl x))) (inr (inr (inr (inl y)))) = absurd (many_or_large options link f g x y)
 same_fault options link f g (inr (inr (inl x))) (inr (inr (inr (inr (inl y))))) = absurd (many_or_placement options link f y.rows y.layout y.tables x y.placement)
 same_fault options link f g (inr (inr (inl x))) (inr (inr (inr (inr (inr (inl y)))))) = absurd (many_or_placement options link f y.rows y.layout y.tables x y.placement)
 same_fault options link f g (inr (inr (inl x))) (inr (inr (inr (inr (inr (inr (y))))))) = absurd (many_or_placement options link f y.rows y.layout y.tables x y.placement)
 same_fault options link f g (inr (inr (inr (inl x)))) (inl y) = absurd (merge_or options link g x.sections y x.grouped)
-same_fault options link f g (inr (inr (inr (inl x)))) (inr (inl y)) = absurd (export_or options link g x.sections y x.grouped)
+same_fault options link f g (inr (inr (inr (inl x)))) (inr (inl y)) = absurd (table_or options link g x.sections y x.grouped)
 same_fault options link f g (inr (inr (inr (inl x)))) (inr (inr (inl y))) = absurd (many_or_large options link g f y x)
 same_fault options link f g (inr (inr (inr (inl x)))) (inr (inr (inr (inl y)))) = same_large options link f g x y
 same_fault options link f g (inr (inr (inr (inl x)))) (inr (inr (inr (inr (inl y))))) = absurd (large_or_placement options link f y.rows y.layout y.tables x y.placement)
 same_fault options link f g (inr (inr (inr (inl x)))) (inr (inr (inr (inr (inr (inl y)))))) = absurd (large_or_placement options link f y.rows y.layout y.tables x y.placement)
 same_fault options link f g (inr (inr (inr (inl x)))) (inr (inr (inr (inr (inr (inr (y))))))) = absurd (large_or_placement options link f y.rows y.layout y.tables x y.placement)
 same_fault options link f g (inr (inr (inr (inr (inl x))))) (inl y) = absurd (merge_or options link g x.placement.sections y x.placement.grouped)
-same_fault options link f g (inr (inr (inr (inr (inl x))))) (inr (inl y)) = absurd (export_or options link g x.placement.sections y x.placement.grouped)
+same_fault options link f g (inr (inr (inr (inr (inl x))))) (inr (inl y)) = absurd (table_or options link g x.placement.sections y x.placement.grouped)
 same_fault options link f g (inr (inr (inr (inr (inl x))))) (inr (inr (inl y))) = absurd (many_or_placement options link g x.rows x.layout x.tables y x.placement)
 same_fault options link f g (inr (inr (inr (inr (inl x))))) (inr (inr (inr (inl y)))) = absurd (large_or_placement options link g x.rows x.layout x.tables y x.placement)
 same_fault options link f g (inr (inr (inr (inr (inl x))))) (inr (inr (inr (inr (inl y))))) = x.is ∙ sym y.is
 same_fault options link f g (inr (inr (inr (inr (inl x))))) (inr (inr (inr (inr (inr (inl y)))))) = absurd (base_or_inside options link f g x y)
 same_fault options link f g (inr (inr (inr (inr (inl x))))) (inr (inr (inr (inr (inr (inr (y))))))) = absurd (base_or_range options link f g x y)
 same_fault options link f g (inr (inr (inr (inr (inr (inl x)))))) (inl y) = absurd (merge_or options link g x.placement.sections y x.placement.grouped)
-same_fault options link f g (inr (inr (inr (inr (inr (inl x)))))) (inr (inl y)) = absurd (export_or options link g x.placement.sections y x.placement.grouped)
+same_fault options link f g (inr (inr (inr (inr (inr (inl x)))))) (inr (inl y)) = absurd (table_or options link g x.placement.sections y x.placement.grouped)
 same_fault options link f g (inr (inr (inr (inr (inr (inl x)))))) (inr (inr (inl y))) = absurd (many_or_placement options link g x.rows x.layout x.tables y x.placement)
 same_fault options link f g (inr (inr (inr (inr (inr (inl x)))))) (inr (inr (inr (inl y)))) = absurd (large_or_placement options link g x.rows x.layout x.tables y x.placement)
 same_fault options link f g (inr (inr (inr (inr (inr (inl x)))))) (inr (inr (inr (inr (inl y))))) = absurd (base_or_inside options link g f y x)
 same_fault options link f g (inr (inr (inr (inr (inr (inl x)))))) (inr (inr (inr (inr (inr (inl y)))))) = same_in_table options link f g x y
 same_fault options link f g (inr (inr (inr (inr (inr (inl x)))))) (inr (inr (inr (inr (inr (inr (y))))))) = absurd (inside_or options link f y.rows y.layout y.tables x y.placement y.outside)
 same_fault options link f g (inr (inr (inr (inr (inr (inr (x))))))) (inl y) = absurd (merge_or options link g x.placement.sections y x.placement.grouped)
-same_fault options link f g (inr (inr (inr (inr (inr (inr (x))))))) (inr (inl y)) = absurd (export_or options link g x.placement.sections y x.placement.grouped)
+same_fault options link f g (inr (inr (inr (inr (inr (inr (x))))))) (inr (inl y)) = absurd (table_or options link g x.placement.sections y x.placement.grouped)
 same_fault options link f g (inr (inr (inr (inr (inr (inr (x))))))) (inr (inr (inl y))) = absurd (many_or_placement options link g x.rows x.layout x.tables y x.placement)
 same_fault options link f g (inr (inr (inr (inr (inr (inr (x))))))) (inr (inr (inr (inl y)))) = absurd (large_or_placement options link g x.rows x.layout x.tables y x.placement)
 same_fault options link f g (inr (inr (inr (inr (inr (inr (x))))))) (inr (inr (inr (inr (inl y))))) = absurd (base_or_range options link g f y x)
@@ -263,7 +265,7 @@ same_fault options link f g (inr (inr (inr (inr (inr (inr (x))))))) (inr (inr (i
 -- modules have a fault, or an image
 fault_or_image : (options : LinkOptions) (link : KeptParts) (f : Fault) (image : ImagePlan) → IsBuildFault options link f → IsImageOf options link image → ⊥
 fault_or_image options link f image (inl x) y = merge_or options link f y.placement.sections x y.placement.grouped
-fault_or_image options link f image (inr (inl x)) y = export_or options link f y.placement.sections x y.placement.grouped
+fault_or_image options link f image (inr (inl x)) y = table_or options link f y.placement.sections x y.placement.grouped
 fault_or_image options link f image (inr (inr (inl x))) y = many_or_placement options link f y.rows y.layout y.tables x y.placement
 fault_or_image options link f image (inr (inr (inr (inl x)))) y = large_or_placement options link f y.rows y.layout y.tables x y.placement
 fault_or_image options link f image (inr (inr (inr (inr (inl x))))) y =
@@ -282,13 +284,17 @@ same_image options link a b x y =
     let same = one_placement options link x.rows y.rows x.layout y.layout x.tables y.tables x.placement y.placement in
     let linked : linked_contents link x.rows x.layout ≡ linked_contents link y.rows y.layout =
     ap (λ (r : List SectionRow). linked_contents link r x.layout) same.rows_same ∙ contents_by_places link y.rows x.layout y.layout (sym same.layouts.pieces) (sym same.layouts.sections) in
-    let headers = headers_of options (entry_rva y.layout.pieces.items place) (directories_of link y.layout y.tables) in
-    let heads : headers_of options (entry_rva x.layout.pieces.items place) (directories_of link x.layout x.tables) ≡ headers =
-    ap (λ (rvas : List ℕ). headers_of options (entry_rva rvas place) (directories_of link x.layout x.tables)) (sym same.layouts.pieces)
-    ∙ ap (headers_of options (entry_rva y.layout.pieces.items place)) (directories_by_places link x.layout y.layout x.tables (sym same.layouts.pieces) ∙ ap (directories_of link y.layout) same.tables_same) in
+    let headers = headers_of options (entry_rva y.layout.pieces.items place) (directories_of link y.rows y.layout y.tables) in
+    let heads : headers_of options (entry_rva x.layout.pieces.items place) (directories_of link x.rows x.layout x.tables) ≡ headers =
+    ap (λ (rvas : List ℕ). headers_of options (entry_rva rvas place) (directories_of link x.rows x.layout x.tables)) (sym same.layouts.pieces)
+    ∙ ap (headers_of options (entry_rva y.layout.pieces.items place))
+    (directories_by_places link x.rows x.layout y.layout x.tables (sym same.layouts.pieces) (sym same.layouts.sections)
+    ∙ ap (λ (r : List SectionRow). directories_of link r y.layout x.tables) same.rows_same
+    ∙ ap (directories_of link y.rows y.layout) same.tables_same) in
     x.is
     ∙ ap (λ (h : Headers). written_plan h x.rows x.layout.sections.items x.layout.pieces.items x.layout.image (image_contents link x.rows x.layout x.tables)) heads
-    ∙ ap (λ (cs : ℕ → List (List ℕ)). written_plan headers x.rows x.layout.sections.items x.layout.pieces.items x.layout.image (λ base. cs base ++ x.tables)) linked
+    ∙ ap (λ (cs : ℕ → List (List ℕ)). written_plan headers x.rows x.layout.sections.items x.layout.pieces.items x.layout.image (λ base. sorted_contents (pdata_pieces x.rows) (cs base) ++ x.tables)) linked
+    ∙ ap (λ (r : List SectionRow). written_plan headers x.rows x.layout.sections.items x.layout.pieces.items x.layout.image (λ base. sorted_contents (pdata_pieces r) (linked_contents link y.rows y.layout base) ++ x.tables)) same.rows_same
     ∙ ap (λ (ts : List (List ℕ)). written_plan headers x.rows x.layout.sections.items x.layout.pieces.items x.layout.image (image_contents link y.rows y.layout ts)) same.tables_same
     ∙ ap (λ (r : List SectionRow). written_plan headers r x.layout.sections.items x.layout.pieces.items x.layout.image (image_contents link y.rows y.layout y.tables)) same.rows_same
     ∙ ap (λ (p : List Placed). written_plan headers y.rows p x.layout.pieces.items x.layout.image (image_contents link y.rows y.layout y.tables)) (sym same.layouts.sections)

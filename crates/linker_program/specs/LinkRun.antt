@@ -41,8 +41,8 @@ outputs_of plan image = record { name = plan.options.out; bytes = image } ∷ []
 pub record Expects (has : Store → Outcome → Type 0) (files : FilesView) (outcome : Outcome) : Type 0 where
   pub told : ForSome files.store (λ store. has store outcome)
 
--- wherever an image is loaded, its import directory names the imports of the modules that are kept, each with the slot that the
--- layout gives it, and no other
+-- wherever an image is loaded, its import directory names the imports of the modules that are kept, each with the slot
+-- that the layout gives it, and no other
 abbrev pub HasImports : Plan → List ℕ → Type 0
 HasImports plan image =
     (link : KeptParts) → IsLinkOf plan.options plan.modules link → (is : IsImageOf plan.options link plan.image) → HoldsImports link is.layout image

@@ -1,5 +1,5 @@
--- What `at` shows of an image: its bytes from an RVA on, as they stand in memory at a base. The refusals come in the order of
--- the file, of what is wrong with the image, of the base, and of the range. Own.
+-- What `at` shows of an image: its bytes from an RVA on, as they stand in memory at a base. The refusals come in the
+-- order of the file, of what is wrong with the image, of the base, and of the range. Own.
 use Rattle.std.specs.Prelude.{◌≡◌, ℕ, ◌+◌, nat_lt, if◌then◌else◌, List, [], ◌∷◌, ◌++◌, length, Option, Some, None}
 use Rattle.hex.specs.Hex.{encode_lower}
 use Rattle.link_base.specs.Bytes.{has_bytes, bytes_at}
