@@ -2,7 +2,7 @@
 use Rattle.std.proofs.Common.{◌≡◌, ℕ, zero, suc, ◌+◌, ◌%◌, ◌<◌, ◌≤◌, true, eqb, List, [], ◌∷◌, ◌++◌, length, take, drop, get_or, set, inl, inr, refl, sym, ap, ◌∙◌, subst, eq-eqb, length-append, length-set, arith}
 use Rattle.std.specs.List.{All, flat_map, sum_by}
 use Rattle.std.proofs.lemmas.Bool.{cases_lt, cases_eq, or_right}
-use Rattle.std.proofs.lemmas.List.{get_or_append_left, get_or-append_right, get_or-set_same, get_or-set_other, length-take-le, length-drop, at_drop_more, append-nil, take_all}
+use Rattle.std.proofs.lemmas.List.{get_or_append_left, get_or-append_right, get_or-set_same, get_or-set_other, length-take-le, length-drop, append-nil, take_all}
 use Rattle.std.proofs.lemmas.List.Elements.{All-nil, All-cons}
 use Rattle.std.proofs.lemmas.List.Sums.{sum_by-cons}
 use Rattle.link_base.specs.Bytes.{bytes_at}
@@ -21,7 +21,9 @@ use Rattle.pdata_table.proofs.PartLemmas.{dealt}
 use Rattle.relocate.specs.declared.fix.Fix.{Fix}
 use Rattle.link_pieces.specs.TablePieces.{KeptParts, whole_pieces}
 use Rattle.link_image.specs.LinkedBytes.{contents_at, placed_contents}
-use Rattle.link_image.specs.Steps.{IsReady, LiesIn, bytes_of_piece, file_of, size_at, written}
+use Rattle.piece_bytes.specs.PieceBytes.{LiesIn, bytes_of_piece, size_at, written}
+use Rattle.piece_bytes.proofs.CallerLemmas.{drop_end}
+use Rattle.link_image.specs.Steps.{IsReady, file_of}
 use Rattle.link_image.proofs.HeldLemmas.{have_room_for, length-placed, placed_read, placed_held}
 use Rattle.link_image.proofs.FieldLemmas.{total_is, rva_here}
 
@@ -40,27 +42,12 @@ from_here (x ∷ xs) (suc j) k rest e =
     let later = from_here xs j k rest e in
     record { there = omega (arith, later.there); is = later.is; after = later.after }
 
-pub drop_end : (xs : List ℕ) (i : ℕ) → length xs ≤ i → drop i xs ≡ []
-drop_end [] zero le = refl
-drop_end [] (suc i) le = refl
-drop_end (x ∷ xs) zero le = absurd (omega (arith, le))
-drop_end (x ∷ xs) (suc i) le = drop_end xs i (omega (arith, le))
-
 -- a list that is written over a whole list of its length is what stands there
 pub written_back : (n : ℕ) (new old : List ℕ) → n ≡ length old → length new ≡ length old → take n (new ++ drop (length new) old) ≡ new
 written_back n new old is same =
     ap (λ (rest : List ℕ). take n (new ++ rest)) (drop_end old (length new) (omega (arith, same)))
     ∙ ap (take n) (append-nil new)
     ∙ take_all n new (omega (arith, is, same))
-
--- one piece more is written
-pub one_written : (layout : Layout) (pieces : List Piece) (i : ℕ) (members rest later part file next : List ℕ) (j n : ℕ) → j < length members → n ≡ size_at pieces (get_or members j 0) → part ≡ take n rest → later ≡ drop n rest → next ≡ patched (piece_place layout i (get_or members j 0)) part file → written layout pieces i (drop (j + 1) members) later next ≡ written layout pieces i (drop j members) rest file
-unfolding written
-one_written layout pieces i members rest later part file next j n lt size is_part is_later is_next =
-    let k = get_or members j 0 in
-    ap (λ (bytes : List ℕ). written layout pieces i (drop (j + 1) members) bytes next) (is_later ∙ ap (λ (m : ℕ). drop m rest) size)
-    ∙ ap (written layout pieces i (drop (j + 1) members) (drop (size_at pieces k) rest)) (is_next ∙ ap (λ (bytes : List ℕ). patched (piece_place layout i k) bytes file) (is_part ∙ ap (λ (m : ℕ). take m rest) size))
-    ∙ sym (at_drop_more (λ (ms : List ℕ). written layout pieces i ms rest file) members j 0 lt)
 
 -- ---- whole rows, one after another
 

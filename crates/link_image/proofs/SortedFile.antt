@@ -17,7 +17,8 @@ use Rattle.relocate.specs.declared.fix.Fix.{Fix}
 use Rattle.link_pieces.specs.TablePieces.{KeptParts, whole_pieces}
 use Rattle.link_image.specs.NamedSections.{no_row, is_named, section_named, members_of, pdata_pieces}
 use Rattle.link_image.specs.LinkedBytes.{contents_at, linked_contents}
-use Rattle.link_image.specs.Steps.{IsReady, IsRowPiece, LiesIn, bytes_of_piece, file_of, size_at, written}
+use Rattle.piece_bytes.specs.PieceBytes.{LiesIn, bytes_of_piece, size_at, written}
+use Rattle.link_image.specs.Steps.{IsReady, IsRowPiece, file_of}
 use Rattle.link_image.proofs.FieldLemmas.{total_is}
 use Rattle.link_image.proofs.PieceMoves.{linked_read, length_linked, length_piece}
 use Rattle.link_image.proofs.SortLemmas.{AreLike, IsSized, lie_all, read_all, write_all, joined_whole}

@@ -1,8 +1,8 @@
 -- What the steps of the code promise one another. It decides nothing.
-use Rattle.std.specs.Prelude.{◌≡◌, ◌≢◌, ◌<◌, ◌≤◌, ◌⊎◌, ℕ, ◌+◌, ◌^◌, ◌%◌, ◌==◌, true, false, nat_lt, if◌then◌else◌, List, [], ◌∷◌, ◌++◌, length, map, take, drop, slice_index, slice_index_or, Option, Some, None}
+use Rattle.std.specs.Prelude.{◌≡◌, ◌≢◌, ◌<◌, ◌≤◌, ◌⊎◌, ℕ, ◌+◌, ◌^◌, ◌%◌, ◌==◌, true, false, nat_lt, if◌then◌else◌, List, [], ◌∷◌, ◌++◌, length, map, slice_index, slice_index_or, Option, Some, None}
 use Rattle.std.specs.List.{All, Contains, IsDistinct, filter, flat_map, range_with_len}
 use Rattle.std.specs.declared.vec.Vec.{Vec}
-use Rattle.link_base.specs.Bytes.{first_below, bytes_at}
+use Rattle.link_base.specs.Bytes.{first_below}
 use Rattle.link_base.specs.declared.fault.Fault.{Fault}
 use Rattle.section_group.specs.declared.piece.Piece.{Piece}
 use Rattle.section_group.specs.declared.piece.OutSection.{OutSection}
@@ -11,12 +11,13 @@ use Rattle.section_group.specs.BarePieces.{bare}
 use Rattle.section_group.specs.PieceContents.{piece_contents}
 use Rattle.section_group.specs.Uniqueness.{SectionRow, row_of, rows_of}
 use Rattle.address_layout.specs.declared.layout.Layout.{Layout}
-use Rattle.address_layout.specs.Layout.{all_pieces, placed_at}
+use Rattle.address_layout.specs.Layout.{all_pieces}
 use Rattle.relocate.specs.declared.fix.Fix.{Fix}
 use Rattle.relocate.specs.declared.fix.Target.{Target}
 use Rattle.relocate.specs.declared.range.RelocRange.{RelocRange}
 use Rattle.base_reloc.specs.declared.field.BaseField.{BaseField}
 use Rattle.base_reloc.specs.PageBlocks.{blocks_of}
+use Rattle.piece_bytes.specs.PieceBytes.{size_at}
 use Rattle.pdata_table.specs.Rows.{ROW_SIZE}
 use Rattle.pdata_table.specs.SortedContents.{is_among}
 use Rattle.relocate.specs.PatchedBytes.{is_based, HaveNoBased}
@@ -40,7 +41,6 @@ use Rattle.link_image.specs.NamedSections.{pdata_pieces}
 use Rattle.link_image.specs.BaseFields.{base_field, AreBaseFields}
 use Rattle.link_image.specs.LinkedBytes.{owners_in, contents_at, placed_contents, linked_bytes, out_of_range}
 use Rattle.link_image.specs.LinkedImage.{link_input, table_row, IsPlacement}
-use Rattle.image_writer.specs.PieceInFile.{piece_place, patched}
 use Rattle.section_group.specs.Merging.{HasNoBadMerge}
 use Rattle.section_group.specs.Placement.{IsGrouping}
 use Rattle.link_plan.specs.Plan.{merges_of, kept_parts}
@@ -124,28 +124,6 @@ targets_of link rows = map (planned_target link) (map (export_target link.parts)
 abbrev pub IsGiven : ExportTo → Type 0
 IsGiven (Rva address) = (address ≢ 0) × (address < 2 ^ 32)
 IsGiven (Forward text) = Unit {0}
-
--- ---- the exception table
-
-abbrev pub size_at : List Piece → ℕ → ℕ
-size_at pieces k = (slice_index_or pieces k no_piece).size
-
--- the bytes of pieces of a section in a file, one after another
-abbrev pub bytes_of_piece : Layout → List Piece → ℕ → List ℕ → ℕ → List ℕ
-bytes_of_piece layout pieces section file k = bytes_at file (piece_place layout section k) (size_at pieces k)
-
--- the same file with a table in their place
-unfoldable pub written : Layout → List Piece → ℕ → List ℕ → List ℕ → List ℕ → List ℕ
-written layout pieces section [] table file = file
-written layout pieces section (k ∷ ks) table file =
-    written layout pieces section ks (drop (size_at pieces k) table) (patched (piece_place layout section k) (take (size_at pieces k) table) file)
-
--- a piece of a section that has bytes lies in a file of this length
-pub record LiesIn (layout : Layout) (pieces : List Piece) (section len k : ℕ) : Type 0 where
-  pub there : k < length pieces
-  pub placed : k < length layout.pieces.items
-  pub above : 0 < size_at pieces k → (placed_at layout.sections.items section).rva ≤ slice_index layout.pieces.items k
-  pub inside : 0 < size_at pieces k → piece_place layout section k + size_at pieces k ≤ len
 
 -- the sections that pieces stand in, by merges of which none is bad
 pub record AreMerged (options : LinkOptions) (link : KeptParts) (pieces : List Piece) (sections : List OutSection) : Type 0 where

@@ -19,6 +19,7 @@ use address_layout::Layout;
 use image_writer::Headers;
 use link_base::Fault;
 use link_plan::LinkPlan;
+use piece_bytes::place_in_section;
 use relocate::{Fixups, patch};
 use section_group::Piece;
 
@@ -92,17 +93,6 @@ fn file_place(layout: &Layout, owner: &[u32], k: usize) -> usize
     ensures { result ≡ piece_place layout.now (slice_index owner.now k) k }
 {
     place_in_section(layout, owner[k] as usize, k)
-}
-
-/// Where the first byte of a piece of a section stands in the file.
-pub(crate) fn place_in_section(layout: &Layout, section: usize, k: usize) -> usize
-    requires piece { k < length layout.now.pieces.items }
-    requires section { section < length layout.now.sections.items }
-    requires above { (placed_at layout.now.sections.items section).rva ≤ slice_index layout.now.pieces.items k }
-    ensures { result ≡ piece_place layout.now section k }
-{
-    let placed = &layout.sections[section];
-    placed.file as usize + (layout.pieces[k] - placed.rva) as usize
 }
 
 /// Patches the fields of a piece that has its first byte at a place of the file.

@@ -1,12 +1,8 @@
 //! The exception table: what is wrong with its pieces, and its rows in order.
 
-ghost use Rattle.std.specs.Prelude.{◌≡◌, ◌≤◌, ◌<◌, ◌+◌, ◌++◌, length, slice_index, None, Some, IfOk, OnOk, IfErr};
-ghost use Rattle.std.specs.List.{All, flat_map, sum_by};
-ghost use Rattle.link_base.specs.Bytes.{bytes_at};
+ghost use Rattle.std.specs.Prelude.{◌≡◌, ◌<◌, length, None, Some, OnOk, IfErr};
 ghost use Rattle.link_base.specs.PeFormat.{NUMBEROF_DIRECTORY_ENTRIES};
 ghost use Rattle.section_group.specs.Uniqueness.{rows_of};
-ghost use Rattle.address_layout.specs.Layout.{placed_at};
-ghost use Rattle.image_writer.specs.PieceInFile.{piece_place, patched};
 ghost use Rattle.link_pieces.specs.Pieces.{link_pieces};
 ghost use Rattle.link_words.specs.Outcome.{options_said};
 ghost use Rattle.link_plan.specs.Plan.{IsPlanOf, kept_parts};
@@ -14,18 +10,17 @@ ghost use Rattle.link_image.specs.LinkedBytes.{linked_contents};
 ghost use Rattle.pdata_table.specs.SortedContents.{sorted_contents};
 ghost use Rattle.link_image.specs.NamedSections.{pdata_pieces};
 ghost use Rattle.link_image.specs.TableFaults.{is_bad_pdata, bad_pdata, pdata_fault_at, pdata_fault};
-ghost use Rattle.link_image.specs.Steps.{IsReady, LiesIn, bytes_of_piece, file_of, reloc_tables, size_at, written};
+ghost use Rattle.link_image.specs.Steps.{IsReady, file_of, reloc_tables};
 
-use crate::patching::place_in_section;
 use crate::placement::Placement;
 use crate::tables::section_named;
-use address_layout::Layout;
 use image_writer::Headers;
 use link_base::{Fault, Memory};
 use link_fields::is_pdata;
 use link_plan::LinkPlan;
 use link_words::Options;
 use pdata_table::sort_rows;
+use piece_bytes::{read_pieces, write_pieces};
 use section_group::Piece;
 use std::alloc::Global;
 
@@ -100,98 +95,8 @@ pub(crate) fn sort_pdata<'a>(
     };
     let members = &placement.sections[section].pieces;
     let layout = &placement.layout;
-    let mut table = read_table(alloc, image, layout, &plan.pieces, section, members)?;
+    let mut table = read_pieces(alloc, image, layout, &plan.pieces, section, members)?;
     sort_rows(alloc, &mut table)?;
-    write_table(image, &table, layout, &plan.pieces, section, members);
+    write_pieces(image, &table, layout, &plan.pieces, section, members);
     Ok(())
-}
-
-/// What pieces of a section hold in a file, one after another.
-fn read_table(
-    alloc: Global,
-    file: &[u8],
-    layout: &Layout,
-    pieces: &[Piece<'_>],
-    section: usize,
-    members: &[u32],
-) -> Result<Vec<u8>, Memory>
-    requires section { section < length layout.now.sections.items }
-    requires lie { All (LiesIn layout.now pieces.now section (length file.now)) members.now }
-    ensures { IfOk result (λ table. table.items ≡ flat_map (bytes_of_piece layout.now pieces.now section file.now) members.now) }
-{
-    let mut table = Vec::new(alloc);
-    for member in members {
-        let k = *member as usize;
-        push_part(
-            &mut table,
-            file,
-            layout,
-            section,
-            k,
-            pieces[k].size as usize,
-        )?;
-    }
-    Ok(table)
-}
-
-/// Appends what a piece of a section holds in a file.
-fn push_part(
-    table: &mut Vec<u8>,
-    file: &[u8],
-    layout: &Layout,
-    section: usize,
-    k: usize,
-    size: usize,
-) -> Result<(), Memory>
-    requires section { section < length layout.now.sections.items }
-    requires piece { k < length layout.now.pieces.items }
-    requires above { 0 < size → (placed_at layout.now.sections.items section).rva ≤ slice_index layout.now.pieces.items k }
-    requires inside { 0 < size → piece_place layout.now section k + size ≤ length file.now }
-    ensures { OnOk result (table.new.items ≡ table.old.items ++ bytes_at file.now (piece_place layout.now section k) size) }
-{
-    if size == 0 {
-        return Ok(());
-    }
-    let place = place_in_section(layout, section, k);
-    table.extend_from_slice(&file[place..place + size])?;
-    Ok(())
-}
-
-/// Puts a table into pieces of a section, one after another.
-fn write_table(
-    file: &mut Vec<u8>,
-    table: &[u8],
-    layout: &Layout,
-    pieces: &[Piece<'_>],
-    section: usize,
-    members: &[u32],
-)
-    requires section { section < length layout.now.sections.items }
-    requires lie { All (LiesIn layout.now pieces.now section (length file.old.items)) members.now }
-    requires whole { length table.now ≡ sum_by (size_at pieces.now) members.now }
-    ensures { file.new.items ≡ written layout.now pieces.now section members.now table.now file.old.items }
-{
-    let mut rest = table;
-    for member in members {
-        let k = *member as usize;
-        let (part, later) = rest.split_at(pieces[k].size as usize);
-        put_part(file, layout, section, k, part);
-        rest = later;
-    }
-}
-
-/// Puts bytes into a piece of a section.
-fn put_part(file: &mut Vec<u8>, layout: &Layout, section: usize, k: usize, part: &[u8])
-    requires section { section < length layout.now.sections.items }
-    requires piece { k < length layout.now.pieces.items }
-    requires above { 0 < length part.now → (placed_at layout.now.sections.items section).rva ≤ slice_index layout.now.pieces.items k }
-    requires inside { 0 < length part.now → piece_place layout.now section k + length part.now ≤ length file.old.items }
-    ensures len { length file.new.items ≡ length file.old.items }
-    ensures put { file.new.items ≡ patched (piece_place layout.now section k) part.now file.old.items }
-{
-    if part.is_empty() {
-        return;
-    }
-    let place = place_in_section(layout, section, k);
-    file[place..place + part.len()].copy_from_slice(part);
 }

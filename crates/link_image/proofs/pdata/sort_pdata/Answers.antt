@@ -10,7 +10,8 @@ use Rattle.pdata_table.specs.SortedContents.{joined, sorted_contents}
 use Rattle.link_plan.specs.Plan.{kept_parts}
 use Rattle.link_image.specs.NamedSections.{section_named}
 use Rattle.link_image.specs.LinkedBytes.{linked_contents}
-use Rattle.link_image.specs.Steps.{bytes_of_piece, file_of, reloc_tables, written}
+use Rattle.piece_bytes.specs.PieceBytes.{bytes_of_piece, written}
+use Rattle.link_image.specs.Steps.{file_of, reloc_tables}
 use Rattle.pdata_table.proofs.CallerLemmas.{length_sorted}
 use Rattle.link_image.proofs.SortLemmas.{written_back}
 use Rattle.link_image.proofs.SortedFile.{nothing_sorted, table_section, members_read}
@@ -27,8 +28,8 @@ returns-in_default c =
     ∙ ap (λ (cs : List (List ℕ)). file_of headers sections layout cs (reloc_tables c.args.placement.now.table))
     (sym (nothing_sorted (rows_of sections) (linked_contents (kept_parts c.args.plan.now) (rows_of sections) layout headers.base) none))
 
-pub read_table-requires-clause-lie : goal.read_table-requires-clause-lie
-read_table-requires-clause-lie c =
+pub read_pieces-requires-clause-lie : goal.read_pieces-requires-clause-lie
+read_pieces-requires-clause-lie c =
     let sections = c.args.placement.now.sections.items in
     let i = c.in-Some.section in
     let named : section_named (rows_of sections) (codes ".pdata") ≡ Some i =
@@ -54,8 +55,8 @@ sort_rows-requires c =
     ∙ at.read in
     subst HasWholeRows (sym table) at.whole
 
-pub write_table-requires-clause-lie : goal.write_table-requires-clause-lie
-write_table-requires-clause-lie c =
+pub write_pieces-requires-clause-lie : goal.write_pieces-requires-clause-lie
+write_pieces-requires-clause-lie c =
     let sections = c.args.placement.now.sections.items in
     let i = c.in-Some.section in
     let named : section_named (rows_of sections) (codes ".pdata") ≡ Some i =
@@ -65,8 +66,8 @@ write_table-requires-clause-lie c =
     rw (c.deref-6.ensures.value, c.requires.file, members) at.lie
 
 -- the table that was read, sorted
-pub write_table-requires-clause-whole : goal.write_table-requires-clause-whole
-write_table-requires-clause-whole c =
+pub write_pieces-requires-clause-whole : goal.write_pieces-requires-clause-whole
+write_pieces-requires-clause-whole c =
     let sections = c.args.placement.now.sections.items in
     let layout = c.args.placement.now.layout in
     let i = c.in-Some.section in
@@ -110,7 +111,7 @@ returns c =
     let same : length c.sort_rows.new.table ≡ length c.in_ok-table.table.items =
     ap (λ (bytes : List ℕ). length bytes) is_sorted ∙ length_sorted (joined (linked_contents (kept_parts c.args.plan.now) (rows_of sections) layout c.args.headers.now.base) (row_at sections i).1) at.whole ∙ ap (λ (bytes : List ℕ). length bytes) (sym table ∙ c.deref_mut.ensures.value) in
     let sorted = c.deref-5.ensures.value ∙ written_back c.in_ok-table.table.len c.sort_rows.new.table c.in_ok-table.table.items c.in_ok-table.table.ok.0 same ∙ is_sorted in
-    c.write_table.ensures
+    c.write_pieces.ensures
     ∙ ap (λ (ps : List Piece). written layout ps i c.deref-7.result.now c.deref-5.result.now c.args.image.now.items) c.deref-6.ensures.value
     ∙ ap (λ (ms : List ℕ). written layout c.args.plan.now.pieces.items i ms c.deref-5.result.now c.args.image.now.items) later
     ∙ ap (λ (bytes : List ℕ). written layout c.args.plan.now.pieces.items i (row_at sections i).1 bytes c.args.image.now.items) sorted

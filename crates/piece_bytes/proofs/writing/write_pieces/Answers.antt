@@ -3,9 +3,9 @@ use Rattle.std.proofs.lemmas.List.{get_or_default, length-drop}
 use Rattle.std.proofs.lemmas.List.Sums.{sum_by-drop_more}
 use Rattle.section_group.specs.declared.piece.Piece.{Piece}
 use Rattle.section_group.specs.SectionOrder.{no_piece}
-use Rattle.link_image.specs.Steps.{size_at, written}
-use Rattle.link_image.proofs.SortLemmas.{drop_end, one_written}
-use Rattle.link_image.proofs.pdata.write_table.Goals as goal
+use Rattle.piece_bytes.specs.PieceBytes.{size_at, written}
+use Rattle.piece_bytes.proofs.PieceLemmas.{drop_end, one_written}
+use Rattle.piece_bytes.proofs.writing.write_pieces.Goals as goal
 
 pub loop-member-preserved : goal.loop-member-preserved
 loop-member-preserved c =

@@ -1,7 +1,7 @@
 use Rattle.std.proofs.Common.{◌≡◌, take}
 use Rattle.std.specs.List.{flat_map}
-use Rattle.link_image.specs.Steps.{bytes_of_piece}
-use Rattle.link_image.proofs.pdata.read_table.Given as goal
+use Rattle.piece_bytes.specs.PieceBytes.{bytes_of_piece}
+use Rattle.piece_bytes.proofs.reading.read_pieces.Given as goal
 
 abbrev pub invariant-loop-member : goal.invariant-loop-member
 invariant-loop-member l =

@@ -1,7 +1,7 @@
 use Rattle.std.proofs.Common.{◌≡◌, drop, length}
 use Rattle.std.specs.List.{sum_by}
-use Rattle.link_image.specs.Steps.{size_at, written}
-use Rattle.link_image.proofs.pdata.write_table.Given as goal
+use Rattle.piece_bytes.specs.PieceBytes.{size_at, written}
+use Rattle.piece_bytes.proofs.writing.write_pieces.Given as goal
 
 abbrev pub invariant-loop-member : goal.invariant-loop-member
 invariant-loop-member l = record {
