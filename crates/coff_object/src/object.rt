@@ -56,8 +56,8 @@ impl<'a> Object<'a> {
         }
     }
 
-    /// The object with these bytes, which are known to be well formed.
-    fn of(bytes: &'a [u8]) -> Object<'a>
+    /// The object with these bytes, which are known to be well formed: they are not judged again.
+    pub fn of(bytes: &'a [u8]) -> Object<'a>
         requires { object_fault bytes.now ≡ None }
         ensures { result ≡ bytes.now }
     {

@@ -1,6 +1,6 @@
 //! The relocations of pieces, each with what its symbol means.
 
-ghost use Rattle.std.specs.Prelude.{◌≡◌, ◌≤◌, ℕ, [], List, Some, None, OnOk, slice_index_or};
+ghost use Rattle.std.specs.Prelude.{◌≡◌, ◌≤◌, ℕ, Some, None, IfOk, OnOk, slice_index_or};
 ghost use Rattle.coff_records.specs.ObjectFile.{section_total};
 ghost use Rattle.module_view.specs.Module.{module_at};
 ghost use Rattle.link_pieces.specs.LinkParts.{LinkParts};
@@ -14,6 +14,7 @@ use coff_object::Object;
 use link_base::Memory;
 use link_pieces::{LinkNames, PieceIndex};
 use relocate::Fix;
+use std::alloc::Global;
 use synthetic_sections::{FIRST_LOCAL_SLOT, FIRST_THUNK, slot_field, thunk_field};
 
 /// What the symbols of one module mean, by its position: the module whose relocations were read last.
@@ -23,54 +24,51 @@ pub(crate) struct LastTargets {
     pub(crate) targets: Vec<RecordTarget>,
 }
 
-/// Puts the relocations of a section of the module at a position into an empty list.
+/// The relocations of a section of the module at a position.
 pub(crate) fn section_fixes<'a>(
-    fixes: &mut Vec<Fix>,
+    alloc: Global,
     last: &mut LastTargets,
     names: &LinkNames<'a>,
     index: &PieceIndex<'a>,
     object: &Object<'a>,
     position: u32,
     section: u32,
-) -> Result<(), Memory>
-    requires empty { fixes.old.items ≡ [] }
+) -> Result<Vec<Fix>, Memory>
     requires indexed { IsPieceIndex names.now index.now }
     requires held { HoldsTargets names.now last.old.position last.old.targets.items }
     requires here { object.now ≡ (module_at names.now.modules position).bytes }
     requires first { 1 ≤ section }
     requires last { section ≤ section_total object.now }
-    ensures fixes { OnOk result (fixes.new.items ≡ section_fixes names.now position object.now section) }
+    ensures fixes { IfOk result (λ fixes. fixes.items ≡ section_fixes names.now position object.now section) }
     ensures held { OnOk result (HoldsTargets names.now last.new.position last.new.targets.items) }
 {
     if object.relocation_count(section) == 0 {
-        return Ok(());
+        return Ok(Vec::new(alloc));
     }
     read_last(last, names, index, object, position)?;
-    put_fixes(fixes, object, section, &last.targets)
+    fixes_by(alloc, object, section, &last.targets)
 }
 
-/// Puts the field of a piece that the linker makes into an empty list, by the number of the piece: of a jump the slot that it
-/// goes through, of a local slot the address of what its name means. An import table has none.
+/// The field of a piece that the linker makes, by the number of the piece: of a jump the slot that it goes through, of a local slot the
+/// address of what its name means. An import table has none.
 pub(crate) fn linker_fixes<'a>(
-    fixes: &mut Vec<Fix>,
+    alloc: Global,
     names: &LinkNames<'a>,
     index: &PieceIndex<'a>,
     number: u32,
-) -> Result<(), Memory>
-    requires empty { fixes.old.items ≡ [] }
+) -> Result<Vec<Fix>, Memory>
     requires indexed { IsPieceIndex names.now index.now }
-    ensures { OnOk result (fixes.new.items ≡ linker_fixes names.now number) }
+    ensures { IfOk result (λ fixes. fixes.items ≡ linker_fixes names.now number) }
 {
     if number < FIRST_THUNK {
-        return Ok(());
+        return Ok(Vec::new(alloc));
     }
     if number < FIRST_LOCAL_SLOT {
-        fixes.push(thunk_field(import_target(index, number - FIRST_THUNK)))?;
-        return Ok(());
+        let target = import_target(index, number - FIRST_THUNK);
+        return Ok(vec![in alloc; thunk_field(target)]?);
     }
     let meaning = names.resolve(index.slot_name(number));
-    fixes.push(slot_field(meant_target(index, meaning)))?;
-    Ok(())
+    Ok(vec![in alloc; slot_field(meant_target(index, meaning))]?)
 }
 
 /// Reads what the symbols of the module at a position mean, where that was not read last.
@@ -94,20 +92,19 @@ fn read_last<'a>(
     Ok(())
 }
 
-/// Puts the relocations of a section into an empty list, by what the symbols of its module mean.
-fn put_fixes(
-    fixes: &mut Vec<Fix>,
+/// The relocations of a section, by what the symbols of its module mean.
+fn fixes_by(
+    alloc: Global,
     object: &Object<'_>,
     section: u32,
     targets: &[RecordTarget],
-) -> Result<(), Memory>
-    requires empty { fixes.old.items ≡ [] }
+) -> Result<Vec<Fix>, Memory>
     requires first { 1 ≤ section }
     requires last { section ≤ section_total object.now }
-    ensures { OnOk result ((link : LinkParts) (position : ℕ) → AreTargets link position object.now targets.now
-        → fixes.new.items ≡ section_fixes link position object.now section) }
+    ensures { IfOk result (λ fixes. (link : LinkParts) (position : ℕ) → AreTargets link position object.now targets.now
+        → fixes.items ≡ section_fixes link position object.now section) }
 {
-    fixes.reserve(object.relocation_count(section) as usize)?;
+    let mut fixes = Vec::with_capacity(alloc, object.relocation_count(section) as usize)?;
     let mut index = 0;
     for relocation in object.relocations(section) {
         fixes.push(Fix {
@@ -118,7 +115,7 @@ fn put_fixes(
         })?;
         index += 1;
     }
-    Ok(())
+    Ok(fixes)
 }
 
 /// What a record means.

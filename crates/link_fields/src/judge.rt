@@ -19,7 +19,7 @@ use crate::pdata::is_pdata;
 use link_base::{Fault, Memory, Refusal};
 use link_pieces::{FIRST_COMMON, LinkNames, PieceIndex};
 use module_view::Module;
-use relocate::{FieldError, Fix, Fixups, check};
+use relocate::{FieldError, Fix, Fixups, check_list};
 use section_group::Piece;
 use std::alloc::Global;
 
@@ -57,12 +57,11 @@ pub fn judge_pieces<'a>(
         position: None,
         targets: Vec::new(alloc),
     };
-    let mut fixes = Vec::new(alloc);
     for k in 0..pieces.len() {
         let piece = &pieces[k];
-        read_fixes(&mut fixes, &mut last, names, index, modules, piece)?;
+        let fixes = read_fixes(alloc, &mut last, names, index, modules, piece)?;
         push_edges(&mut edges, k as u32, &fixes)?;
-        match judge(alloc, piece, &fixes, large) {
+        match judge(alloc, piece, fixes, large) {
             Ok(fields) => keep(&mut fixups, fields)?,
             Err(error) => return Err(refusal(piece, error)),
         }
@@ -78,34 +77,33 @@ fn keep(fixups: &mut Vec<Fixups>, fields: Fixups) -> Result<(), Memory>
     Ok(())
 }
 
-/// Replaces a list by the relocations of a piece. A common has none.
+/// The relocations of a piece. A common has none.
 fn read_fixes<'a>(
-    fixes: &mut Vec<Fix>,
+    alloc: Global,
     last: &mut LastTargets,
     names: &LinkNames<'a>,
     index: &PieceIndex<'a>,
     modules: &[Module<'a>],
     piece: &Piece<'a>,
-) -> Result<(), Memory>
+) -> Result<Vec<Fix>, Memory>
     requires same { names.now.modules ≡ modules.now }
     requires indexed { IsPieceIndex names.now index.now }
     requires held { HoldsTargets names.now last.old.position last.old.targets.items }
     requires whole { IsPieceOf names.now (bare piece.now) }
-    ensures fixes { OnOk result (fixes.new.items ≡ fixes_in names.now piece.now) }
+    ensures fixes { IfOk result (λ fixes. fixes.items ≡ fixes_in names.now piece.now) }
     ensures held { OnOk result (HoldsTargets names.now last.new.position last.new.targets.items) }
 {
-    fixes.clear();
     if piece.module as usize == modules.len() {
-        return linker_fixes(fixes, names, index, piece.number);
+        return linker_fixes(alloc, names, index, piece.number);
     }
     if piece.number >= FIRST_COMMON {
-        return Ok(());
+        return Ok(Vec::new(alloc));
     }
     let Some(object) = modules[piece.module as usize].object() else {
-        return Ok(());
+        return Ok(Vec::new(alloc));
     };
     section_fixes(
-        fixes,
+        alloc,
         last,
         names,
         index,
@@ -116,16 +114,21 @@ fn read_fixes<'a>(
 }
 
 /// Judges the relocations of a piece.
-fn judge(alloc: Global, piece: &Piece<'_>, fixes: &[Fix], large: bool) -> Result<Fixups, FieldError>
-    ensures fields { IfOk result (λ fixups. AreTheFields fixes.now fixups) }
+fn judge(
+    alloc: Global,
+    piece: &Piece<'_>,
+    fixes: Vec<Fix>,
+    large: bool,
+) -> Result<Fixups, FieldError>
+    ensures fields { IfOk result (λ fixups. AreTheFields fixes.items fixups) }
     ensures patchable { IfOk result (ArePatchable (length (piece_contents piece.now))) }
-    ensures accepted { OnOk result (judged_fault piece.now (piece_contents piece.now) large fixes.now ≡ None) }
-    ensures refused { IfErr result (RefusesField (field_fault (len_if piece.now.init (piece_contents piece.now)) large (is_pdata piece.now) fixes.now)) }
+    ensures accepted { OnOk result (judged_fault piece.now (piece_contents piece.now) large fixes.items ≡ None) }
+    ensures refused { IfErr result (RefusesField (field_fault (len_if piece.now.init (piece_contents piece.now)) large (is_pdata piece.now) fixes.items)) }
 {
     if fixes.is_empty() {
         return Ok(Fixups::none(alloc));
     }
-    check(
+    check_list(
         alloc,
         initialised_bytes(piece),
         fixes,

@@ -104,10 +104,7 @@ pub(crate) fn no_object() -> &'static [u8]
 pub(crate) fn nothing<'a>() -> Object<'a>
     ensures { result ≡ no_object }
 {
-    match Object::open(no_object()) {
-        Ok(object) => object,
-        Err(_) => unreachable!(),
-    }
+    Object::of(no_object())
 }
 
 /// Whether a name is too long.

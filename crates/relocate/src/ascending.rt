@@ -1,6 +1,6 @@
 //! The fields of relocations that ascend by their places, as compilers write them.
 
-ghost use Rattle.std.specs.Prelude.{◌≡◌, None, IfOk, IfErr, IfSome, IfNone};
+ghost use Rattle.std.specs.Prelude.{◌≡◌, None, true, IfOk, IfErr, IfSome, IfNone};
 ghost use Rattle.std.specs.List.{filter};
 ghost use Rattle.relocate.specs.Field.{has_field};
 ghost use Rattle.relocate.specs.FieldFaults.{field_fault, RefusesFor};
@@ -14,19 +14,18 @@ use crate::place::{field_end, has_field};
 use link_base::pe_format::REL_AMD64_ABSOLUTE;
 use std::alloc::{AllocError, Global};
 
-/// The fields of relocations, or nothing where one begins before the end of an earlier one. They are copied at once where
-/// each relocation has a field.
-pub(crate) fn ascending_fields(
-    alloc: Global,
+/// Judges relocations whose fields ascend: whether each has a field, or nothing where one begins before the end of an
+/// earlier one.
+pub(crate) fn judge_ascending(
     body_len: Option<usize>,
     fixes: &[Fix],
     large: bool,
     pdata: bool,
-) -> Result<Option<Vec<Fix>>, FieldError>
-    ensures accepted { IfOk result (λ fields. IfSome fields (λ _. field_fault body_len large pdata fixes.now ≡ None)) }
-    ensures fields { IfOk result (λ fields. IfSome fields (λ list. list.items ≡ filter has_field fixes.now)) }
-    ensures patchable { IfOk result (λ fields. IfSome fields (λ list. ArePatchable (size_of body_len) list.items)) }
-    ensures descend { IfOk result (λ fields. IfNone fields (Descend fixes.now)) }
+) -> Result<Option<bool>, FieldError>
+    ensures accepted { IfOk result (λ ascend. IfSome ascend (λ _. field_fault body_len large pdata fixes.now ≡ None)) }
+    ensures whole { IfOk result (λ ascend. IfSome ascend (λ all. all ≡ true → fixes.now ≡ filter has_field fixes.now)) }
+    ensures patchable { IfOk result (λ ascend. IfSome ascend (λ _. ArePatchable (size_of body_len) (filter has_field fixes.now))) }
+    ensures descend { IfOk result (λ ascend. IfNone ascend (Descend fixes.now)) }
     ensures refused { IfErr result (RefusesFor (field_fault body_len large pdata fixes.now)) }
 {
     let mut all_have_fields = true;
@@ -44,14 +43,11 @@ pub(crate) fn ascending_fields(
         }
         end = field_end(fix);
     }
-    if all_have_fields {
-        return Ok(Some(Vec::from_slice(alloc, fixes)?));
-    }
-    Ok(Some(with_fields(alloc, fixes)?))
+    Ok(Some(all_have_fields))
 }
 
 /// The relocations that have a field.
-fn with_fields(alloc: Global, fixes: &[Fix]) -> Result<Vec<Fix>, AllocError>
+pub(crate) fn with_fields(alloc: Global, fixes: &[Fix]) -> Result<Vec<Fix>, AllocError>
     ensures { IfOk result (λ fields. fields.items ≡ filter has_field fixes.now) }
 {
     let mut fields = Vec::new(alloc);

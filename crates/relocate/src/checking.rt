@@ -5,7 +5,7 @@ ghost use Rattle.relocate.specs.FieldFaults.{field_fault, RefusesFor};
 ghost use Rattle.relocate.specs.Judged.{AreTheFields, ArePatchable, size_of, len_of};
 
 use crate::any_order::sorted_fields;
-use crate::ascending::ascending_fields;
+use crate::ascending::{judge_ascending, with_fields};
 use crate::error::FieldError;
 use crate::fix::Fix;
 use crate::fixups::Fixups;
@@ -30,10 +30,34 @@ pub fn check(
     ensures patchable { IfOk result (λ fixups. ArePatchable (size_of (len_of body.entry)) fixups) }
     ensures refused { IfErr result (RefusesFor (field_fault (len_of body.entry) large pdata fixes.now)) }
 {
+    check_list(alloc, body, Vec::from_slice(alloc, fixes)?, large, pdata)
+}
+
+/// The same of relocations in a list, which is kept as it is where the fields ascend and no relocation is without one.
+///
+/// # Errors
+///
+/// Those of `check`.
+pub fn check_list(
+    alloc: Global,
+    body: Option<&[u8]>,
+    fixes: Vec<Fix>,
+    large: bool,
+    pdata: bool,
+) -> Result<Fixups, FieldError>
+    ensures accepted { IfOk result (λ _. field_fault (len_of body.entry) large pdata fixes.items ≡ None) }
+    ensures fields { IfOk result (λ fixups. AreTheFields fixes.items fixups) }
+    ensures patchable { IfOk result (λ fixups. ArePatchable (size_of (len_of body.entry)) fixups) }
+    ensures refused { IfErr result (RefusesFor (field_fault (len_of body.entry) large pdata fixes.items)) }
+{
     let body_len = body.map(|bytes| bytes.len());
-    if let Some(fixes) = ascending_fields(alloc, body_len, fixes, large, pdata)? {
-        return Ok(Fixups { fixes });
+    match judge_ascending(body_len, &fixes, large, pdata)? {
+        Some(true) => Ok(Fixups { fixes }),
+        Some(false) => Ok(Fixups {
+            fixes: with_fields(alloc, &fixes)?,
+        }),
+        None => Ok(Fixups {
+            fixes: sorted_fields(alloc, body_len, &fixes, large, pdata)?,
+        }),
     }
-    let fixes = sorted_fields(alloc, body_len, fixes, large, pdata)?;
-    Ok(Fixups { fixes })
 }

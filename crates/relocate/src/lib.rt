@@ -24,7 +24,7 @@ mod target;
 mod value;
 mod writing;
 
-pub use checking::check;
+pub use checking::{check, check_list};
 pub use error::FieldError;
 pub use fix::{Fix, Target};
 pub use fixups::Fixups;

@@ -6,6 +6,7 @@ pub mod ChainLemmas
 pub mod EndLemmas
 pub mod GreatestLemmas
 pub mod LinkLemmas
+pub mod LinkerNameLemmas
 pub mod LiveLemmas
 pub mod PassLemmas
 pub mod WeakLemmas

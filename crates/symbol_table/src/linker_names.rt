@@ -1,6 +1,6 @@
 //! Names that the linker gives a meaning itself.
 
-ghost use Rattle.std.specs.Prelude.{◌≡◌};
+ghost use Rattle.std.specs.Prelude.{◌≡◌, None, false};
 ghost use Rattle.std.specs.List.{list_any};
 ghost use Rattle.link_base.specs.NameText.{same_name};
 ghost use Rattle.symbol_table.specs.LinkerNames.{zero_names, linker_meaning};
@@ -27,6 +27,9 @@ const ZERO_NAMES: [&[u8]; 10] = [
 pub(crate) fn linker_meaning<'a>(name: &Name<'_>) -> Option<Meaning<'a>>
     ensures { result ≡ linker_meaning name.now }
 {
+    if !may_have_meaning(name) {
+        return None;
+    }
     if *name == Name::of(b"__ImageBase") {
         return Some(Meaning::ImageBase);
     }
@@ -34,6 +37,13 @@ pub(crate) fn linker_meaning<'a>(name: &Name<'_>) -> Option<Meaning<'a>>
         return Some(Meaning::Absolute(0));
     }
     None
+}
+
+/// Whether a name begins as all of those do. Most names do not, and are compared with none of them.
+fn may_have_meaning(name: &Name<'_>) -> bool
+    ensures { result ≡ false → linker_meaning name.now ≡ None }
+{
+    !name.is_import() && name.rest().starts_with(b"__")
 }
 
 /// Whether a name means the number 0.

@@ -5,5 +5,5 @@ use Rattle.link_fields.proofs.fixes.section_fixes.Goals as goal
 pub returns-then-relocation_count-eq0-clause-fixes :
     goal.returns-then-relocation_count-eq0-clause-fixes
 returns-then-relocation_count-eq0-clause-fixes c =
-    c.requires.empty
+    c.new.ensures.items
     ∙ sym (no_relocations c.args.names.now c.args.position c.args.object.now c.args.section (sym c.relocation_count.ensures ∙ c.if-relocation_count-eq0.true))

@@ -5,4 +5,4 @@ use Rattle.link_fields.proofs.judge.judge.Goals as goal
 
 pub returns-then-is_empty-clause-accepted : goal.returns-then-is_empty-clause-accepted
 returns-then-is_empty-clause-accepted c =
-    none_judged c.args.piece.now (piece_contents c.args.piece.now) c.args.large c.args.fixes.now (eqb-true (length c.args.fixes.now) 0 (sym c.is_empty.ensures ∙ c.if-is_empty.true))
+    none_judged c.args.piece.now (piece_contents c.args.piece.now) c.args.large c.args.fixes.items (eqb-true (length c.args.fixes.items) 0 (sym c.is_empty.ensures ∙ c.if-is_empty.true))

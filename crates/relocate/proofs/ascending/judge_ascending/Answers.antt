@@ -1,9 +1,8 @@
-use Rattle.std.proofs.Common.{◌<◌, ◌≤◌, sym, ◌∙◌, subst, arith}
+use Rattle.std.proofs.Common.{◌<◌, ◌≤◌, refl, sym, arith}
 use Rattle.relocate.specs.Field.{fix_at}
-use Rattle.relocate.specs.Judged.{AreApart}
 use Rattle.relocate.proofs.JudgeLemmas.{ascend_starts, ascend_absolute, ascend_field, ascend_refused, ascend_ends, all_ascend}
 use Rattle.relocate.proofs.PatchableLemmas.{patchable_ascending}
-use Rattle.relocate.proofs.ascending.ascending_fields.Goals as goal
+use Rattle.relocate.proofs.ascending.judge_ascending.Goals as goal
 
 pub loop-fix-init : goal.loop-fix-init
 loop-fix-init c = ascend_starts _ _ _ _
@@ -23,16 +22,14 @@ returns-in-Some-clause-refused c =
     let above : c.loop-fix.end ≤ (fix_at c.args.fixes.now c.loop-fix.fix-index).at = omega (arith, c.from.ensures, c.if-from-end.false) in
     ascend_refused _ _ _ _ _ _ _ _ c.loop-fix-test.true (sym c.in-Some.ensures) above c.loop-fix.invariant
 
-pub returns-then-all_have_fields-clause-patchable : goal.returns-then-all_have_fields-clause-patchable
-returns-then-all_have_fields-clause-patchable c =
-    let all = all_ascend _ _ _ _ _ _ _ c.loop-fix-test.false c.loop-fix.auto.fix-index-end c.loop-fix.invariant in
-    let same = c.in_ok-from_slice.ensures.items ∙ all.whole c.if-all_have_fields.true in
-    patchable_ascending _ _ _ _ _ all.none same (subst AreApart (sym same) all.apart)
+pub returns-clause-whole : goal.returns-clause-whole
+returns-clause-whole c =
+    (all_ascend _ _ _ _ _ _ _ c.loop-fix-test.false c.loop-fix.auto.fix-index-end c.loop-fix.invariant).whole
 
 pub returns-clause-patchable : goal.returns-clause-patchable
 returns-clause-patchable c =
     let all = all_ascend _ _ _ _ _ _ _ c.loop-fix-test.false c.loop-fix.auto.fix-index-end c.loop-fix.invariant in
-    patchable_ascending _ _ _ _ _ all.none c.in_ok-with_fields.ensures (subst AreApart (sym c.in_ok-with_fields.ensures) all.apart)
+    patchable_ascending _ _ _ _ _ all.none refl all.apart
 
 pub returns-then-from-end-clause-descend : goal.returns-then-from-end-clause-descend
 returns-then-from-end-clause-descend c =

@@ -3,7 +3,7 @@ use Rattle.coff_records.specs.declared.relocation.Relocation.{Relocation}
 use Rattle.relocate.specs.declared.fix.Fix.{Fix}
 use Rattle.link_fields.specs.Fixes.{fixes_from}
 use Rattle.link_fields.proofs.FixLemmas.{relocations_count, fixes_more, no_more, fix_read}
-use Rattle.link_fields.proofs.fixes.put_fixes.Goals as goal
+use Rattle.link_fields.proofs.fixes.fixes_by.Goals as goal
 
 pub loop-relocation-init : goal.loop-relocation-init
 loop-relocation-init c =
@@ -14,7 +14,7 @@ loop-relocation-init c =
       ends = tt;
       count = let len = ap length all ∙ relocations_count bytes c.args.section in omega (arith, len);
       fixes = λ link position are.
-          ap (λ (fs : List Fix). fs ++ fixes_from link position bytes 0 c.into_iter-relocation-iterator.result) (c.reserve.ensures.items ∙ c.requires.empty)
+          ap (λ (fs : List Fix). fs ++ fixes_from link position bytes 0 c.into_iter-relocation-iterator.result) c.with_capacity-fixes.ensures.items
           ∙ ap (fixes_from link position bytes 0) all;
     }
 

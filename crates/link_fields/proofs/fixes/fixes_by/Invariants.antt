@@ -3,7 +3,7 @@ use Rattle.coff_records.specs.ObjectFile.{relocation_total}
 use Rattle.link_pieces.specs.LinkParts.{LinkParts}
 use Rattle.link_fields.specs.Targets.{AreTargets}
 use Rattle.link_fields.specs.Fixes.{fixes_from, section_fixes}
-use Rattle.link_fields.proofs.fixes.put_fixes.Given as goal
+use Rattle.link_fields.proofs.fixes.fixes_by.Given as goal
 
 abbrev pub invariant-loop-relocation : goal.invariant-loop-relocation
 invariant-loop-relocation l = record {
