@@ -1,6 +1,8 @@
 //! The trusted edge of the files: those of the system.
 
-ghost use Rattle.std.specs.Prelude.{◌≡◌, ◌≤◌, length, IfOk, OnOk, Some};
+ghost use Rattle.std.specs.Prelude.{◌≡◌, ◌≤◌, ◌++◌, length, IfOk, OnOk, IfSome, Some};
+ghost use Rattle.std.specs.Io.{ReadsAtMost};
+ghost use Rattle.std.specs.Io.KnownBytes.{ReadConsumes};
 ghost use Rattle.std.specs.IoError.{error_kind};
 ghost use Rattle.link_files.specs.HostCounts.{no_faults};
 ghost use Rattle.link_files.specs.HostErrors.{read_error_of, create_error_of};
@@ -13,6 +15,9 @@ use std::fs::OpenFile;
 use std::io::{ErrorKind, Read, Seek, SeekFrom};
 use std::marker::Model;
 use std::{fs, io, rt};
+
+/// The length from which a file is read by pieces, and that of a piece.
+const PIECE: usize = 8 * 1024;
 
 /// The files of the system, of which nothing is told.
 #[derive(Drop)]
@@ -130,14 +135,62 @@ where
 {
     let mut bytes = Vec::with_capacity(alloc, len.saturating_add(1) as usize)?;
     let mut file = file.take(limit.saturating_add(1));
-    match file.read_to_end(&mut bytes) {
-        Ok(_) => {}
+    match append_rest(&mut bytes, &mut file, len) {
+        Ok(()) => {}
         Err(error) => return Err(read_error(&error)),
     }
     if bytes.len() as u64 > limit {
         return Err(FileError::TooLarge);
     }
     Ok(bytes)
+}
+
+/// Appends all that the reader has left. Reading in place clears the room first, so a long file is read by pieces.
+fn append_rest<F: Read, A: Allocator>(
+    bytes: &mut Vec<u8, A>,
+    file: &mut F,
+    len: u64,
+) -> io::Result<()>
+    ensures { OnOk result (IfSome (F.remaining file.old) (λ rest. bytes.new.items ≡ bytes.old.items ++ rest)) }
+{
+    if len >= PIECE as u64 {
+        return append_pieces(bytes, file);
+    }
+    file.read_to_end(bytes)?;
+    Ok(())
+}
+
+/// Appends all that the reader has left, piece by piece: only the room of one is cleared, and only once.
+fn append_pieces<F: Read, A: Allocator>(bytes: &mut Vec<u8, A>, file: &mut F) -> io::Result<()>
+    ensures { OnOk result (IfSome (F.remaining file.old) (λ rest. bytes.new.items ≡ bytes.old.items ++ rest)) }
+{
+    let mut piece = [0u8; PIECE];
+    for _ in 0..u64::MAX {
+        let count = read_some(file, &mut piece)?;
+        if count == 0 {
+            return Ok(());
+        }
+        bytes.extend_from_slice(&piece[..count])?;
+    }
+    Err(io::Error::from(ErrorKind::TimedOut))
+}
+
+/// One read, tried again where it was interrupted. It timed out where each of 2^64 - 1 tries was.
+fn read_some<F: Read>(file: &mut F, piece: &mut [u8]) -> io::Result<usize>
+    ensures bound { ReadsAtMost result piece.new }
+    ensures bytes { ReadConsumes (F.remaining file.old) (F.remaining file.new) result piece.new }
+{
+    for _ in 0..u64::MAX {
+        match file.read(piece) {
+            Ok(count) => return Ok(count),
+            Err(error) => {
+                if error.kind() != ErrorKind::Interrupted {
+                    return Err(error);
+                }
+            }
+        }
+    }
+    Err(io::Error::from(ErrorKind::TimedOut))
 }
 
 /// Makes the file, or empties it, and writes the bytes. Once that is done every error is a fault.

@@ -229,7 +229,9 @@ fn comes_back<R: std::rt::Files>(rt: &R, alloc: Global, len: usize) -> Result<bo
 
 #[test]
 fn long_files_come_back(rt: HostRuntime) -> Result<(), Fail> {
-    for len in [1, 4_096, 4_097, 131_072, 131_073, 400_000] {
+    for len in [
+        1, 4_096, 4_097, 8_191, 8_192, 8_195, 131_072, 131_073, 400_000,
+    ] {
         assert!(rt; comes_back(&rt, rt.alloc(), len)?, "{len} bytes");
     }
     Ok(())
