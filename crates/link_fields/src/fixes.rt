@@ -111,7 +111,7 @@ fn fixes_by(
             index,
             at: relocation.at,
             kind: relocation.kind,
-            target: target_at(targets, relocation.symbol),
+            target: *target_at(targets, relocation.symbol),
         })?;
         index += 1;
     }
@@ -119,11 +119,11 @@ fn fixes_by(
 }
 
 /// What a record means.
-fn target_at(targets: &[RecordTarget], at: u32) -> RecordTarget
-    ensures { result ≡ slice_index_or targets.now at None }
+fn target_at(targets: &[RecordTarget], at: u32) -> &RecordTarget
+    ensures { result.now ≡ slice_index_or targets.now at None }
 {
     match targets.get(at as usize) {
-        Some(target) => *target,
-        None => None,
+        Some(target) => target,
+        None => &None,
     }
 }

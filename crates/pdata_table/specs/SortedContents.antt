@@ -1,7 +1,7 @@
 -- An exception table whose bytes several pieces of an image hold, one after another, and what they hold once its rows
 -- are in order.
 use Rattle.std.specs.Prelude.{ℕ, Bool, ◌==◌, if◌then◌else◌, List, [], ◌∷◌, length, map, take, drop, slice_index_or}
-use Rattle.std.specs.List.{flat_map, list_any, range_with_len}
+use Rattle.std.specs.List.{before_first, flat_map, list_any, range_with_len, sum_by}
 use Rattle.pdata_table.specs.Rows.{sorted_table}
 
 -- ---- what pieces hold, by their indexes
@@ -16,15 +16,13 @@ joined contents pieces = flat_map (content_of contents) pieces
 abbrev pub len_of : List (List ℕ) → ℕ → ℕ
 len_of contents k = length (content_of contents k)
 
--- the part of a table that a piece holds, where these pieces hold the table one after another, each as many bytes as
--- its size
-unfoldable pub part_of : (size : ℕ → ℕ) → List ℕ → ℕ → List ℕ → List ℕ
-part_of size [] k table = []
-part_of size (piece ∷ pieces) k table =
-    if piece == k then take (size piece) table else part_of size pieces k (drop (size piece) table)
-
 abbrev pub is_among : ℕ → List ℕ → Bool
 is_among k pieces = list_any (λ piece. piece == k) pieces
+
+-- the part of a table that a piece holds, where these pieces hold the table one after another, each as many bytes as
+-- its size: it begins where those before it end
+unfoldable pub part_of : (size : ℕ → ℕ) → List ℕ → ℕ → List ℕ → List ℕ
+part_of size pieces k table = take (size k) (drop (sum_by size (before_first (λ piece. piece == k) pieces)) table)
 
 -- a piece of the exception table holds its part of the sorted rows, and any other what it holds
 abbrev pub sorted_at : List ℕ → List (List ℕ) → ℕ → List ℕ

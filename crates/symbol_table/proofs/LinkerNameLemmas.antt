@@ -7,7 +7,7 @@ use Rattle.symbol_names.proofs.NumberLemmas.{same_is}
 use Rattle.symbol_table.specs.LinkerNames.{image_base_name, zero_names, linker_meaning}
 
 -- it begins with two underscores, and not with the import prefix
-pub begins_so : List ℕ → Bool
+abbrev begins_so : List ℕ → Bool
 begins_so name = not (begins_import name) && begins (behind_import name) (codes "__")
 
 other : (name known : List ℕ) → begins_so known ≡ true → begins_so name ≡ false → same_name name known ≡ false
@@ -26,7 +26,17 @@ none_of name (known ∷ all) so none =
       | inr fails ↦ absurd (false≢true (sym so ∙ ap (λ (b : Bool). not b || rest) fails))
     ]
 
-pub no_linker_meaning : (name : List ℕ) → begins_so name ≡ false → linker_meaning name ≡ None
+no_meaning : (name : List ℕ) → begins_so name ≡ false → linker_meaning name ≡ None
 unfolding linker_meaning
-no_linker_meaning name none =
+no_meaning name none =
     rw (other name image_base_name refl none) (rw (none_of name zero_names refl none) refl)
+
+pub no_meaning_begun : (name : List ℕ) → begins (behind_import name) (codes "__") ≡ false → linker_meaning name ≡ None
+no_meaning_begun name none = no_meaning name (by (not (begins_import name)) (begins (behind_import name) (codes "__")) none)
+  where
+    by : (a b : Bool) → b ≡ false → (a && b) ≡ false
+    by true b e = e
+    by false b e = refl
+
+pub no_meaning_import : (name : List ℕ) → begins_import name ≡ true → linker_meaning name ≡ None
+no_meaning_import name is = no_meaning name (ap (λ (b : Bool). not b && begins (behind_import name) (codes "__")) is)

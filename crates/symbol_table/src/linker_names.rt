@@ -40,6 +40,7 @@ pub(crate) fn linker_meaning<'a>(name: &Name<'_>) -> Option<Meaning<'a>>
 }
 
 /// Whether a name begins as all of those do. Most names do not, and are compared with none of them.
+#[tactic(auto, using(crate::proofs::LinkerNameLemmas::no_meaning_begun, crate::proofs::LinkerNameLemmas::no_meaning_import))]
 fn may_have_meaning(name: &Name<'_>) -> bool
     ensures { result ≡ false → linker_meaning name.now ≡ None }
 {
