@@ -13,3 +13,4 @@ pub mod SizeLemmas
 pub mod HeldLemmas
 pub mod ReadBackLemmas
 pub mod DirectoryReadLemmas
+pub mod FoundLemmas

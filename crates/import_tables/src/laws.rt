@@ -1,9 +1,9 @@
 //! Laws of the definitions, each the contract of a function that does nothing.
 
-ghost use Rattle.std.specs.Prelude.{◌≡◌, ◌<◌, ◌≤◌, ◌+◌, ◌*◌, ◌⊎◌, ℕ, List, length, slice_index};
-ghost use Rattle.import_tables.specs.ImportDirectory.{Imports, entries_from, entries_of, descriptors_from, imports_of};
-ghost use Rattle.import_tables.specs.ImportShape.{dlls_of, dll_at, count_of, entry_count, table_start, slot_offset, sizes_of};
-ghost use Rattle.import_tables.specs.ImportTables.{EndBelow4G};
+ghost use Rattle.std.specs.Prelude.{◌≡◌, ◌<◌, ◌≤◌, ◌+◌, ◌*◌, ◌⊎◌, ℕ, List, length, slice_index, Contains};
+ghost use Rattle.import_tables.specs.ImportDirectory.{Imports, entries_from, entries_of, descriptors_from, imports_of, import_of};
+ghost use Rattle.import_tables.specs.ImportShape.{dlls_of, dll_at, by_at, count_of, entry_count, table_start, slot_offset, sizes_of};
+ghost use Rattle.import_tables.specs.ImportTables.{EndBelow4G, slots_rva};
 ghost use Rattle.import_tables.specs.ReadBack.{HoldsTables, StandAboveZero, AreReadable, found_of};
 
 use crate::row::ImportRow;
@@ -37,4 +37,11 @@ pub fn slots_stand_apart()
 pub fn filled_tables_are_read_back()
     ensures { (rows : List ImportRow) (rvas memory : List ℕ) → 0 < length rows → AreReadable rows → EndBelow4G rvas (sizes_of rows) → StandAboveZero rows rvas
         → HoldsTables memory rows rvas → imports_of memory (slice_index rvas 0) ≡ Imports (found_of rows rvas) }
+{}
+
+/// Each import is found with its own slot: that at its offset among the slots.
+#[tactic(auto, using(crate::proofs::FoundLemmas::found_with_slot))]
+pub fn each_import_is_found_with_its_slot()
+    ensures { (rows : List ImportRow) (rvas : List ℕ) (k : ℕ) → k < length rows
+        → Contains (found_of rows rvas) (import_of (dll_at rows k) (by_at rows k) (slots_rva rvas + slot_offset rows k)) }
 {}

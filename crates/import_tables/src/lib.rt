@@ -17,7 +17,10 @@ mod shaping;
 
 pub use filling::fill;
 pub use found::{ImportFound, TableError};
-pub use laws::{filled_tables_are_read_back, more_is_never_read, slots_stand_apart};
+pub use laws::{
+    each_import_is_found_with_its_slot, filled_tables_are_read_back, more_is_never_read,
+    slots_stand_apart,
+};
 pub use reading::read_imports;
 pub use row::{ImportRow, ImportShape};
 pub use shaping::shape;

@@ -1,3 +1,4 @@
 pub mod RowLemmas
 mod WorkedImports
 pub mod CallerLemmas
+pub mod SlotLemmas

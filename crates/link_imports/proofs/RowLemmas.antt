@@ -16,7 +16,7 @@ use Rattle.link_imports.specs.Steps.{CanBeTold}
 
 -- ---- rows
 
-rows_after : (modules : List ModuleView) (kept : List Bool) (k : ℕ) → rows_below modules kept (k + 1) ≡ rows_below modules kept k ++ cons_option (row_at modules kept k) []
+pub rows_after : (modules : List ModuleView) (kept : List Bool) (k : ℕ) → rows_below modules kept (k + 1) ≡ rows_below modules kept k ++ cons_option (row_at modules kept k) []
 rows_after modules kept k =
     ap (filter_map (row_at modules kept)) (range_more 0 k k (omega arith))
     ∙ filter_map-append (row_at modules kept) (range_with_len 0 k) (k ∷ [])

@@ -6,7 +6,9 @@
 #![tactic(auto)]
 
 mod imports;
+mod laws;
 mod pieces;
 
 pub use imports::{LinkImports, link_imports};
+pub use laws::slots_of_imports_are_those_in_the_directory;
 pub use pieces::push_thunks;
