@@ -1,6 +1,6 @@
 -- The parts of a table that pieces hold one after another, and contents of which some pieces hold sorted rows.
-use Rattle.std.proofs.Common.{◌≡◌, ◌≢◌, ℕ, ◌<◌, ◌≤◌, Bool, true, false, cond, ◌||◌, eqb, List, [], ◌∷◌, ◌++◌, length, take, drop, get_or, set, refl, sym, ap, ◌∙◌, eqb-true, eq-eqb, drop-drop, length-append, length-set, arith}
-use Rattle.std.specs.List.{AllByRecursion, IsDistinct, before_first, flat_map, sum_by}
+use Rattle.std.proofs.Common.{◌≡◌, ◌≢◌, ℕ, suc, one-add, ◌<◌, ◌≤◌, Bool, true, false, cond, ◌||◌, eqb, List, [], ◌∷◌, ◌++◌, length, take, drop, get_or, set, refl, sym, ap, ◌∙◌, eqb-true, eq-eqb, drop-drop, length-append, length-set, arith}
+use Rattle.std.specs.List.{AllByRecursion, IsDistinct, before_first, position_or_len, flat_map, sum_by}
 use Rattle.std.proofs.lemmas.Bool.{false≢true, or_right}
 use Rattle.std.proofs.lemmas.List.{ext_get_or, get_or-set_same, get_or-set_other, length-take-le, length-drop, take-append-drop}
 use Rattle.std.proofs.lemmas.List.Sums.{sum_by-cons}
@@ -34,19 +34,25 @@ unfoldable pub dealt_part : (size : ℕ → ℕ) → List ℕ → ℕ → List �
 dealt_part size [] k table = []
 dealt_part size (piece ∷ pieces) k table = cond (eqb piece k) (take (size piece) table) (dealt_part size pieces k (drop (size piece) table))
 
+first_other : (p k : ℕ) (ps : List ℕ) → eqb p k ≡ false → before_first (λ piece. eqb piece k) (p ∷ ps) ≡ p ∷ before_first (λ piece. eqb piece k) ps
+first_other p k ps e =
+    let place : position_or_len (λ piece. eqb piece k) (p ∷ ps) ≡ suc (position_or_len (λ piece. eqb piece k) ps) = rw e (one-add (position_or_len (λ piece. eqb piece k) ps)) in
+    ap (λ (n : ℕ). take n (p ∷ ps)) place
+
 part_is_dealt : (size : ℕ → ℕ) (pieces : List ℕ) (k : ℕ) (table : List ℕ) → is_among k pieces ≡ true → part_of size pieces k table ≡ dealt_part size pieces k table
 unfolding part_of dealt_part
 part_is_dealt size [] k table none = absurd (false≢true none)
-part_is_dealt size (p ∷ ps) k table there = by (eqb p k) refl there
+part_is_dealt size (p ∷ ps) k table there = by (eqb p k) refl there (part_is_dealt size ps k (drop (size p) table))
   where
     by : (b : Bool) → eqb p k ≡ b → (b || is_among k ps) ≡ true
+        → (is_among k ps ≡ true → take (size k) (drop (sum_by size (before_first (λ piece. eqb piece k) ps)) (drop (size p) table)) ≡ dealt_part size ps k (drop (size p) table))
         → take (size k) (drop (sum_by size (before_first (λ piece. eqb piece k) (p ∷ ps))) table) ≡ cond b (take (size p) table) (dealt_part size ps k (drop (size p) table))
-    by true e among = rw e (ap (λ (n : ℕ). take (size n) table) (sym (eqb-true p k e)))
-    by false e among =
-        rw e
-        (ap (λ (n : ℕ). take (size k) (drop n table)) (sum_by-cons size p (before_first (λ piece. eqb piece k) ps))
-        ∙ ap (take (size k)) (sym (drop-drop (size p) (sum_by size (before_first (λ piece. eqb piece k) ps)) table))
-        ∙ part_is_dealt size ps k (drop (size p) table) among)
+    by true e among rest = rw e (ap (λ (n : ℕ). take (size n) table) (sym (eqb-true p k e)))
+    by false e among rest =
+        ap (λ (row : List ℕ). take (size k) (drop (sum_by size row) table)) (first_other p k ps e)
+        ∙ ap (λ (n : ℕ). take (size k) (drop n table)) (sum_by-cons size p (before_first (λ piece. eqb piece k) ps))
+        ∙ ap (take (size k)) (sym (drop-drop (sum_by size (before_first (λ piece. eqb piece k) ps)) (size p) table))
+        ∙ rest among
 
 -- ---- what is dealt
 

@@ -14,7 +14,7 @@ loop-relocation-init c =
       ends = tt;
       count = let len = ap length all ∙ relocations_count bytes c.args.section in omega (arith, len);
       fixes = λ link position are.
-          ap (λ (fs : List Fix). fs ++ fixes_from link position bytes 0 c.into_iter-relocation-iterator.result) c.with_capacity-fixes.ensures.items
+          ap (λ (fs : List Fix). fs ++ fixes_from link position bytes 0 c.into_iter-relocation-iterator.result) c.in_ok-fixes.ensures.items
           ∙ ap (fixes_from link position bytes 0) all;
     }
 

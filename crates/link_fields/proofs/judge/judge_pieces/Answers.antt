@@ -28,9 +28,9 @@ returns-in-Err-clause-refused c =
     let k = c.loop-k.k in
     let piece = c.index-pieces-k.result in
     let read = read_piece link c.args.pieces.now k piece c.requires.pieces c.requires.contents (omega arith) c.index-pieces-k.is in
-    let fixes = c.deref-in-loop-k.ensures.value ∙ c.in_ok-read_fixes.ensures.fixes in
+    let fixes = c.in_ok-fixes.ensures.fixes in
     refuses_found (length (link_pieces link)) k (piece_fault link c.args.large) _ c.refusal.result read.within c.loop-k.invariant.none
-    (fault_read link k piece c.args.large c.deref-in-loop-k.result.now read fixes)
+    (fault_read link k piece c.args.large c.in_ok-fixes.fixes.items read fixes)
     (c.refusal.ensures _ c.in-Err.ensures.refused)
 
 pub loop-k-preserved : goal.loop-k-preserved
@@ -39,13 +39,13 @@ loop-k-preserved c =
     let k = c.loop-k.k in
     let piece = c.index-pieces-k.result in
     let read = read_piece link c.args.pieces.now k piece c.requires.pieces c.requires.contents (omega arith) c.index-pieces-k.is in
-    let judged = c.deref-in-loop-k.ensures.value ∙ c.in_ok-read_fixes.ensures.fixes in
-    let led = c.deref.ensures.value ∙ c.in_ok-read_fixes.ensures.fixes in
+    let judged = c.in_ok-fixes.ensures.fixes in
+    let led = c.deref.ensures.value ∙ c.in_ok-fixes.ensures.fixes in
     record {
-      held = c.in_ok-read_fixes.ensures.held;
-      fields = fields_more link k piece c.deref-in-loop-k.result.now c.in-Ok.fields c.loop-k.fixups.items c.keep.new.fixups.items read c.loop-k.invariant.fields c.in_ok-keep-in-Ok.ensures judged c.in-Ok.ensures.fields c.in-Ok.ensures.patchable;
+      held = c.in_ok-fixes.ensures.held;
+      fields = fields_more link k piece c.in_ok-fixes.fixes.items c.in-Ok.fields c.loop-k.fixups.items c.keep.new.fixups.items read c.loop-k.invariant.fields c.in_ok-keep-in-Ok.ensures judged c.in-Ok.ensures.fields c.in-Ok.ensures.patchable;
       edges = edges_more link k piece c.deref.result.now c.loop-k.edges.items c.push_edges.new.edges.items read led c.loop-k.invariant.edges c.in_ok-push_edges.ensures;
-      none = first_refusal_below-more k (piece_fault link c.args.large) c.loop-k.invariant.none (sym (fault_read link k piece c.args.large c.deref-in-loop-k.result.now read judged) ∙ c.in-Ok.ensures.accepted);
+      none = first_refusal_below-more k (piece_fault link c.args.large) c.loop-k.invariant.none (sym (fault_read link k piece c.args.large c.in_ok-fixes.fixes.items read judged) ∙ c.in-Ok.ensures.accepted);
     }
 
 pub returns-clause-edges : goal.returns-clause-edges
