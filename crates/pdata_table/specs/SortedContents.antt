@@ -1,6 +1,6 @@
 -- An exception table whose bytes several pieces of an image hold, one after another, and what they hold once its rows
 -- are in order.
-use Rattle.std.specs.Prelude.{ℕ, Bool, ◌==◌, if◌then◌else◌, List, [], ◌∷◌, length, map, take, drop, slice_index_or}
+use Rattle.std.specs.Prelude.{ℕ, Bool, ◌==◌, if◌then◌else◌, List, [], length, map, take, drop, slice_index_or}
 use Rattle.std.specs.List.{before_first, flat_map, list_any, range_with_len, sum_by}
 use Rattle.pdata_table.specs.Rows.{sorted_table}
 
