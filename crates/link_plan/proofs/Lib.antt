@@ -8,5 +8,6 @@ pub mod KeepLemmas
 pub mod MadeLemmas
 pub mod MeantLemmas
 pub mod NamedLemmas
+pub mod NearLemmas
 pub mod LaidLemmas
 pub mod PlanningLemmas

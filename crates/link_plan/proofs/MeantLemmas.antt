@@ -1,5 +1,5 @@
 -- Pieces that are marked, one after the other, and named by their marks.
-use Rattle.std.proofs.Common.{◌≡◌, ℕ, ◌+◌, ◌<◌, ◌≤◌, Bool, true, false, ◌||◌, eqb, List, [], ◌∷◌, ◌++◌, length, map, get_or, set, take, inl, inr, refl, sym, ap, ◌∙◌, add-one, arith}
+use Rattle.std.proofs.Common.{◌≡◌, ℕ, ◌+◌, ◌<◌, ◌≤◌, Bool, true, false, ◌||◌, eqb, List, [], ◌∷◌, ◌++◌, length, map, get_or, set, take, inl, inr, refl, sym, ap, ◌∙◌, add-one, subst, arith}
 use Rattle.std.specs.List.{list_any, range_with_len}
 use Rattle.std.proofs.Math.Seq.{take-suc}
 use Rattle.std.proofs.lemmas.Bool.{cases_lt}
@@ -9,7 +9,7 @@ use Rattle.std.proofs.lemmas.List.Folds.{list_any-append}
 use Rattle.std.proofs.lemmas.List.FromFn.{get_or-map-range_with_len, length-map-range_with_len}
 use Rattle.section_group.specs.declared.piece.Piece.{Piece}
 use Rattle.section_group.specs.SectionOrder.{no_piece}
-use Rattle.link_plan.specs.Planned.{named_if}
+use Rattle.link_plan.specs.Planned.{LeadsWithin, named_if}
 
 or_true : (b : Bool) → true ≡ (b || true)
 or_true true = refl
@@ -106,3 +106,15 @@ named_same old meant k now are unmarked = record {
   ];
   others = λ i above. are.others i (omega arith);
 }
+
+-- one more edge leads to one of the first nodes, where its mark says so
+pub leads_within : (kept : List Bool) (count : ℕ) (edges : List (ℕ × ℕ)) (i : ℕ) (marked wanted : Bool) → i < length edges → wanted ≡ get_or kept (get_or edges i (0, 0)).0 false → (marked ≡ true → wanted ≡ true → (get_or edges i (0, 0)).1 < count) → marked ≡ true
+    → ((k : ℕ) (d : ℕ × ℕ) → k < i → LeadsWithin kept count (get_or edges k d)) → (k : ℕ) (d : ℕ × ℕ) → k < i + 1 → LeadsWithin kept count (get_or edges k d)
+leads_within kept count edges i marked wanted inside told within held before k d lt is =
+    elim (cases_lt k i) [
+      | inl earlier ↦ before k d earlier is
+      | inr here ↦
+          let same : k ≡ i = omega arith in
+          let edge : get_or edges k d ≡ get_or edges i (0, 0) = get_or_default edges k d (0, 0) (omega arith) ∙ ap (λ (n : ℕ). get_or edges n (0, 0)) same in
+          subst (λ (e : ℕ × ℕ). e.1 < count) (sym edge) (within held (told ∙ ap (λ (e : ℕ × ℕ). get_or kept e.0 false) (sym edge) ∙ is))
+    ]

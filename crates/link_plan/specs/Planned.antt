@@ -35,6 +35,10 @@ leads_there kept k edge = slice_index_or kept edge.0 false && (edge.1 == k)
 abbrev pub is_meant : KeptParts → ℕ → Bool
 is_meant link k = list_any (leads_there link.kept k) (field_edges link.parts)
 
+-- where a piece is kept that an edge begins at, it leads to one of the first nodes
+abbrev pub LeadsWithin : List Bool → ℕ → ℕ × ℕ → Type 0
+LeadsWithin kept count edge = slice_index_or kept edge.0 false ≡ true → edge.1 < count
+
 -- the entry, an export or what a loader looks for is there
 abbrev pub is_at : ℕ → ℕ → Bool
 is_at k node = node == k

@@ -1,7 +1,7 @@
 //! What of a link is kept.
 
-ghost use Rattle.std.specs.Prelude.{◌≡◌, ◌++◌, ◌<◌, ◌≤◌, ◌^◌, ◌+◌, ◌||◌, [], ℕ, false, length, map, slice_index_or, option_map, option_and_then, None, IfOk, OnOk, if◌then◌else◌};
-ghost use Rattle.std.specs.List.{cons_option, list_any};
+ghost use Rattle.std.specs.Prelude.{◌≡◌, ◌++◌, ◌<◌, ◌≤◌, ◌^◌, ◌+◌, ◌||◌, [], ℕ, true, false, length, map, slice_index_or, option_map, option_and_then, None, IfOk, OnOk, if◌then◌else◌};
+ghost use Rattle.std.specs.List.{All, cons_option, list_any};
 ghost use Rattle.link_base.specs.Limits.{MODULE_LIMIT};
 ghost use Rattle.section_group.specs.BarePieces.{bare};
 ghost use Rattle.coff_aux.specs.Comdats.{comdat_of};
@@ -14,7 +14,7 @@ ghost use Rattle.link_fields.specs.Entry.{entry_place};
 ghost use Rattle.link_fields.specs.ExportTargets.{export_targets};
 ghost use Rattle.link_fields.specs.Fixes.{field_edges};
 ghost use Rattle.link_plan.specs.Reach.{node_count, parent_in, child_edges, link_edges, named_nodes, link_roots, drops as drops_of, AreKept};
-ghost use Rattle.link_plan.specs.Planned.{leads_there, is_at};
+ghost use Rattle.link_plan.specs.Planned.{leads_there, LeadsWithin, is_at};
 
 use crate::named::{mark_meant, mark_nodes};
 use crate::roots::{named_nodes, push_roots};
@@ -34,6 +34,8 @@ pub(crate) struct KeptNodes {
     pub(crate) kept: Vec<bool>,
     /// The pieces that a field of what is kept means, or the entry, an export or a loader.
     pub(crate) meant: Vec<bool>,
+    /// No field of what is kept means an import.
+    pub(crate) no_import: bool,
 }
 
 /// What is kept of these pieces, whose fields lead to one another by `edges`.
@@ -59,6 +61,7 @@ pub(crate) fn kept_nodes<'a>(
     ensures len { IfOk result (λ nodes. length nodes.meant.items ≡ length pieces.now) }
     ensures meant { IfOk result (λ nodes. (k : ℕ) → k < length pieces.now → slice_index_or nodes.meant.items k false
         ≡ (list_any (leads_there nodes.kept.items k) (field_edges names.now) || list_any (is_at k) (named_nodes (options_said options.now) names.now))) }
+    ensures no_import { IfOk result (λ nodes. nodes.no_import ≡ true → All (LeadsWithin nodes.kept.items (length pieces.now)) (field_edges names.now)) }
 {
     let mut roots = named_nodes(alloc, names, index, places, options)?;
     let named = roots.len();
@@ -67,9 +70,13 @@ pub(crate) fn kept_nodes<'a>(
     let graph = link_graph(index, modules, pieces, edges)?;
     let kept = kept_if(alloc, drops(options), &graph, &roots)?;
     let mut meant = vec![in alloc; false; pieces.len()]?;
-    mark_meant(&mut meant, &graph.edges[..fields], &kept);
+    let no_import = mark_meant(&mut meant, &graph.edges[..fields], &kept);
     mark_nodes(&mut meant, &roots[..named]);
-    Ok(KeptNodes { kept, meant })
+    Ok(KeptNodes {
+        kept,
+        meant,
+        no_import,
+    })
 }
 
 /// Whether unreferenced sections are dropped.

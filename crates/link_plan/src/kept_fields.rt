@@ -1,6 +1,6 @@
 //! The fields and the exports of what is kept, once the imports that are kept have slots.
 
-ghost use Rattle.std.specs.Prelude.{◌≡◌, ◌≤◌, ◌<◌, ◌+◌, ◌^◌, ◌++◌, [], ℕ, false, length, map, replicate, slice_index_or, unwrap_or, option_map, Option, List, Bool, IfOk, OnOk};
+ghost use Rattle.std.specs.Prelude.{◌≡◌, ◌≤◌, ◌<◌, ◌+◌, ◌^◌, ◌++◌, [], ℕ, true, false, length, map, replicate, slice_index_or, unwrap_or, option_map, Option, List, Bool, IfOk, OnOk};
 ghost use Rattle.std.specs.List.{range_with_len};
 ghost use Rattle.section_group.specs.BarePieces.{bare};
 ghost use Rattle.link_base.specs.Bytes.{first_below};
@@ -24,29 +24,42 @@ pub(crate) struct SlotPlaces<'b> {
     pub(crate) offsets: &'b [u32],
 }
 
-/// Drops the fields of pieces that are not kept, and gives those of the others the places of imports.
+/// Drops the fields of pieces that are not kept, and gives those of the others the places of imports, where they mean any.
 pub(crate) fn keep_fields(
     alloc: Global,
     fixups: &mut Vec<Fixups>,
     kept: &[bool],
     places: &SlotPlaces<'_>,
+    no_import: bool,
 )
-    requires { length fixups.old.items ≤ length kept.now }
+    requires count { length fixups.old.items ≤ length kept.now }
+    requires no_import { no_import ≡ true → (k : ℕ) → k < length fixups.old.items → slice_index_or kept.now k false ≡ true
+        → map (redirected_fix places.now.first places.now.table places.now.offsets.now) (slice_index_or fixups.old.items k []) ≡ slice_index_or fixups.old.items k [] }
     ensures { fixups.new.items ≡ map (λ k. fixes_if (slice_index_or kept.now k false) (map (redirected_fix places.now.first places.now.table places.now.offsets.now) (slice_index_or fixups.old.items k []))) (range_with_len 0 (length fixups.old.items)) }
 {
     for k in 0..fixups.len() {
-        keep_field(alloc, &mut fixups[k], kept[k], places);
+        keep_field(alloc, &mut fixups[k], kept[k], places, no_import);
     }
 }
 
-/// Drops the fields of a piece where it is not kept, and else gives them the places of imports.
-fn keep_field(alloc: Global, fixups: &mut Fixups, kept: bool, places: &SlotPlaces<'_>)
+/// Drops the fields of a piece where it is not kept, and else gives them the places of imports, where they mean any.
+fn keep_field(
+    alloc: Global,
+    fixups: &mut Fixups,
+    kept: bool,
+    places: &SlotPlaces<'_>,
+    no_import: bool,
+)
+    requires { no_import ≡ true → kept ≡ true
+        → map (redirected_fix places.now.first places.now.table places.now.offsets.now) fixups.old ≡ fixups.old }
     ensures { fixups.new ≡ fixes_if kept (map (redirected_fix places.now.first places.now.table places.now.offsets.now) fixups.old) }
 {
-    if kept {
-        fixups.redirect(places.first, places.table, places.offsets);
-    } else {
+    if !kept {
         *fixups = Fixups::none(alloc);
+        return;
+    }
+    if !no_import {
+        fixups.redirect(places.first, places.table, places.offsets);
     }
 }
 

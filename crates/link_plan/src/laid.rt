@@ -120,7 +120,7 @@ fn keep_pieces<'a>(
         offsets: &imports.offsets,
     };
     let mut fixes = fixups;
-    keep_fields(alloc, &mut fixes, &nodes.kept, &slots);
+    keep_fields(alloc, &mut fixes, &nodes.kept, &slots, nodes.no_import);
     push_none(alloc, &mut fixes, pieces.len() - count)?;
     let NamedPlaces {
         entry,

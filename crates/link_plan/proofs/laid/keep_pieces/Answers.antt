@@ -1,5 +1,5 @@
 use Rattle.std.proofs.Common.{◌≡◌, ℕ, ◌-◌, ◌^◌, ◌<◌, Bool, false, List, [], ◌++◌, length, map, take, drop, get_or, replicate, refl, sym, ap, ◌∙◌, subst, arith}
-use Rattle.std.specs.List.{range_with_len}
+use Rattle.std.specs.List.{All, range_with_len}
 use Rattle.std.proofs.lemmas.List.{length-map}
 use Rattle.section_group.specs.declared.piece.Piece.{Piece}
 use Rattle.section_group.specs.BarePieces.{bare}
@@ -12,10 +12,11 @@ use Rattle.link_exports.specs.Exports.{ExportsView}
 use Rattle.link_words.specs.Outcome.{options_said}
 use Rattle.link_pieces.specs.Pieces.{link_pieces}
 use Rattle.link_pieces.specs.TablePieces.{KeptParts, kept_imports, tables_for, tables_of}
-use Rattle.link_fields.specs.Fixes.{HaveFields}
+use Rattle.link_fields.specs.Fixes.{HaveFields, field_edges}
 use Rattle.relocate.specs.Redirected.{redirected_fix}
-use Rattle.link_plan.specs.Planned.{fixes_if}
+use Rattle.link_plan.specs.Planned.{fixes_if, LeadsWithin}
 use Rattle.link_plan.proofs.NamedLemmas.{count_named, aligned_named, bodies_named}
+use Rattle.link_plan.proofs.NearLemmas.{fields_stay}
 use Rattle.link_plan.proofs.LaidLemmas.{ArePlaces, pieces_planned, contents_planned, whole_count, few_planned, aligned_planned, bodies_planned, fields_planned, targets_planned, table_planned, others_fail, part_from, no_fix}
 use Rattle.link_plan.proofs.laid.keep_pieces.Goals as goal
 
@@ -74,6 +75,18 @@ overflow_sub-len c =
     let imports = own_imports link c.args.modules.now c.deref-3.result.now c.len-count.result c.in_ok-imports.imports c.requires.same c.deref-3.ensures.value count c.in_ok-imports.ensures in
     let grown = tables_so link c.args.modules.now c.in_ok-imports.imports c.size.result c.exports.result.now c.in_ok-imports.imports.shape.lengths c.name_meant.new.pieces.items c.push_tables.new.pieces.items c.requires.same imports refl c.size.ensures c.exports.ensures c.in_ok-push_tables.ensures.pieces in
     omega (arith, c.len.ensures, c.push_tables.new.pieces.ok.0, c.len-count.ensures, c.name_meant.new.pieces.ok.0, whole_count link.parts.modules (kept_imports link) link.parts.exports.size c.name_meant.new.pieces.items c.push_tables.new.pieces.items grown)
+
+pub keep_fields-requires-clause-no_import : goal.keep_fields-requires-clause-no_import
+keep_fields-requires-clause-no_import c = λ none k lt is.
+    let link = c.args.names.now in
+    let kept = c.in_ok-nodes.nodes.kept.items in
+    let old = c.args.pieces.items in
+    let named = count_named old c.deref-2.result.now c.name_meant.new.pieces.items c.name_meant.ensures in
+    let pieces : length old ≡ c.len-count.result = omega (arith, c.len-count.ensures, c.name_meant.new.pieces.ok.0, named) in
+    let count : c.len-count.result ≡ length (link_pieces link) = omega (arith, pieces, length-map old bare, ap length c.requires.pieces) in
+    let have = subst (λ (n : ℕ). HaveFields link n c.args.fixes.fixups.items) pieces c.requires.fields in
+    let near = subst (λ (n : ℕ). All (LeadsWithin kept n) (field_edges link)) (ap length c.deref.ensures.value ∙ pieces) (c.in_ok-nodes.ensures.no_import none) in
+    fields_stay link c.len-count.result c.slot_table.result c.deref-5.result.now kept c.args.fixes.fixups.items k count have near (omega (arith, lt, have.for_each)) (ap (λ (flags : List Bool). get_or flags k false) (sym c.deref-6.ensures.value) ∙ is)
 
 pub returns : goal.returns
 returns c =

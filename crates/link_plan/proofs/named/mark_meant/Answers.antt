@@ -1,8 +1,10 @@
-use Rattle.std.proofs.Common.{◌<◌, ◌||◌, ◌&&◌, eqb, Bool, false, length, get_or, ap, ◌∙◌, arith}
+use Rattle.std.proofs.Common.{◌<◌, ◌||◌, ◌&&◌, eqb, Bool, false, length, get_or, sym, ap, ◌∙◌, arith}
+use Rattle.std.proofs.lemmas.Bool.{false≢true}
 use Rattle.std.proofs.lemmas.List.{get_or_default}
 use Rattle.link_plan.specs.Planned.{leads_there}
-use Rattle.link_plan.proofs.MeantLemmas.{marks_more}
+use Rattle.link_plan.proofs.MeantLemmas.{marks_more, leads_within}
 use Rattle.link_plan.proofs.named.mark_meant.Goals as goal
+use Rattle.link_plan.proofs.named.mark_meant.Goals.{then-not-mark_if, else-not-mark_if}
 
 pub loop-edge-preserved : goal.loop-edge-preserved
 loop-edge-preserved c =
@@ -17,4 +19,14 @@ loop-edge-preserved c =
           marks_more (leads_there kept k) edges i edge _ _ _ inside (get_or_default edges i (0, 0) edge inside) (c.loop-edge.invariant.marked k lt)
           (c.mark_if.ensures.marked k (omega (arith, lt, c.loop-edge.invariant.same_length))
           ∙ ap (λ (b : Bool). get_or c.loop-edge.meant.items k false || (b && eqb edge.1 k)) c.is_kept.ensures);
+      within = λ all k d lt.
+          elim c.if-not-mark_if.branch [
+            | then-not-mark_if w ↦ absurd (false≢true (sym w.all_within-is ∙ all))
+            | else-not-mark_if w ↦
+                leads_within kept (length c.args.meant.now.items) edges i c.mark_if.result c.is_kept.result inside c.is_kept.ensures (λ a b. omega (arith, c.mark_if.ensures.within a b, c.loop-edge.invariant.same_length)) w.if-not-mark_if.false
+                (c.loop-edge.invariant.within (sym w.all_within-is ∙ all)) k d lt
+          ];
     }
+
+pub returns-clause-within : goal.returns-clause-within
+returns-clause-within c = λ all k d lt. c.loop-edge.invariant.within all k d (omega (arith, lt, c.loop-edge-test.false))
