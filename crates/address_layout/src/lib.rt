@@ -19,6 +19,3 @@ pub use laws::{layouts_are_shared, one_image_size, one_layout, other_pieces_may_
 pub use layout::{Layout, LayoutError, Placed};
 pub use places::place;
 pub use reloc::append_reloc;
-
-#[cfg(test)]
-mod tests;

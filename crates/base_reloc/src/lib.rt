@@ -20,6 +20,3 @@ pub use laws::{
 };
 pub use loading::{BadBlocks, apply};
 pub use writing::blocks;
-
-#[cfg(test)]
-mod tests;

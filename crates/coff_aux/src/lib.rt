@@ -18,6 +18,3 @@ pub use comdats::{comdat_in, comdat_records, is_comdat, is_section_number, secti
 pub use faults::record_fault;
 pub use laws::circles_come_twice;
 pub use weaks::first_bad_weak;
-
-#[cfg(test)]
-mod tests;

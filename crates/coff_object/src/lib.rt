@@ -22,6 +22,3 @@ pub use long_texts::LongTexts;
 pub use object::Object;
 pub use section::Section;
 pub use symbol::Symbol;
-
-#[cfg(test)]
-mod tests;

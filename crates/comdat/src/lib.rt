@@ -22,6 +22,3 @@ pub use candidate::Candidate;
 pub use choice::{Conflict, choose};
 pub use error::ChooseError;
 pub use selection::choose_all;
-
-#[cfg(test)]
-mod tests;

@@ -10,6 +10,3 @@ mod words;
 
 pub use diagnostic::fault_line;
 pub use line::{push_escaped, push_hex_address, push_number};
-
-#[cfg(test)]
-mod tests;

@@ -11,8 +11,6 @@ mod item;
 mod names;
 mod number;
 mod reader;
-#[cfg(test)]
-mod tests;
 mod text;
 mod values;
 mod words;

@@ -34,6 +34,3 @@ pub use lookup::{by_name, by_ordinal};
 pub use ordinals::assign;
 pub use row::{ExportRow, ExportTo};
 pub use sizes::length;
-
-#[cfg(test)]
-mod tests;

@@ -16,6 +16,3 @@ pub use default_libraries::DefaultLibraries;
 pub use find::find_file;
 pub use found::FoundFile;
 pub use read::read_inputs;
-
-#[cfg(test)]
-mod tests;

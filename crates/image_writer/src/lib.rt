@@ -20,6 +20,3 @@ pub use laws::{
     written_file_loads_as_planned,
 };
 pub use writing::image;
-
-#[cfg(test)]
-mod tests;

@@ -25,6 +25,3 @@ pub use reading::read_imports;
 pub use row::{ImportRow, ImportShape};
 pub use shaping::shape;
 pub use short_import::ImportBy;
-
-#[cfg(test)]
-mod tests;

@@ -7,8 +7,6 @@
 
 mod error;
 mod inputs;
-#[cfg(test)]
-mod tests;
 
 pub use error::LoadError;
 pub use inputs::Inputs;

@@ -22,6 +22,3 @@ pub use error::LibError;
 pub use library::{Library, Member, begins_library};
 pub use link_base::LibFault;
 pub use listings::Listings;
-
-#[cfg(test)]
-mod tests;

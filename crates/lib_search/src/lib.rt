@@ -16,6 +16,3 @@ mod searched;
 
 pub use asked::asked_names;
 pub use link_list::{LinkList, complete};
-
-#[cfg(test)]
-mod tests;

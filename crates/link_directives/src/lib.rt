@@ -11,6 +11,3 @@ mod mismatch;
 pub use alignments::CommonAlignments;
 pub use merges::link_merges;
 pub use mismatch::{Mismatch, first_mismatch};
-
-#[cfg(test)]
-mod tests;

@@ -14,8 +14,6 @@ mod mem_sink;
 mod never_fails;
 mod outputs;
 mod sink;
-#[cfg(test)]
-mod tests;
 
 pub use files::{FileError, Files, WriteError};
 pub use host_files::HostFiles;

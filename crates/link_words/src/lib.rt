@@ -14,8 +14,6 @@ mod finish;
 mod given;
 mod known;
 mod options;
-#[cfg(test)]
-mod tests;
 mod values;
 mod words;
 

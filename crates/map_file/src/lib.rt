@@ -9,6 +9,3 @@ mod text;
 
 pub use rows::{MapModule, MapPiece, MapPublic, MapRows, MapSection};
 pub use text::map_text;
-
-#[cfg(test)]
-mod tests;

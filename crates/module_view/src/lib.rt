@@ -31,6 +31,3 @@ pub use laws::modules_are_shared;
 pub use opening::open_module;
 pub use placed_section::comes_in;
 pub use reference::{Reference, Weak};
-
-#[cfg(test)]
-mod tests;

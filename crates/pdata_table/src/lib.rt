@@ -10,6 +10,3 @@ mod sorting;
 
 pub use laws::{pieces_hold_the_sorted_table, rows_of_sorted_table, sorted_table_is_the_only_one};
 pub use sorting::sort_rows;
-
-#[cfg(test)]
-mod tests;

@@ -24,6 +24,3 @@ pub use laws::{
 pub use reading::{DbiError, contributions};
 pub use rows::{Contribution, ModuleName};
 pub use writing::write_dbi;
-
-#[cfg(test)]
-mod tests;

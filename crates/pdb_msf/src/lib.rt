@@ -20,6 +20,3 @@ mod writing;
 pub use laws::{blocks_stand_at_their_numbers, written_streams_are_read};
 pub use msf::{Msf, StreamError};
 pub use writing::{MsfError, write_msf};
-
-#[cfg(test)]
-mod tests;

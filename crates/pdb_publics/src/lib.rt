@@ -25,6 +25,3 @@ pub use hashing::bucket;
 pub use laws::{publics_have_one_order, written_publics_are_found};
 pub use rows::{Public, PublicRow, PublicStreams};
 pub use writing::write_publics;
-
-#[cfg(test)]
-mod tests;

@@ -21,6 +21,3 @@ pub use error::{LengthRange, ShowError};
 pub use judging::header_fault;
 pub use laws::{loaded_images_are_shared, one_file_loads_a_memory};
 pub use loaded::Loaded;
-
-#[cfg(test)]
-mod tests;

@@ -11,6 +11,3 @@ mod rows;
 
 pub use graph::Graph;
 pub use live::kept;
-
-#[cfg(test)]
-mod tests;

@@ -15,5 +15,4 @@ pub mod RedirectLemmas
 pub mod NumberLemmas
 pub mod CallerLemmas
 mod WorkedFields
-mod TestLemmas
 pub mod PlaceLemmas

@@ -37,6 +37,3 @@ pub use patching::patch;
 pub use range::RelocRange;
 pub use redirect::redirected;
 pub use target::is_based;
-
-#[cfg(test)]
-mod tests;

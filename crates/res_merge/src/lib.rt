@@ -25,6 +25,3 @@ pub use lookup::find_resource;
 pub use merge::{tree, tree_length};
 pub use reader::Resources;
 pub use resource::{ResError, Resource};
-
-#[cfg(test)]
-mod tests;

@@ -26,6 +26,3 @@ mod targets;
 pub use grouping::group;
 pub use laws::one_grouping;
 pub use piece::{GroupError, OutSection, Piece};
-
-#[cfg(test)]
-mod tests;

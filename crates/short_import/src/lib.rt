@@ -14,6 +14,3 @@ mod texts;
 
 pub use import::{Import, ImportBy, ImportKind};
 pub use link_base::ImpFault;
-
-#[cfg(test)]
-mod tests;

@@ -1,0 +1,5 @@
+mod maps;
+mod modules;
+mod publics;
+mod resources;
+mod streams;

@@ -1,0 +1,10 @@
+mod base_blocks;
+mod exports;
+mod fixups;
+mod groups;
+mod images;
+mod import_directories;
+mod layouts;
+mod loading;
+mod reachable;
+mod unwind_rows;
