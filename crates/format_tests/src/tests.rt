@@ -4,5 +4,6 @@ mod directive_texts;
 mod host_files;
 mod imports;
 mod messages;
+mod names;
 mod objects;
 mod words;

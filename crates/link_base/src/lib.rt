@@ -32,6 +32,3 @@ pub use memory::Memory;
 pub use name::Name;
 pub use numbers::{LeNumber, push_fields};
 pub use stop::{Refusal, Stop};
-
-#[cfg(test)]
-mod tests;

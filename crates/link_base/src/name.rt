@@ -1,6 +1,6 @@
 //! Names: of symbols, and of the files and members that a diagnostic prints.
 
-ghost use Rattle.std.specs.Prelude.{◌≡◌, ◌==◌, ◌++◌, nat_eq, length, OnOk};
+ghost use Rattle.std.specs.Prelude.{◌≡◌, ◌==◌, ◌++◌, nat_eq, length, true, false, OnOk, MatchOption};
 ghost use Rattle.std.specs.Ordering.{nat_cmp};
 ghost use Rattle.std.specs.Cmp.Lexicographic.{slice_cmp};
 ghost use Rattle.link_base.specs.NameText.{import_prefix, import_prefix_of, begins_import, behind_import, name_hash_input};
@@ -43,7 +43,7 @@ impl<'a> Name<'a> {
     pub fn of(text: &'a [u8]) -> Name<'a>
         ensures { result ≡ text.now }
     {
-        match text.strip_prefix(IMPORT_PREFIX) {
+        match import_rest(text) {
             Some(rest) => Name {
                 is_import: true,
                 rest,
@@ -117,6 +117,16 @@ impl<'a> Name<'a> {
             rest: self.rest,
         }
     }
+}
+
+/// The text after `__imp_`, where it begins so. The first byte tells most texts from such a one.
+fn import_rest(text: &[u8]) -> Option<&[u8]>
+    ensures { MatchOption result (begins_import text.now ≡ false) (λ rest. (begins_import text.now ≡ true) × (rest.now ≡ behind_import text.now)) }
+{
+    if text.first() != Some(&b'_') {
+        return None;
+    }
+    text.strip_prefix(IMPORT_PREFIX)
 }
 
 impl PartialEq for Name<'_> {

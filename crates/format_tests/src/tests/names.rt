@@ -1,4 +1,6 @@
-use super::*;
+//! Names with and without the import prefix, fields of bytes, and names of sections.
+
+use link_base::{Name, cstr, field_u16, field_u32, field_u64};
 
 fn name(text: &str) -> Name<'_> {
     Name::of(text.as_bytes())
