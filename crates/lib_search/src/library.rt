@@ -115,7 +115,7 @@ impl<'a> Libraries<'a> {
     pub(crate) fn of(alloc: Global, list: Vec<OpenLibrary<'a>>) -> Result<Libraries<'a>, Memory>
         ensures { IfOk result (λ libraries. libraries ≡ list.entry.items) }
     {
-        let mut places = IndexMap::new(alloc);
+        let mut places = IndexMap::with_capacity(alloc, listing_total(&list))?;
         for index in 0..list.len() {
             note_listings(&mut places, index, &list[index])?;
         }
@@ -161,6 +161,15 @@ impl<'a> Libraries<'a> {
     {
         self.list[place.0].open_member(alloc, place.1, modules)
     }
+}
+
+/// How many listings these libraries have together.
+fn listing_total(libraries: &[OpenLibrary<'_>]) -> usize {
+    let mut total = 0usize;
+    for each in libraries {
+        total = total.saturating_add(each.library.listing_count() as usize);
+    }
+    total
 }
 
 /// Notes the listings of the library at an index, after those of the libraries before it.

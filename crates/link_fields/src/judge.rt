@@ -17,7 +17,7 @@ use crate::edges::push_edges;
 use crate::fixes::{LastTargets, linker_fixes, section_fixes};
 use crate::pdata::is_pdata;
 use link_base::{Fault, Memory, Refusal};
-use link_pieces::{FIRST_COMMON, LinkNames, PieceIndex};
+use link_pieces::{FIRST_COMMON, LinkNames, PieceIndex, TABLES};
 use module_view::Module;
 use relocate::{FieldError, Fix, Fixups, check_list};
 use section_group::Piece;
@@ -51,7 +51,7 @@ pub fn judge_pieces<'a>(
     ensures accepted { OnOk result (fixes_fault names.now large ≡ None) }
     ensures refused { IfErr result (RefusesFor (fixes_fault names.now large)) }
 {
-    let mut fixups = Vec::with_capacity(alloc, pieces.len())?;
+    let mut fixups = Vec::with_capacity(alloc, pieces.len() + TABLES)?;
     let mut edges = Vec::new(alloc);
     let mut last = LastTargets {
         position: None,

@@ -57,7 +57,7 @@ fn import_rows<'a>(
     ensures limits { IfOk result (λ rows. AreWithinLimits rows.items) }
     ensures readable { OnOk result (AreReadable (import_rows modules.now kept.now)) }
 {
-    let mut rows = Vec::new(alloc);
+    let mut rows = Vec::with_capacity(alloc, modules.len())?;
     for position in 0..modules.len() {
         push_row(&mut rows, &modules[position], is_kept(kept, position))?;
     }

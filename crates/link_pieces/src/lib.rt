@@ -21,6 +21,6 @@ mod tables;
 pub use commons::FIRST_COMMON;
 pub use names::{LinkNames, check_clash, link_names};
 pub use piece_index::PieceIndex;
-pub use pieces::pieces_of;
+pub use pieces::{TABLES, pieces_of};
 pub use slots::{LocalSlots, note_slot};
 pub use tables::push_tables;

@@ -28,8 +28,11 @@ use module_view::{Common, Module, comes_in};
 use section_group::Piece;
 use std::alloc::Global;
 
+/// So many pieces are enough for the tables, which come after the others.
+pub const TABLES: usize = 16;
+
 /// The number of pieces stays below this one, with room for the tables.
-const PIECE_LIMIT: usize = (1 << 31) - 16;
+const PIECE_LIMIT: usize = (1 << 31) - TABLES;
 
 /// The number of symbol records of a module with pieces stays below this one.
 const RECORD_LIMIT: u32 = 1 << 31;
@@ -56,7 +59,7 @@ pub fn pieces_of<'a>(
     ensures placed { IfOk result (λ pieces. All (λ piece. HasSomePlace modules.now slots piece.«module» piece.number) pieces.items) }
 {
     let alignments = CommonAlignments::of(alloc, modules)?;
-    let mut pieces = Vec::new(alloc);
+    let mut pieces = Vec::with_capacity(alloc, modules.len() + TABLES)?;
     let mut named = Vec::new(alloc);
     for position in 0..modules.len() {
         push_module(
