@@ -6,4 +6,4 @@ pub mod PlaceLemmas
 pub mod DataLemmas
 pub mod ListLemmas
 pub mod LawLemmas
-pub mod WorkedValues
+pub mod WorkedExtent
