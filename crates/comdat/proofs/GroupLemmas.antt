@@ -14,7 +14,7 @@ use Rattle.comdat.specs.declared.error.ChooseError.TheVariants as error
 use Rattle.comdat.specs.declared.named.Named.{Named}
 use Rattle.comdat.specs.Choice.{no_candidate, chosen_place, conflict_place}
 use Rattle.comdat.specs.Groups.{no_named, name_at, has_name, candidate_of, group_of, chosen_of, is_same_section, is_selected, module_in, conflict_in, conflict_at, first_conflict}
-use Rattle.comdat.specs.Numbering.{AreNumbers, AreLists, AreWinners}
+use Rattle.comdat.specs.Numbering.{AreNumbers, AreLists, AreWinners, candidates_at}
 use Rattle.comdat.proofs.NameLemmas.{same_is, same_refl}
 use Rattle.comdat.proofs.ChoiceLemmas.{place_within}
 use Rattle.comdat.proofs.ListLemmas.{list_is_group}
@@ -111,20 +111,25 @@ pub record IsList (entries : List Named) (firsts : List ℕ) (number : ℕ) (lis
   pub is : list ≡ group_of entries (name_at entries (get_or firsts number 0))
   pub some : 0 < length list
 
-pub list_at : (entries : List Named) (numbers firsts : List ℕ) (number : ℕ) (lists : List (Vec Candidate Global)) (v : Vec Candidate Global) → AreNumbers entries numbers firsts → AreLists entries numbers (length entries) (length firsts) lists → number < length lists → v ≡ get_or lists number v → IsList entries firsts number v.items
+list_at : (entries : List Named) (numbers firsts : List ℕ) (number : ℕ) (lists : List (Vec ℕ Global)) (v : Vec ℕ Global) → AreNumbers entries numbers firsts → AreLists entries numbers (length entries) (length firsts) lists → number < length lists → v ≡ get_or lists number v → IsList entries firsts number (candidates_at entries v.items)
 list_at entries numbers firsts number lists v are listed in_lists is_v =
     let lt : number < length firsts = omega (arith, in_lists, listed.same_length) in
     let of_first = are.first number lt in
     let first = get_or firsts number 0 in
     let within : first < length entries = omega (arith, of_first.within, are.same_length) in
-    let is : v.items ≡ group_of entries (name_at entries first) =
-    ap (λ (w : Vec Candidate Global). w.items) is_v ∙ list_is_group entries numbers firsts (length firsts) number first lists v are listed lt within of_first.has in
+    let is : candidates_at entries v.items ≡ group_of entries (name_at entries first) =
+    ap (λ (w : Vec ℕ Global). candidates_at entries w.items) is_v ∙ list_is_group entries numbers firsts (length firsts) number first lists v are listed lt within of_first.has in
     record {
       lt = lt;
       first_within = within;
       is = is;
       some = subst (λ (list : List Candidate). 0 < length list) (sym is) (group_some (name_at entries first) entries first within (same_refl (name_at entries first)));
     }
+
+-- the sections at its places are gathered
+pub gathered_at : (entries : List Named) (numbers firsts : List ℕ) (number : ℕ) (lists : List (Vec ℕ Global)) (v : Vec ℕ Global) (places : List ℕ) (group : List Candidate) → AreNumbers entries numbers firsts → AreLists entries numbers (length entries) (length firsts) lists → number < length lists → v ≡ get_or lists number v → places ≡ v.items → group ≡ candidates_at entries places → IsList entries firsts number group
+gathered_at entries numbers firsts number lists v places group are listed in_lists is_v same gathered =
+    subst (IsList entries firsts number) (sym (gathered ∙ ap (candidates_at entries) same)) (list_at entries numbers firsts number lists v are listed in_lists is_v)
 
 -- ---- flags
 

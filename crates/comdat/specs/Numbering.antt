@@ -1,12 +1,13 @@
 -- What the passes over the groups say of one another. Own.
-use Rattle.std.specs.Prelude.{◌≡◌, ℕ, ◌<◌, ◌==◌, if◌then◌else◌, List, [], ◌∷◌, length, take, slice_index, slice_index_or, Some}
+use Rattle.std.specs.Prelude.{◌≡◌, ℕ, ◌<◌, ◌==◌, if◌then◌else◌, List, [], ◌∷◌, length, map, take, slice_index, slice_index_or, Some}
+use Rattle.std.specs.List.{All}
 use Rattle.std.specs.declared.vec.Vec.{Vec}
 use Rattle.std.specs.declared.alloc.Global.{Global}
 use Rattle.link_base.specs.NameText.{same_name}
 use Rattle.comdat.specs.declared.candidate.Candidate.{Candidate}
 use Rattle.comdat.specs.declared.named.Named.{Named}
 use Rattle.comdat.specs.Choice.{no_candidate}
-use Rattle.comdat.specs.Groups.{name_at, group_of, chosen_of}
+use Rattle.comdat.specs.Groups.{no_named, name_at, candidate_of, group_of, chosen_of}
 
 -- the first section of a group, by the numbers of groups
 pub record IsFirstOf (numbers : List ℕ) (number first : ℕ) : Type 0 where
@@ -29,11 +30,22 @@ numbered number (n ∷ rest) [] = []
 numbered number (n ∷ rest) (entry ∷ others) =
     if n == number then entry.candidate ∷ numbered number rest others else numbered number rest others
 
--- the lists of the first sections
-pub record AreLists (entries : List Named) (numbers : List ℕ) (done count : ℕ) (lists : List (Vec Candidate Global)) : Type 0 where
+-- the sections at some places
+abbrev pub candidates_at : List Named → List ℕ → List Candidate
+candidates_at entries places = map (λ k. candidate_of (slice_index_or entries k no_named)) places
+
+-- so many lists, each empty
+pub record AreEmpty (count : ℕ) (lists : List (Vec ℕ Global)) : Type 0 where
   pub same_length : length lists ≡ count
+  pub each : (number : ℕ) (d : Vec ℕ Global) → number < count → (slice_index_or lists number d).items ≡ []
+
+-- the places of the first sections, by their numbers, in their order
+pub record AreLists (entries : List Named) (numbers : List ℕ) (done count : ℕ) (lists : List (Vec ℕ Global)) : Type 0 where
+  pub same_length : length lists ≡ count
+  pub within :
+      (number : ℕ) (d : Vec ℕ Global) → number < count → All (λ k. k < done) (slice_index_or lists number d).items
   pub each :
-      (number : ℕ) (d : Vec Candidate Global) → number < count → (slice_index_or lists number d).items ≡ numbered number (take done numbers) (take done entries)
+      (number : ℕ) (d : Vec ℕ Global) → number < count → candidates_at entries (slice_index_or lists number d).items ≡ numbered number (take done numbers) (take done entries)
 
 -- each is the chosen one of its group
 pub record AreWinners (entries : List Named) (firsts : List ℕ) (winners : List Candidate) : Type 0 where

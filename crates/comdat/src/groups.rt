@@ -1,8 +1,9 @@
 //! The choice in each of several groups.
 
-ghost use Rattle.std.specs.Prelude.{◌≡◌, None, length, map, OnOk, IfOk, IfErr};
+ghost use Rattle.std.specs.Prelude.{◌≡◌, ◌<◌, None, length, map, OnOk, IfOk, IfErr};
+ghost use Rattle.std.specs.List.{All};
 ghost use Rattle.comdat.specs.Groups.{is_selected, first_conflict, is_same_section, RefusesChoice};
-ghost use Rattle.comdat.specs.Numbering.{AreNumbers, AreLists, AreWinners};
+ghost use Rattle.comdat.specs.Numbering.{AreNumbers, AreLists, AreWinners, candidates_at};
 
 use crate::candidate::Candidate;
 use crate::choice::choose;
@@ -10,6 +11,7 @@ use crate::error::ChooseError;
 use crate::lists::group_lists;
 use crate::named::Named;
 use crate::numbering::{Numbering, number_groups};
+use link_base::Memory;
 use std::alloc::Global;
 
 /// For each section whether it is the chosen one of its group.
@@ -34,7 +36,7 @@ fn winners<'a>(
     alloc: Global,
     entries: &[Named<'a>],
     numbering: &Numbering,
-    lists: &[Vec<Candidate<'a>>],
+    lists: &[Vec<u32>],
 ) -> Result<Vec<Candidate<'a>>, ChooseError<'a>>
     requires numbers { AreNumbers entries.now numbering.now.numbers.items numbering.now.firsts.items }
     requires lists { AreLists entries.now numbering.now.numbers.items (length entries.now) (length numbering.now.firsts.items) lists.now }
@@ -43,19 +45,37 @@ fn winners<'a>(
     ensures refused { IfErr result (RefusesChoice (first_conflict entries.now)) }
 {
     let mut winners = Vec::with_capacity(alloc, lists.len())?;
+    let mut group = Vec::new(alloc);
     for (number, list) in lists.iter().enumerate() {
-        match choose(list) {
-            Ok(place) => winners.push(list[place])?,
+        gather(&mut group, entries, list)?;
+        match choose(&group) {
+            Ok(place) => winners.push(group[place])?,
             Err(conflict) => {
                 return Err(ChooseError::Conflict {
                     name: entries[numbering.firsts[number]].name.again(),
-                    first: list[0].module,
-                    second: list[conflict.second].module,
+                    first: group[0].module,
+                    second: group[conflict.second].module,
                 });
             }
         }
     }
     Ok(winners)
+}
+
+/// Replaces a list by the sections at these places.
+fn gather<'a>(
+    group: &mut Vec<Candidate<'a>>,
+    entries: &[Named<'a>],
+    places: &[u32],
+) -> Result<(), Memory>
+    requires { All (λ k. k < length entries.now) places.now }
+    ensures { OnOk result (group.new.items ≡ candidates_at entries.now places.now) }
+{
+    group.clear();
+    for place in places {
+        group.push(entries[*place as usize].candidate)?;
+    }
+    Ok(())
 }
 
 /// Whether two candidates are one section.

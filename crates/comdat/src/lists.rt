@@ -1,34 +1,44 @@
 //! The sections of each group.
 
-ghost use Rattle.std.specs.Prelude.{◌≡◌, ◌<◌, [], length, IfOk};
-ghost use Rattle.comdat.specs.Numbering.{AreNumbers, AreLists};
+ghost use Rattle.std.specs.Prelude.{◌≡◌, ◌<◌, length, IfOk};
+ghost use Rattle.comdat.specs.Numbering.{AreNumbers, AreLists, AreEmpty};
 
-use crate::candidate::Candidate;
 use crate::named::Named;
 use crate::numbering::Numbering;
 use link_base::Memory;
 use std::alloc::Global;
 
-/// The sections of each group, by its number, in their order.
-pub(crate) fn group_lists<'a>(
+/// The places of the sections of each group, by its number, in their order.
+pub(crate) fn group_lists(
     alloc: Global,
-    entries: &[Named<'a>],
+    entries: &[Named<'_>],
     numbering: &Numbering,
-) -> Result<Vec<Vec<Candidate<'a>>>, Memory>
+) -> Result<Vec<Vec<u32>>, Memory>
     requires { AreNumbers entries.now numbering.now.numbers.items numbering.now.firsts.items }
     ensures { IfOk result (λ lists. AreLists entries.now numbering.now.numbers.items (length entries.now) (length numbering.now.firsts.items) lists.items) }
 {
     let mut lists = empty_lists(alloc, numbering.firsts.len())?;
-    for (index, entry) in entries.iter().enumerate() {
+    for index in 0..entries.len() {
         let number = numbering.numbers[index];
-        lists[number].push(entry.candidate)?;
+        let place = place_of(index)?;
+        lists[number].push(place)?;
     }
     Ok(lists)
 }
 
+/// A place in 32 bits. More sections than these count are want of memory.
+fn place_of(index: usize) -> Result<u32, Memory>
+    ensures { IfOk result (λ place. place ≡ index) }
+{
+    match u32::try_from(index) {
+        Ok(place) => Ok(place),
+        Err(_) => Err(Memory),
+    }
+}
+
 /// That many empty lists.
-fn empty_lists<'a>(alloc: Global, count: usize) -> Result<Vec<Vec<Candidate<'a>>>, Memory>
-    ensures { IfOk result (λ lists. AreLists [] [] 0 count lists.items) }
+fn empty_lists(alloc: Global, count: usize) -> Result<Vec<Vec<u32>>, Memory>
+    ensures { IfOk result (λ lists. AreEmpty count lists.items) }
 {
     let mut lists = Vec::with_capacity(alloc, count)?;
     for _ in 0..count {

@@ -1,6 +1,5 @@
-use Rattle.std.proofs.Common.{[]}
-use Rattle.comdat.specs.Numbering.{AreLists}
+use Rattle.comdat.specs.Numbering.{AreEmpty}
 use Rattle.comdat.proofs.lists.empty_lists.Given as goal
 
 abbrev pub invariant-loop : goal.invariant-loop
-invariant-loop l = AreLists [] [] 0 l.counter l.lists.items
+invariant-loop l = AreEmpty l.counter l.lists.items

@@ -1,7 +1,5 @@
-use Rattle.std.proofs.Common.{length, ap, sym, subst, ℕ, ◌<◌, arith}
+use Rattle.std.proofs.Common.{ℕ, ◌<◌, length, sym, subst, arith}
 use Rattle.std.proofs.lemmas.List.{get_or_read}
-use Rattle.comdat.specs.declared.named.Named.{Named}
-use Rattle.comdat.specs.Groups.{no_named}
 use Rattle.comdat.proofs.ListLemmas.{lists_more}
 use Rattle.comdat.proofs.lists.group_lists.Goals as goal
 
@@ -15,4 +13,4 @@ loop-index-preserved c =
     let in_numbers : done < length numbers = omega (arith, c.requires.same_length, c.loop-index-test.true) in
     let is_at = sym (get_or_read numbers done at in_numbers c.index-number.ensures 0) in
     let within : at < count = subst (λ (n : ℕ). n < count) is_at (c.requires.within done c.loop-index-test.true) in
-    lists_more entries numbers done count at c.loop-index.lists.items c.index_mut.result.now c.push.new.self c.index-entries-index.result.candidate c.loop-index.invariant in_numbers c.loop-index-test.true is_at within c.index_mut.ensures.value (ap (λ (e : Named). e.candidate) (get_or_read entries done c.index-entries-index.result c.loop-index-test.true c.index-entries-index.is no_named)) c.in_ok-push.ensures.items
+    lists_more entries numbers done count at c.in_ok-place.place c.loop-index.lists.items c.index_mut.result.now c.push.new.self c.loop-index.invariant in_numbers c.loop-index-test.true is_at within c.index_mut.ensures.value c.in_ok-place.ensures c.in_ok-push.ensures.items

@@ -23,8 +23,8 @@ use Rattle.link_pieces.proofs.pieces.pieces_of.Goals as goal
 
 pub loop-position-init : goal.loop-position-init
 loop-position-init c = record {
-  pieces = ap (map bare) c.new-pieces.ensures.items;
-  contents = ap (map piece_contents) c.new-pieces.ensures.items;
+  pieces = ap (map bare) c.in_ok-pieces.ensures.items;
+  contents = ap (map piece_contents) c.in_ok-pieces.ensures.items;
   opened = All-nil IsOpened;
   few_sections = All-nil HasFewSections;
 }
