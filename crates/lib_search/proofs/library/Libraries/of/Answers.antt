@@ -8,7 +8,7 @@ use Rattle.lib_search.proofs.library.Libraries.of.Goals as goal
 
 pub loop-index-init : goal.loop-index-init
 loop-index-init c =
-    lists_none c.args.list.items (get same_name c.new-places.result) (λ name. ap (λ entries. lookup (same_name name) entries) c.new-places.ensures.empty)
+    lists_none c.args.list.items (get same_name c.in_ok-places.places) (λ name. ap (λ entries. lookup (same_name name) entries) c.in_ok-places.ensures.empty)
 
 pub loop-index-preserved : goal.loop-index-preserved
 loop-index-preserved c =
