@@ -1,5 +1,5 @@
-//! Tests of the crates that read what a link is given and tell what is wrong with it: files, objects, archives, short imports,
-//! directives and words, and the lines of refusals. Each compares public calls with values from outside. It serves no other crate.
+//! Tests of calls that no link of the whole program reaches: files of the system that fail, and the imports and exports of a mapped
+//! image. Each compares public calls with values from outside. It serves no other crate.
 #![tactic(auto)]
 
 #[cfg(test)]

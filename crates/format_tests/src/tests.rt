@@ -1,9 +1,3 @@
-mod archives;
-mod arena;
-mod directive_texts;
+mod export_tables;
 mod host_files;
-mod imports;
-mod messages;
-mod names;
-mod objects;
-mod words;
+mod import_directories;

@@ -47,6 +47,7 @@ abbrev PDATA : List ℕ
 PDATA = codes ".pdata"
 
 no_preset : (k : ℕ) → k < length preset_merges → (merge_at preset_merges k).1 ≡ PDATA → ⊥
+unfolding preset_merges
 no_preset zero lt e = false≢true (ap (λ (n : List ℕ). same_name n PDATA) e)
 no_preset (suc zero) lt e = false≢true (ap (λ (n : List ℕ). same_name n PDATA) e)
 no_preset (suc (suc zero)) lt e = false≢true (ap (λ (n : List ℕ). same_name n PDATA) e)

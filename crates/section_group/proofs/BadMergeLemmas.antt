@@ -250,6 +250,7 @@ AllEnd [] = Unit {0}
 AllEnd (m ∷ ms) = (is_some (target_among preset_merges m.1) ≡ false) × AllEnd ms
 
 presets_end : AllEnd preset_merges
+unfolding preset_merges
 presets_end = (refl, (refl, (refl, (refl, (refl, tt)))))
 
 end_of : (ms : List (List ℕ × List ℕ)) (name y : List ℕ) → AllEnd ms → target_among ms name ≡ Some y → is_some (target_among preset_merges y) ≡ false

@@ -100,6 +100,7 @@ leads_far given entries steps far lasts pos once twice =
 
 -- so the targets at the last places are the ends of the chains
 follows_far : (given entries led_entries : List (List ℕ × List ℕ)) (lasts : List ℕ) (ends : List (List ℕ)) → led_entries ≡ entries → ends ≡ map (target_at entries) lasts → AreTargets given entries → LeadsFar given entries (length given + 5) lasts → Follows given led_entries ends
+unfolding preset_merges
 follows_far given entries led_entries lasts ends same is targets led =
     record {
       steps = led.steps;

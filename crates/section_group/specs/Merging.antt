@@ -7,7 +7,7 @@ use Rattle.section_group.specs.declared.piece.GroupError.{GroupError}
 use Rattle.section_group.specs.declared.piece.GroupError.TheVariants.{BadMerge, Memory}
 
 -- what is merged where nothing else is said
-abbrev pub preset_merges : List (List ℕ × List ℕ)
+unfoldable pub preset_merges : List (List ℕ × List ℕ)
 preset_merges =
     (codes ".idata", codes ".rdata") ∷ (codes ".edata", codes ".rdata") ∷ (codes ".xdata", codes ".rdata")
     ∷ (codes ".00cfg", codes ".rdata") ∷ (codes ".bss", codes ".data") ∷ []

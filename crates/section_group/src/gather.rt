@@ -15,14 +15,20 @@ use link_base::{Memory, Name};
 use std::alloc::Global;
 
 /// The sections that used pieces go to, and the number of each used piece's section.
+#[derive(Drop)]
+pub(crate) struct Numbered<'a> {
+    pub homes: IndexSet<Home<'a>>,
+    pub numbers: Vec<Option<usize>>,
+}
+
 pub(crate) fn number_pieces<'a>(
     alloc: Global,
     parts: &Parts<'_, 'a>,
     owners: &IndexMap<Name<'a>, usize>,
-) -> Result<(IndexSet<Home<'a>>, Vec<Option<usize>>), Memory>
+) -> Result<Numbered<'a>, Memory>
     requires { AreOwners (input_of parts.now) owners.now.entries }
-    ensures numbers { IfOk result (λ r. AreNumbers (input_of parts.now) r.0.keys (length parts.now.pieces.now) r.1.items) }
-    ensures distinct { IfOk result (λ r. IsDistinct same_home r.0.keys) }
+    ensures numbers { IfOk result (λ r. AreNumbers (input_of parts.now) r.homes.keys (length parts.now.pieces.now) r.numbers.items) }
+    ensures distinct { IfOk result (λ r. IsDistinct same_home r.homes.keys) }
 {
     let mut homes = IndexSet::new(alloc);
     let mut numbers = Vec::with_capacity(alloc, parts.pieces.len())?;
@@ -30,7 +36,7 @@ pub(crate) fn number_pieces<'a>(
         let number = piece_number(&mut homes, &numbers, parts, owners, index)?;
         numbers.push(number)?;
     }
-    Ok((homes, numbers))
+    Ok(Numbered { homes, numbers })
 }
 
 /// The number of a piece's section, where the piece is used: that of the piece before it, where the two are seen to go to

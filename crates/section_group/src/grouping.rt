@@ -46,7 +46,7 @@ fn sections_of<'a>(alloc: Global, parts: &Parts<'_, 'a>) -> Result<Vec<OutSectio
     ensures { IfOk result (λ sections. IsGrouping (input_of parts.now) sections.items) }
 {
     let owners = first_owners(alloc, parts)?;
-    let (homes, numbers) = number_pieces(alloc, parts, &owners)?;
-    let members = distribute(alloc, &numbers, homes.len())?;
-    build_sections(alloc, parts, &homes, &members)
+    let numbered = number_pieces(alloc, parts, &owners)?;
+    let members = distribute(alloc, &numbered.numbers, numbered.homes.len())?;
+    build_sections(alloc, parts, &numbered.homes, &members)
 }

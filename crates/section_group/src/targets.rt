@@ -12,6 +12,7 @@ use link_base::{Memory, Name};
 use std::alloc::Global;
 
 /// What is merged where nothing else is said.
+#[tactic(auto, unfolding(crate::specs::Merging::preset_merges))]
 fn presets<'a>() -> [(Name<'a>, Name<'a>); 5]
     ensures { result ≡ preset_merges }
 {

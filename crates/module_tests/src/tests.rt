@@ -1,3 +1,0 @@
-mod chosen_sections;
-mod input_modules;
-mod link_directive_lists;
