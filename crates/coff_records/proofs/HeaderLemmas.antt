@@ -1,5 +1,6 @@
 -- Which form a header has, and what is read of it.
-use Rattle.std.proofs.Common.{◌≡◌, ℕ, ◌+◌, ◌-◌, ◌*◌, ◌<◌, Bool, cond, eqb, false, List, drop, length, refl, ◌∙◌, arith}
+use Rattle.std.proofs.Common.{◌≡◌, ◌≢◌, ℕ, ◌+◌, ◌-◌, ◌*◌, ◌<◌, Bool, ◌&&◌, cond, eqb, false, List, [], ◌∷◌, drop, length, slice_index, refl, ap, sym, ◌∙◌, arith}
+use Rattle.std.proofs.lemmas.Bool.{ne_eqb}
 use Rattle.std.proofs.lemmas.List.{drop_all}
 use Rattle.link_base.specs.NameText.{begins}
 use Rattle.link_base.specs.Bytes.{bytes_at}
@@ -7,6 +8,12 @@ use Rattle.coff_records.specs.ObjectHeader.{is_big_object, big_object_class, sym
 use Rattle.coff_records.specs.StringTable.{string_table}
 use Rattle.coff_records.specs.SymbolRecord.{SymbolView, record_size}
 use Rattle.coff_records.specs.ObjectFile.{section_at, record_offset, record_at, symbol_at}
+
+pub not_big : (bytes : List ℕ) → 0 < length bytes → slice_index bytes 0 ≢ 0 → is_big_object bytes ≡ false
+unfolding is_big_object
+not_big [] some other = absurd (omega arith)
+not_big (byte ∷ rest) some other =
+    ap (λ (first : Bool). (first && begins rest (0 ∷ 0xFF ∷ 0xFF ∷ 2 ∷ 0 ∷ [])) && begins (drop 12 (byte ∷ rest)) big_object_class) (ne_eqb 0 byte (λ e. other (sym e)))
 
 pub no_class : (bytes : List ℕ) → length bytes < 12 → begins (drop 12 bytes) big_object_class ≡ false
 unfolding big_object_class

@@ -21,7 +21,18 @@ use link_base::{u16_in, u32_in};
 pub fn is_big_object(bytes: &[u8]) -> bool
     ensures { result ≡ is_big_object bytes.now }
 {
+    if begins_otherwise(bytes) {
+        return false;
+    }
     bytes.starts_with(b"\x00\x00\xff\xff\x02\x00") && has_big_object_class(bytes)
+}
+
+/// Whether the first byte is that of no big object, which it mostly is.
+#[tactic(auto, using(crate::proofs::HeaderLemmas::not_big))]
+fn begins_otherwise(bytes: &[u8]) -> bool
+    ensures { result ≡ true → is_big_object bytes.now ≡ false }
+{
+    !bytes.is_empty() && bytes[0] != 0
 }
 
 /// Whether the class identifier of big objects stands in its place.

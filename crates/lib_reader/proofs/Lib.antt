@@ -4,5 +4,6 @@ pub mod TextsLemmas
 pub mod ListingLemmas
 pub mod WalkLemmas
 pub mod EndLemmas
+pub mod StartLemmas
 mod WorkedLibrary
 pub mod CallerLemmas

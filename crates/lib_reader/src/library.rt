@@ -1,6 +1,6 @@
 //! A library, as a view of its bytes.
 
-ghost use Rattle.std.specs.Prelude.{◌≡◌, ◌<◌, ◌-◌, ◌^◌, length, drop, IfOk, OnOk, IfErr, is_ok, is_none, true, None, Some};
+ghost use Rattle.std.specs.Prelude.{◌≡◌, ◌<◌, ◌-◌, ◌^◌, length, drop, IfOk, OnOk, IfErr, is_ok, is_none, true, false, None, Some};
 ghost use Rattle.std.specs.List.{slice_get};
 ghost use Rattle.lib_reader.specs.ArchiveMember.{name_text, data_of};
 ghost use Rattle.lib_reader.specs.MemberName.{member_name};
@@ -46,7 +46,18 @@ pub struct Member<'a> {
 pub fn begins_library(bytes: &[u8]) -> bool
     ensures { result ≡ has_magic bytes.now }
 {
+    if begins_otherwise(bytes) {
+        return false;
+    }
     bytes.starts_with(ARCHIVE_START)
+}
+
+/// Whether the first byte is that of no library, as in each object.
+#[tactic(auto, using(crate::proofs::StartLemmas::no_library))]
+fn begins_otherwise(bytes: &[u8]) -> bool
+    ensures { result ≡ true → has_magic bytes.now ≡ false }
+{
+    !bytes.is_empty() && bytes[0] != b'!'
 }
 
 impl<'a> Library<'a> {

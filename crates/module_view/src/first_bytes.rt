@@ -1,6 +1,6 @@
 //! The forms of files that their first bytes show.
 
-ghost use Rattle.std.specs.Prelude.{◌≡◌, true, option_map, Some, None};
+ghost use Rattle.std.specs.Prelude.{◌≡◌, true, false, option_map, Some, None};
 ghost use Rattle.module_view.specs.declared.error.ModuleError.TheVariants.{Unsupported};
 ghost use Rattle.module_view.specs.Opening.{form_error, resource_start, is_anonymous};
 ghost use Rattle.module_view.specs.ImportModule.{is_short_import};
@@ -56,7 +56,18 @@ fn other_form(bytes: &[u8]) -> Option<Kind>
 pub(crate) fn is_short_import(bytes: &[u8]) -> bool
     ensures { result ≡ is_short_import bytes.now }
 {
+    if begins_otherwise(bytes) {
+        return false;
+    }
     bytes.starts_with(b"\x00\x00\xff\xff\x00\x00")
+}
+
+/// Whether the first byte is that of no short import, which it mostly is.
+#[tactic(auto, using(crate::proofs::FormLemmas::no_short_import))]
+fn begins_otherwise(bytes: &[u8]) -> bool
+    ensures { result ≡ true → is_short_import bytes.now ≡ false }
+{
+    !bytes.is_empty() && bytes[0] != 0
 }
 
 /// The empty entry that a compiled resource file begins with.

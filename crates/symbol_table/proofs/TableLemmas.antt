@@ -198,15 +198,20 @@ steps_below view chosen names links steps = λ k d lt.
     below (Leads slot name) (link.Ends other) is = absurd is
 
 -- the steps of all names, by what the passes say of the modules
-pub steps_hold : (names : List (List ℕ)) (given : GivenNames) (noted : List NotedAlternate) (kept m1 m3 m4 m5 : List ModuleNames) (chosen c2 c8 : List (Vec Bool Global)) (firsts f5 : List (Option FirstLive)) (clash : Option Clash) (commons k6 : List (Option GreatestCommon)) (weaks w7 : List (Option FirstWeak)) (alternates a9 : List (Option ℕ)) (links : List Link) → KeepsLink names given kept → noted ≡ given.noted.items → m1 ≡ kept → c2 ≡ chosen → m3 ≡ kept → m4 ≡ kept → m5 ≡ kept → f5 ≡ firsts → k6 ≡ commons → w7 ≡ weaks → a9 ≡ alternates → c8 ≡ chosen → AreLives names (live_definitions (map noted_view m1) (rows_of c2)) firsts clash → TellsGreatest names (all_commons (map noted_view m3)) commons → TellsWeaks names (all_weaks (map noted_view m4)) weaks → ((pairs : List (List ℕ × List ℕ)) → AllZip (NotesAlternate names) pairs noted → TellsAlternates names (pairs ++ of_all alternates_by (map noted_view m5)) alternates) → ((view : LinkView) → AreFirst names (live_definitions view.modules (rows_of c8)) f5 → TellsGreatest names (all_commons view.modules) k6 → TellsWeaks names (all_weaks view.modules) w7 → TellsAlternates names (all_alternates view) a9 → AreSteps view (rows_of c8) names links) → AreSteps (link_view given kept) (rows_of chosen) names links
-steps_hold names given noted kept m1 m3 m4 m5 chosen c2 c8 firsts f5 clash commons k6 weaks w7 alternates a9 links is e0 e1 e2 e3 e4 e5 e6 e7 e8 e9 e10 lives greatest first alternate each =
+pub steps_hold : (names : List (List ℕ)) (given : GivenNames) (kept : List ModuleNames) (chosen : List (List Bool)) (firsts : List (Option FirstLive))
+    (noted : List NotedAlternate) (commons commons' : List (Option GreatestCommon)) (weaks weaks' : List (Option FirstWeak)) (alternates alternates' : List (Option ℕ)) (links : List Link)
+    → KeepsLink names given kept → noted ≡ given.noted.items → commons' ≡ commons → weaks' ≡ weaks → alternates' ≡ alternates
+    → AreFirst names (live_definitions (map noted_view kept) chosen) firsts
+    → TellsGreatest names (all_commons (map noted_view kept)) commons
+    → TellsWeaks names (all_weaks (map noted_view kept)) weaks
+    → ((pairs : List (List ℕ × List ℕ)) → AllZip (NotesAlternate names) pairs noted → TellsAlternates names (pairs ++ of_all alternates_by (map noted_view kept)) alternates)
+    → ((view : LinkView) → AreFirst names (live_definitions view.modules chosen) firsts → TellsGreatest names (all_commons view.modules) commons' → TellsWeaks names (all_weaks view.modules) weaks'
+      → TellsAlternates names (all_alternates view) alternates' → AreSteps view chosen names links)
+    → AreSteps (link_view given kept) chosen names links
+steps_hold names given kept chosen firsts noted commons commons' weaks weaks' alternates alternates' links is same c w a first greatest weak alternate each =
     let view = link_view given kept in
-    let live = subst (λ (ms : List ModuleNames). AreFirst names (live_definitions (map noted_view ms) (rows_of c2)) firsts) e1 lives.first in
-    let live_here = subst (λ (rows : List (Vec Bool Global)). AreFirst names (live_definitions view.modules (rows_of rows)) firsts) (e2 ∙ sym e10) live in
-    let stand = alternate given.pairs.items (subst (AllZip (NotesAlternate names) given.pairs.items) (sym e0) is.alternates) in
-    subst (λ (rows : List (Vec Bool Global)). AreSteps view (rows_of rows) names links) e10
-    (each view
-    (subst (AreFirst names (live_definitions view.modules (rows_of c8))) (sym e6) live_here)
-    (subst (TellsGreatest names (all_commons view.modules)) (sym e7) (subst (λ (ms : List ModuleNames). TellsGreatest names (all_commons (map noted_view ms)) commons) e3 greatest))
-    (subst (TellsWeaks names (all_weaks view.modules)) (sym e8) (subst (λ (ms : List ModuleNames). TellsWeaks names (all_weaks (map noted_view ms)) weaks) e4 first))
-    (subst (TellsAlternates names (all_alternates view)) (sym e9) (subst (λ (ms : List ModuleNames). TellsAlternates names (given.pairs.items ++ of_all alternates_by (map noted_view ms)) alternates) e5 stand)))
+    let stand = alternate given.pairs.items (subst (AllZip (NotesAlternate names) given.pairs.items) (sym same) is.alternates) in
+    each view first
+    (subst (TellsGreatest names (all_commons view.modules)) (sym c) greatest)
+    (subst (TellsWeaks names (all_weaks view.modules)) (sym w) weak)
+    (subst (TellsAlternates names (all_alternates view)) (sym a) stand)

@@ -20,6 +20,7 @@ mod lives;
 mod meaning;
 mod resolved;
 mod rests;
+mod settled;
 mod table;
 
 pub use laws::tables_are_shared;

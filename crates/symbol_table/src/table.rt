@@ -9,15 +9,10 @@ ghost use Rattle.symbol_table.specs.OpenNames.{is_provided, is_open_name, open_f
 ghost use Rattle.symbol_table.specs.TableParts.{ResolvedView};
 
 use crate::asked::{AskedNames, add_lists, asked_by_words, is_open, is_sought, is_there};
-use crate::chains::settle;
-use crate::first_alternate::first_alternates;
-use crate::first_weak::first_weaks;
-use crate::greatest::greatest_commons;
-use crate::link::links;
 use crate::linker_names::linker_meaning;
-use crate::lives::{Lives, live_definitions};
 use crate::resolved::ResolvedNames;
 use crate::rests::note_rests;
+use crate::settled::settled;
 use indexmap::IndexSet;
 use link_base::{Memory, Name};
 use module_view::Module;
@@ -157,27 +152,14 @@ impl<'a> SymbolTable<'a> {
             ..
         } = self;
         note_rests(&mut names)?;
-        let Lives { firsts, clash } = live_definitions(alloc, &names, &modules, &chosen)?;
-        let commons = greatest_commons(alloc, &names, &modules)?;
-        let weaks = first_weaks(alloc, &names, &modules)?;
-        let alternates = first_alternates(alloc, &names, &given.noted, &modules)?;
-        let mut links = links(
-            alloc,
-            &names,
-            &firsts,
-            &commons,
-            &weaks,
-            &alternates,
-            &chosen,
-        )?;
-        settle(alloc, &names, &mut links)?;
+        let settled = settled(alloc, &names, &given, &modules, &chosen)?;
         Ok(ResolvedNames {
             names,
             given,
             modules,
             chosen,
-            links,
-            clash,
+            links: settled.links,
+            clash: settled.clash,
         })
     }
 }
