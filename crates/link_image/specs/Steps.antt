@@ -19,7 +19,7 @@ use Rattle.base_reloc.specs.declared.field.BaseField.{BaseField}
 use Rattle.base_reloc.specs.PageBlocks.{blocks_of}
 use Rattle.piece_bytes.specs.PieceBytes.{size_at}
 use Rattle.pdata_table.specs.Rows.{ROW_SIZE}
-use Rattle.pdata_table.specs.SortedContents.{is_among}
+use Rattle.pdata_table.specs.SortedContents.{is_among, sorted_contents}
 use Rattle.relocate.specs.PatchedBytes.{is_based, HaveNoBased}
 use Rattle.relocate.specs.Value.{IsLeastOutside}
 use Rattle.image_writer.specs.declared.headers.Headers.{Headers}
@@ -39,7 +39,7 @@ use Rattle.link_plan.specs.Laid.{StandsNamed}
 use Rattle.link_image.specs.declared.placement.Placement.{Placement}
 use Rattle.link_image.specs.NamedSections.{pdata_pieces}
 use Rattle.link_image.specs.BaseFields.{base_field, AreBaseFields}
-use Rattle.link_image.specs.LinkedBytes.{owners_in, contents_at, placed_contents, linked_bytes, out_of_range}
+use Rattle.link_image.specs.LinkedBytes.{owners_in, contents_at, placed_contents, linked_bytes, linked_contents, out_of_range}
 use Rattle.link_image.specs.LinkedImage.{link_input, table_row, IsPlacement}
 use Rattle.section_group.specs.Merging.{HasNoBadMerge}
 use Rattle.section_group.specs.Placement.{IsGrouping}
@@ -201,3 +201,10 @@ pub record IsWritten (headers : Headers) (placement : Placement) (link : KeptPar
   pub rest : List Piece
   pub holds : HoldTables (reloc_tables placement.table) rest
   pub file : image ≡ file_of headers placement.sections.items placement.layout (placed_contents link placement.layout) (reloc_tables placement.table)
+
+-- the file of an image whose fields are patched, with the rows of its exception table in order
+abbrev pub sorted_file : Headers → LinkPlan → Placement → List ℕ
+sorted_file headers plan placement =
+    file_of headers placement.sections.items placement.layout
+    (sorted_contents (pdata_pieces (rows_of placement.sections.items)) (linked_contents (kept_parts plan) (rows_of placement.sections.items) placement.layout headers.base))
+    (reloc_tables placement.table)

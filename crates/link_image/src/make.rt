@@ -1,10 +1,17 @@
 //! From the plan of a link to the bytes of its image.
 
-ghost use Rattle.std.specs.Prelude.{◌≡◌, IfOk, IfErr};
+ghost use Rattle.std.specs.Prelude.{◌≡◌, true, None, length, IfOk, OnOk, IfErr};
+ghost use Rattle.link_base.specs.PeFormat.{NUMBEROF_DIRECTORY_ENTRIES};
+ghost use Rattle.section_group.specs.Uniqueness.{rows_of};
+ghost use Rattle.address_layout.specs.PermittedBase.{is_permitted};
 ghost use Rattle.link_words.specs.Outcome.{options_said};
 ghost use Rattle.link_plan.specs.Plan.{IsPlanOf, kept_parts};
-ghost use Rattle.link_image.specs.LinkedImage.{IsBuilt};
+ghost use Rattle.link_image.specs.declared.make.Built.{Built};
 ghost use Rattle.link_image.specs.BuildFaults.{RefusesBuild};
+ghost use Rattle.link_image.specs.ExportFaults.{in_table_fault};
+ghost use Rattle.link_image.specs.LinkedBytes.{fields_range_fault};
+ghost use Rattle.link_image.specs.LinkedImage.{IsBuilt, base_rule};
+ghost use Rattle.link_image.specs.Steps.{IsPlaced, IsWritten, sorted_file};
 
 use crate::exports::export_table;
 use crate::file::write_file;
@@ -12,8 +19,9 @@ use crate::headers::headers_of;
 use crate::owners::owners_of;
 use crate::patching::patch_pieces;
 use crate::pdata::sort_pdata;
-use crate::placement::{check_own_base, entry_rva, place_all};
+use crate::placement::{Placement, check_own_base, entry_rva, place_all};
 use crate::tables::{directories_of, import_tables, table_places};
+use image_writer::Headers;
 use link_base::Refusal;
 use link_plan::LinkPlan;
 use link_words::Options;
@@ -44,21 +52,61 @@ pub fn build<'a>(
     let placement = place_all(alloc, plan, options)?;
     let count = placement.sections.len() as u32;
     check_own_base(plan, options, &placement)?;
-    let entry = entry_rva(plan, options, &placement);
-    let position = plan.modules.len();
-    let places = table_places(position, &plan.pieces);
-    let exports = export_table(alloc, plan, options, &placement, &places)?;
-    let tables = import_tables(alloc, plan, options, &placement, &places)?;
-    let directories = directories_of(plan, options, &placement, &places);
-    let headers = headers_of(options, entry, directories);
-    let mut image = write_file(
-        alloc, plan, options, &headers, &placement, &tables, &exports,
-    )?;
-    let owner = owners_of(alloc, &placement.sections, placement.layout.pieces.len())?;
-    patch_pieces(&mut image, plan, &headers, &placement, &owner)?;
-    sort_pdata(alloc, &mut image, plan, &headers, &placement, &owner)?;
+    let image = image_of(alloc, plan, options, &placement)?;
     Ok(Built {
         image,
         sections: count,
     })
+}
+
+/// The file of the image of a plan whose pieces stand at these places.
+fn image_of<'a>(
+    alloc: Global,
+    plan: &LinkPlan<'a>,
+    options: &Options<'a>,
+    placement: &Placement<'a>,
+) -> Result<Vec<u8>, Refusal<'a>>
+    requires plan { IsPlanOf (options_said options.now) plan.now.modules.items plan.now }
+    requires placed { IsPlaced (options_said options.now) plan.now placement.now }
+    requires permitted { is_permitted (base_rule (options_said options.now)) placement.now.layout.image options.now.base ≡ true }
+    ensures built { IfOk result (λ image. (made : Built) → made.image.items ≡ image.items → made.sections ≡ length placement.now.sections.items
+        → IsBuilt (options_said options.now) (kept_parts plan.now) made) }
+    ensures refused { IfErr result (RefusesBuild (options_said options.now) (kept_parts plan.now)) }
+{
+    let entry = entry_rva(plan, options, placement);
+    let position = plan.modules.len();
+    let places = table_places(position, &plan.pieces);
+    let exports = export_table(alloc, plan, options, placement, &places)?;
+    let tables = import_tables(alloc, plan, options, placement, &places)?;
+    let directories = directories_of(plan, options, placement, &places);
+    let headers = headers_of(options, entry, directories);
+    let mut image = write_file(alloc, plan, options, &headers, placement, &tables, &exports)?;
+    finish(alloc, &mut image, plan, options, &headers, placement)?;
+    Ok(image)
+}
+
+/// Patches the fields in the file of an image, and puts the rows of its exception table in order.
+fn finish<'a>(
+    alloc: Global,
+    image: &mut Vec<u8>,
+    plan: &LinkPlan<'a>,
+    options: &Options<'a>,
+    headers: &Headers,
+    placement: &Placement<'a>,
+) -> Result<(), Refusal<'a>>
+    requires plan { IsPlanOf (options_said options.now) plan.now.modules.items plan.now }
+    requires placed { IsPlaced (options_said options.now) plan.now placement.now }
+    requires permitted { is_permitted (base_rule (options_said options.now)) placement.now.layout.image options.now.base ≡ true }
+    requires outside { in_table_fault (kept_parts plan.now) placement.now.layout.pieces.items ≡ None }
+    requires base { headers.now.base ≡ options.now.base }
+    requires directories { length headers.now.directories ≡ NUMBEROF_DIRECTORY_ENTRIES }
+    requires written { IsWritten headers.now placement.now (kept_parts plan.now) image.old.items }
+    ensures in_range { OnOk result (fields_range_fault (kept_parts plan.now) (rows_of placement.now.sections.items) placement.now.layout options.now.base ≡ None) }
+    ensures sorted { OnOk result (image.new.items ≡ sorted_file headers.now plan.now placement.now) }
+    ensures refused { IfErr result (RefusesBuild (options_said options.now) (kept_parts plan.now)) }
+{
+    let owner = owners_of(alloc, &placement.sections, placement.layout.pieces.len())?;
+    patch_pieces(image, plan, headers, placement, &owner)?;
+    sort_pdata(alloc, image, plan, headers, placement, &owner)?;
+    Ok(())
 }

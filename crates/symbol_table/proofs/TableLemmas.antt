@@ -206,7 +206,7 @@ pub steps_hold : (names : List (List ℕ)) (given : GivenNames) (kept : List Mod
     → TellsWeaks names (all_weaks (map noted_view kept)) weaks
     → ((pairs : List (List ℕ × List ℕ)) → AllZip (NotesAlternate names) pairs noted → TellsAlternates names (pairs ++ of_all alternates_by (map noted_view kept)) alternates)
     → ((view : LinkView) → AreFirst names (live_definitions view.modules chosen) firsts → TellsGreatest names (all_commons view.modules) commons' → TellsWeaks names (all_weaks view.modules) weaks'
-      → TellsAlternates names (all_alternates view) alternates' → AreSteps view chosen names links)
+    → TellsAlternates names (all_alternates view) alternates' → AreSteps view chosen names links)
     → AreSteps (link_view given kept) chosen names links
 steps_hold names given kept chosen firsts noted commons commons' weaks weaks' alternates alternates' links is same c w a first greatest weak alternate each =
     let view = link_view given kept in

@@ -65,13 +65,5 @@ fn links_of<'a>(
     let commons = greatest_commons(alloc, names, modules)?;
     let weaks = first_weaks(alloc, names, modules)?;
     let alternates = first_alternates(alloc, names, &given.noted, modules)?;
-    links(
-        alloc,
-        names,
-        firsts,
-        &commons,
-        &weaks,
-        &alternates,
-        chosen,
-    )
+    links(alloc, names, firsts, &commons, &weaks, &alternates, chosen)
 }

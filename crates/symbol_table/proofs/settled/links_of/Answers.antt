@@ -29,9 +29,9 @@ returns c =
     let chosen = rows_of c.args.chosen.now in
     IfOk-weaker c.links.result
     (λ (links : Vec Link Global). (view : LinkView) → AreFirst names (live_definitions view.modules chosen) c.args.firsts.now → TellsGreatest names (all_commons view.modules) c.deref-2.result.now
-      → TellsWeaks names (all_weaks view.modules) c.deref-3.result.now → TellsAlternates names (all_alternates view) c.deref-4.result.now → AreSteps view chosen names links.items)
+    → TellsWeaks names (all_weaks view.modules) c.deref-3.result.now → TellsAlternates names (all_alternates view) c.deref-4.result.now → AreSteps view chosen names links.items)
     (λ links. AreSteps (link_view given kept) chosen names links.items)
     (λ links each. steps_hold names given kept chosen c.args.firsts.now c.deref.result.now c.in_ok-commons.commons.items c.deref-2.result.now c.in_ok-weaks.weaks.items c.deref-3.result.now
-      c.in_ok-alternates.alternates.items c.deref-4.result.now links.items c.requires.kept c.deref.ensures.value c.deref-2.ensures.value c.deref-3.ensures.value c.deref-4.ensures.value
-      c.requires.first c.in_ok-commons.ensures c.in_ok-weaks.ensures c.in_ok-alternates.ensures each)
+    c.in_ok-alternates.alternates.items c.deref-4.result.now links.items c.requires.kept c.deref.ensures.value c.deref-2.ensures.value c.deref-3.ensures.value c.deref-4.ensures.value
+    c.requires.first c.in_ok-commons.ensures c.in_ok-weaks.ensures c.in_ok-alternates.ensures each)
     c.links.ensures
