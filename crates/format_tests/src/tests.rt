@@ -1,3 +1,3 @@
-mod export_tables;
+mod export_lookup;
 mod host_files;
-mod import_directories;
+mod import_walk;
