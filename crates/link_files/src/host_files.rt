@@ -17,7 +17,7 @@ use std::marker::Model;
 use std::{fs, io, rt};
 
 /// The length from which a file is read by pieces, and that of a piece.
-const PIECE: usize = 64 * 1024;
+const PIECE: usize = 8 * 1024;
 
 /// The files of the system, of which nothing is told.
 #[derive(Drop)]
