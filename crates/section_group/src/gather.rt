@@ -14,13 +14,14 @@ use link_base::pe_format::SCN_MEM_ATTRIBUTES;
 use link_base::{Memory, Name};
 use std::alloc::Global;
 
-/// The sections that used pieces go to, and the number of each used piece's section.
+/// The sections that used pieces go to, by their numbers, and the number of each used piece's section.
 #[derive(Drop)]
 pub(crate) struct Numbered<'a> {
     pub homes: IndexSet<Home<'a>>,
     pub numbers: Vec<Option<usize>>,
 }
 
+/// Numbers the sections that used pieces go to, in the order of their first pieces.
 pub(crate) fn number_pieces<'a>(
     alloc: Global,
     parts: &Parts<'_, 'a>,
