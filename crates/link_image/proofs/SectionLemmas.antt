@@ -42,7 +42,7 @@ use Rattle.address_layout.specs.Growth.{Appends, IsGrowRefusal}
 use Rattle.link_base.specs.Limits.{IMAGE_LIMIT}
 use Rattle.link_image.specs.declared.placement.Placement.{Placement}
 use Rattle.link_image.specs.BaseFields.{is_relocated, AreBaseFields}
-use Rattle.link_image.specs.LinkedBytes.{owners_in, fields_range_fault}
+use Rattle.link_image.specs.LinkedBytes.{owners, owners_in, fields_range_fault}
 use Rattle.link_image.specs.ExportFaults.{in_table_fault}
 use Rattle.link_image.specs.TableFaults.{tables_fault}
 use Rattle.link_image.specs.Steps.{reloc_tables, EndsWithTable, IsPlaced, IsReady, IsWritten}
@@ -326,6 +326,11 @@ rows_apart options plan placement planned placed = by (pdata_pieces (rows_of pla
         first k ks = rw (eq-eqb k k refl) refl
 
 -- ---- what is ready
+
+-- the sections of pieces, counted by their number, are those of the layout
+pub owner_there : (placement : Placement) (sections : List OutSection) (count : ℕ) (owner : List ℕ) → owner ≡ owners (rows_of sections) count → sections ≡ placement.sections.items → count ≡ length placement.layout.pieces.items → owner ≡ owners_in (rows_of placement.sections.items) placement.layout
+owner_there placement sections count owner is same long =
+    is ∙ ap (λ (ss : List OutSection). owners (rows_of ss) count) same ∙ ap (owners (rows_of placement.sections.items)) long
 
 -- the pieces of a plan with their fields, where they stand
 pub ready : (options : LinkOptions) (plan : LinkPlan) (placement : Placement) (headers : Headers) (image owner : List ℕ) → IsPlanOf options plan.modules.items plan → IsPlaced options plan placement → IsWritten headers placement (kept_parts plan) image → owner ≡ owners_in (rows_of placement.sections.items) placement.layout → IsReady (kept_parts plan) plan.pieces.items plan.fixes.items placement.sections.items placement.layout owner (reloc_tables placement.table)

@@ -192,10 +192,7 @@ fn target_rva(rvas: &[u32], target: &Option<Target>) -> Result<u32, Memory>
     let Some(start) = rvas.get(*piece as usize) else {
         return Err(Memory);
     };
-    match start.checked_add(*value) {
-        Some(rva) => Ok(rva),
-        None => Err(Memory),
-    }
+    start.checked_add(*value).ok_or(Memory)
 }
 
 /// That none of some rows lies in the table of this size at an RVA.

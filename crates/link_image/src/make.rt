@@ -6,7 +6,6 @@ ghost use Rattle.section_group.specs.Uniqueness.{rows_of};
 ghost use Rattle.address_layout.specs.PermittedBase.{is_permitted};
 ghost use Rattle.link_words.specs.Outcome.{options_said};
 ghost use Rattle.link_plan.specs.Plan.{IsPlanOf, kept_parts};
-ghost use Rattle.link_image.specs.declared.make.Built.{Built};
 ghost use Rattle.link_image.specs.BuildFaults.{RefusesBuild};
 ghost use Rattle.link_image.specs.ExportFaults.{in_table_fault};
 ghost use Rattle.link_image.specs.LinkedBytes.{fields_range_fault};
@@ -50,39 +49,33 @@ pub fn build<'a>(
     ensures refused { IfErr result (RefusesBuild (options_said options.now) (kept_parts plan.now)) }
 {
     let placement = place_all(alloc, plan, options)?;
-    let count = placement.sections.len() as u32;
     check_own_base(plan, options, &placement)?;
-    let image = image_of(alloc, plan, options, &placement)?;
-    Ok(Built {
-        image,
-        sections: count,
-    })
+    image_of(alloc, plan, options, &placement)
 }
 
-/// The file of the image of a plan whose pieces stand at these places.
+/// The image of a plan whose pieces stand at these places.
 fn image_of<'a>(
     alloc: Global,
     plan: &LinkPlan<'a>,
     options: &Options<'a>,
     placement: &Placement<'a>,
-) -> Result<Vec<u8>, Refusal<'a>>
+) -> Result<Built, Refusal<'a>>
     requires plan { IsPlanOf (options_said options.now) plan.now.modules.items plan.now }
     requires placed { IsPlaced (options_said options.now) plan.now placement.now }
     requires permitted { is_permitted (base_rule (options_said options.now)) placement.now.layout.image options.now.base ≡ true }
-    ensures built { IfOk result (λ image. (made : Built) → made.image.items ≡ image.items → made.sections ≡ length placement.now.sections.items
-        → IsBuilt (options_said options.now) (kept_parts plan.now) made) }
+    ensures built { IfOk result (IsBuilt (options_said options.now) (kept_parts plan.now)) }
     ensures refused { IfErr result (RefusesBuild (options_said options.now) (kept_parts plan.now)) }
 {
     let entry = entry_rva(plan, options, placement);
-    let position = plan.modules.len();
-    let places = table_places(position, &plan.pieces);
+    let places = table_places(plan.modules.len(), &plan.pieces);
     let exports = export_table(alloc, plan, options, placement, &places)?;
     let tables = import_tables(alloc, plan, options, placement, &places)?;
     let directories = directories_of(plan, options, placement, &places);
     let headers = headers_of(options, entry, directories);
     let mut image = write_file(alloc, plan, options, &headers, placement, &tables, &exports)?;
     finish(alloc, &mut image, plan, options, &headers, placement)?;
-    Ok(image)
+    let sections = placement.sections.len() as u32;
+    Ok(Built { image, sections })
 }
 
 /// Patches the fields in the file of an image, and puts the rows of its exception table in order.

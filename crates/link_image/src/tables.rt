@@ -131,10 +131,7 @@ fn config_size(pieces: &[Piece<'_>], place: &Option<EntryPlace>) -> u32
         return 0;
     }
     let Some(bytes) = piece.body else { return 0 };
-    match field_u32(bytes, place.value as usize) {
-        Some(size) => size,
-        None => 0,
-    }
+    field_u32(bytes, place.value as usize).unwrap_or(0)
 }
 
 /// The RVA and the size of the first section of a name, or zeros where there is none.

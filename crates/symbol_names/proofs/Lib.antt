@@ -1,4 +1,5 @@
 pub mod NotedLemmas
 pub mod NumberLemmas
 pub mod RecordLemmas
+pub mod RestLemmas
 pub mod DotLemmas

@@ -5,4 +5,5 @@ pub mod Alternates
 pub mod Exports
 pub mod References
 pub mod Interning
+pub mod Rests
 pub mod Kept

@@ -12,4 +12,3 @@ pub mod PassLemmas
 pub mod WeakLemmas
 pub mod TableLemmas
 pub mod WorkedNames
-pub mod RestLemmas

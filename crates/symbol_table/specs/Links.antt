@@ -1,5 +1,5 @@
 -- Steps of chains by the numbers of names, and how a chain ends. Own.
-use Rattle.std.specs.Prelude.{◌≡◌, ◌⊎◌, ℕ, ◌<◌, ◌≤◌, nat_eq, Bool, true, false, List, [], ◌∷◌, length, slice_index_or, Option, Some, None, Result, Err}
+use Rattle.std.specs.Prelude.{◌≡◌, ℕ, ◌<◌, nat_eq, Bool, true, false, List, [], ◌∷◌, length, slice_index_or, Option, Some, None, Result, Err}
 use Rattle.std.specs.List.{list_any, All}
 use Rattle.symbol_table.specs.declared.meaning.Meaning.{Meaning}
 use Rattle.symbol_table.specs.declared.meaning.NoMeaning.{NoMeaning}
@@ -7,17 +7,11 @@ use Rattle.symbol_table.specs.declared.meaning.NoMeaning.TheVariants.{Undefined,
 use Rattle.symbol_table.specs.declared.link.Link.{Link}
 use Rattle.symbol_table.specs.declared.link.Link.TheVariants as link
 use Rattle.symbol_table.specs.declared.chains.Passed.{Passed}
-use Rattle.link_base.specs.NameText.{begins_import, behind_import}
 use Rattle.symbol_names.specs.LinkView.{LinkView}
 use Rattle.symbol_table.specs.Resolution.{Step, Ends, Leads, step, meaning_within}
 use Rattle.symbol_names.specs.Interning.{Numbers}
 
 -- ---- a step
-
--- a name has a number
-pub record IsNumbered (names : List (List ℕ)) (name : List ℕ) : Type 0 where
-  pub number : ℕ
-  pub numbered : Numbers names number name
 
 -- a step by the number of the name that it leads to
 abbrev pub IsStep : List (List ℕ) → Step → Link → Type 0
@@ -25,15 +19,6 @@ IsStep names (Ends end) (link.Ends other) = other ≡ end
 IsStep names (Leads slot name) (link.Leads number slotted) = (slotted ≡ slot) × Numbers names number name
 IsStep names (Ends end) (link.Leads number slotted) = ⊥
 IsStep names (Leads slot name) (link.Ends other) = ⊥
-
--- the rest of each name that begins with the import prefix has a number too
-abbrev pub HasRests : List (List ℕ) → Type 0
-HasRests names = (number : ℕ) (name : List ℕ) → Numbers names number name → begins_import name ≡ true → IsNumbered names (behind_import name)
-
--- so has the rest of each whose number is below a first one, or at or above a second
-abbrev pub HasRestsBut : List (List ℕ) → ℕ → ℕ → Type 0
-HasRestsBut names first second =
-    (number : ℕ) (name : List ℕ) → Numbers names number name → (number < first) ⊎ (second ≤ number) → begins_import name ≡ true → IsNumbered names (behind_import name)
 
 abbrev pub no_link : Link
 no_link = link.Ends (Err Undefined)

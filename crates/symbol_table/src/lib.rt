@@ -19,7 +19,6 @@ mod linker_names;
 mod lives;
 mod meaning;
 mod resolved;
-mod rests;
 mod settled;
 mod table;
 

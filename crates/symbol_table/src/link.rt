@@ -10,7 +10,8 @@ ghost use Rattle.symbol_table.specs.Resolution.{meaning_at, place_meaning, defau
 ghost use Rattle.symbol_names.specs.Kept.{rows_of};
 ghost use Rattle.symbol_table.specs.Passes.{first_meaning, kept_meaning, AreFirst, TellsGreatest, KeepsSaid, KeepsWeak, TellsWeaks, KeepsAlternate, TellsAlternates};
 ghost use Rattle.symbol_names.specs.Interning.{Numbers};
-ghost use Rattle.symbol_table.specs.Links.{IsStep, HasRests, AreSteps};
+ghost use Rattle.symbol_names.specs.Rests.{HasRests};
+ghost use Rattle.symbol_table.specs.Links.{IsStep, AreSteps};
 
 use crate::first_weak::FirstWeak;
 use crate::greatest::GreatestCommon;

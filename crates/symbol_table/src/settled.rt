@@ -3,7 +3,8 @@
 ghost use Rattle.std.specs.Prelude.{◌≡◌, length, map, IfOk};
 ghost use Rattle.symbol_names.specs.Kept.{rows_of, noted_view};
 ghost use Rattle.symbol_names.specs.Lists.{live_definitions};
-ghost use Rattle.symbol_table.specs.Links.{HasRests, AreSteps};
+ghost use Rattle.symbol_names.specs.Rests.{HasRests};
+ghost use Rattle.symbol_table.specs.Links.{AreSteps};
 ghost use Rattle.symbol_table.specs.Passes.{AreFirst};
 ghost use Rattle.symbol_table.specs.TableParts.{link_view, KeepsLink, KeepsMeanings};
 

@@ -11,7 +11,6 @@ ghost use Rattle.symbol_table.specs.TableParts.{ResolvedView};
 use crate::asked::{AskedNames, add_lists, asked_by_words, is_open, is_sought, is_there};
 use crate::linker_names::linker_meaning;
 use crate::resolved::ResolvedNames;
-use crate::rests::note_rests;
 use crate::settled::settled;
 use indexmap::IndexSet;
 use link_base::{Memory, Name};
@@ -19,7 +18,9 @@ use module_view::Module;
 use short_import::Import;
 use std::alloc::Global;
 use std::marker::Model;
-use symbol_names::{Chosen, GivenNames, ModuleNames, NotedLists, given_names, name_at, note_lists};
+use symbol_names::{
+    Chosen, GivenNames, ModuleNames, NotedLists, given_names, name_at, note_lists, note_rests,
+};
 
 /// The names that the command line asks for, the alternates that it gives, and the names of the modules that were added, in
 /// order.

@@ -9,9 +9,9 @@ use Rattle.link_words.specs.Outcome.{LinkOptions, options_said}
 use Rattle.link_plan.specs.declared.planning.LinkPlan.{LinkPlan}
 use Rattle.link_plan.specs.Plan.{kept_parts}
 use Rattle.link_image.specs.declared.placement.Placement.{Placement}
-use Rattle.link_image.specs.LinkedBytes.{owners, owners_in, fields_range_fault}
+use Rattle.link_image.specs.LinkedBytes.{fields_range_fault}
 use Rattle.link_image.specs.Steps.{reloc_tables}
-use Rattle.link_image.proofs.SectionLemmas.{ready, bad_range}
+use Rattle.link_image.proofs.SectionLemmas.{owner_there, ready, bad_range}
 use Rattle.link_image.proofs.make.finish.Goals as goal
 
 pub owners_of-requires-clause-within : goal.owners_of-requires-clause-within
@@ -27,9 +27,7 @@ patch_pieces-requires-clause-ready c =
     let options : LinkOptions = options_said c.args.options.now in
     let plan : LinkPlan = c.args.plan.now in
     let placement : Placement = c.args.placement.now in
-    let count : c.len.result ≡ length placement.layout.pieces.items = c.len.ensures ∙ placement.layout.pieces.ok.0 in
-    let owner_is : c.in_ok-owner.owner.items ≡ owners_in (rows_of placement.sections.items) placement.layout =
-    c.in_ok-owner.ensures ∙ ap (λ (ss : List OutSection). owners (rows_of ss) c.len.result) c.deref.ensures.value ∙ ap (owners (rows_of placement.sections.items)) count in
+    let owner_is = owner_there placement c.deref.now c.len.result c.in_ok-owner.owner.items c.in_ok-owner.ensures c.deref.ensures.value (c.len.ensures ∙ placement.layout.pieces.ok.0) in
     rw (c.deref-2.ensures.value) (ready options plan placement c.args.headers.now c.args.image.now.items c.in_ok-owner.owner.items c.requires.plan c.requires.placed c.requires.written owner_is)
 
 pub patch_pieces-requires-clause-file : goal.patch_pieces-requires-clause-file
@@ -40,9 +38,7 @@ sort_pdata-requires-clause-ready c =
     let options : LinkOptions = options_said c.args.options.now in
     let plan : LinkPlan = c.args.plan.now in
     let placement : Placement = c.args.placement.now in
-    let count : c.len.result ≡ length placement.layout.pieces.items = c.len.ensures ∙ placement.layout.pieces.ok.0 in
-    let owner_is : c.in_ok-owner.owner.items ≡ owners_in (rows_of placement.sections.items) placement.layout =
-    c.in_ok-owner.ensures ∙ ap (λ (ss : List OutSection). owners (rows_of ss) c.len.result) c.deref.ensures.value ∙ ap (owners (rows_of placement.sections.items)) count in
+    let owner_is = owner_there placement c.deref.now c.len.result c.in_ok-owner.owner.items c.in_ok-owner.ensures c.deref.ensures.value (c.len.ensures ∙ placement.layout.pieces.ok.0) in
     rw (c.deref-3.ensures.value) (ready options plan placement c.args.headers.now c.args.image.now.items c.in_ok-owner.owner.items c.requires.plan c.requires.placed c.requires.written owner_is)
 
 pub returns-in_err-patch_pieces-clause-refused : goal.returns-in_err-patch_pieces-clause-refused

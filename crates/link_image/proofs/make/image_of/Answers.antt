@@ -1,4 +1,4 @@
-use Rattle.std.proofs.Common.{◌≡◌, ℕ, None, refl, ap, ◌∙◌}
+use Rattle.std.proofs.Common.{◌≡◌, ℕ, refl, ap, ◌∙◌, arith}
 use Rattle.section_group.specs.Uniqueness.{rows_of}
 use Rattle.image_writer.specs.declared.headers.Headers.{Headers}
 use Rattle.link_words.specs.Outcome.{LinkOptions, options_said}
@@ -22,7 +22,7 @@ finish-requires-clause-base c =
     ap (λ (h : Headers). h.base) c.headers_of-headers.ensures
 
 pub returns-clause-built : goal.returns-clause-built
-returns-clause-built c = λ made image sections.
+returns-clause-built c =
     let options : LinkOptions = options_said c.args.options.now in
     let plan : LinkPlan = c.args.plan.now in
     let placement : Placement = c.args.placement.now in
@@ -31,7 +31,12 @@ returns-clause-built c = λ made image sections.
     let begins : c.headers_of-headers.result ≡ headers_of options (entry_rva placement.layout.pieces.items plan.entry) (directories_of (kept_parts plan) (rows_of placement.sections.items) placement.layout (reloc_tables placement.table)) =
     c.headers_of-headers.ensures ∙ ap (λ (e : ℕ). headers_of options e c.directories_of-directories.result) c.entry_rva-entry.ensures ∙ ap (headers_of options (entry_rva placement.layout.pieces.items plan.entry)) c.directories_of-directories.ensures in
     let all = ready options plan placement c.headers_of-headers.result c.in_ok-image.image.items owner c.requires.plan c.requires.placed written refl in
-    let file : made.image.items ≡ file_of (headers_of options (entry_rva placement.layout.pieces.items plan.entry) (directories_of (kept_parts plan) (rows_of placement.sections.items) placement.layout (reloc_tables placement.table))) placement.sections.items placement.layout (sorted_contents (pdata_pieces (rows_of placement.sections.items)) (linked_contents (kept_parts plan) (rows_of placement.sections.items) placement.layout options.base)) (reloc_tables placement.table) =
-    image ∙ c.in_ok-finish.ensures.sorted
+    let file : c.finish.new.image.items ≡ file_of (headers_of options (entry_rva placement.layout.pieces.items plan.entry) (directories_of (kept_parts plan) (rows_of placement.sections.items) placement.layout (reloc_tables placement.table))) placement.sections.items placement.layout (sorted_contents (pdata_pieces (rows_of placement.sections.items)) (linked_contents (kept_parts plan) (rows_of placement.sections.items) placement.layout options.base)) (reloc_tables placement.table) =
+    c.in_ok-finish.ensures.sorted
     ∙ ap (λ (h : Headers). file_of h placement.sections.items placement.layout (sorted_contents (pdata_pieces (rows_of placement.sections.items)) (linked_contents (kept_parts plan) (rows_of placement.sections.items) placement.layout h.base)) (reloc_tables placement.table)) begins in
-    built options plan placement owner c.requires.plan c.requires.placed all made c.requires.permitted c.in_ok-exports.ensures.outside c.in_ok-exports.ensures.given c.in_ok-finish.ensures.in_range file sections
+    built options plan placement owner c.requires.plan c.requires.placed all (record { image = c.finish.new.image; sections = c.len-sections.result }) c.requires.permitted c.in_ok-exports.ensures.outside c.in_ok-exports.ensures.given c.in_ok-finish.ensures.in_range file (c.len-sections.ensures ∙ placement.sections.ok.0)
+
+pub overflow_cast-sections : goal.overflow_cast-sections
+overflow_cast-sections c =
+    let placement : Placement = c.args.placement.now in
+    omega (arith, c.requires.placed.few, c.len-sections.ensures, placement.sections.ok.0)

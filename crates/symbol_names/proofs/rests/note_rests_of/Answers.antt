@@ -1,6 +1,6 @@
 use Rattle.std.proofs.Common.{sym, ◌∙◌}
-use Rattle.symbol_table.proofs.RestLemmas.{rests_more, rests_stop, rests_end}
-use Rattle.symbol_table.proofs.rests.note_rests_of.Goals as goal
+use Rattle.symbol_names.proofs.RestLemmas.{rests_more, rests_stop, rests_end}
+use Rattle.symbol_names.proofs.rests.note_rests_of.Goals as goal
 
 pub loop-rest-preserved : goal.loop-rest-preserved
 loop-rest-preserved c =

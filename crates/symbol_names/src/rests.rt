@@ -2,14 +2,14 @@
 
 ghost use Rattle.std.specs.Prelude.{◌≡◌, ◌<◌, ◌≤◌, ◌+◌, ℕ, false, List, length, IfOk, OnOk};
 ghost use Rattle.symbol_names.specs.Interning.{Numbers, KeepsNumbers};
-ghost use Rattle.symbol_table.specs.Links.{HasRests, HasRestsBut};
+ghost use Rattle.symbol_names.specs.Rests.{HasRests, HasRestsBut};
 
+use crate::interning::name_at;
 use indexmap::IndexSet;
 use link_base::{Memory, Name};
-use symbol_names::name_at;
 
 /// Numbers what is left of each name that begins with the import prefix, and what is left of that.
-pub(crate) fn note_rests<'a>(names: &mut IndexSet<Name<'a>>) -> Result<(), Memory>
+pub fn note_rests<'a>(names: &mut IndexSet<Name<'a>>) -> Result<(), Memory>
     ensures kept { KeepsNumbers names.old.keys names.new.keys }
     ensures rests { OnOk result (HasRests names.new.keys) }
 {

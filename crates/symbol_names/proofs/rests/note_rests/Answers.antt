@@ -1,6 +1,6 @@
 use Rattle.std.proofs.Common.{length, arith}
 use Rattle.symbol_names.proofs.NumberLemmas.{keeps_both}
-use Rattle.symbol_table.proofs.rests.note_rests.Goals as goal
+use Rattle.symbol_names.proofs.rests.note_rests.Goals as goal
 
 pub loop-number-preserved : goal.loop-number-preserved
 loop-number-preserved c =

@@ -5,7 +5,7 @@ use Rattle.std.proofs.lemmas.Option.{slice_get_within, slice_get-get_or}
 use Rattle.link_base.specs.NameText.{begins_import, behind_import}
 use Rattle.symbol_names.specs.Interning.{Numbers, KeepsNumbers}
 use Rattle.symbol_names.proofs.NumberLemmas.{one_name, keeps_both}
-use Rattle.symbol_table.specs.Links.{IsNumbered, HasRests, HasRestsBut}
+use Rattle.symbol_names.specs.Rests.{IsNumbered, HasRests, HasRestsBut}
 
 -- ---- one name more
 
