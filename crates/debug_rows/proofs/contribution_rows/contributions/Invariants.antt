@@ -1,0 +1,6 @@
+use Rattle.std.proofs.Common.{◌≡◌, take}
+use Rattle.debug_rows.specs.Contributions.{contributions_of}
+use Rattle.debug_rows.proofs.contribution_rows.contributions.Given as goal
+
+abbrev pub invariant-loop-index : goal.invariant-loop-index
+invariant-loop-index l = l.list.items ≡ contributions_of l.modules l.pieces l.layout (take l.index l.sections)

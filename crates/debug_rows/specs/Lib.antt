@@ -1,0 +1,4 @@
+pub mod Contributions
+pub mod ModuleNames
+pub mod MapLists
+pub mod MapPieces
