@@ -27,7 +27,7 @@ patch_pieces-requires-clause-ready c =
     let options : LinkOptions = options_said c.args.options.now in
     let plan : LinkPlan = c.args.plan.now in
     let placement : Placement = c.args.placement.now in
-    let owner_is = owner_there placement c.deref.now c.len.result c.in_ok-owner.owner.items c.in_ok-owner.ensures c.deref.ensures.value (c.len.ensures ∙ placement.layout.pieces.ok.0) in
+    let owner_is = owner_there placement c.deref.result.now c.len.result c.in_ok-owner.owner.items c.in_ok-owner.ensures c.deref.ensures.value (c.len.ensures ∙ placement.layout.pieces.ok.0) in
     rw (c.deref-2.ensures.value) (ready options plan placement c.args.headers.now c.args.image.now.items c.in_ok-owner.owner.items c.requires.plan c.requires.placed c.requires.written owner_is)
 
 pub patch_pieces-requires-clause-file : goal.patch_pieces-requires-clause-file
@@ -38,7 +38,7 @@ sort_pdata-requires-clause-ready c =
     let options : LinkOptions = options_said c.args.options.now in
     let plan : LinkPlan = c.args.plan.now in
     let placement : Placement = c.args.placement.now in
-    let owner_is = owner_there placement c.deref.now c.len.result c.in_ok-owner.owner.items c.in_ok-owner.ensures c.deref.ensures.value (c.len.ensures ∙ placement.layout.pieces.ok.0) in
+    let owner_is = owner_there placement c.deref.result.now c.len.result c.in_ok-owner.owner.items c.in_ok-owner.ensures c.deref.ensures.value (c.len.ensures ∙ placement.layout.pieces.ok.0) in
     rw (c.deref-3.ensures.value) (ready options plan placement c.args.headers.now c.args.image.now.items c.in_ok-owner.owner.items c.requires.plan c.requires.placed c.requires.written owner_is)
 
 pub returns-in_err-patch_pieces-clause-refused : goal.returns-in_err-patch_pieces-clause-refused
