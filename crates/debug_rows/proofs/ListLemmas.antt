@@ -1,7 +1,7 @@
 -- Lists of numbered rows, one row more at a time.
-use Rattle.std.proofs.Common.{◌≡◌, ℕ, zero, suc, ◌+◌, ◌<◌, List, [], ◌∷◌, ◌++◌, Option, length, get_or, take, map, sym, ap, ◌∙◌, append_assoc, add-one, arith}
+use Rattle.std.proofs.Common.{◌≡◌, ℕ, zero, suc, ◌+◌, ◌<◌, List, [], ◌∷◌, ◌++◌, Option, length, length-take-le, get_or, take, map, sym, ap, ◌∙◌, append_assoc, add-one, arith}
 use Rattle.std.specs.List.{flat_map, filter_map, cons_option, enumerate_from}
-use Rattle.std.proofs.lemmas.List.{append-nil, take_more}
+use Rattle.std.proofs.lemmas.List.{append-nil, take_more, length-map, map-append}
 use Rattle.std.proofs.lemmas.List.Elements.{filter_map-append}
 
 abbrev pub numbered : {X Y : Type 0} → (ℕ × X → List Y) → ℕ → List X → List Y
@@ -57,3 +57,33 @@ kept_grows {X} {Y} f i items d old now new lt was grown =
     ∙ ap (λ (rows : List Y). rows ++ cons_option (f item) []) was
     ∙ append_assoc old (filter_map f (take i items)) (cons_option (f item) [])
     ∙ ap (λ (rows : List Y). old ++ rows) (sym (ap (filter_map f) (take_more items i d lt) ∙ filter_map-append f (take i items) (item ∷ [])))
+
+-- the same where the item was read
+pub kept_item_grows : {X Y : Type 0} (f : X → Option Y) (i : ℕ) (items : List X) (item : X) (old now new : List Y) → i < length items → item ≡ get_or items i item → now ≡ old ++ filter_map f (take i items) → new ≡ now ++ cons_option (f item) [] → new ≡ old ++ filter_map f (take (i + 1) items)
+kept_item_grows {X} {Y} f i items item old now new lt is was grown =
+    kept_grows f i items item old now new lt was (grown ∙ ap (λ (x : X). now ++ cons_option (f x) []) is)
+
+-- ---- what is kept of numbered items
+
+enumerate_more : {X : Type 0} (start : ℕ) (items : List X) (item : X) → enumerate_from start (items ++ item ∷ []) ≡ enumerate_from start items ++ (start + length items, item) ∷ []
+enumerate_more {X} start [] item =
+    let place : start ≡ start + 0 = omega arith in
+    ap (λ (k : ℕ). (k, item) ∷ []) place
+enumerate_more {X} start (x ∷ items) item =
+    let place : start + 1 + length items ≡ start + suc (length items) = omega arith in
+    ap (λ (rest : List (ℕ × X)). (start, x) ∷ rest) (enumerate_more (start + 1) items item ∙ ap (λ (k : ℕ). enumerate_from (start + 1) items ++ (k, item) ∷ []) place)
+
+pub kept_numbered_grows : {X Y Z : Type 0} (f : ℕ × Y → Option Z) (g : X → Y) (i : ℕ) (items : List X) (item : X) (old now new : List Z) → i < length items → item ≡ get_or items i item → now ≡ old ++ filter_map f (enumerate_from 0 (map g (take i items))) → new ≡ now ++ cons_option (f (i, g item)) [] → new ≡ old ++ filter_map f (enumerate_from 0 (map g (take (i + 1) items)))
+kept_numbered_grows {X} {Y} {Z} f g i items item old now new lt is was grown =
+    let first = enumerate_from 0 (map g (take i items)) in
+    let count : length (map g (take i items)) ≡ i = length-map (take i items) g ∙ length-take-le i items (omega (arith, lt)) in
+    let place : 0 + length (map g (take i items)) ≡ i = omega (arith, count) in
+    let all : enumerate_from 0 (map g (take (i + 1) items)) ≡ first ++ (i, g item) ∷ [] =
+    ap (λ (xs : List X). enumerate_from 0 (map g xs)) (take_more items i item lt ∙ ap (λ (x : X). take i items ++ x ∷ []) (sym is))
+    ∙ ap (enumerate_from 0) (map-append g (take i items) (item ∷ []))
+    ∙ enumerate_more 0 (map g (take i items)) (g item)
+    ∙ ap (λ (k : ℕ). first ++ (k, g item) ∷ []) place in
+    grown
+    ∙ ap (λ (rows : List Z). rows ++ cons_option (f (i, g item)) []) was
+    ∙ append_assoc old (filter_map f first) (cons_option (f (i, g item)) [])
+    ∙ ap (λ (rows : List Z). old ++ rows) (sym (ap (filter_map f) all ∙ filter_map-append f first ((i, g item) ∷ [])))

@@ -2,3 +2,4 @@ pub mod Contributions
 pub mod ModuleNames
 pub mod MapLists
 pub mod MapPieces
+pub mod Publics
