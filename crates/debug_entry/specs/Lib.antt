@@ -1,0 +1,2 @@
+pub mod DebugDirectory
+pub mod Identifier
