@@ -3,3 +3,4 @@ pub mod ModuleNames
 pub mod MapLists
 pub mod MapPieces
 pub mod Publics
+pub mod PlacedPublics

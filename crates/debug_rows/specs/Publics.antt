@@ -21,7 +21,7 @@ use Rattle.link_pieces.specs.NameMeaning.{takes_part}
 use Rattle.link_pieces.specs.LocalSlots.{slot_names}
 use Rattle.link_pieces.specs.Pieces.{link_pieces}
 use Rattle.link_pieces.specs.PieceIndex.{piece_index, common_index, linker_index, import_index}
-use Rattle.debug_rows.specs.declared.public_rows.PublicPlace.{PublicPlace}
+use Rattle.debug_rows.specs.declared.link_publics.PublicPlace.{PublicPlace}
 
 abbrev pub public_at : List ℕ → ℕ → Bool → ℕ → ℕ → PublicPlace
 public_at name position function value piece = record { name = name; «module» = position; function = function; piece = piece; value = value }

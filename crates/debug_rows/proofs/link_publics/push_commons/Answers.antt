@@ -2,7 +2,7 @@ use Rattle.std.proofs.Common.{ℕ, [], ◌++◌, Option, option_map, false, ap, 
 use Rattle.std.specs.List.{cons_option}
 use Rattle.debug_rows.specs.Publics.{public_at, common_public}
 use Rattle.debug_rows.proofs.ListLemmas.{kept_item_grows}
-use Rattle.debug_rows.proofs.public_rows.push_commons.Goals as goal
+use Rattle.debug_rows.proofs.link_publics.push_commons.Goals as goal
 
 pub loop-common-preserved : goal.loop-common-preserved
 loop-common-preserved c =

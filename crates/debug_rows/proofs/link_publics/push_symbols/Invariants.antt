@@ -2,7 +2,7 @@ use Rattle.std.proofs.Common.{◌≡◌, ◌++◌}
 use Rattle.std.specs.List.{filter_map}
 use Rattle.coff_records.specs.ObjectFile.{symbol_entries}
 use Rattle.debug_rows.specs.Publics.{symbol_public}
-use Rattle.debug_rows.proofs.public_rows.push_symbols.Given as goal
+use Rattle.debug_rows.proofs.link_publics.push_symbols.Given as goal
 
 abbrev pub invariant-loop-at : goal.invariant-loop-at
 invariant-loop-at l = record {

@@ -3,7 +3,7 @@ use Rattle.std.proofs.lemmas.List.{get_or_default}
 use Rattle.link_base.proofs.RangeLemmas.{joined_grows}
 use Rattle.module_view.specs.Module.{no_module, module_at}
 use Rattle.debug_rows.specs.Publics.{module_publics}
-use Rattle.debug_rows.proofs.public_rows.public_places.Goals as goal
+use Rattle.debug_rows.proofs.link_publics.public_places.Goals as goal
 
 pub loop-position-preserved : goal.loop-position-preserved
 loop-position-preserved c =

@@ -2,7 +2,7 @@ use Rattle.std.proofs.Common.{arith}
 use Rattle.section_group.specs.BarePieces.{bare}
 use Rattle.debug_rows.specs.Publics.{slot_public}
 use Rattle.debug_rows.proofs.ListLemmas.{kept_numbered_grows}
-use Rattle.debug_rows.proofs.public_rows.push_slots.Goals as goal
+use Rattle.debug_rows.proofs.link_publics.push_slots.Goals as goal
 
 pub loop-k-preserved : goal.loop-k-preserved
 loop-k-preserved c =

@@ -1,7 +1,7 @@
 use Rattle.std.proofs.Common.{arith}
 use Rattle.debug_rows.specs.Publics.{made_public}
 use Rattle.debug_rows.proofs.ListLemmas.{kept_item_grows}
-use Rattle.debug_rows.proofs.public_rows.push_made.Goals as goal
+use Rattle.debug_rows.proofs.link_publics.push_made.Goals as goal
 
 pub loop-definition-preserved : goal.loop-definition-preserved
 loop-definition-preserved c =
