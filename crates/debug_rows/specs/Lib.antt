@@ -3,4 +3,5 @@ pub mod ModuleNames
 pub mod MapLists
 pub mod MapPieces
 pub mod Publics
+pub mod KeptPublics
 pub mod PlacedPublics

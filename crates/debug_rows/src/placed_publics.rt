@@ -1,7 +1,7 @@
 //! The public symbols of an image, at their places in its sections.
 
 ghost use Rattle.std.specs.Prelude.{◌≡◌, ◌<◌, ◌+◌, ◌^◌, ◌++◌, [], length, map, IsPermutation, IsSorted, IfOk, OnOk};
-ghost use Rattle.std.specs.List.{All, cons_option, filter_map};
+ghost use Rattle.std.specs.List.{cons_option, filter_map};
 ghost use Rattle.debug_rows.specs.PlacedPublics.{public_rva, public_section, public_row, placed_row, placed_key, public_rows_of, key_cmp, map_public, map_publics_of};
 
 use crate::link_publics::PublicPlace;
@@ -33,7 +33,6 @@ pub fn public_rows<'a>(
 ) -> Result<Vec<PublicRow<'a>>, Memory>
     requires few { length sections.now < 2 ^ 16 }
     requires places { length layout.now.sections.items ≡ length sections.now }
-    requires fit { All (λ public. public_rva layout.now public < 2 ^ 32) publics.now }
     ensures { IfOk result (λ rows. rows.items ≡ public_rows_of owner.now sections.now layout.now publics.now) }
 {
     let mut rows = Vec::with_capacity(alloc, publics.len())?;
@@ -53,36 +52,41 @@ fn push_row<'a>(
 ) -> Result<(), Memory>
     requires few { length sections.now < 2 ^ 16 }
     requires places { length layout.now.sections.items ≡ length sections.now }
-    requires fits { public_rva layout.now public.now < 2 ^ 32 }
     ensures { OnOk result (rows.new.items ≡ rows.old.items ++ cons_option (placed_row owner.now sections.now layout.now public.now) []) }
 {
     if let Some(index) = public_section(public, owner, sections) {
-        rows.push(public_row(public, layout, index))?;
+        let row = public_row(public, layout, index)?;
+        rows.push(row)?;
     }
     Ok(())
 }
 
 /// A public symbol in the section of an index.
-fn public_row<'a>(public: &PublicPlace<'a>, layout: &Layout, index: usize) -> PublicRow<'a>
+fn public_row<'a>(
+    public: &PublicPlace<'a>,
+    layout: &Layout,
+    index: usize,
+) -> Result<PublicRow<'a>, Memory>
     requires few { index + 1 < 2 ^ 16 }
     requires there { index < length layout.now.sections.items }
-    requires fits { public_rva layout.now public.now < 2 ^ 32 }
-    ensures { result ≡ public_row layout.now public.now index }
+    ensures { IfOk result (λ row. row ≡ public_row layout.now public.now index) }
 {
-    PublicRow {
+    let rva = public_rva(public, layout)?;
+    Ok(PublicRow {
         name: public.name.again(),
         section: index as u16 + 1,
-        offset: public_rva(public, layout).saturating_sub(layout.sections[index].rva),
+        offset: rva.saturating_sub(layout.sections[index].rva),
         function: public.function,
-    }
+    })
 }
 
-/// The RVA of a public symbol whose piece stands in a section.
-fn public_rva(public: &PublicPlace<'_>, layout: &Layout) -> u32
-    requires { public_rva layout.now public.now < 2 ^ 32 }
-    ensures { result ≡ public_rva layout.now public.now }
+/// The RVA of a public symbol. One that does not fit into its number would not fit into an image either.
+fn public_rva(public: &PublicPlace<'_>, layout: &Layout) -> Result<u32, Memory>
+    ensures { IfOk result (λ rva. rva ≡ public_rva layout.now public.now) }
 {
-    rva_at(&layout.pieces, public.piece) + public.value
+    rva_at(&layout.pieces, public.piece)
+        .checked_add(public.value)
+        .ok_or(Memory)
 }
 
 /// The index of the section that a public symbol stands in.
@@ -109,7 +113,6 @@ pub fn map_publics<'a>(
     sections: &[OutSection<'a>],
     layout: &Layout,
 ) -> Result<Vec<MapPublic<'a>>, Memory>
-    requires { All (λ public. public_rva layout.now public < 2 ^ 32) publics.now }
     ensures { IfOk result (λ rows. rows.items ≡ map_publics_of owner.now sections.now layout.now publics.now) }
 {
     let mut keys = public_keys(alloc, publics, owner, sections, layout)?;
@@ -126,7 +129,6 @@ fn public_keys<'a>(
     sections: &[OutSection<'a>],
     layout: &Layout,
 ) -> Result<Vec<PublicKey<'a>>, Memory>
-    requires { All (λ public. public_rva layout.now public < 2 ^ 32) publics.now }
     ensures { IfOk result (λ keys. keys.items ≡ filter_map (placed_key owner.now sections.now layout.now) publics.now) }
 {
     let mut keys = Vec::with_capacity(alloc, publics.len())?;
@@ -144,12 +146,12 @@ fn push_key<'a>(
     sections: &[OutSection<'a>],
     layout: &Layout,
 ) -> Result<(), Memory>
-    requires { public_rva layout.now public.now < 2 ^ 32 }
     ensures { OnOk result (keys.new.items ≡ keys.old.items ++ cons_option (placed_key owner.now sections.now layout.now public.now) []) }
 {
     if public_section(public, owner, sections).is_some() {
+        let rva = public_rva(public, layout)?;
         keys.push(PublicKey {
-            rva: public_rva(public, layout),
+            rva,
             name: public.name.again(),
             module: public.module,
         })?;
