@@ -5,3 +5,4 @@ pub mod MapPieces
 pub mod Publics
 pub mod KeptPublics
 pub mod PlacedPublics
+pub mod ImageMap
