@@ -1,5 +1,5 @@
--- What the debug directory of a small image holds: the entry of 30 bytes at the RVA 0x201C, which are at 0x41C in the file, and these
--- bytes, for a PDB with the name `a.pdb` and an identifier of sixteen bytes 7.
+-- What the debug directory of a small image holds: the entry of 30 bytes at the RVA 0x201C, which are at 0x41C in the file,
+-- and these bytes, for a PDB with the name `a.pdb` and an identifier of sixteen bytes 7.
 use Rattle.std.proofs.Common.{◌≡◌, [], ◌∷◌, ◌++◌, replicate, refl}
 use Rattle.std.specs.Prelude.{codes}
 use Rattle.link_base.specs.Bytes.{number_bytes}

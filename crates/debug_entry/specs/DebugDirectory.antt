@@ -1,5 +1,5 @@
--- The debug directory of an image, which has one entry, and the data of the entry (PE Format, "Debug Directory (Image Only)"; LLVM,
--- "The PDB Info Stream (aka the PDB Stream)", "Matching a PDB to its executable").
+-- The debug directory of an image, which has one entry, and the data of the entry (PE Format, "Debug Directory (Image
+-- Only)"; LLVM, "The PDB Info Stream (aka the PDB Stream)", "Matching a PDB to its executable").
 use Rattle.std.specs.Prelude.{ℕ, List, [], ◌∷◌, ◌++◌, codes}
 use Rattle.link_base.specs.Fields.{fields}
 use Rattle.link_base.specs.declared.numbers.LeNumber.TheVariants.{U16, U32}

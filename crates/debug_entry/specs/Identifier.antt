@@ -1,5 +1,5 @@
--- The identifier of an image: one of version 5, of the file as a name in a namespace of its own (RFC 9562, section 5.5; the namespace
--- is own).
+-- The identifier of an image: one of version 5, of the file as a name in a namespace of its own (RFC 9562, section 5.5; the
+-- namespace is own).
 use Rattle.std.specs.Prelude.{ℕ, List, [], ◌∷◌, ◌++◌, take}
 use Rattle.sha1.specs.Sha1.{sha1}
 use Rattle.uuid.specs.Parts.{with_version, with_variant}

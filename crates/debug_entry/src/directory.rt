@@ -22,15 +22,16 @@ const AGE: u32 = 1;
 const FRONT: usize = 24;
 
 /// The entry of data of a length, at an RVA and at a place in the file (PE Format, "Debug Directory (Image Only)").
-#[tactic(auto, unfolding(crate::specs::DebugDirectory::debug_entry))]
+#[tactic(auto, unfolding(crate::specs::DebugDirectory::debug_entry, link_base::specs::Bytes::number_bytes))]
 pub fn debug_entry(
     alloc: Global,
     time: u32,
-    length: u32,
+    len: u32,
     rva: u32,
     file: u32,
 ) -> Result<Vec<u8>, Memory>
-    ensures { IfOk result (λ bytes. bytes.items ≡ debug_entry time length rva file) }
+    ensures entry { IfOk result (λ bytes. bytes.items ≡ debug_entry time len rva file) }
+    ensures size { IfOk result (λ bytes. length bytes.items ≡ ENTRY_SIZE) }
 {
     let mut out = Vec::with_capacity(alloc, ENTRY_SIZE as usize)?;
     push_fields(
@@ -41,7 +42,7 @@ pub fn debug_entry(
             LeNumber::U16(0),
             LeNumber::U16(0),
             LeNumber::U32(CODEVIEW),
-            LeNumber::U32(length),
+            LeNumber::U32(len),
             LeNumber::U32(rva),
             LeNumber::U32(file),
         ],
@@ -58,7 +59,8 @@ pub fn data_length(pdb: &Name<'_>) -> usize
     FRONT + pdb.len() + 1
 }
 
-/// The data that names a PDB, by the identifier that it has, too (LLVM, "The PDB Info Stream (aka the PDB Stream)", "Matching a PDB to its executable").
+/// The data that names a PDB, and the identifier that it has too (LLVM, "The PDB Info Stream (aka the PDB Stream)", "Matching
+/// a PDB to its executable").
 #[tactic(auto, unfolding(crate::specs::DebugDirectory::debug_data))]
 pub fn debug_data(alloc: Global, id: &[u8; 16], pdb: &Name<'_>) -> Result<Vec<u8>, Memory>
     ensures { IfOk result (λ bytes. bytes.items ≡ debug_data id.now pdb.now) }

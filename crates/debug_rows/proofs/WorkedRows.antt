@@ -1,5 +1,5 @@
--- What is listed of a small image: an object of one section of code, with a debug directory of an entry of 28 bytes and its data of
--- 30 bytes, which the linker makes.
+-- What is listed of a small image: an object of one section of code, with a debug directory of an entry of 28 bytes and its
+-- data of 30 bytes, which the linker makes.
 use Rattle.std.proofs.Common.{◌≡◌, ℕ, List, [], ◌∷◌, Some, None, false, true, refl}
 use Rattle.std.specs.Prelude.{codes, map}
 use Rattle.link_base.specs.Bytes.{number_at}

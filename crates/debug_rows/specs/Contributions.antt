@@ -20,7 +20,9 @@ is_listed name = not (same_name name (codes ".pdata")) && not (same_name name (c
 -- for what the linker makes, whose module is none of the link
 abbrev pub own_section : List ModuleView → Piece → ℕ
 own_section modules piece =
-    if nat_lt piece.«module» (length modules) && nat_le piece.number (section_total (module_at modules piece.«module»).bytes) then piece.number else 0
+    if nat_lt piece.«module» (length modules) && nat_le piece.number (section_total (module_at modules piece.«module»).bytes)
+    then piece.number
+    else 0
 
 -- a piece at an offset in the section of a number
 abbrev pub contribution_of : List ModuleView → ℕ → ℕ → Piece → Contribution
@@ -36,16 +38,22 @@ contribution_of modules number offset piece = record {
 -- the piece of an index in a section that begins at an RVA; one without bytes gives nothing
 abbrev pub contribution_at : List ModuleView → List Piece → List ℕ → ℕ → ℕ → ℕ → Option Contribution
 contribution_at modules pieces rvas number start k =
-    if (slice_index_or pieces k no_piece).size == 0 then None else Some (contribution_of modules number (slice_index rvas k - start) (slice_index_or pieces k no_piece))
+    if (slice_index_or pieces k no_piece).size == 0
+    then None
+    else Some (contribution_of modules number (slice_index rvas k - start) (slice_index_or pieces k no_piece))
 
 abbrev pub no_place : Placed
 no_place = record { rva = 0; size = 0; raw = 0; file = 0 }
+
+-- the RVA of the section of a number
+abbrev pub section_start : Layout → ℕ → ℕ
+section_start layout number = (slice_index_or layout.sections.items (number - 1) no_place).rva
 
 -- the pieces of the section of a number, in their order
 unfoldable pub section_contributions : List ModuleView → List Piece → Layout → ℕ × OutSection → List Contribution
 section_contributions modules pieces layout (number, section) =
     if is_listed section.name
-    then filter_map (contribution_at modules pieces layout.pieces.items number (slice_index_or layout.sections.items (number - 1) no_place).rva) section.pieces.items
+    then filter_map (contribution_at modules pieces layout.pieces.items number (section_start layout number)) section.pieces.items
     else []
 
 -- those of all sections, which are numbered from 1

@@ -14,4 +14,6 @@ at_target public target.ImageBase = None
 -- one of a piece or an import that is kept: the slot of an import stands in the table of slots, at the offset of the import
 abbrev pub kept_public : List Bool → ℕ → ℕ → List ℕ → PublicPlace → Option PublicPlace
 kept_public kept first table offsets public =
-    if slice_index_or kept public.piece false then at_target public (redirected first table offsets (target.Piece public.piece public.value)) else None
+    if slice_index_or kept public.piece false
+    then at_target public (redirected first table offsets (target.Piece public.piece public.value))
+    else None

@@ -11,14 +11,19 @@ use Rattle.sorted_lists.specs.Order.{in_order}
 use Rattle.map_file.specs.declared.rows.MapPiece.{MapPiece}
 use Rattle.debug_rows.specs.declared.piece_rows.PieceKey.{PieceKey}
 
--- where the piece of an index stands, and which it is
+-- where a piece stands, and which it is
+abbrev pub key_of : Piece → ℕ → ℕ → PieceKey
+key_of piece rva k = record { rva = rva; «module» = piece.«module»; number = piece.number; index = k }
+
+-- the piece of an index, where there is one
 abbrev pub key_at : List Piece → List ℕ → ℕ → Option PieceKey
 key_at pieces rvas k =
-    if nat_lt k (length pieces) then Some (record { rva = slice_index rvas k; «module» = (slice_index_or pieces k no_piece).«module»; number = (slice_index_or pieces k no_piece).number; index = k }) else None
+    if nat_lt k (length pieces) then Some (key_of (slice_index_or pieces k no_piece) (slice_index rvas k) k) else None
 
 -- those of a section; the table of base relocations has none
 unfoldable pub section_keys : List Piece → List ℕ → OutSection → List PieceKey
-section_keys pieces rvas section = if same_name section.name (codes ".reloc") then [] else filter_map (key_at pieces rvas) section.pieces.items
+section_keys pieces rvas section =
+    if same_name section.name (codes ".reloc") then [] else filter_map (key_at pieces rvas) section.pieces.items
 
 abbrev pub piece_keys : List Piece → List ℕ → List OutSection → List PieceKey
 piece_keys pieces rvas sections = flat_map (section_keys pieces rvas) sections

@@ -29,17 +29,23 @@ section_name sections i = slice_index_or (map name_of sections) i []
 abbrev pub is_listed_in : List OutSection → ℕ → Bool
 is_listed_in sections i = nat_lt i (length sections) && not (same_name (section_name sections i) (codes ".pdata"))
 
+abbrev pub listed_section : List OutSection → ℕ → Option ℕ
+listed_section sections i = if is_listed_in sections i then Some i else None
+
 -- the index of its section, where a list has that of each piece, and the number of sections for one in none
 abbrev pub public_section : List ℕ → List OutSection → PublicPlace → Option ℕ
-public_section owner sections public =
-    if is_listed_in sections (slice_index_or owner public.piece (length sections)) then Some (slice_index_or owner public.piece (length sections)) else None
+public_section owner sections public = listed_section sections (slice_index_or owner public.piece (length sections))
 
 -- ---- of a PDB
 
 -- one in the section of an index
 abbrev pub public_row : Layout → PublicPlace → ℕ → PublicRow
-public_row layout public i =
-    record { name = public.name; section = i + 1; offset = public_rva layout public - (slice_index_or layout.sections.items i no_place).rva; function = public.function }
+public_row layout public i = record {
+  name = public.name;
+  section = i + 1;
+  offset = public_rva layout public - (slice_index_or layout.sections.items i no_place).rva;
+  function = public.function;
+}
 
 abbrev pub placed_row : List ℕ → List OutSection → Layout → PublicPlace → Option PublicRow
 placed_row owner sections layout public = option_map (public_row layout public) (public_section owner sections public)

@@ -1,5 +1,5 @@
--- The public symbols of a link, and where they stand (PE Format, "COFF Symbol Table", "Storage Class" and "Type Representation"; which
--- are public is own).
+-- The public symbols of a link, and where they stand (PE Format, "COFF Symbol Table", "Storage Class" and "Type
+-- Representation"; which are public is own).
 use Rattle.std.specs.Prelude.{ℕ, ◌+◌, ◌-◌, Bool, true, false, ◌==◌, ◌&&◌, nat_le, if◌then◌else◌, List, [], ◌++◌, length, filter_map, slice_index_or, Option, Some, None, option_map}
 use Rattle.std.specs.List.{enumerate_from}
 use Rattle.std.specs.Int.Signed.{lt_z}
@@ -38,10 +38,13 @@ own_piece link position section = if takes_part link position section then piece
 -- that of an external symbol
 unfoldable pub symbol_piece : LinkParts → ℕ → SymbolView → Option ℕ
 symbol_piece link position symbol =
-    if (class_in symbol == SYM_CLASS_EXTERNAL) && lt_z SYM_UNDEFINED (section_number_in symbol) then own_piece link position (section_of_number (section_number_in symbol)) else None
+    if (class_in symbol == SYM_CLASS_EXTERNAL) && lt_z SYM_UNDEFINED (section_number_in symbol)
+    then own_piece link position (section_of_number (section_number_in symbol))
+    else None
 
 abbrev pub symbol_public : LinkParts → ℕ → SymbolEntry → Option PublicPlace
-symbol_public link position entry = option_map (public_at (name_in entry.1) position (is_function entry.1) (value_in entry.1)) (symbol_piece link position entry.1)
+symbol_public link position entry =
+    option_map (public_at (name_in entry.1) position (is_function entry.1) (value_in entry.1)) (symbol_piece link position entry.1)
 
 -- the common that its name means
 abbrev pub common_public : LinkParts → ℕ → Common → Option PublicPlace
@@ -69,7 +72,8 @@ abbrev pub slot_name : LinkParts → ℕ → List ℕ
 slot_name link number = import_prefix ++ behind_import (slice_index_or (slot_names link) (number - FIRST_LOCAL_SLOT) [])
 
 abbrev pub slot_public : LinkParts → ℕ × Piece → Option PublicPlace
-slot_public link (k, piece) = if is_slot link piece then Some (public_at (slot_name link piece.number) (length link.modules) false 0 k) else None
+slot_public link (k, piece) =
+    if is_slot link piece then Some (public_at (slot_name link piece.number) (length link.modules) false 0 k) else None
 
 -- ---- all
 
