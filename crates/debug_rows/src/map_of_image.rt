@@ -16,6 +16,7 @@ use std::alloc::Global;
 
 /// What a map lists: the modules, the pieces and the public symbols of what is kept of a link, and the sections and the places of
 /// its image. `owner` has the index of the section of each piece, or the number of sections where it stands in none.
+#[derive(Clone, Copy)]
 pub struct MappedImage<'w, 'a> {
     pub modules: &'w [Module<'a>],
     pub pieces: &'w [Piece<'a>],

@@ -17,6 +17,7 @@ use std::alloc::Global;
 
 /// What a program database is made of: the time and the identifier of its image, the modules, what each gives to sections, the
 /// public symbols, and the section headers of the image.
+#[derive(Clone, Copy)]
 pub struct PdbParts<'w, 'a> {
     pub time: u32,
     pub id: [u8; 16],
