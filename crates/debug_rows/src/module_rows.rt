@@ -17,7 +17,7 @@ pub fn module_names<'a>(
 ) -> Result<Vec<ModuleName<'a>>, Memory>
     ensures { IfOk result (λ names. names.items ≡ module_names_of modules.now) }
 {
-    let mut names = Vec::with_capacity(alloc, modules.len())?;
+    let mut names = Vec::with_capacity(alloc, modules.len() + 1)?;
     for module in modules {
         names.push(module_name(module))?;
     }
