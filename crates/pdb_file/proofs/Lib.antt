@@ -1,1 +1,3 @@
 pub mod PartedLemmas
+pub mod UsedLemmas
+pub mod SizeLemmas

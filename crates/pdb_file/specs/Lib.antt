@@ -1,1 +1,2 @@
 pub mod PdbFile
+pub mod UsedBuckets

@@ -4,7 +4,9 @@
 //! large, with its size. Which rows there are is left to its caller.
 #![tactic(auto)]
 
+mod format;
 mod joined;
+mod sizes;
 mod writing;
 
 pub use writing::{PdbParts, write_pdb};

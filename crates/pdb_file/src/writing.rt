@@ -1,14 +1,15 @@
 //! A program database, written.
 
-ghost use Rattle.std.specs.Prelude.{◌≡◌, ◌<◌, ◌≤◌, ◌*◌, ◌++◌, length, All, IfOk, IfErr, OnOk};
+ghost use Rattle.std.specs.Prelude.{◌≡◌, ◌<◌, ◌≤◌, ◌*◌, ◌++◌, length, map, All, IfOk, IfErr, OnOk};
 ghost use Rattle.link_base.specs.Limits.{SECTION_LIMIT};
 ghost use Rattle.link_base.specs.PeFormat.{SIZEOF_SECTION_HEADER};
-ghost use Rattle.pdb_msf.specs.WrittenFile.{msf_of};
+ghost use Rattle.pdb_msf.specs.WrittenFile.{MSF_LIMIT, file_size, msf_of};
 ghost use Rattle.pdb_dbi.specs.DbiStream.{STREAM_LIMIT, dbi_of};
 ghost use Rattle.pdb_publics.specs.PublicStreams.{PUBLIC_NAME_LIMIT, records_stream, publics_stream};
 ghost use Rattle.pdb_file.specs.PdbFile.{front_streams, public_streams, pdb_streams, IsTooLarge};
 
 use crate::joined::JoinedStreams;
+use crate::sizes::pdb_size;
 use link_base::Memory;
 use pdb_dbi::{Contribution, ModuleName, write_dbi, write_info, write_types};
 use pdb_msf::{MsfError, write_msf};
@@ -27,9 +28,37 @@ pub struct PdbParts<'w, 'a> {
     pub headers: &'w [u8],
 }
 
+/// The greatest size of a file.
+const MSF_LIMIT: u64 = 1_073_741_824;
+
 /// The file of a program database: an empty stream, the information, the types, the debug information, the ids, the globals,
-/// the publics, the symbol records, and the section headers (LLVM, "The PDB File Format").
+/// the publics, the symbol records, and the section headers (LLVM, "The PDB File Format"). Whether it would be too large is
+/// known by the rows, before any stream is made.
+///
+/// # Errors
+///
+/// `TooLarge` where it would have more than 1,073,741,824 bytes, unless their number takes more than 64 bits or memory is
+/// wanting: then `Memory`.
 pub fn write_pdb(alloc: Global, parts: &PdbParts<'_, '_>) -> Result<Vec<u8>, MsfError>
+    requires few { length parts.now.modules.now ≤ 65535 }
+    requires sections { length parts.now.headers.now ≤ SIZEOF_SECTION_HEADER * SECTION_LIMIT }
+    requires modules { All (λ row. row.«module» < length parts.now.modules.now) parts.now.contributions.now }
+    requires names { All (λ row. length row.name ≤ PUBLIC_NAME_LIMIT) parts.now.publics.now }
+    ensures written { IfOk result (λ pdb. pdb.items ≡ msf_of (pdb_streams parts.now)) }
+    ensures too_large { IfErr result (IsTooLarge (pdb_streams parts.now)) }
+    ensures fits { OnOk result (file_size (map length (pdb_streams parts.now)) ≤ MSF_LIMIT) }
+{
+    let Ok(size) = pdb_size(alloc, parts) else {
+        return Err(MsfError::Memory);
+    };
+    if size > MSF_LIMIT {
+        return Err(MsfError::TooLarge(size));
+    }
+    write_streams(alloc, parts)
+}
+
+/// The file, none of whose streams is too long.
+fn write_streams(alloc: Global, parts: &PdbParts<'_, '_>) -> Result<Vec<u8>, MsfError>
     requires few { length parts.now.modules.now ≤ 65535 }
     requires sections { length parts.now.headers.now ≤ SIZEOF_SECTION_HEADER * SECTION_LIMIT }
     requires modules { All (λ row. row.«module» < length parts.now.modules.now) parts.now.contributions.now }
