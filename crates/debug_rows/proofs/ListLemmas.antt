@@ -1,7 +1,8 @@
 -- Lists of numbered rows, one row more at a time.
 use Rattle.std.proofs.Common.{◌≡◌, ℕ, zero, suc, ◌+◌, ◌<◌, List, [], ◌∷◌, ◌++◌, Option, length, length-take-le, get_or, take, map, sym, ap, ◌∙◌, append_assoc, add-one, arith}
 use Rattle.std.specs.List.{flat_map, filter_map, cons_option, enumerate_from}
-use Rattle.std.proofs.lemmas.List.{append-nil, take_more, length-map, map-append}
+use Rattle.std.proofs.Math.ListN.{get_or-map}
+use Rattle.std.proofs.lemmas.List.{append-nil, take_more, take_all, length-map, map-append}
 use Rattle.std.proofs.lemmas.List.Elements.{filter_map-append}
 
 abbrev pub numbered : {X Y : Type 0} → (ℕ × X → List Y) → ℕ → List X → List Y
@@ -27,6 +28,16 @@ numbered_grows {X} {Y} f start i number items item old now new lt place is was g
     ∙ ap (λ (k : ℕ). old ++ (numbered f start (take i items) ++ f (k, item))) place
     ∙ ap (λ (x : X). old ++ (numbered f start (take i items) ++ f (start + i, x))) is
     ∙ ap (λ (rows : List Y). old ++ rows) (sym (numbered_suc f start items i item lt) ∙ ap (λ (k : ℕ). numbered f start (take k items)) (sym (add-one i)))
+
+-- ---- items that are each made of another
+
+-- one that was read
+pub mapped_read : {X Y : Type 0} (g : X → Y) (items : List X) (i : ℕ) (item : X) → item ≡ get_or items i item → g item ≡ get_or (map g items) i (g item)
+mapped_read g items i item is = ap g is ∙ sym (get_or-map g items i item)
+
+-- all of them
+pub mapped_whole : {X Y : Type 0} (g : X → Y) (items : List X) (i : ℕ) → length items ≡ i → take i (map g items) ≡ map g items
+mapped_whole g items i all = take_all i (map g items) (omega (arith, all, length-map items g))
 
 -- one numbered item more
 mapped_suc : {X Y : Type 0} (f : ℕ × X → Y) (start : ℕ) (items : List X) (i : ℕ) (d : X) → i < length items → map f (enumerate_from start (take (suc i) items)) ≡ map f (enumerate_from start (take i items)) ++ f (start + i, get_or items i d) ∷ []

@@ -6,10 +6,9 @@ use Rattle.link_base.specs.NameText.{same_name}
 use Rattle.coff_records.specs.ObjectFile.{section_total}
 use Rattle.module_view.specs.Module.{ModuleView, module_at}
 use Rattle.section_group.specs.declared.piece.Piece.{Piece}
-use Rattle.section_group.specs.declared.piece.OutSection.{OutSection}
 use Rattle.section_group.specs.SectionOrder.{no_piece}
+use Rattle.section_group.specs.Uniqueness.{SectionRow}
 use Rattle.address_layout.specs.declared.layout.Placed.{Placed}
-use Rattle.address_layout.specs.declared.layout.Layout.{Layout}
 use Rattle.pdb_dbi.specs.declared.rows.Contribution.{Contribution}
 
 -- the pieces of all sections are listed but those of the tables of exceptions and of base relocations
@@ -46,16 +45,17 @@ abbrev pub no_place : Placed
 no_place = record { rva = 0; size = 0; raw = 0; file = 0 }
 
 -- the RVA of the section of a number
-abbrev pub section_start : Layout → ℕ → ℕ
-section_start layout number = (slice_index_or layout.sections.items (number - 1) no_place).rva
+abbrev pub section_start : List Placed → ℕ → ℕ
+section_start places number = (slice_index_or places (number - 1) no_place).rva
 
 -- the pieces of the section of a number, in their order
-unfoldable pub section_contributions : List ModuleView → List Piece → Layout → ℕ × OutSection → List Contribution
-section_contributions modules pieces layout (number, section) =
+unfoldable pub section_contributions : List ModuleView → List Piece → List Placed → List ℕ → ℕ × SectionRow → List Contribution
+section_contributions modules pieces places rvas (number, section) =
     if is_listed section.name
-    then filter_map (contribution_at modules pieces layout.pieces.items number (section_start layout number)) section.pieces.items
+    then filter_map (contribution_at modules pieces rvas number (section_start places number)) section.pieces
     else []
 
 -- those of all sections, which are numbered from 1
-abbrev pub contributions_of : List ModuleView → List Piece → Layout → List OutSection → List Contribution
-contributions_of modules pieces layout sections = flat_map (section_contributions modules pieces layout) (enumerate_from 1 sections)
+abbrev pub contributions_of : List ModuleView → List Piece → List Placed → List ℕ → List SectionRow → List Contribution
+contributions_of modules pieces places rvas sections =
+    flat_map (section_contributions modules pieces places rvas) (enumerate_from 1 sections)

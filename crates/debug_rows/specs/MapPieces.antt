@@ -5,8 +5,8 @@ use Rattle.std.specs.Ordering.{nat_cmp, then_cmp, on}
 use Rattle.std.specs.declared.cmp.Ordering.{Ordering}
 use Rattle.link_base.specs.NameText.{same_name}
 use Rattle.section_group.specs.declared.piece.Piece.{Piece}
-use Rattle.section_group.specs.declared.piece.OutSection.{OutSection}
 use Rattle.section_group.specs.SectionOrder.{no_piece}
+use Rattle.section_group.specs.Uniqueness.{SectionRow}
 use Rattle.sorted_lists.specs.Order.{in_order}
 use Rattle.map_file.specs.declared.rows.MapPiece.{MapPiece}
 use Rattle.debug_rows.specs.declared.piece_rows.PieceKey.{PieceKey}
@@ -21,11 +21,11 @@ key_at pieces rvas k =
     if nat_lt k (length pieces) then Some (key_of (slice_index_or pieces k no_piece) (slice_index rvas k) k) else None
 
 -- those of a section; the table of base relocations has none
-unfoldable pub section_keys : List Piece → List ℕ → OutSection → List PieceKey
+unfoldable pub section_keys : List Piece → List ℕ → SectionRow → List PieceKey
 section_keys pieces rvas section =
-    if same_name section.name (codes ".reloc") then [] else filter_map (key_at pieces rvas) section.pieces.items
+    if same_name section.name (codes ".reloc") then [] else filter_map (key_at pieces rvas) section.pieces
 
-abbrev pub piece_keys : List Piece → List ℕ → List OutSection → List PieceKey
+abbrev pub piece_keys : List Piece → List ℕ → List SectionRow → List PieceKey
 piece_keys pieces rvas sections = flat_map (section_keys pieces rvas) sections
 
 -- each is that of a piece
@@ -47,5 +47,5 @@ abbrev pub row_of : List Piece → PieceKey → MapPiece
 row_of pieces key = map_piece (slice_index_or pieces key.index no_piece) key.rva
 
 -- the pieces that stand in sections, in order
-abbrev pub map_pieces_of : List Piece → List ℕ → List OutSection → List MapPiece
+abbrev pub map_pieces_of : List Piece → List ℕ → List SectionRow → List MapPiece
 map_pieces_of pieces rvas sections = map (row_of pieces) (in_order key_cmp (piece_keys pieces rvas sections))

@@ -2,6 +2,7 @@
 
 ghost use Rattle.std.specs.Prelude.{◌≡◌, ◌<◌, ◌≤◌, ◌^◌, ◌++◌, [], length, IfOk, OnOk};
 ghost use Rattle.std.specs.List.{All, cons_option, filter_map};
+ghost use Rattle.section_group.specs.Uniqueness.{row_of, rows_of};
 ghost use Rattle.debug_rows.specs.Contributions.{is_listed, own_section, contribution_of, contribution_at, section_contributions, contributions_of};
 
 use crate::rvas::rva_at;
@@ -25,7 +26,7 @@ pub fn contributions<'a>(
     requires few { length sections.now < 2 ^ 16 }
     requires places { length layout.now.sections.items ≡ length sections.now }
     requires modules { All (λ piece. piece.«module» < 2 ^ 16) pieces.now }
-    ensures { IfOk result (λ list. list.items ≡ contributions_of modules.now pieces.now layout.now sections.now) }
+    ensures { IfOk result (λ list. list.items ≡ contributions_of modules.now pieces.now layout.now.sections.items layout.now.pieces.items (rows_of sections.now)) }
 {
     let mut list = Vec::with_capacity(alloc, pieces.len())?;
     for (index, section) in sections.iter().enumerate() {
@@ -54,7 +55,7 @@ fn push_section<'a>(
     requires first { 1 ≤ number }
     requires last { number ≤ length layout.now.sections.items }
     requires modules { All (λ piece. piece.«module» < 2 ^ 16) pieces.now }
-    ensures { OnOk result (list.new.items ≡ list.old.items ++ section_contributions modules.now pieces.now layout.now (number, section.now)) }
+    ensures { OnOk result (list.new.items ≡ list.old.items ++ section_contributions modules.now pieces.now layout.now.sections.items layout.now.pieces.items (number, row_of section.now)) }
 {
     if !is_listed(&section.name) {
         return Ok(());

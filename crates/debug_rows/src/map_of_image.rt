@@ -1,7 +1,9 @@
 //! The map of an image.
 
 ghost use Rattle.std.specs.Prelude.{◌≡◌, length, IfOk};
-ghost use Rattle.debug_rows.specs.ImageMap.{image_map};
+ghost use Rattle.section_group.specs.Uniqueness.{rows_of};
+ghost use Rattle.piece_bytes.specs.Owners.{owners};
+ghost use Rattle.debug_rows.specs.ImageMap.{mapped, image_map};
 
 use crate::link_publics::PublicPlace;
 use crate::map_rows::{map_modules, map_sections};
@@ -33,8 +35,9 @@ pub fn image_map<'a>(
     base: u64,
     entry: u32,
 ) -> Result<Vec<u8>, Memory>
-    requires { length image.now.layout.now.sections.items ≡ length image.now.sections.now }
-    ensures { IfOk result (λ text. text.items ≡ image_map image.now base entry) }
+    requires places { length image.now.layout.now.sections.items ≡ length image.now.sections.now }
+    requires owner { image.now.owner.now ≡ owners (rows_of image.now.sections.now) (length image.now.layout.now.pieces.items) }
+    ensures { IfOk result (λ text. text.items ≡ image_map (mapped image.now) base entry) }
 {
     let modules = map_modules(alloc, image.modules)?;
     let sections = map_sections(alloc, image.sections, image.layout)?;

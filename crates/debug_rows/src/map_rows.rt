@@ -1,6 +1,7 @@
 //! The lists of a map but its public symbols.
 
 ghost use Rattle.std.specs.Prelude.{◌≡◌, length, map, IfOk};
+ghost use Rattle.section_group.specs.Uniqueness.{row_of, rows_of};
 ghost use Rattle.debug_rows.specs.MapLists.{map_module, section_at, map_sections_of};
 
 use address_layout::{Layout, Placed};
@@ -36,7 +37,7 @@ pub fn map_sections<'a>(
     layout: &Layout,
 ) -> Result<Vec<MapSection<'a>>, Memory>
     requires { length layout.now.sections.items ≡ length sections.now }
-    ensures { IfOk result (λ rows. rows.items ≡ map_sections_of layout.now sections.now) }
+    ensures { IfOk result (λ rows. rows.items ≡ map_sections_of layout.now.sections.items (rows_of sections.now)) }
 {
     let mut rows = Vec::with_capacity(alloc, sections.len())?;
     for (index, section) in sections.iter().enumerate() {
@@ -47,7 +48,7 @@ pub fn map_sections<'a>(
 
 /// A section at a place.
 fn section_at<'a>(section: &OutSection<'a>, place: &Placed) -> MapSection<'a>
-    ensures { result ≡ section_at section.now place.now }
+    ensures { result ≡ section_at (row_of section.now) place.now }
 {
     MapSection {
         name: section.name.again(),

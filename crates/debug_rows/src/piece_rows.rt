@@ -2,6 +2,7 @@
 
 ghost use Rattle.std.specs.Prelude.{◌≡◌, ◌++◌, [], map, IsPermutation, IsSorted, IfOk, OnOk};
 ghost use Rattle.std.specs.List.{cons_option};
+ghost use Rattle.section_group.specs.Uniqueness.{row_of as section_row, rows_of as section_rows};
 ghost use Rattle.debug_rows.specs.MapPieces.{key_at, section_keys, piece_keys, AreWithin, key_cmp, map_piece, row_of, map_pieces_of};
 
 use crate::rvas::rva_at;
@@ -29,7 +30,7 @@ pub fn map_pieces<'a>(
     sections: &[OutSection<'a>],
     layout: &Layout,
 ) -> Result<Vec<MapPiece<'a>>, Memory>
-    ensures { IfOk result (λ rows. rows.items ≡ map_pieces_of pieces.now layout.now.pieces.items sections.now) }
+    ensures { IfOk result (λ rows. rows.items ≡ map_pieces_of pieces.now layout.now.pieces.items (section_rows sections.now)) }
 {
     let mut keys = piece_keys(alloc, pieces, &layout.pieces, sections)?;
     sort(&mut keys);
@@ -44,7 +45,7 @@ fn piece_keys<'a>(
     rvas: &[u32],
     sections: &[OutSection<'a>],
 ) -> Result<Vec<PieceKey>, Memory>
-    ensures keys { IfOk result (λ keys. keys.items ≡ piece_keys pieces.now rvas.now sections.now) }
+    ensures keys { IfOk result (λ keys. keys.items ≡ piece_keys pieces.now rvas.now (section_rows sections.now)) }
     ensures within { IfOk result (λ keys. AreWithin pieces.now keys.items) }
 {
     let mut keys = Vec::with_capacity(alloc, pieces.len())?;
@@ -62,7 +63,7 @@ fn push_section<'a>(
     rvas: &[u32],
     section: &OutSection<'a>,
 ) -> Result<(), Memory>
-    ensures keys { OnOk result (keys.new.items ≡ keys.old.items ++ section_keys pieces.now rvas.now section.now) }
+    ensures keys { OnOk result (keys.new.items ≡ keys.old.items ++ section_keys pieces.now rvas.now (section_row section.now)) }
     ensures within { AreWithin pieces.now keys.old.items → AreWithin pieces.now keys.new.items }
 {
     if section.name == Name::of(b".reloc") {

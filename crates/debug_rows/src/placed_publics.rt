@@ -2,6 +2,7 @@
 
 ghost use Rattle.std.specs.Prelude.{◌≡◌, ◌<◌, ◌+◌, ◌^◌, ◌++◌, [], length, map, IsPermutation, IsSorted, IfOk, OnOk};
 ghost use Rattle.std.specs.List.{cons_option, filter_map};
+ghost use Rattle.section_group.specs.Uniqueness.{rows_of as section_rows};
 ghost use Rattle.debug_rows.specs.PlacedPublics.{public_rva, public_section, public_row, placed_row, placed_key, public_rows_of, key_cmp, map_public, map_publics_of};
 
 use crate::link_publics::PublicPlace;
@@ -33,7 +34,7 @@ pub fn public_rows<'a>(
 ) -> Result<Vec<PublicRow<'a>>, Memory>
     requires few { length sections.now < 2 ^ 16 }
     requires places { length layout.now.sections.items ≡ length sections.now }
-    ensures { IfOk result (λ rows. rows.items ≡ public_rows_of owner.now sections.now layout.now publics.now) }
+    ensures { IfOk result (λ rows. rows.items ≡ public_rows_of owner.now (section_rows sections.now) layout.now.sections.items layout.now.pieces.items publics.now) }
 {
     let mut rows = Vec::with_capacity(alloc, publics.len())?;
     for public in publics {
@@ -52,7 +53,7 @@ fn push_row<'a>(
 ) -> Result<(), Memory>
     requires few { length sections.now < 2 ^ 16 }
     requires places { length layout.now.sections.items ≡ length sections.now }
-    ensures { OnOk result (rows.new.items ≡ rows.old.items ++ cons_option (placed_row owner.now sections.now layout.now public.now) []) }
+    ensures { OnOk result (rows.new.items ≡ rows.old.items ++ cons_option (placed_row owner.now (section_rows sections.now) layout.now.sections.items layout.now.pieces.items public.now) []) }
 {
     if let Some(index) = public_section(public, owner, sections) {
         let row = public_row(public, layout, index)?;
@@ -69,7 +70,7 @@ fn public_row<'a>(
 ) -> Result<PublicRow<'a>, Memory>
     requires few { index + 1 < 2 ^ 16 }
     requires there { index < length layout.now.sections.items }
-    ensures { IfOk result (λ row. row ≡ public_row layout.now public.now index) }
+    ensures { IfOk result (λ row. row ≡ public_row layout.now.sections.items layout.now.pieces.items public.now index) }
 {
     let rva = public_rva(public, layout)?;
     Ok(PublicRow {
@@ -82,7 +83,7 @@ fn public_row<'a>(
 
 /// The RVA of a public symbol. One that does not fit into its number would not fit into an image either.
 fn public_rva(public: &PublicPlace<'_>, layout: &Layout) -> Result<u32, Memory>
-    ensures { IfOk result (λ rva. rva ≡ public_rva layout.now public.now) }
+    ensures { IfOk result (λ rva. rva ≡ public_rva layout.now.pieces.items public.now) }
 {
     rva_at(&layout.pieces, public.piece)
         .checked_add(public.value)
@@ -95,7 +96,7 @@ fn public_section<'a>(
     owner: &[u32],
     sections: &[OutSection<'a>],
 ) -> Option<usize>
-    ensures section { result ≡ public_section owner.now sections.now public.now }
+    ensures section { result ≡ public_section owner.now (section_rows sections.now) public.now }
 {
     let index = *owner.get(public.piece as usize)? as usize;
     let section = sections.get(index)?;
@@ -113,7 +114,7 @@ pub fn map_publics<'a>(
     sections: &[OutSection<'a>],
     layout: &Layout,
 ) -> Result<Vec<MapPublic<'a>>, Memory>
-    ensures { IfOk result (λ rows. rows.items ≡ map_publics_of owner.now sections.now layout.now publics.now) }
+    ensures { IfOk result (λ rows. rows.items ≡ map_publics_of owner.now (section_rows sections.now) layout.now.pieces.items publics.now) }
 {
     let mut keys = public_keys(alloc, publics, owner, sections, layout)?;
     sort(&mut keys);
@@ -129,7 +130,7 @@ fn public_keys<'a>(
     sections: &[OutSection<'a>],
     layout: &Layout,
 ) -> Result<Vec<PublicKey<'a>>, Memory>
-    ensures { IfOk result (λ keys. keys.items ≡ filter_map (placed_key owner.now sections.now layout.now) publics.now) }
+    ensures { IfOk result (λ keys. keys.items ≡ filter_map (placed_key owner.now (section_rows sections.now) layout.now.pieces.items) publics.now) }
 {
     let mut keys = Vec::with_capacity(alloc, publics.len())?;
     for public in publics {
@@ -146,7 +147,7 @@ fn push_key<'a>(
     sections: &[OutSection<'a>],
     layout: &Layout,
 ) -> Result<(), Memory>
-    ensures { OnOk result (keys.new.items ≡ keys.old.items ++ cons_option (placed_key owner.now sections.now layout.now public.now) []) }
+    ensures { OnOk result (keys.new.items ≡ keys.old.items ++ cons_option (placed_key owner.now (section_rows sections.now) layout.now.pieces.items public.now) []) }
 {
     if public_section(public, owner, sections).is_some() {
         let rva = public_rva(public, layout)?;

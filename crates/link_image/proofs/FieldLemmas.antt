@@ -28,7 +28,8 @@ use Rattle.relocate.proofs.CallerLemmas.{bytes_in_any_order, range_in_any_order,
 use Rattle.link_pieces.specs.TablePieces.{KeptParts, whole_pieces, whole_piece}
 use Rattle.link_plan.specs.Planned.{used_pieces, planned_fixes}
 use Rattle.link_plan.proofs.CallerLemmas.{planned_numbered}
-use Rattle.link_image.specs.LinkedBytes.{section_of, contents_at, placed_contents, linked_bytes, out_of_range, piece_range_fault}
+use Rattle.piece_bytes.specs.Owners.{section_of}
+use Rattle.link_image.specs.LinkedBytes.{contents_at, placed_contents, linked_bytes, out_of_range, piece_range_fault}
 use Rattle.link_image.specs.Steps.{IsHeld, IsReady, RefusesRange, mixed_contents, file_of, mixed_file}
 use Rattle.link_image.proofs.HeldLemmas.{some_fixes, patchable_at, unnamed, plan_at, have_room_for, length-placed, placed_held}
 use Rattle.link_image.proofs.UsedLemmas.{fields_used}

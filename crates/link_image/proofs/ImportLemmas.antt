@@ -34,9 +34,10 @@ use Rattle.link_pieces.proofs.CallerLemmas.{table_there}
 use Rattle.link_words.specs.Outcome.{LinkOptions}
 use Rattle.link_plan.specs.declared.planning.LinkPlan.{LinkPlan}
 use Rattle.link_plan.specs.Plan.{IsPlanOf, kept_parts}
+use Rattle.piece_bytes.specs.Owners.{section_of}
 use Rattle.link_image.specs.declared.placement.Placement.{Placement}
 use Rattle.link_image.specs.ImageHeaders.{headers_of}
-use Rattle.link_image.specs.LinkedBytes.{section_of, owners_in, rva_of, table_rva, table_rvas, import_tables_at, exported_rows, export_table_at, tables_at, contents_at, image_contents}
+use Rattle.link_image.specs.LinkedBytes.{owners_in, rva_of, table_rva, table_rvas, import_tables_at, exported_rows, export_table_at, tables_at, contents_at, image_contents}
 use Rattle.link_image.specs.ExportFaults.{export_fault, in_table_fault}
 use Rattle.link_image.specs.LinkedImage.{extent_of, table_extent, directories_of, HoldsImports, HoldsExports}
 use Rattle.link_image.specs.Steps.{reloc_tables, IsGiven, IsPlaced, IsReady}

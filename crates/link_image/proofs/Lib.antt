@@ -4,7 +4,6 @@ pub mod TargetLemmas
 pub mod PdataLemmas
 pub mod RowLemmas
 pub mod SectionLemmas
-pub mod OwnerLemmas
 pub mod MixedLemmas
 pub mod StandsLemmas
 pub mod FieldLemmas
@@ -20,6 +19,7 @@ pub mod ListedLemmas
 pub mod TableLemmas
 pub mod FileLemmas
 pub mod ImportLemmas
+pub mod MapLemmas
 pub mod MeansLemmas
 pub mod MemoryLemmas
 pub mod PlanLemmas

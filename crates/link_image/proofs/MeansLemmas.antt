@@ -1,5 +1,5 @@
 -- The file of a plan that is placed and patched loads as planned at every permitted base.
-use Rattle.std.proofs.Common.{◌≡◌, ℕ, ◌+◌, ◌-◌, ◌%◌, ◌^◌, ◌<◌, ◌≤◌, Bool, true, false, cond, ◌&&◌, ◌||◌, not, eqb, leb, List, [], ◌∷◌, ◌++◌, length, get_or, slice_get, Option, Some, None, refl, sym, ap, ◌∙◌, subst, length-append, arith}
+use Rattle.std.proofs.Common.{◌≡◌, ℕ, ◌+◌, ◌-◌, ◌%◌, ◌^◌, ◌<◌, ◌≤◌, Bool, true, false, cond, ◌&&◌, ◌||◌, not, eqb, leb, List, [], ◌∷◌, ◌++◌, length, get_or, slice_get, Option, Some, None, option_map, refl, sym, ap, ◌∙◌, subst, length-append, arith}
 use Rattle.std.specs.List.{All, flat_map}
 use Rattle.std.proofs.Math.Seq.{get_or-append_seam}
 use Rattle.std.proofs.lemmas.Bool.{and_parts, leb-true, eqb-true}
@@ -41,7 +41,9 @@ use Rattle.link_image.specs.NamedSections.{pdata_pieces}
 use Rattle.link_image.specs.ImageHeaders.{directory_list, headers_of}
 use Rattle.link_image.specs.LinkedBytes.{exported_rows, linked_contents, image_contents, fields_range_fault}
 use Rattle.link_image.specs.ExportFaults.{in_table_fault}
-use Rattle.link_image.specs.LinkedImage.{base_rule, entry_rva, table_row, directories_of, HasTable, IsWhole, IsBuilt}
+use Rattle.link_image.specs.LinkedImage.{base_rule, entry_rva, table_row, directories_of, HasTable, IsWhole}
+use Rattle.link_image.specs.BuiltImage.{IsBuilt}
+use Rattle.link_image.specs.LinkMap.{link_map, asked_map}
 use Rattle.link_image.specs.Steps.{reloc_tables, file_of, IsGiven, IsPlaced, IsReady}
 use Rattle.link_image.proofs.HeldLemmas.{imports_are}
 use Rattle.link_image.proofs.FieldLemmas.{total_is}
@@ -217,9 +219,9 @@ module _ (options : LinkOptions) (plan : LinkPlan) (placement : Placement) (owne
 
   -- what is written of the plan means it
   pub built : (made : Built) → is_permitted (base_rule options) placement.layout.image options.base ≡ true → in_table_fault (kept_parts plan) placement.layout.pieces.items ≡ None → (0 < plan.names.exports.size → All (λ row. IsGiven row.what) (exported_rows (kept_parts plan) placement.layout.pieces.items)) → fields_range_fault (kept_parts plan) (rows_of placement.sections.items) placement.layout options.base ≡ None
-      → made.image.items ≡ file_of headers placement.sections.items placement.layout (sorted_contents (pdata_pieces (rows_of placement.sections.items)) (linked_contents (kept_parts plan) (rows_of placement.sections.items) placement.layout options.base)) (reloc_tables placement.table) → made.sections ≡ length placement.sections.items → IsBuilt options (kept_parts plan) made
+      → made.image.items ≡ file_of headers placement.sections.items placement.layout (sorted_contents (pdata_pieces (rows_of placement.sections.items)) (linked_contents (kept_parts plan) (rows_of placement.sections.items) placement.layout options.base)) (reloc_tables placement.table) → made.sections ≡ length placement.sections.items → option_map (λ map. map.items) made.map ≡ asked_map options (link_map options (kept_parts plan) (rows_of placement.sections.items) placement.layout) → IsBuilt options (kept_parts plan) made
   unfolding written_plan
-  built made permitted outside given in_range is count =
+  built made permitted outside given in_range is count map_is =
       let file : made.image.items ≡ image_file image = is ∙ same_file headers placement.sections.items placement.layout (at_each_base (contents options.base)) contents refl in
       record {
         image = image;
@@ -240,4 +242,5 @@ module _ (options : LinkOptions) (plan : LinkPlan) (placement : Placement) (owne
         exports =
             exports_there options plan placement owner planned placed ready headers (are_made (kept_parts plan)) outside given (entry_rva placement.layout.pieces.items plan.entry) made.image.items refl file (subst (MeansPlan image) (sym file) (means permitted));
         count = count ∙ sym (length-section_rows (plan.pieces.items ++ ready.rest) placement.sections.items placement.layout ready.laid);
+        map_is = map_is;
       }

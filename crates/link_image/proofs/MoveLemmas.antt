@@ -32,8 +32,9 @@ use Rattle.pdata_table.proofs.CallerLemmas.{length-sorted_at, sorted_agree}
 use Rattle.link_pieces.specs.TablePieces.{KeptParts, whole_pieces}
 use Rattle.link_plan.specs.Planned.{planned_fixes, HaveFields}
 use Rattle.link_plan.proofs.CallerLemmas.{plan_count}
+use Rattle.piece_bytes.specs.Owners.{section_of}
 use Rattle.link_image.specs.BaseFields.{holds_address, base_field, IsBaseField, AreBaseFields}
-use Rattle.link_image.specs.LinkedBytes.{section_of, owners_in, contents_at, placed_contents, linked_bytes, linked_contents, image_contents}
+use Rattle.link_image.specs.LinkedBytes.{owners_in, contents_at, placed_contents, linked_bytes, linked_contents, image_contents}
 use Rattle.link_image.specs.NamedSections.{pdata_pieces}
 use Rattle.link_image.specs.Steps.{IsHeld, IsReady}
 use Rattle.link_image.proofs.HeldLemmas.{patchable_at, have_room_for, length-placed, placed_read, placed_held}

@@ -27,7 +27,8 @@ use Rattle.link_fields.specs.Pdata.{is_pdata}
 use Rattle.link_words.specs.Outcome.{LinkOptions}
 use Rattle.link_plan.specs.Plan.{merges_of}
 use Rattle.link_plan.specs.Planned.{plan_pieces}
-use Rattle.link_image.specs.NamedSections.{no_row, is_named, section_named, members_of, pdata_pieces}
+use Rattle.piece_bytes.specs.Owners.{no_row}
+use Rattle.link_image.specs.NamedSections.{is_named, section_named, members_of, pdata_pieces}
 use Rattle.link_image.specs.LinkedImage.{link_input, table_row, IsWhole}
 
 -- ---- no merge leads to the exception table

@@ -19,11 +19,12 @@ use Rattle.synthetic_sections.specs.LinkerPieces.{EXPORTS}
 use Rattle.export_tables.specs.ExportTable.{export_table}
 use Rattle.export_tables.specs.ReadBack.{exported_name, exported_ordinal}
 use Rattle.link_plan.specs.Planned.{planned_fixes}
+use Rattle.piece_bytes.specs.Owners.{owners}
 use Rattle.link_image.specs.declared.headers.Directories.{Directories}
 use Rattle.link_image.specs.NamedSections.{section_named}
 use Rattle.link_fields.specs.LoaderPlaces.{loader_place, TLS_NAME, LOAD_CONFIG_NAME}
 use Rattle.link_image.specs.LinkedImage.{place_extent, TLS_SIZE, config_size, extent_of, placed_extent, section_extent, table_directory, directories_of, HoldsImports, HoldsExports}
-use Rattle.link_image.specs.LinkedBytes.{owners, owners_in, rva_of, table_rvas, import_tables_at, exported_rows, export_table_at, contents_at, linked_bytes, linked_contents, out_of_range, piece_range_fault, fields_range_fault}
+use Rattle.link_image.specs.LinkedBytes.{owners_in, rva_of, table_rvas, import_tables_at, exported_rows, export_table_at, contents_at, linked_bytes, linked_contents, out_of_range, piece_range_fault, fields_range_fault}
 
 module _ (layout other : Layout) (pieces : layout.pieces.items ≡ other.pieces.items) (sections : layout.sections.items ≡ other.sections.items) where
   held_same : (link : KeptParts) (k : ℕ) → contents_at link layout k ≡ contents_at link other k

@@ -21,7 +21,7 @@ use Rattle.link_plan.specs.Plan.{IsPlanOf, kept_parts}
 use Rattle.link_plan.specs.PlanFaults.{mismatch_fault, choice_fault, meaning_fault, fields_fault, plan_fault}
 use Rattle.link_plan.specs.Planned.{is_kept, plan_pieces}
 use Rattle.link_plan.proofs.CallerLemmas.{plan_count, used_first, pdata_not_based}
-use Rattle.link_image.specs.NamedSections.{no_row}
+use Rattle.piece_bytes.specs.Owners.{no_row}
 use Rattle.link_image.specs.ExportFaults.{export_fault}
 use Rattle.link_image.specs.TableFaults.{lacks_rows, is_bad_pdata, bad_pdata, pdata_fault_at, pdata_fault, tables_fault}
 use Rattle.link_image.specs.LinkedBytes.{contents_at}

@@ -40,9 +40,10 @@ use Rattle.base_reloc.specs.declared.field.BaseField.{BaseField}
 use Rattle.base_reloc.specs.PageBlocks.{blocks_of}
 use Rattle.address_layout.specs.Growth.{Appends, IsGrowRefusal}
 use Rattle.link_base.specs.Limits.{IMAGE_LIMIT}
+use Rattle.piece_bytes.specs.Owners.{owners, no_row}
 use Rattle.link_image.specs.declared.placement.Placement.{Placement}
 use Rattle.link_image.specs.BaseFields.{is_relocated, AreBaseFields}
-use Rattle.link_image.specs.LinkedBytes.{owners, owners_in, fields_range_fault}
+use Rattle.link_image.specs.LinkedBytes.{owners_in, fields_range_fault}
 use Rattle.link_image.specs.ExportFaults.{in_table_fault}
 use Rattle.link_image.specs.TableFaults.{tables_fault}
 use Rattle.link_image.specs.Steps.{reloc_tables, EndsWithTable, IsPlaced, IsReady, IsWritten}
@@ -51,7 +52,7 @@ use Rattle.link_image.specs.BuildFaults.{IsBuildFault}
 use Rattle.link_base.specs.NameText.{same_name}
 use Rattle.section_group.specs.Placement.{IsSection}
 use Rattle.pdata_table.specs.SortedContents.{is_among}
-use Rattle.link_image.specs.NamedSections.{no_row, pdata_pieces}
+use Rattle.link_image.specs.NamedSections.{pdata_pieces}
 use Rattle.link_image.specs.Steps.{IsRowPiece}
 use Rattle.link_image.proofs.HeldLemmas.{held_at}
 use Rattle.link_image.proofs.PdataLemmas.{IsPdataSection, member_of, among_contains, section_of_pdata, section_distinct, whole_rows}

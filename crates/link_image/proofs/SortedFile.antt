@@ -15,7 +15,8 @@ use Rattle.pdata_table.specs.SortedContents.{len_of, joined, is_among, sorted_co
 use Rattle.pdata_table.proofs.CallerLemmas.{dealt_same, sum_same, dealt_sorted, none_sorted, sorted_table_len}
 use Rattle.relocate.specs.declared.fix.Fix.{Fix}
 use Rattle.link_pieces.specs.TablePieces.{KeptParts, whole_pieces}
-use Rattle.link_image.specs.NamedSections.{no_row, is_named, section_named, members_of, pdata_pieces}
+use Rattle.piece_bytes.specs.Owners.{no_row}
+use Rattle.link_image.specs.NamedSections.{is_named, section_named, members_of, pdata_pieces}
 use Rattle.link_image.specs.LinkedBytes.{contents_at, linked_contents}
 use Rattle.piece_bytes.specs.PieceBytes.{LiesIn, bytes_of_piece, size_at, written}
 use Rattle.link_image.specs.Steps.{IsReady, IsRowPiece, file_of}

@@ -28,7 +28,7 @@ use Rattle.relocate.specs.Value.{target_of, HasEntry, HaveEntries}
 use Rattle.link_pieces.specs.TablePieces.{KeptParts, whole_pieces}
 use Rattle.link_plan.specs.Planned.{plan_pieces, planned_fixes}
 use Rattle.link_plan.proofs.CallerLemmas.{Stands, fields_stand, plan_count}
-use Rattle.link_image.specs.LinkedBytes.{no_row, row_holds, section_of, owners}
+use Rattle.piece_bytes.specs.Owners.{no_row, row_holds, section_of, owners}
 use Rattle.link_image.specs.Steps.{IsReady}
 use Rattle.std.proofs.Math.ListN.{get_or-map}
 

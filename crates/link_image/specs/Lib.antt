@@ -5,5 +5,7 @@ pub mod ExportFaults
 pub mod TableFaults
 pub mod NamedSections
 pub mod LinkedImage
+pub mod LinkMap
+pub mod BuiltImage
 pub mod BuildFaults
 pub mod Steps

@@ -1,14 +1,14 @@
 -- What the pieces of a link hold in its image, and the first field whose value does not fit (PE Format, "The .idata
 -- Section", "The .edata Section (Image Only)" and "Type Indicators", x64 Processors; the order is own).
-use Rattle.std.specs.Prelude.{ℕ, ◌+◌, Bool, if◌then◌else◌, List, [], ◌∷◌, ◌++◌, length, map, slice_index, slice_index_or, Option, Some, None, option_map, unwrap_or, ◌==◌}
-use Rattle.std.specs.List.{list_any, range_with_len}
-use Rattle.link_base.specs.Bytes.{first_below}
+use Rattle.std.specs.Prelude.{ℕ, ◌+◌, if◌then◌else◌, List, [], ◌∷◌, ◌++◌, length, map, slice_index, slice_index_or, Option, Some, None, option_map, ◌==◌}
+use Rattle.std.specs.List.{range_with_len}
 use Rattle.link_base.specs.Refusals.{first_refusal_below}
 use Rattle.link_base.specs.declared.fault.Fault.{Fault}
 use Rattle.link_base.specs.declared.fault.Fault.TheVariants as faults
 use Rattle.section_group.specs.declared.piece.Piece.{Piece}
 use Rattle.section_group.specs.Uniqueness.{SectionRow}
 use Rattle.address_layout.specs.declared.layout.Layout.{Layout}
+use Rattle.piece_bytes.specs.Owners.{owners}
 use Rattle.relocate.specs.declared.range.RelocRange.{RelocRange}
 use Rattle.relocate.specs.PatchedBytes.{patched_bytes, range_fault}
 use Rattle.directives.specs.declared.item.Export.{Export}
@@ -22,21 +22,10 @@ use Rattle.import_tables.specs.ImportTables.{tables_of as import_tables_of}
 use Rattle.link_pieces.specs.TablePieces.{KeptParts, kept_rows, whole_pieces, whole_piece, whole_contents, table_index, is_table}
 use Rattle.link_fields.specs.ExportTargets.{export_target}
 use Rattle.link_plan.specs.Planned.{planned_fixes, planned_target}
-pub use Rattle.link_image.specs.NamedSections.{no_row}
 use Rattle.pdata_table.specs.SortedContents.{sorted_contents}
 use Rattle.link_image.specs.NamedSections.{pdata_pieces}
 
 -- ---- the section of a piece
-
-abbrev pub row_holds : List SectionRow → ℕ → ℕ → Bool
-row_holds rows k i = list_any (λ member. member == k) (slice_index_or rows i no_row).pieces
-
--- the index of the section that a piece stands in; the number of sections for one that stands in none
-abbrev pub section_of : List SectionRow → ℕ → ℕ
-section_of rows k = unwrap_or (first_below (length rows) (row_holds rows k)) (length rows)
-
-unfoldable pub owners : List SectionRow → ℕ → List ℕ
-owners rows count = map (section_of rows) (range_with_len 0 count)
 
 -- the section of each piece that a layout has a place for
 abbrev pub owners_in : List SectionRow → Layout → List ℕ

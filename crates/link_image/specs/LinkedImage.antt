@@ -23,7 +23,7 @@ use Rattle.import_tables.specs.ImportDirectory.{Imports, imports_of}
 use Rattle.import_tables.specs.ReadBack.{found_of}
 use Rattle.export_tables.specs.ExportDirectory.{export_of_name, export_of_ordinal}
 use Rattle.export_tables.specs.ReadBack.{exported_name, exported_ordinal}
-use Rattle.image_writer.specs.ExpectedImage.{ImagePlan, MeansPlan, image_file}
+use Rattle.image_writer.specs.ExpectedImage.{ImagePlan}
 use Rattle.image_writer.specs.WrittenImage.{written_plan}
 use Rattle.synthetic_sections.specs.LinkerPieces.{SLOTS, EXPORTS}
 use Rattle.link_pieces.specs.TablePieces.{KeptParts, kept_rows, whole_pieces, whole_contents, table_index}
@@ -34,7 +34,6 @@ use Rattle.link_fields.specs.LoaderPlaces.{loader_place, TLS_NAME, LOAD_CONFIG_N
 use Rattle.link_plan.specs.Plan.{merges_of}
 use Rattle.link_plan.specs.Planned.{used_pieces, plan_pieces}
 use Rattle.link_image.specs.declared.headers.Directories.{Directories}
-use Rattle.link_image.specs.declared.make.Built.{Built}
 use Rattle.link_image.specs.BaseFields.{is_relocated, AreBaseFields}
 use Rattle.link_image.specs.ImageHeaders.{headers_of}
 use Rattle.link_image.specs.LinkedBytes.{table_rvas, exported_rows, image_contents, fields_range_fault}
@@ -186,16 +185,3 @@ HoldsImports link layout image =
 pub record HoldsExports (link : KeptParts) (layout : Layout) (image : List ℕ) : Type 0 where
   pub by_name : (base : ℕ) (memory name : List ℕ) → loaded image base ≡ Some memory → export_of_name memory (directory_rva image DIRECTORY_ENTRY_EXPORT) (directory_size image DIRECTORY_ENTRY_EXPORT) name ≡ exported_name (exported_rows link layout.pieces.items) name
   pub by_ordinal : (base : ℕ) (memory : List ℕ) (ordinal : ℕ) → loaded image base ≡ Some memory → export_of_ordinal memory (directory_rva image DIRECTORY_ENTRY_EXPORT) (directory_size image DIRECTORY_ENTRY_EXPORT) ordinal ≡ exported_ordinal (exported_rows link layout.pieces.items) link.parts.exports.ordinals ordinal
-
--- ---- what is made
-
--- what was made is the file of the image of the modules, which loads as planned at every permitted base, and then holds
--- their imports and exports
-pub record IsBuilt (options : LinkOptions) (link : KeptParts) (built : Built) : Type 0 where
-  pub image : ImagePlan
-  pub is_image : IsImageOf options link image
-  pub file : built.image.items ≡ image_file image
-  pub means : MeansPlan image built.image.items
-  pub imports : HoldsImports link is_image.layout built.image.items
-  pub exports : HoldsExports link is_image.layout built.image.items
-  pub count : built.sections ≡ length image.rows

@@ -3,9 +3,7 @@ use Rattle.std.specs.Prelude.{ℕ, Bool, List, [], length, slice_index_or, Optio
 use Rattle.link_base.specs.Bytes.{first_below}
 use Rattle.link_base.specs.NameText.{same_name}
 use Rattle.section_group.specs.Uniqueness.{SectionRow}
-
-abbrev pub no_row : SectionRow
-no_row = record { name = []; flags = 0; pieces = [] }
+use Rattle.piece_bytes.specs.Owners.{no_row}
 
 abbrev pub is_named : List SectionRow → List ℕ → ℕ → Bool
 is_named rows name i = same_name (slice_index_or rows i no_row).name name

@@ -12,7 +12,7 @@ mod file;
 mod headers;
 mod laws;
 mod make;
-mod owners;
+mod map;
 mod patching;
 mod pdata;
 mod placement;

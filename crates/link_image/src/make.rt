@@ -9,13 +9,14 @@ ghost use Rattle.link_plan.specs.Plan.{IsPlanOf, kept_parts};
 ghost use Rattle.link_image.specs.BuildFaults.{RefusesBuild};
 ghost use Rattle.link_image.specs.ExportFaults.{in_table_fault};
 ghost use Rattle.link_image.specs.LinkedBytes.{fields_range_fault};
-ghost use Rattle.link_image.specs.LinkedImage.{IsBuilt, base_rule};
+ghost use Rattle.link_image.specs.BuiltImage.{IsBuilt};
+ghost use Rattle.link_image.specs.LinkedImage.{base_rule};
 ghost use Rattle.link_image.specs.Steps.{IsPlaced, IsWritten, sorted_file};
 
 use crate::exports::export_table;
 use crate::file::write_file;
 use crate::headers::headers_of;
-use crate::owners::owners_of;
+use crate::map::map_of;
 use crate::patching::patch_pieces;
 use crate::pdata::sort_pdata;
 use crate::placement::{Placement, check_own_base, entry_rva, place_all};
@@ -24,6 +25,7 @@ use image_writer::Headers;
 use link_base::Refusal;
 use link_plan::LinkPlan;
 use link_words::Options;
+use piece_bytes::owners_of;
 use std::alloc::Global;
 
 /// What a link makes.
@@ -33,9 +35,11 @@ pub struct Built {
     pub image: Vec<u8>,
     /// How many sections it has.
     pub sections: u32,
+    /// The text of its map, where one is asked for.
+    pub map: Option<Vec<u8>>,
 }
 
-/// The image of a plan. The input is refused for the first of: a bad merge (`BadMerge`), an exception table without
+/// The image of a plan, and its map. The input is refused for the first of: a bad merge (`BadMerge`), an exception table without
 /// whole rows (`BadPdata`), a bad export (`BadExport`), too many sections (`TooManySections`), an image that is too
 /// large (`ImageTooLarge`), a base at which it may not stand (`BaseRange`), an export that lies in the export table
 /// (`BadExport`), and a field whose value does not fit (`RelocRange`).
@@ -53,7 +57,7 @@ pub fn build<'a>(
     image_of(alloc, plan, options, &placement)
 }
 
-/// The image of a plan whose pieces stand at these places.
+/// The image of a plan whose pieces stand at these places, and its map.
 fn image_of<'a>(
     alloc: Global,
     plan: &LinkPlan<'a>,
@@ -74,8 +78,13 @@ fn image_of<'a>(
     let headers = headers_of(options, entry, directories);
     let mut image = write_file(alloc, plan, options, &headers, placement, &tables, &exports)?;
     finish(alloc, &mut image, plan, options, &headers, placement)?;
+    let map = map_of(alloc, plan, options, placement, entry)?;
     let sections = placement.sections.len() as u32;
-    Ok(Built { image, sections })
+    Ok(Built {
+        image,
+        sections,
+        map,
+    })
 }
 
 /// Patches the fields in the file of an image, and puts the rows of its exception table in order.

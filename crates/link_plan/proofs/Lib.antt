@@ -10,4 +10,5 @@ pub mod MeantLemmas
 pub mod NamedLemmas
 pub mod NearLemmas
 pub mod LaidLemmas
+pub mod PublicLemmas
 pub mod PlanningLemmas

@@ -9,7 +9,7 @@ use Rattle.relocate.specs.declared.fix.Fix.{Fix}
 use Rattle.relocate.specs.declared.fix.Target.{Target}
 use Rattle.relocate.specs.declared.fix.Target.TheVariants as target
 use Rattle.relocate.specs.Field.{has_field}
-use Rattle.relocate.specs.Value.{target_of, meant}
+use Rattle.relocate.specs.Value.{meant}
 use Rattle.relocate.specs.Redirected.{redirected_if, redirected_fix}
 use Rattle.link_pieces.specs.LinkParts.{LinkParts}
 use Rattle.link_pieces.specs.Pieces.{link_pieces}

@@ -3,5 +3,6 @@ pub mod PlanFaults
 pub mod Reach
 pub mod Planned
 pub mod Laid
+pub mod LinkPublics
 pub mod Plan
 pub mod Planning

@@ -1,5 +1,5 @@
 -- What a plan says of the modules that it was made for.
-use Rattle.std.specs.Prelude.{◌≡◌, ◌<◌, ℕ, ◌^◌, false, List, length, map, slice_index_or, None}
+use Rattle.std.specs.Prelude.{◌≡◌, ◌<◌, ℕ, ◌^◌, true, false, List, length, map, slice_index_or, None}
 use Rattle.std.specs.List.{All}
 use Rattle.std.specs.Option.{ForSome}
 use Rattle.section_group.specs.SectionOrder.{no_piece}
@@ -22,6 +22,7 @@ use Rattle.link_plan.specs.Reach.{AreKept}
 use Rattle.link_plan.specs.Planned.{plan_pieces, planned_targets, HaveFields}
 use Rattle.link_plan.specs.PlanFaults.{plan_fault}
 use Rattle.link_plan.specs.Laid.{StandsNamed}
+use Rattle.link_plan.specs.LinkPublics.{lists_publics, link_publics}
 
 -- what takes part in a link of these modules
 abbrev pub link_parts : LinkOptions → List ModuleView → LinkParts
@@ -61,4 +62,5 @@ pub record IsPlanOf (options : LinkOptions) (modules : List ModuleView) (plan : 
   pub load_config_is : plan.loader.load_config ≡ loader_place plan.names LOAD_CONFIG_NAME
   pub load_config_stands : ForSome plan.loader.load_config (StandsNamed plan.pieces.items)
   pub exported_are : plan.exported.items ≡ planned_targets (kept_parts plan)
+  pub publics_are : lists_publics options ≡ true → plan.publics.items ≡ link_publics (kept_parts plan)
   pub no_fault : plan_fault options plan.names ≡ None

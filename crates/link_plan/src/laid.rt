@@ -1,6 +1,6 @@
 //! The pieces of a link with their fields, what is kept of them, and the places of its entry and its exports.
 
-ghost use Rattle.std.specs.Prelude.{◌≡◌, ◌≤◌, ◌<◌, ◌-◌, ◌^◌, ℕ, length, map, All, IfOk, IfErr};
+ghost use Rattle.std.specs.Prelude.{◌≡◌, ◌≤◌, ◌<◌, ◌-◌, ◌^◌, ℕ, true, length, map, All, IfOk, IfErr};
 ghost use Rattle.link_base.specs.Limits.{MODULE_LIMIT};
 ghost use Rattle.link_base.specs.Refusals.{RefusesFor};
 ghost use Rattle.section_group.specs.BarePieces.{bare};
@@ -15,12 +15,15 @@ ghost use Rattle.link_fields.specs.ExportTargets.{export_targets};
 ghost use Rattle.link_fields.specs.LoaderPlaces.{loader_place, TLS_NAME, LOAD_CONFIG_NAME};
 ghost use Rattle.link_fields.specs.Fixes.{HaveFields, field_edges};
 ghost use Rattle.link_plan.specs.PlanFaults.{fields_fault};
-ghost use Rattle.link_plan.specs.Laid.{ArePlanned, AreLaid};
+ghost use Rattle.link_plan.specs.Laid.{ArePlanned, AreLaid, laid_link};
+ghost use Rattle.link_plan.specs.LinkPublics.{lists_publics, link_publics};
 
 use crate::keeping::kept_nodes;
 use crate::kept_fields::{SlotPlaces, keep_fields, place_exports, push_none, slot_table};
 use crate::meanings::Meanings;
 use crate::named::name_meant;
+use crate::publics::listed_publics;
+use debug_rows::{PublicPlace, kept_publics};
 use link_base::{Memory, Refusal};
 use link_fields::{EntryPlace, JudgedFixes, LoaderPlaces, NamedPlaces, judge_pieces, named_places};
 use link_imports::{LinkImports, link_imports};
@@ -44,6 +47,13 @@ pub(crate) struct LaidPieces<'a> {
     pub(crate) loader: LoaderPlaces,
 }
 
+/// What is laid out of a link: its pieces, and the public symbols of what is kept of them, where a file for debuggers lists them.
+#[derive(Drop)]
+pub(crate) struct LaidLink<'a> {
+    pub(crate) laid: LaidPieces<'a>,
+    pub(crate) publics: Vec<PublicPlace<'a>>,
+}
+
 /// The pieces of these modules, by what the link refers to, and what is kept of them. The first of the entry, the exports and the
 /// slots that has no place in the image is refused, and then the first relocation that has a fault.
 pub(crate) fn lay_pieces<'a>(
@@ -52,12 +62,13 @@ pub(crate) fn lay_pieces<'a>(
     modules: &[Module<'a>],
     meant: Meanings<'a>,
     options: &Options<'a>,
-) -> Result<LaidPieces<'a>, Refusal<'a>>
+) -> Result<LaidLink<'a>, Refusal<'a>>
     requires same { names.now.modules ≡ modules.now }
     requires few { length modules.now ≤ MODULE_LIMIT }
     requires start { meant.start ≡ entry_meant names.now (options_said options.now).entry_name }
     requires slots { meant.slots ≡ slot_names names.now }
-    ensures laid { IfOk result (AreLaid (options_said options.now) names.now) }
+    ensures laid { IfOk result (λ link. AreLaid (options_said options.now) names.now link.laid) }
+    ensures publics { IfOk result (λ link. lists_publics (options_said options.now) ≡ true → link.publics.items ≡ link_publics (laid_link names.now link.laid)) }
     ensures refused { IfErr result (RefusesFor (fields_fault (options_said options.now) names.now)) }
 {
     let Meanings { start, slots } = meant;
@@ -66,10 +77,21 @@ pub(crate) fn lay_pieces<'a>(
     let index = PieceIndex::new(alloc, modules, slots, &pieces)?;
     let places = named_places(alloc, names, &index, &start, count)?;
     let fixes = judge_pieces(alloc, names, &index, modules, &pieces, options.large)?;
+    let publics = listed_publics(alloc, names, &index, modules, &pieces, options)?;
+    let first = pieces.len();
     let laid = keep_pieces(
         alloc, names, &index, modules, pieces, fixes, places, options,
     )?;
-    Ok(laid)
+    let table = slot_table(&laid.pieces, first, modules.len() as u32);
+    let publics = kept_publics(
+        alloc,
+        &publics,
+        &laid.kept,
+        first as u32,
+        table,
+        &laid.imports.offsets,
+    )?;
+    Ok(LaidLink { laid, publics })
 }
 
 /// What is kept of the pieces of a link, with the tables of what is kept.

@@ -12,6 +12,7 @@ mod meanings;
 mod mismatch;
 mod named;
 mod planning;
+mod publics;
 mod references;
 mod roots;
 

@@ -10,9 +10,10 @@ ghost use Rattle.link_plan.specs.PlanFaults.{plan_fault};
 ghost use Rattle.link_plan.specs.Plan.{link_parts, IsPlanOf};
 ghost use Rattle.link_plan.specs.Planning.{Plans};
 
-use crate::laid::{LaidPieces, lay_pieces};
+use crate::laid::{LaidLink, LaidPieces, lay_pieces};
 use crate::meanings::meanings_of;
 use crate::mismatch::check_mismatch;
+use debug_rows::PublicPlace;
 use input_arena::Inputs;
 use lib_search::{LinkList, complete};
 use link_base::{Name, Refusal, Stop};
@@ -52,6 +53,8 @@ pub struct LinkPlan<'a> {
     pub exported: Vec<Option<Target>>,
     /// Where the names stand that the loader of a program looks for.
     pub loader: LoaderPlaces,
+    /// The public symbols of what is kept, where a map lists them.
+    pub publics: Vec<PublicPlace<'a>>,
 }
 
 /// The plan of a link with these options. Its inputs are read and opened, and the search of libraries joins what these ask
@@ -100,8 +103,9 @@ fn plan_of<'a>(
     let names = link_names(alloc, table, &modules, exports)?;
     check_clash(&names)?;
     let meant = meanings_of(alloc, &names, &modules, options)?;
-    let laid = lay_pieces(alloc, &names, &modules, meant, options)?;
+    let link = lay_pieces(alloc, &names, &modules, meant, options)?;
     let merges = link_merges(alloc, &options.merges, &modules)?;
+    let LaidLink { laid, publics } = link;
     let LaidPieces {
         pieces,
         kept,
@@ -122,5 +126,6 @@ fn plan_of<'a>(
         entry,
         exported,
         loader,
+        publics,
     })
 }

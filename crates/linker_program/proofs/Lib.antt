@@ -3,3 +3,5 @@ pub mod StepLemmas
 pub mod RunLemmas
 mod WorkedLink
 pub mod ShownLemmas
+pub mod GenWordLemmas
+pub mod GeneratedLemmas

@@ -12,6 +12,7 @@ use Rattle.section_group.specs.Merging.{IsFirstBadMerge, merge_at}
 use Rattle.section_group.specs.Uniqueness.{SectionRow, row_of, rows_of}
 use Rattle.address_layout.specs.declared.layout.Placed.{Placed}
 use Rattle.address_layout.specs.declared.layout.Layout.{Layout}
+use Rattle.address_layout.specs.Growth.{SameLayout}
 use Rattle.address_layout.specs.declared.layout.LayoutError.TheVariants as bad
 use Rattle.address_layout.specs.PermittedBase.{is_permitted}
 use Rattle.address_layout.specs.Places.{section_count}
@@ -31,6 +32,9 @@ use Rattle.link_plan.specs.Plan.{link_parts, merges_of, IsLinkOf}
 use Rattle.link_plan.proofs.KeepLemmas.{one_kept}
 use Rattle.link_plan.specs.PlanFaults.{plan_fault}
 use Rattle.link_plan.specs.Planned.{plan_pieces}
+use Rattle.link_plan.specs.LinkPublics.{link_publics}
+use Rattle.debug_rows.specs.ImageMap.{image_map}
+use Rattle.link_image.specs.LinkMap.{link_map}
 use Rattle.link_words.specs.Outcome.{LinkOptions, CommandSaid, Link, At, Show, Gen, Refused as RefusedWord}
 use Rattle.link_words.specs.Commands.{words_say}
 use Rattle.link_fields.specs.Entry.{entry_place}
@@ -45,9 +49,11 @@ use Rattle.link_image.specs.NamedSections.{pdata_pieces}
 use Rattle.link_image.specs.BuildFaults.{IsBadMerge, HasBadTable, HasExportInTable, HasTooManySections, HasLargeTable, IsTooLarge, HasBadBase, HasBadRange, IsBuildFault}
 use Rattle.link_image.proofs.PlaceLemmas.{range_by_places, contents_by_places, directories_by_places}
 use Rattle.link_image.proofs.OnePlacement.{same_rows, same_layout, same_fields, one_refused_size, one_grown_size, SamePlacement, one_placement}
+use Rattle.generated_world.specs.GeneratedWorld.{generated_files, generated_words}
 use Rattle.linker_program.specs.Unbuilt.{is_unbuilt_link}
+use Rattle.linker_program.specs.Generated.{generated_shown}
 use Rattle.linker_program.specs.Ending.{Plan, Outcome, Usage, Refused, Linked, Shown}
-use Rattle.linker_program.specs.Outcome.{IsPlan, KeptOutcome, BuildOutcome, OutcomeAfter, ModulesOutcome, LinkOutcome, AtLoading, AtModules, AskedOutcome, CommandOutcome, WordsOutcome, HasOutcome}
+use Rattle.linker_program.specs.Outcome.{IsPlan, KeptOutcome, BuildOutcome, OutcomeAfter, ModulesOutcome, LinkOutcome, AtLoading, AtModules, AskedOutcome, LinkShown, GenSaid, CommandOutcome, WordsOutcome, HasOutcome}
 
 -- ---- the bad merge
 
@@ -302,23 +308,42 @@ same_image options link a b x y =
     ∙ ap (λ (n : ℕ). written_plan headers y.rows y.layout.sections.items y.layout.pieces.items n (image_contents link y.rows y.layout y.tables)) (sym same.layouts.image)
     ∙ sym y.is
 
-plan_from : LinkOptions → List ModuleView → ImagePlan → Plan
-plan_from options modules image = record { options = options; modules = modules; image = image }
+-- the map of a layout, by its lists
+abbrev map_at : LinkOptions → KeptParts → List SectionRow → List Placed → List ℕ → ℕ → List ℕ
+map_at options link rows places rvas size =
+    image_map (record { modules = link.parts.modules; pieces = plan_pieces options link; publics = link_publics link; sections = rows; places = places; rvas = rvas; size = size }) options.base (entry_rva rvas (entry_place link.parts options.entry_name))
 
-same_parts : (p q : Plan) → p.options ≡ q.options → p.modules ≡ q.modules → p.image ≡ q.image → p ≡ q
+pub same_map : (options : LinkOptions) (link : KeptParts) (rows other_rows : List SectionRow) (layout other : Layout) → rows ≡ other_rows → SameLayout layout other → link_map options link rows layout ≡ link_map options link other_rows other
+unfolding link_map
+same_map options link rows other_rows layout other rows_same same =
+    ap (λ (r : List SectionRow). map_at options link r layout.sections.items layout.pieces.items layout.image) rows_same
+    ∙ ap (λ (p : List Placed). map_at options link other_rows p layout.pieces.items layout.image) (sym same.sections)
+    ∙ ap (λ (r : List ℕ). map_at options link other_rows other.sections.items r layout.image) (sym same.pieces)
+    ∙ ap (λ (n : ℕ). map_at options link other_rows other.sections.items other.pieces.items n) (sym same.image)
+
+one_map : (options : LinkOptions) (link : KeptParts) (a b : ImagePlan) (x : IsImageOf options link a) (y : IsImageOf options link b) → link_map options link x.rows x.layout ≡ link_map options link y.rows y.layout
+one_map options link a b x y =
+    let same = one_placement options link x.rows y.rows x.layout y.layout x.tables y.tables x.placement y.placement in
+    same_map options link x.rows y.rows x.layout y.layout same.rows_same same.layouts
+
+plan_from : LinkOptions → List ModuleView → ImagePlan → List ℕ → Plan
+plan_from options modules image text = record { options = options; modules = modules; image = image; map = text }
+
+same_parts : (p q : Plan) → p.options ≡ q.options → p.modules ≡ q.modules → p.image ≡ q.image → p.map ≡ q.map → p ≡ q
 unfolding plan_from
-same_parts p q options modules image =
-    let start : p ≡ plan_from p.options p.modules p.image = refl in
-    let end : q ≡ plan_from q.options q.modules q.image = refl in
+same_parts p q options modules image text =
+    let start : p ≡ plan_from p.options p.modules p.image p.map = refl in
+    let end : q ≡ plan_from q.options q.modules q.image q.map = refl in
     start
-    ∙ ap (λ (o : LinkOptions). plan_from o p.modules p.image) options
-    ∙ ap (λ (m : List ModuleView). plan_from q.options m p.image) modules
-    ∙ ap (λ (i : ImagePlan). plan_from q.options q.modules i) image
+    ∙ ap (λ (o : LinkOptions). plan_from o p.modules p.image p.map) options
+    ∙ ap (λ (m : List ModuleView). plan_from q.options m p.image p.map) modules
+    ∙ ap (λ (i : ImagePlan). plan_from q.options q.modules i p.map) image
+    ∙ ap (plan_from q.options q.modules q.image) text
     ∙ sym end
 
 same_plan : (options : LinkOptions) (modules : List ModuleView) (link : KeptParts) (p q : Plan) → IsPlan options modules link p → IsPlan options modules link q → p ≡ q
 same_plan options modules link p q x y =
-    same_parts p q (x.options_are ∙ sym y.options_are) (x.modules_are ∙ sym y.modules_are) (same_image options link p.image q.image x.image_is y.image_is)
+    same_parts p q (x.options_are ∙ sym y.options_are) (x.modules_are ∙ sym y.modules_are) (same_image options link p.image q.image x.image_is y.image_is) (x.map_is ∙ one_map options link p.image q.image x.image_is y.image_is ∙ sym y.map_is)
 
 -- ---- what is kept
 
@@ -374,11 +399,22 @@ same_asked : (asks : Bool) (options : LinkOptions) (store : Store) (a b : Outcom
 same_asked true options store a b x y = x ∙ sym y
 same_asked false options store a b x y = same_link options store a b x y
 
+-- a generated program
+same_shown : (options : LinkOptions) (count : ℕ) (a b : Outcome) → LinkShown options count a → LinkShown options count b → a ≡ b
+same_shown options count a b x y = x.is ∙ ap (generated_shown count) (same_link options (generated_files count) x.link y.link x.linked y.linked) ∙ sym y.is
+
+same_gen : (said : Result CommandSaid RefusedWord) (count : ℕ) (a b : Outcome) → GenSaid said count a → GenSaid said count b → a ≡ b
+same_gen (Err refused) count a b x y = x ∙ sym y
+same_gen (Ok (Link options)) count a b x y = same_shown options count a b x y
+same_gen (Ok (At image base rva len)) count a b x y = absurd x
+same_gen (Ok (Show image pdb base symbol len)) count a b x y = absurd x
+same_gen (Ok (Gen n)) count a b x y = absurd x
+
 same_command : (command : CommandSaid) (store : Store) (a b : Outcome) → CommandOutcome command store a → CommandOutcome command store b → a ≡ b
 same_command (Link options) store a b x y = same_asked (is_unbuilt_link options) options store a b x y
 same_command (At image base rva len) store a b x y = x ∙ sym y
 same_command (Show image pdb base symbol len) store a b x y = x ∙ sym y
-same_command (Gen n) store a b x y = x ∙ sym y
+same_command (Gen count) store a b x y = same_gen (words_say (generated_words count)) count a b x y
 
 same_words : (said : Result CommandSaid RefusedWord) (store : Store) (a b : Outcome) → WordsOutcome said store a → WordsOutcome said store b → a ≡ b
 same_words (Err refused) store a b x y = x ∙ sym y

@@ -8,7 +8,7 @@ use Rattle.linker_program.specs.declared.status.Status.{Status}
 use Rattle.linker_program.specs.declared.status.Status.TheVariants as status
 use Rattle.linker_program.specs.Ending.{Outcome, Usage, Refused, Linked, Shown}
 use Rattle.linker_program.specs.Outcome.{HasOutcome}
-use Rattle.linker_program.specs.LinkRun.{status_code, LinkTries, ImageTries, LinkAnswers, ShowAnswers, CommandAnswers, RanWith, Ran, outcome_code, IsQuiet, IsOwed}
+use Rattle.linker_program.specs.LinkRun.{status_code, LinkTries, ImageTries, PairTries, NothingTried, LinkAnswers, ShowAnswers, CommandAnswers, RanWith, Ran, outcome_code, IsQuiet, IsOwed}
 use Rattle.linker_program.proofs.OutcomeLemmas.{one_outcome}
 
 -- the outcome of an answer is the expected one
@@ -45,8 +45,10 @@ code_of_command (Ok (Link options)) words before after store outcome answer line
     code_of_link words (LinkTries options) before after store outcome answer line told reads writes has h
 code_of_command (Ok (At image base rva len)) words before after store outcome answer line told reads writes has h =
     code_of_show words (ImageTries image) before after store outcome answer line told reads has h
-code_of_command (Ok (Show image pdb base symbol len)) words before after store outcome answer line told reads writes has h = absurd h
-code_of_command (Ok (Gen n)) words before after store outcome answer line told reads writes has h = absurd h
+code_of_command (Ok (Show image pdb base symbol len)) words before after store outcome answer line told reads writes has h =
+    code_of_show words (PairTries image pdb) before after store outcome answer line told reads has h
+code_of_command (Ok (Gen count)) words before after store outcome answer line told reads writes has h =
+    code_of_show words NothingTried before after store outcome answer line told reads has h
 code_of_command (Err word) words before after store outcome answer line told reads writes has h = absurd h
 
 code_of_status : (words : List (List ℕ)) (before after : FilesView) (shown shown_after : SinkView) (store : Store) (outcome : Outcome) (answer : Status)

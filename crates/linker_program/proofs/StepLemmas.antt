@@ -1,13 +1,14 @@
 -- From what the steps of a run promise to what the run promises.
-use Rattle.std.proofs.Common.{◌≡◌, ℕ, List, length, Option, Result, Ok, Err, refl, sym, ap, ◌∙◌, ◌⊎◌, subst, inl, inr}
+use Rattle.std.proofs.Common.{◌≡◌, ℕ, List, [], ◌∷◌, ◌++◌, length, Option, option_map, Result, Ok, Err, refl, sym, ap, ◌∙◌, ◌⊎◌, subst, inl, inr}
 use Rattle.std.specs.Prelude.{IfOk, OnErr, Some, None, false, codes}
+use Rattle.std.specs.declared.vec.Vec.{Vec}
 use Rattle.link_base.specs.declared.fault.Fault.{Fault}
 use Rattle.link_base.specs.declared.memory.Memory.{Memory}
 use Rattle.link_base.specs.declared.stop.Refusal.{Refusal}
 use Rattle.link_base.specs.declared.stop.Refusal.TheVariants as refusal
 use Rattle.link_files.specs.Store.{Store}
 use Rattle.link_files.specs.Outside.{FilesView, AreUntouched, ReadFailed}
-use Rattle.link_files.specs.Outputs.{output_at}
+use Rattle.link_files.specs.Outputs.{NamedBytes, output_at, FirstWritten, NextTorn}
 use Rattle.module_view.specs.Module.{ModuleView}
 use Rattle.link_words.specs.Outcome.{LinkOptions, CommandSaid, Link, At, Show, Gen, Refused as RefusedWord, refuse}
 use Rattle.link_words.specs.declared.errors.UsageKind.{UsageKind}
@@ -22,7 +23,9 @@ use Rattle.lib_search.specs.Completion.{FailsLoading}
 use Rattle.link_plan.specs.declared.planning.LinkPlan.{LinkPlan}
 use Rattle.link_plan.specs.Planning.{GivesPlan, JoinsBadly, FaultsPlan}
 use Rattle.link_image.specs.declared.make.Built.{Built}
-use Rattle.link_image.specs.LinkedImage.{IsImageOf, IsBuilt, HoldsImports, HoldsExports}
+use Rattle.link_image.specs.LinkedImage.{IsImageOf, HoldsImports, HoldsExports}
+use Rattle.link_image.specs.BuiltImage.{IsBuilt}
+use Rattle.link_image.specs.LinkMap.{link_map}
 use Rattle.link_image.proofs.PlaceLemmas.{imports_by_places, exports_by_places}
 use Rattle.link_image.proofs.OnePlacement.{one_placement}
 use Rattle.link_image.specs.BuildFaults.{RefusesBuild}
@@ -31,11 +34,11 @@ use Rattle.linker_program.specs.declared.linked.Linked.{Linked as LinkedBytes}
 use Rattle.linker_program.specs.declared.status.Status.{Status}
 use Rattle.linker_program.specs.declared.status.Status.TheVariants as status
 use Rattle.linker_program.specs.Ending.{Outcome, Usage, Refused, Linked, Plan}
-use Rattle.linker_program.proofs.OutcomeLemmas.{one_link}
+use Rattle.linker_program.proofs.OutcomeLemmas.{one_link, same_map}
 use Rattle.linker_program.specs.Outcome.{IsPlan, BuildOutcome, LinkOutcome, AtLoading, AtModules, unbuilt, CommandOutcome, HasOutcome}
 use Rattle.linker_program.specs.Unbuilt.{is_unbuilt_link}
 use Rattle.linker_program.specs.RunLines.{write_failure_line}
-use Rattle.linker_program.specs.LinkRun.{outputs_of, Expects, IsMade, LinkTries, ImageTries, LinkAnswers, ShowAnswers, CommandAnswers, LeftByMemory, Answers}
+use Rattle.linker_program.specs.LinkRun.{map_outputs, outputs_of, Expects, IsMade, LinkTries, ImageTries, PairTries, NothingTried, LinkAnswers, ShowAnswers, CommandAnswers, LeftByMemory, Answers}
 use Rattle.linker_program.specs.Steps.{Refuses, RefusesWords, TellsReadFailure, ModulesHave, IsLinked, RefusesModules, AnswersWrite, LeftByWrites}
 use Rattle.linker_program.specs.WriteSteps.{linked_outputs, linked_summary}
 
@@ -62,7 +65,7 @@ same_files before after kept =
 abbrev pub Follows : (Store → Outcome → Type 0) → (Store → Outcome → Type 0) → FilesView → Type 0
 Follows has later files = (store : Store) → files.store ≡ Some store → (outcome : Outcome) → has store outcome → later store outcome
 
-expects_later : (has later : Store → Outcome → Type 0) (files : FilesView) (outcome : Outcome) → Follows has later files → Expects has files outcome → Expects later files outcome
+pub expects_later : (has later : Store → Outcome → Type 0) (files : FilesView) (outcome : Outcome) → Follows has later files → Expects has files outcome → Expects later files outcome
 expects_later has later files outcome follows expects = record { told = λ store is. follows store is outcome (expects.told store is) }
 
 made_later : (has later : Store → Outcome → Type 0) (files : FilesView) (plan : Plan) (image : List ℕ) → Follows has later files → IsMade has files plan image → IsMade later files plan image
@@ -71,6 +74,7 @@ made_later has later files plan image follows made = record {
   means = made.means;
   imports = made.imports;
   exports = made.exports;
+  map = made.map;
 }
 
 answers_later : (has later : Store → Outcome → Type 0) (tries : Option Store → List ℕ → Type 0) (before after : FilesView) (answer : Status) (line : List ℕ) → Follows has later before → LinkAnswers has tries before after answer line → LinkAnswers later tries before after answer line
@@ -113,14 +117,14 @@ if_refused (Err error) has tries before after fault kept expects refuses = tt
 
 -- ---- outputs that are written
 
-written_answers : (options : LinkOptions) (modules : List ModuleView) (tries : Option Store → List ℕ → Type 0) (before after : FilesView) (linked : LinkedBytes) (answer : Status) (line : List ℕ) → IsLinked options modules linked → AnswersWrite before after (linked_outputs options.out linked) (linked_summary options.out linked) answer line → LinkAnswers (ModulesHave options modules) tries before after answer line
+written_answers : (options : LinkOptions) (modules : List ModuleView) (tries : Option Store → List ℕ → Type 0) (before after : FilesView) (linked : LinkedBytes) (answer : Status) (line : List ℕ) → IsLinked options modules linked → AnswersWrite before after (linked_outputs options.out options.map_file linked) (linked_summary options.out linked) answer line → LinkAnswers (ModulesHave options modules) tries before after answer line
 written_answers options modules tries before after linked status.Done line is wrote = (
   is.plan,
   (
     linked.image.items,
     record {
-      made = record { outcome = record { told = λ store told. is.outcome }; means = is.means; imports = is.imports; exports = is.exports };
-      files = rw is.asked wrote.files;
+      made = record { outcome = record { told = λ store told. is.outcome }; means = is.means; imports = is.imports; exports = is.exports; map = is.map };
+      files = subst (λ (outputs : List NamedBytes). FirstWritten before after outputs (length outputs)) is.outputs wrote.files;
       says = rw (is.asked, ← is.modules_are, ← is.sections_are) wrote.says;
     },
   ),
@@ -132,9 +136,9 @@ written_answers options modules tries before after linked status.WriteFailed lin
     (
       wrote.0,
       record {
-        made = record { outcome = record { told = λ store told. is.outcome }; means = is.means; imports = is.imports; exports = is.exports };
-        files = rw is.asked wrote.1.files;
-        says = subst (λ (o : LinkOptions). line ≡ write_failure_line (output_at (linked_outputs o.out linked) wrote.0).name) (sym is.asked) wrote.1.says;
+        made = record { outcome = record { told = λ store told. is.outcome }; means = is.means; imports = is.imports; exports = is.exports; map = is.map };
+        files = subst (λ (outputs : List NamedBytes). NextTorn before after outputs wrote.0) is.outputs wrote.1.files;
+        says = subst (λ (outputs : List NamedBytes). line ≡ write_failure_line (output_at outputs wrote.0).name) is.outputs wrote.1.says;
       },
     ),
   ),
@@ -146,13 +150,13 @@ written_answers options modules tries before after linked status.ReadFailed line
 written_answers options modules tries before after linked status.PutFailed line is none = absurd none
 
 pub if_written : (r : Result Answer Memory) (options : LinkOptions) (modules : List ModuleView) (tries : Option Store → List ℕ → Type 0) (before after : FilesView) (linked : LinkedBytes) → IsLinked options modules linked
-    → IfOk r (λ answer. AnswersWrite before after (linked_outputs options.out linked) (linked_summary options.out linked) answer.status answer.line.items)
+    → IfOk r (λ answer. AnswersWrite before after (linked_outputs options.out options.map_file linked) (linked_summary options.out linked) answer.status answer.line.items)
     → IfOk r (λ answer. LinkAnswers (ModulesHave options modules) tries before after answer.status answer.line.items)
 if_written (Ok answer) options modules tries before after linked is wrote = written_answers options modules tries before after linked answer.status answer.line.items is wrote
 if_written (Err error) options modules tries before after linked is wrote = tt
 
 pub on_left : (r : Result Answer Memory) (options : LinkOptions) (modules : List ModuleView) (before after : FilesView) (linked : LinkedBytes) → IsLinked options modules linked
-    → OnErr r (LeftByWrites before after (linked_outputs options.out linked))
+    → OnErr r (LeftByWrites before after (linked_outputs options.out options.map_file linked))
     → OnErr r (LeftByMemory (ModulesHave options modules) before after)
 on_left (Ok answer) options modules before after linked is left = tt
 on_left (Err error) options modules before after linked is left = elim left [
@@ -162,9 +166,9 @@ on_left (Err error) options modules before after linked is left = elim left [
     (
       linked.image.items,
       record {
-        made = record { outcome = record { told = λ store told. is.outcome }; means = is.means; imports = is.imports; exports = is.exports };
+        made = record { outcome = record { told = λ store told. is.outcome }; means = is.means; imports = is.imports; exports = is.exports; map = is.map };
         count = some.0;
-        files = rw is.asked some.1;
+        files = subst (λ (outputs : List NamedBytes). FirstWritten before after outputs some.0 ⊎ NextTorn before after outputs some.0) is.outputs some.1;
       },
     ),
   )
@@ -233,11 +237,16 @@ refused_build options modules link (refusal.Fault fault) link_is planned is =
     rw planned outcome
 refused_build options modules link refusal.Memory link_is planned is = tt
 
+-- a text that is there where it is asked for
+written_map : (file : Option (List ℕ)) (text : List ℕ) → map_outputs file (option_map (λ name. text) file) ≡ map_outputs file (Some text)
+written_map None text = refl
+written_map (Some name) text = refl
+
 -- an image that is made
-pub linked : (options : LinkOptions) (modules : List ModuleView) (link : KeptParts) (built : Built) (made : LinkedBytes) → IsLinkOf options modules link → plan_fault options (link_parts options modules) ≡ None → IsBuilt options link built → made.image ≡ built.image → made.sections ≡ built.sections → made.modules ≡ length modules → IsLinked options modules made
-linked options modules link built made link_is planned is image sections count =
-    let plan : Plan = record { options = options; modules = modules; image = is.image } in
-    let made_plan : IsPlan options modules link plan = record { options_are = refl; modules_are = refl; image_is = is.is_image } in
+pub linked : (options : LinkOptions) (modules : List ModuleView) (link : KeptParts) (built : Built) (made : LinkedBytes) → IsLinkOf options modules link → plan_fault options (link_parts options modules) ≡ None → IsBuilt options link built → made.image ≡ built.image → made.map ≡ built.map → made.sections ≡ built.sections → made.modules ≡ length modules → IsLinked options modules made
+linked options modules link built made link_is planned is image map_same sections count =
+    let plan : Plan = record { options = options; modules = modules; image = is.image; map = text } in
+    let made_plan : IsPlan options modules link plan = record { options_are = refl; modules_are = refl; image_is = is.is_image; map_is = refl } in
     let outcome : BuildOutcome options modules (Linked plan) = record { link = link; link_is = link_is; is = made_plan } in
     record {
       plan = plan;
@@ -246,10 +255,27 @@ linked options modules link built made link_is planned is image sections count =
       means = rw image is.means;
       imports = λ other other_is. by_imports other (one_link options modules link other link_is other_is);
       exports = λ other other_is. by_exports other (one_link options modules link other link_is other_is);
+      map = λ other other_is. by_map other (one_link options modules link other link_is other_is);
+      outputs =
+          ap (λ (maps : List NamedBytes). maps ++ record { name = options.out; bytes = made.image.items } ∷ [])
+          (ap (λ (it : Option (Vec ℕ _)). map_outputs options.map_file (option_map (λ t. t.items) it)) map_same
+          ∙ ap (map_outputs options.map_file) is.map_is
+          ∙ written_map options.map_file text);
       modules_are = count;
       sections_are = sections ∙ is.count;
     }
   where
+    text : List ℕ
+    text = link_map options link is.is_image.rows is.is_image.layout
+
+    own_map : (other : IsImageOf options link is.image) → text ≡ link_map options link other.rows other.layout
+    own_map other =
+        let same = one_placement options link is.is_image.rows other.rows is.is_image.layout other.layout is.is_image.tables other.tables is.is_image.placement other.placement in
+        same_map options link is.is_image.rows other.rows is.is_image.layout other.layout same.rows_same same.layouts
+
+    by_map : (other : KeptParts) → link ≡ other → (it : IsImageOf options other is.image) → text ≡ link_map options other it.rows it.layout
+    by_map other same = subst (λ (l : KeptParts). (it : IsImageOf options l is.image) → text ≡ link_map options l it.rows it.layout) same own_map
+
     own_imports : (other : IsImageOf options link is.image) → HoldsImports link other.layout made.image.items
     own_imports other =
         let same = one_placement options link is.is_image.rows other.rows is.is_image.layout other.layout is.is_image.tables other.tables is.is_image.placement other.placement in
@@ -287,7 +313,7 @@ link_answers words options before after status.PutFailed line said h = absurd h
 unbuilt_outcome : (words : List (List ℕ)) (store : Store) (command : CommandSaid) → words_say words ≡ Ok command → CommandOutcome command store unbuilt → HasOutcome words store unbuilt
 unbuilt_outcome words store command said is = record { is = rw said is }
 
-usage_answers : (words : List (List ℕ)) (files : FilesView) (index : ℕ) (kind : List ℕ) (answer : Answer) → ((store : Store) → HasOutcome words store (Usage index kind)) → RefusesWords answer index kind → Answers words files files answer.status answer.line.items
+pub usage_answers : (words : List (List ℕ)) (files : FilesView) (index : ℕ) (kind : List ℕ) (answer : Answer) → ((store : Store) → HasOutcome words store (Usage index kind)) → RefusesWords answer index kind → Answers words files files answer.status answer.line.items
 usage_answers words files index kind answer has refuses =
     subst (λ (s : Status). Answers words files files s answer.line.items) (sym refuses.status)
     (index, (kind, record { outcome = has; files = untouched files; says = refuses.line }))
@@ -346,8 +372,8 @@ left_by_show has tries before after status.PutFailed line h = absurd h
 left_by_command : (said : Result CommandSaid RefusedWord) (has : Store → Outcome → Type 0) (before after : FilesView) (answer : Status) (line : List ℕ) → CommandAnswers said has before after answer line → LeftByMemory has before after
 left_by_command (Ok (Link options)) has before after answer line h = left_by_link has (LinkTries options) before after answer line h
 left_by_command (Ok (At image base rva len)) has before after answer line h = left_by_show has (ImageTries image) before after answer line h
-left_by_command (Ok (Show image pdb base symbol len)) has before after answer line h = absurd h
-left_by_command (Ok (Gen n)) has before after answer line h = absurd h
+left_by_command (Ok (Show image pdb base symbol len)) has before after answer line h = left_by_show has (PairTries image pdb) before after answer line h
+left_by_command (Ok (Gen count)) has before after answer line h = left_by_show has NothingTried before after answer line h
 left_by_command (Err word) has before after answer line h = absurd h
 
 pub left_by_answer : (words : List (List ℕ)) (before after : FilesView) (answer : Status) (line : List ℕ) → Answers words before after answer line → LeftByMemory (HasOutcome words) before after

@@ -6,3 +6,6 @@ pub mod Steps
 pub mod WriteSteps
 pub mod Ending
 pub mod Shown
+pub mod ShowSteps
+pub mod Generated
+pub mod GeneratedSteps

@@ -1,6 +1,6 @@
 -- What a run of the linker promises, by the status that it ends with: what is printed, what the files hold
 -- afterwards, and where each status comes from. Own.
-use Rattle.std.specs.Prelude.{◌≡◌, ℕ, List, [], ◌∷◌, length, Option, Some, Result, Ok, ◌⊎◌}
+use Rattle.std.specs.Prelude.{◌≡◌, ℕ, List, [], ◌∷◌, ◌++◌, length, Option, Some, None, Result, Ok, Err, ◌⊎◌}
 use Rattle.std.specs.Option.{ForSome}
 use Rattle.link_base.specs.declared.fault.Fault.{Fault}
 use Rattle.diagnostics.specs.FaultLine.{fault_line_text}
@@ -9,13 +9,14 @@ use Rattle.link_files.specs.Outside.{FilesView, SinkView, AreUntouched, ReadFail
 use Rattle.link_files.specs.Outputs.{NamedBytes, output_at, FirstWritten, NextTorn}
 use Rattle.image_writer.specs.ExpectedImage.{MeansPlan}
 use Rattle.link_words.specs.Outcome.{Refused as RefusedWord}
-use Rattle.link_words.specs.Outcome.{LinkOptions, CommandSaid, Link, At}
+use Rattle.link_words.specs.Outcome.{LinkOptions, CommandSaid, Link, At, Show, Gen}
 use Rattle.link_words.specs.Commands.{words_say}
 use Rattle.file_search.specs.Reading.{TriesInput}
 use Rattle.lib_search.specs.Loading.{TriesDefault}
 use Rattle.link_pieces.specs.TablePieces.{KeptParts}
 use Rattle.link_plan.specs.Plan.{IsLinkOf}
 use Rattle.link_image.specs.LinkedImage.{IsImageOf, HoldsImports, HoldsExports}
+use Rattle.link_image.specs.LinkMap.{link_map}
 use Rattle.linker_program.specs.declared.status.Status.{Status}
 use Rattle.linker_program.specs.declared.status.Status.TheVariants as status
 use Rattle.linker_program.specs.Ending.{Outcome, Usage, Refused, Linked, Shown, Plan}
@@ -33,9 +34,16 @@ status_code status.PutFailed = 6
 
 -- ---- what a link leaves; `has` is the outcome that it has, by the files
 
--- the outputs of a link that is done, in the order of their writes
+-- a map of a name and a text, where there are both
+abbrev pub map_outputs : Option (List ℕ) → Option (List ℕ) → List NamedBytes
+map_outputs None text = []
+map_outputs (Some name) None = []
+map_outputs (Some name) (Some text) = record { name = name; bytes = text } ∷ []
+
+-- the outputs of a link that is done, in the order of their writes: the map, where one is asked for, and the image
 abbrev pub outputs_of : Plan → List ℕ → List NamedBytes
-outputs_of plan image = record { name = plan.options.out; bytes = image } ∷ []
+outputs_of plan image =
+    map_outputs plan.options.map_file (Some plan.map) ++ record { name = plan.options.out; bytes = image } ∷ []
 
 -- where the files are known, the link has this outcome
 pub record Expects (has : Store → Outcome → Type 0) (files : FilesView) (outcome : Outcome) : Type 0 where
@@ -52,12 +60,18 @@ abbrev pub HasExports : Plan → List ℕ → Type 0
 HasExports plan image =
     (link : KeptParts) → IsLinkOf plan.options plan.modules link → (is : IsImageOf plan.options link plan.image) → HoldsExports link is.layout image
 
--- the plan is the outcome, and the image means it and has the imports and exports
+-- the map lists what is kept of the link at the places that the image has
+abbrev pub HasMap : Plan → Type 0
+HasMap plan =
+    (link : KeptParts) → IsLinkOf plan.options plan.modules link → (is : IsImageOf plan.options link plan.image) → plan.map ≡ link_map plan.options link is.rows is.layout
+
+-- the plan is the outcome, the image means it and has the imports and exports, and the map is that of the image
 pub record IsMade (has : Store → Outcome → Type 0) (files : FilesView) (plan : Plan) (image : List ℕ) : Type 0 where
   pub outcome : Expects has files (Linked plan)
   pub means : MeansPlan plan.image image
   pub imports : HasImports plan image
   pub exports : HasExports plan image
+  pub map : HasMap plan
 
 -- every output is whole
 pub record LinkDone (has : Store → Outcome → Type 0) (before after : FilesView) (plan : Plan) (image line : List ℕ) : Type 0 where
@@ -107,6 +121,14 @@ pub record LineShown (has : Store → Outcome → Type 0) (before after : FilesV
 abbrev pub ImageTries : List ℕ → Option Store → List ℕ → Type 0
 ImageTries image told name = name ≡ image
 
+-- and where it looks a symbol up, for the program database
+abbrev pub PairTries : List ℕ → List ℕ → Option Store → List ℕ → Type 0
+PairTries image pdb told name = (name ≡ image) ⊎ (name ≡ pdb)
+
+-- a generated program is looked for nowhere
+abbrev pub NothingTried : Option Store → List ℕ → Type 0
+NothingTried told name = ⊥
+
 -- an answer of a command that shows something, with its line
 abbrev pub ShowAnswers : (Store → Outcome → Type 0) → (Option Store → List ℕ → Type 0) → FilesView → FilesView → Status → List ℕ → Type 0
 ShowAnswers has tries before after status.Done line = LineShown has before after line
@@ -140,7 +162,9 @@ LeftByMemory has before after =
 abbrev pub CommandAnswers : Result CommandSaid RefusedWord → (Store → Outcome → Type 0) → FilesView → FilesView → Status → List ℕ → Type 0
 CommandAnswers (Ok (Link options)) has before after answer line = LinkAnswers has (LinkTries options) before after answer line
 CommandAnswers (Ok (At image base rva len)) has before after answer line = ShowAnswers has (ImageTries image) before after answer line
-CommandAnswers other has before after answer line = ⊥
+CommandAnswers (Ok (Show image pdb base symbol len)) has before after answer line = ShowAnswers has (PairTries image pdb) before after answer line
+CommandAnswers (Ok (Gen count)) has before after answer line = ShowAnswers has NothingTried before after answer line
+CommandAnswers (Err word) has before after answer line = ⊥
 
 -- the words are refused, or ask for what is not built
 pub record WordsRefused (words : List (List ℕ)) (before after : FilesView) (index : ℕ) (kind line : List ℕ) : Type 0 where

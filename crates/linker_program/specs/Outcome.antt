@@ -5,7 +5,7 @@ use Rattle.link_base.specs.declared.fault.Fault.{Fault}
 use Rattle.link_files.specs.Store.{Store}
 use Rattle.module_view.specs.Module.{ModuleView}
 use Rattle.link_words.specs.Outcome.{Refused as RefusedWord}
-use Rattle.link_words.specs.Outcome.{LinkOptions, CommandSaid, Link, At}
+use Rattle.link_words.specs.Outcome.{LinkOptions, CommandSaid, Link, At, Show, Gen}
 use Rattle.link_words.specs.Commands.{words_say}
 use Rattle.link_words.specs.UsageWord.{usage_word}
 use Rattle.link_pieces.specs.TablePieces.{KeptParts}
@@ -13,9 +13,12 @@ use Rattle.link_plan.specs.Plan.{link_parts, IsLinkOf}
 use Rattle.lib_search.specs.Loading.{HasLoadingFault, Loads}
 use Rattle.link_plan.specs.PlanFaults.{plan_fault}
 use Rattle.link_image.specs.LinkedImage.{IsImageOf}
+use Rattle.link_image.specs.LinkMap.{link_map}
 use Rattle.link_image.specs.BuildFaults.{IsBuildFault}
+use Rattle.generated_world.specs.GeneratedWorld.{generated_files, generated_words}
 use Rattle.linker_program.specs.Ending.{Plan, Outcome, Usage, Refused, Linked, Shown}
-use Rattle.linker_program.specs.Shown.{AtOutcome}
+use Rattle.linker_program.specs.Shown.{AtOutcome, ShowOutcome}
+use Rattle.linker_program.specs.Generated.{generated_shown}
 use Rattle.linker_program.specs.Unbuilt.{is_unbuilt_link}
 
 -- ---- the modules of a link
@@ -25,6 +28,7 @@ pub record IsPlan (options : LinkOptions) (modules : List ModuleView) (link : Ke
   pub options_are : plan.options ≡ options
   pub modules_are : plan.modules ≡ modules
   pub image_is : IsImageOf options link plan.image
+  pub map_is : plan.map ≡ link_map options link image_is.rows image_is.layout
 
 -- modules that come to the tables have a fault there or later, or a plan
 abbrev pub KeptOutcome : LinkOptions → List ModuleView → KeptParts → Outcome → Type 0
@@ -64,11 +68,28 @@ abbrev pub AskedOutcome : Bool → LinkOptions → Store → Outcome → Type 0
 AskedOutcome true options store outcome = outcome ≡ unbuilt
 AskedOutcome false options store outcome = LinkOutcome options store outcome
 
--- the commands but for `link` and `at` are not built yet
+-- what a link of the files of a generated program comes to, as it is shown
+pub record LinkShown (options : LinkOptions) (count : ℕ) (outcome : Outcome) : Type 0 where
+  pub link : Outcome
+  pub linked : LinkOutcome options (generated_files count) link
+  pub is : outcome ≡ generated_shown count link
+
+-- by what its words say, which is a link
+abbrev pub GenSaid : Result CommandSaid RefusedWord → ℕ → Outcome → Type 0
+GenSaid (Err refused) count outcome = outcome ≡ Usage refused.index (usage_word refused.kind)
+GenSaid (Ok (Link options)) count outcome = LinkShown options count outcome
+GenSaid (Ok other) count outcome = ⊥
+
+-- the outcome of `gen N`, in which the files of the outside have no part
+abbrev pub GenOutcome : ℕ → Outcome → Type 0
+GenOutcome count outcome = GenSaid (words_say (generated_words count)) count outcome
+
+-- the outcome of a command
 abbrev pub CommandOutcome : CommandSaid → Store → Outcome → Type 0
 CommandOutcome (Link options) store outcome = AskedOutcome (is_unbuilt_link options) options store outcome
 CommandOutcome (At image base rva len) store outcome = AtOutcome image base rva len store outcome
-CommandOutcome other store outcome = outcome ≡ unbuilt
+CommandOutcome (Show image pdb base symbol len) store outcome = ShowOutcome image pdb base symbol len store outcome
+CommandOutcome (Gen count) store outcome = GenOutcome count outcome
 
 abbrev pub WordsOutcome : Result CommandSaid RefusedWord → Store → Outcome → Type 0
 WordsOutcome (Err refused) store outcome = outcome ≡ Usage refused.index (usage_word refused.kind)

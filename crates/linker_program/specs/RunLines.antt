@@ -1,7 +1,7 @@
 -- The lines that a run prints, other than those of diagnostics. Own.
 use Rattle.std.specs.Prelude.{ℕ, List, [], ◌∷◌, ◌++◌, codes}
 use Rattle.std.specs.Fmt.{decimal}
-use Rattle.diagnostics.specs.LineText.{escaped}
+use Rattle.diagnostics.specs.LineText.{escaped, address_text}
 
 abbrev pub usage_line : ℕ → List ℕ → List ℕ
 usage_line index kind = codes "usage " ++ (decimal index ++ (32 ∷ (kind ++ (10 ∷ []))))
@@ -15,6 +15,24 @@ summary_line output modules sections len =
     codes "linked "
     ++ (escaped output
     ++ (codes ": " ++ (counted modules (codes " modules, ") ++ (counted sections (codes " sections, ") ++ counted len (codes " bytes\n")))))
+
+-- the bases that a generated program is loaded at: its own, and another one
+abbrev pub OWN_BASE : ℕ
+OWN_BASE = 0x1_4000_0000
+
+abbrev pub OTHER_BASE : ℕ
+OTHER_BASE = 0x1_5000_0000
+
+-- a sum, and the base that it is of
+abbrev pub sum_text : ℕ → ℕ → List ℕ
+sum_text sum base = counted sum (codes " at ") ++ address_text base
+
+abbrev pub generated_line : ℕ → ℕ → ℕ → ℕ → List ℕ
+generated_line count len own other =
+    codes "gen "
+    ++ (counted count (codes ": ")
+    ++ (counted len (codes " bytes, ")
+    ++ (sum_text own OWN_BASE ++ (codes ", " ++ (sum_text other OTHER_BASE ++ (10 ∷ []))))))
 
 abbrev pub read_failure_line : List ℕ → List ℕ
 read_failure_line name = codes "read fault " ++ (escaped name ++ (10 ∷ []))

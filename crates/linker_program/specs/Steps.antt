@@ -14,10 +14,11 @@ use Rattle.linker_program.specs.declared.answer.Answer.{Answer}
 use Rattle.linker_program.specs.declared.linked.Linked.{Linked as LinkedBytes}
 use Rattle.linker_program.specs.declared.status.Status.{Status}
 use Rattle.linker_program.specs.declared.status.Status.TheVariants as status
-use Rattle.linker_program.specs.Ending.{Outcome, Usage, Refused, Linked, Shown, Plan}
+use Rattle.linker_program.specs.Ending.{Outcome, Refused, Linked, Plan}
 use Rattle.linker_program.specs.Outcome.{ModulesOutcome}
 use Rattle.linker_program.specs.RunLines.{usage_line, read_failure_line, write_failure_line}
-use Rattle.linker_program.specs.LinkRun.{NothingWritten, HasImports, HasExports}
+use Rattle.linker_program.specs.LinkRun.{NothingWritten, HasImports, HasExports, HasMap, outputs_of}
+use Rattle.linker_program.specs.WriteSteps.{linked_outputs}
 
 -- ---- answers
 
@@ -36,13 +37,6 @@ pub record TellsReadFailure (answer : Answer) (name : List ℕ) : Type 0 where
   pub status : answer.status ≡ status.ReadFailed
   pub line : answer.line.items ≡ read_failure_line name
 
--- an answer that says an outcome of a command that shows something
-abbrev pub Says : Answer → Outcome → Type 0
-Says answer (Shown line) = (answer.status ≡ status.Done) × (answer.line.items ≡ line)
-Says answer (Refused fault) = Refuses answer fault
-Says answer (Usage index kind) = ⊥
-Says answer (Linked plan) = ⊥
-
 -- ---- a link of modules that joined
 
 -- the outcome of any files, once the modules have joined
@@ -57,6 +51,8 @@ pub record IsLinked (options : LinkOptions) (modules : List ModuleView) (linked 
   pub means : MeansPlan plan.image linked.image.items
   pub imports : HasImports plan linked.image.items
   pub exports : HasExports plan linked.image.items
+  pub map : HasMap plan
+  pub outputs : linked_outputs options.out options.map_file linked ≡ outputs_of plan linked.image.items
   pub modules_are : linked.modules ≡ length plan.modules
   pub sections_are : linked.sections ≡ length plan.image.rows
 

@@ -5,13 +5,17 @@
 #![tactic(auto)]
 
 mod answer;
+mod generate;
 mod laws;
 mod lines;
 mod link;
 mod linked;
 mod linker;
 mod show;
+mod show_symbol;
+mod shown_file;
 mod status;
+mod sums;
 mod unbuilt;
 mod write;
 

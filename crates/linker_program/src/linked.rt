@@ -9,4 +9,6 @@ pub struct Linked {
     pub sections: u32,
     /// The file of the image.
     pub image: Vec<u8>,
+    /// The text of its map, where one is asked for.
+    pub map: Option<Vec<u8>>,
 }

@@ -6,8 +6,10 @@ ghost use Rattle.linker_program.specs.Outcome.{HasOutcome};
 ghost use Rattle.linker_program.specs.LinkRun.{Answers, LeftByMemory, Ran, IsOwed, RanWith};
 
 use crate::answer::{Answer, words_refused};
+use crate::generate::generate;
 use crate::link::link;
 use crate::show::show_at;
+use crate::show_symbol::show_symbol;
 use crate::status::Status;
 use crate::unbuilt::is_unbuilt_link;
 use bumpalo::Bump;
@@ -95,8 +97,16 @@ fn answer<'a, F: Files>(
                 length,
             },
         ) => show_at(alloc, files, image, base, rva, length),
-        Ok(Command::Show { .. }) => words_refused(alloc, 0, b"NotBuilt"),
-        Ok(Command::Gen { .. }) => words_refused(alloc, 0, b"NotBuilt"),
+        Ok(
+            Command::Show {
+                image,
+                pdb,
+                base,
+                symbol,
+                length,
+            },
+        ) => show_symbol(alloc, files, image, pdb, base, symbol, length),
+        Ok(Command::Gen { n }) => generate(alloc, n),
         Err(WordsError::Usage { index, kind }) => words_refused(alloc, index, usage_word(kind)),
         Err(WordsError::Memory) => Err(Memory),
     }

@@ -1,2 +1,3 @@
+pub mod OwnerLemmas
 pub mod PieceLemmas
 pub mod CallerLemmas

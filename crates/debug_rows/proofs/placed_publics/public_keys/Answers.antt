@@ -1,8 +1,9 @@
 use Rattle.std.proofs.Common.{[], arith}
+use Rattle.section_group.specs.Uniqueness.{rows_of}
 use Rattle.debug_rows.specs.PlacedPublics.{placed_key}
 use Rattle.debug_rows.proofs.ListLemmas.{kept_item_grows}
 use Rattle.debug_rows.proofs.placed_publics.public_keys.Goals as goal
 
 pub loop-public-preserved : goal.loop-public-preserved
 loop-public-preserved c =
-    kept_item_grows (placed_key c.args.owner.now c.args.sections.now c.args.layout.now) c.loop-public.public-index c.args.publics.now c.public-item.result [] c.loop-public.keys.items c.push_key.new.keys.items (omega arith) c.public-item.is c.loop-public.invariant c.in_ok-push_key.ensures
+    kept_item_grows (placed_key c.args.owner.now (rows_of c.args.sections.now) c.args.layout.now.pieces.items) c.loop-public.public-index c.args.publics.now c.public-item.result [] c.loop-public.keys.items c.push_key.new.keys.items (omega arith) c.public-item.is c.loop-public.invariant c.in_ok-push_key.ensures

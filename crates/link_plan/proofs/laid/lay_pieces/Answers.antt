@@ -1,12 +1,15 @@
-use Rattle.std.proofs.Common.{ℕ, length, map, List, Option, sym, ap, ◌∙◌, subst}
+use Rattle.std.proofs.Common.{◌≡◌, ℕ, Bool, length, map, get_or, List, Option, sym, ap, ◌∙◌, subst, arith}
 use Rattle.std.proofs.lemmas.Result.{err_from_is_err_and}
-use Rattle.std.specs.List.{All}
+use Rattle.std.specs.List.{All, filter_map}
+use Rattle.std.proofs.lemmas.List.{length-map}
 use Rattle.link_base.specs.Refusals.{RefusesFor}
 use Rattle.symbol_table.specs.declared.meaning.Meaning.{Meaning}
 use Rattle.section_group.specs.BarePieces.{bare}
 use Rattle.section_group.specs.declared.piece.Piece.{Piece}
 use Rattle.module_view.specs.Opening.{IsOpened}
 use Rattle.link_words.specs.Outcome.{options_said}
+use Rattle.link_pieces.specs.Pieces.{link_pieces}
+use Rattle.debug_rows.specs.KeptPublics.{kept_public}
 use Rattle.link_pieces.specs.Rows.{HasSomePlace}
 use Rattle.link_fields.specs.Entry.{meant_place}
 use Rattle.link_fields.specs.Places.{places_fault}
@@ -16,6 +19,8 @@ use Rattle.link_fields.specs.LoaderPlaces.{TLS_NAME, LOAD_CONFIG_NAME}
 use Rattle.link_plan.proofs.CallerLemmas.{tls_sought, load_config_sought}
 use Rattle.link_plan.proofs.EntryLemmas.{entry_stands, loader_stands}
 use Rattle.link_plan.proofs.StageLemmas.{places_refused, fixes_refused, all_laid}
+use Rattle.link_plan.proofs.LaidLemmas.{ArePlaces, table_planned, others_fail}
+use Rattle.link_plan.proofs.PublicLemmas.{publics_planned}
 use Rattle.link_plan.proofs.laid.lay_pieces.Goals as goal
 
 pub pieces_of-requires-clause-slots : goal.pieces_of-requires-clause-slots
@@ -96,3 +101,26 @@ returns-clause-laid c =
       load_config_stands = rw planned.load_config_is (loader_stands options (laid_link link laid) laid.pieces.items LOAD_CONFIG_NAME load_config_sought planned.pieces_are planned.kept_are own);
       no_fault = all_laid options link (ap (places_fault link) (sym c.requires.start) ∙ c.in_ok-places.ensures.accepted) c.in_ok-fixes.ensures.accepted;
     }
+
+pub slot_table-table-requires-clause-others : goal.slot_table-table-requires-clause-others
+slot_table-table-requires-clause-others c =
+    let link = laid_link c.args.names.now c.in_ok-laid.laid in
+    let pieces = c.in_ok-pieces.pieces in
+    let count : c.len-first.result ≡ length (link_pieces link.parts) = omega (arith, c.len-first.ensures, pieces.ok.0, length-map pieces.items bare, ap length c.in_ok-pieces.ensures.pieces) in
+    others_fail (options_said c.args.options.now) link (length c.args.modules.now) c.len-first.result c.deref-4.result.now (ap length (sym c.requires.same)) count (ap (map bare) c.deref-4.ensures.value ∙ c.in_ok-laid.ensures.pieces_are)
+
+pub returns-clause-publics : goal.returns-clause-publics
+returns-clause-publics c = λ asked.
+    let options = options_said c.args.options.now in
+    let link = laid_link c.args.names.now c.in_ok-laid.laid in
+    let pieces = c.in_ok-pieces.pieces in
+    let first = c.len-first.result in
+    let home = c.slot_table-table.result in
+    let offsets = c.deref-7.result.now in
+    let listed = c.deref-5.result.now in
+    let places : ArePlaces link first home offsets = record {
+      first_is = omega (arith, c.len-first.ensures, pieces.ok.0, length-map pieces.items bare, ap length c.in_ok-pieces.ensures.pieces);
+      home_is = c.slot_table-table.ensures ∙ table_planned options link (length c.args.modules.now) c.deref-4.result.now (ap length (sym c.requires.same)) (ap (map bare) c.deref-4.ensures.value ∙ c.in_ok-laid.ensures.pieces_are);
+      offsets_are = λ p. ap (λ (os : List ℕ). get_or os p 0) c.deref-7.ensures.value ∙ c.in_ok-laid.ensures.imports.offsets p;
+    } in
+    publics_planned link first home offsets listed c.in_ok-publics-2.publics.items places (c.deref-5.ensures.value ∙ c.in_ok-publics.ensures asked) (c.in_ok-publics-2.ensures ∙ ap (λ (kept : List Bool). filter_map (kept_public kept first home offsets) listed) c.deref-6.ensures.value)

@@ -80,18 +80,18 @@ pub lay_pieces-requires-clause-same : goal.lay_pieces-requires-clause-same
 lay_pieces-requires-clause-same c =
     ap (λ (l : LinkParts). l.modules) (names_so (options_said c.args.options.now) c.args.list.modules.items c.deref-2.result.now _ _ c.in_ok-names.names c.in_ok-names.ensures.names c.requires.names c.in_ok-exports.ensures.exports c.deref-2.ensures.value) ∙ sym c.deref-5.ensures.value
 
-pub returns-in_err-laid-clause-refused : goal.returns-in_err-laid-clause-refused
-returns-in_err-laid-clause-refused c =
+pub returns-in_err-link-clause-refused : goal.returns-in_err-link-clause-refused
+returns-in_err-link-clause-refused c =
     let options = options_said c.args.options.now in
     let link = link_parts options c.args.list.modules.items in
     let names_are = names_so (options_said c.args.options.now) c.args.list.modules.items c.deref-2.result.now _ _ c.in_ok-names.names c.in_ok-names.ensures.names c.requires.names c.in_ok-exports.ensures.exports c.deref-2.ensures.value in
     let well =
     chosen_so link c.in_ok-names.names c.deref.result.now c.deref-3.result.now names_are c.deref.ensures.value c.in_ok-check_mismatch.ensures.accepted c.deref-3.ensures.value c.in_ok-names.ensures.accepted c.in_ok-check_clash.ensures.accepted in
     let meant = ap (meaning_fault options) (sym names_are) ∙ c.in_ok-meant.ensures.accepted in
-    let given = err_from_is_err_and c.from_residual-in_err-laid.result c.from_residual-in_err-laid.ensures.1 in
+    let given = err_from_is_err_and c.from_residual-in_err-link.result c.from_residual-in_err-link.ensures.1 in
     rw (given.1, given.2)
-    (fields_stage options link c.in_err-laid.field-0.0 well meant
-    (subst (λ (l : LinkParts). RefusesFor (fields_fault options l) c.in_err-laid.field-0.0) names_are c.in_err-laid.ensures.refused))
+    (fields_stage options link c.in_err-link.field-0.0 well meant
+    (subst (λ (l : LinkParts). RefusesFor (fields_fault options l) c.in_err-link.field-0.0) names_are c.in_err-link.ensures.refused))
 
 pub returns-in_err-merges-clause-refused : goal.returns-in_err-merges-clause-refused
 returns-in_err-merges-clause-refused c =
@@ -106,7 +106,7 @@ returns-clause-planned c =
     let well =
     chosen_so link c.in_ok-names.names c.deref.result.now c.deref-3.result.now names_are c.deref.ensures.value c.in_ok-check_mismatch.ensures.accepted c.deref-3.ensures.value c.in_ok-names.ensures.accepted c.in_ok-check_clash.ensures.accepted in
     let meant = ap (meaning_fault options) (sym names_are) ∙ c.in_ok-meant.ensures.accepted in
-    let laid = c.in_ok-laid.ensures.laid in
+    let laid = c.in_ok-link.ensures.laid in
     let planned = laid.planned in
     let own = ap (λ (l : LinkParts). l.modules) names_are in
     record {
@@ -116,10 +116,10 @@ returns-clause-planned c =
       pieces_are = planned.pieces_are;
       contents_are = planned.contents_are;
       aligned = planned.aligned;
-      bodies = subst (λ (ms : List ModuleView). (k : ℕ) → k < length c.in_ok-laid.laid.pieces.items → is_table (length ms) (get_or c.in_ok-laid.laid.pieces.items k no_piece) ≡ false → HasItsBytes c.in_ok-laid.laid.pieces.items k) own planned.bodies;
+      bodies = subst (λ (ms : List ModuleView). (k : ℕ) → k < length c.in_ok-link.link.laid.pieces.items → is_table (length ms) (get_or c.in_ok-link.link.laid.pieces.items k no_piece) ≡ false → HasItsBytes c.in_ok-link.link.laid.pieces.items k) own planned.bodies;
       few = planned.few;
       fields = planned.fields;
-      imports = subst (λ (ms : List ModuleView). AreImports ms (kept_imports (laid_link c.in_ok-names.names c.in_ok-laid.laid)) c.in_ok-laid.laid.imports) own planned.imports;
+      imports = subst (λ (ms : List ModuleView). AreImports ms (kept_imports (laid_link c.in_ok-names.names c.in_ok-link.link.laid)) c.in_ok-link.link.laid.imports) own planned.imports;
       told = subst AreTold (sym (ap (λ (l : LinkParts). l.exports) c.in_ok-names.ensures.names)) c.in_ok-exports.ensures.told;
       merges_are = c.in_ok-merges.ensures ∙ ap (λ (given : List (List ℕ × List ℕ)). link_merges given c.deref-7.result.now) c.deref-6.ensures.value ∙ ap (link_merges options.merges) (c.deref-7.ensures.value ∙ sym own);
       entry_is = planned.entry_is;
@@ -129,5 +129,6 @@ returns-clause-planned c =
       load_config_is = planned.load_config_is;
       load_config_stands = laid.load_config_stands;
       exported_are = planned.exported_are;
+      publics_are = c.in_ok-link.ensures.publics;
       no_fault = ap (plan_fault options) names_are ∙ no_stage options link well meant (subst (λ (l : LinkParts). fields_fault options l ≡ None) names_are laid.no_fault);
     }

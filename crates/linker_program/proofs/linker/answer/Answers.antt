@@ -1,9 +1,11 @@
 use Rattle.std.proofs.Common.{◌≡◌, map, string_bytes, Ok, refl, sym, ◌∙◌}
 use Rattle.link_files.specs.Outside.{files_of}
-use Rattle.link_words.specs.Outcome.{CommandSaid, Link, At, Show, Gen, options_said}
+use Rattle.link_words.specs.Outcome.{Link, At, Show, Gen, options_said}
 use Rattle.link_words.specs.Commands.{words_say}
 use Rattle.linker_program.proofs.StepLemmas.{if_unbuilt, if_words_refused, if_linked, on_linked}
-use Rattle.linker_program.proofs.ShownLemmas.{if_at, on_at}
+use Rattle.linker_program.proofs.ShownLemmas.{if_at, if_show, on_show}
+use Rattle.linker_program.proofs.GenWordLemmas.{gen_bounds}
+use Rattle.linker_program.proofs.GeneratedLemmas.{if_generated}
 use Rattle.linker_program.proofs.linker.answer.Goals as goal
 
 pub returns-then-is_unbuilt_link-clause-answered : goal.returns-then-is_unbuilt_link-clause-answered
@@ -47,23 +49,36 @@ pub returns-in-Ok-At-clause-memory : goal.returns-in-Ok-At-clause-memory
 returns-in-Ok-At-clause-memory g c =
     let before = files_of g.F.Files.store g.F.Files.read_faults g.F.Files.write_faults c.args.files.now in
     let after = files_of g.F.Files.store g.F.Files.read_faults g.F.Files.write_faults c.show_at.new.files in
-    on_at c.show_at.result (map string_bytes c.args.words.now) before after c.show_at.ensures.memory
+    on_show c.show_at.result (map string_bytes c.args.words.now) before after c.show_at.ensures.memory
 
 pub returns-in-Ok-Show-clause-answered : goal.returns-in-Ok-Show-clause-answered
 returns-in-Ok-Show-clause-answered g c =
-    let files = files_of g.F.Files.store g.F.Files.read_faults g.F.Files.write_faults c.args.files.now in
+    let before = files_of g.F.Files.store g.F.Files.read_faults g.F.Files.write_faults c.args.files.now in
+    let after = files_of g.F.Files.store g.F.Files.read_faults g.F.Files.write_faults c.show_symbol.new.files in
     let words = map string_bytes c.args.words.now in
-    let command : CommandSaid = Show c.in-Ok-Show.field-0-0.now c.in-Ok-Show.field-0-1.now c.in-Ok-Show.field-0-2 c.in-Ok-Show.field-0-3.now c.in-Ok-Show.field-0-4 in
-    let said : words_say words ≡ Ok command = rw c.in-Ok-Show.field-0-is at c.in-Ok-Show.ensures in
-    if_unbuilt c.words_refused-in-Ok-Show.result words files command said (λ store. refl) c.words_refused-in-Ok-Show.ensures
+    let arm = c.in-Ok-Show in
+    let said : words_say words ≡ Ok (Show arm.image.now arm.pdb.now arm.base arm.symbol.now arm.length) = rw c.in-Ok-Show.field-0-is at c.in-Ok-Show.ensures in
+    if_show c.show_symbol.result words arm.image.now arm.pdb.now arm.base arm.symbol.now arm.length before after said c.show_symbol.ensures.answered
+
+pub returns-in-Ok-Show-clause-memory : goal.returns-in-Ok-Show-clause-memory
+returns-in-Ok-Show-clause-memory g c =
+    let before = files_of g.F.Files.store g.F.Files.read_faults g.F.Files.write_faults c.args.files.now in
+    let after = files_of g.F.Files.store g.F.Files.read_faults g.F.Files.write_faults c.show_symbol.new.files in
+    on_show c.show_symbol.result (map string_bytes c.args.words.now) before after c.show_symbol.ensures.memory
+
+pub generate-requires : goal.generate-requires
+generate-requires g c =
+    let words = map string_bytes c.args.words.now in
+    let said : words_say words ≡ Ok (Gen c.in-Ok-Gen.n) = rw c.in-Ok-Gen.field-0-is at c.in-Ok-Gen.ensures in
+    let within = gen_bounds words c.in-Ok-Gen.n said in
+    record { some = within.0; few = within.1 }
 
 pub returns-in-Ok-Gen-clause-answered : goal.returns-in-Ok-Gen-clause-answered
 returns-in-Ok-Gen-clause-answered g c =
     let files = files_of g.F.Files.store g.F.Files.read_faults g.F.Files.write_faults c.args.files.now in
     let words = map string_bytes c.args.words.now in
-    let command : CommandSaid = Gen c.in-Ok-Gen.field-0-0 in
-    let said : words_say words ≡ Ok command = rw c.in-Ok-Gen.field-0-is at c.in-Ok-Gen.ensures in
-    if_unbuilt c.words_refused-in-Ok-Gen.result words files command said (λ store. refl) c.words_refused-in-Ok-Gen.ensures
+    let said : words_say words ≡ Ok (Gen c.in-Ok-Gen.n) = rw c.in-Ok-Gen.field-0-is at c.in-Ok-Gen.ensures in
+    if_generated c.generate.result words c.in-Ok-Gen.n files said c.generate.ensures
 
 pub returns-in-Err-Usage-clause-answered : goal.returns-in-Err-Usage-clause-answered
 returns-in-Err-Usage-clause-answered g c =

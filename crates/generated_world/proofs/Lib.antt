@@ -1,0 +1,2 @@
+mod WorldLemmas
+mod WorkedWorld

@@ -1,0 +1,2 @@
+pub mod GeneratedObject
+pub mod GeneratedWorld

@@ -1,0 +1,2 @@
+pub mod SymbolPlace
+pub mod ShownBytes

@@ -1,0 +1,20 @@
+-- What is made of the modules of a link. Own.
+use Rattle.std.specs.Prelude.{◌≡◌, length, option_map}
+use Rattle.image_writer.specs.ExpectedImage.{ImagePlan, MeansPlan, image_file}
+use Rattle.link_words.specs.Outcome.{LinkOptions}
+use Rattle.link_pieces.specs.TablePieces.{KeptParts}
+use Rattle.link_image.specs.declared.make.Built.{Built}
+use Rattle.link_image.specs.LinkedImage.{IsImageOf, HoldsImports, HoldsExports}
+use Rattle.link_image.specs.LinkMap.{link_map, asked_map}
+
+-- the file of the image of the modules, which loads as planned at every permitted base, and then holds their imports and exports;
+-- and the map of this image, where one is asked for
+pub record IsBuilt (options : LinkOptions) (link : KeptParts) (built : Built) : Type 0 where
+  pub image : ImagePlan
+  pub is_image : IsImageOf options link image
+  pub file : built.image.items ≡ image_file image
+  pub means : MeansPlan image built.image.items
+  pub imports : HoldsImports link is_image.layout built.image.items
+  pub exports : HoldsExports link is_image.layout built.image.items
+  pub count : built.sections ≡ length image.rows
+  pub map_is : option_map (λ map. map.items) built.map ≡ asked_map options (link_map options link is_image.rows is_image.layout)
