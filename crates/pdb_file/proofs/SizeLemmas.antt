@@ -13,8 +13,7 @@ use Rattle.pdb_publics.proofs.PartLemmas.{length_counts, counts_at}
 use Rattle.pdb_publics.proofs.CountLemmas.{length_words}
 use Rattle.pdb_publics.proofs.WrittenLemmas.{words_of, length_hash_part}
 use Rattle.pdb_publics.specs.Lookup.{passing}
-use Rattle.pdb_file.specs.declared.writing.PdbParts.{PdbParts}
-use Rattle.pdb_file.specs.PdbFile.{pdb_streams}
+use Rattle.pdb_file.specs.PdbFile.{Database, pdb_streams}
 use Rattle.pdb_file.proofs.UsedLemmas.{no_number_passes}
 
 -- ---- the streams that hold little
@@ -40,9 +39,9 @@ length_globals =
 
 -- ---- all streams
 
-pub lengths_are : (parts : PdbParts) (info dbi publics records headers : ℕ) → info ≡ length (info_of parts.time parts.id) → dbi ≡ length (dbi_of parts.modules.now parts.contributions.now parts.headers.now) → publics ≡ length (publics_stream parts.publics.now) → records ≡ length (records_stream parts.publics.now) → headers ≡ length parts.headers.now → (0 ∷ info ∷ 56 ∷ dbi ∷ 56 ∷ 532 ∷ publics ∷ records ∷ headers ∷ []) ≡ map length (pdb_streams parts)
+pub lengths_are : (pdb : Database) (info dbi publics records headers : ℕ) → info ≡ length (info_of pdb.time pdb.id) → dbi ≡ length (dbi_of pdb.modules pdb.contributions pdb.headers) → publics ≡ length (publics_stream pdb.publics) → records ≡ length (records_stream pdb.publics) → headers ≡ length pdb.headers → (0 ∷ info ∷ 56 ∷ dbi ∷ 56 ∷ 532 ∷ publics ∷ records ∷ headers ∷ []) ≡ map length (pdb_streams pdb)
 unfolding pdb_streams
-lengths_are parts info dbi publics records headers is_info is_dbi is_publics is_records is_headers =
+lengths_are pdb info dbi publics records headers is_info is_dbi is_publics is_records is_headers =
     λ i. 0 ∷ is_info i ∷ length_types i ∷ is_dbi i ∷ length_types i ∷ length_globals i ∷ is_publics i ∷ is_records i ∷ is_headers i ∷ []
 
 -- ---- the size of the file
@@ -65,18 +64,18 @@ within_limit sizes i d lt fits =
     omega (arith, within, fits)
 
 -- the streams whose lengths those who write them ask for
-pub record StreamsFit (parts : PdbParts) : Type 0 where
-  pub dbi : length (dbi_of parts.modules.now parts.contributions.now parts.headers.now) ≤ STREAM_LIMIT
-  pub publics : length (publics_stream parts.publics.now) ≤ STREAM_LIMIT
-  pub records : length (records_stream parts.publics.now) ≤ STREAM_LIMIT
+pub record StreamsFit (pdb : Database) : Type 0 where
+  pub dbi : length (dbi_of pdb.modules pdb.contributions pdb.headers) ≤ STREAM_LIMIT
+  pub publics : length (publics_stream pdb.publics) ≤ STREAM_LIMIT
+  pub records : length (records_stream pdb.publics) ≤ STREAM_LIMIT
 
-pub streams_fit : (parts : PdbParts) (size : ℕ) → size ≡ file_size (map length (pdb_streams parts)) → size ≤ MSF_LIMIT → StreamsFit parts
+pub streams_fit : (pdb : Database) (size : ℕ) → size ≡ file_size (map length (pdb_streams pdb)) → size ≤ MSF_LIMIT → StreamsFit pdb
 unfolding pdb_streams
-streams_fit parts size is fits = record {
-  dbi = within_limit (map length (pdb_streams parts)) 3 0 (omega arith) small;
-  publics = within_limit (map length (pdb_streams parts)) 6 0 (omega arith) small;
-  records = within_limit (map length (pdb_streams parts)) 7 0 (omega arith) small;
+streams_fit pdb size is fits = record {
+  dbi = within_limit (map length (pdb_streams pdb)) 3 0 (omega arith) small;
+  publics = within_limit (map length (pdb_streams pdb)) 6 0 (omega arith) small;
+  records = within_limit (map length (pdb_streams pdb)) 7 0 (omega arith) small;
 }
   where
-    small : file_size (map length (pdb_streams parts)) ≤ MSF_LIMIT
+    small : file_size (map length (pdb_streams pdb)) ≤ MSF_LIMIT
     small = subst (λ (n : ℕ). n ≤ MSF_LIMIT) is fits

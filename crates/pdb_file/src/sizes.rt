@@ -10,7 +10,7 @@ ghost use Rattle.pdb_dbi.specs.DbiStream.{dbi_of};
 ghost use Rattle.pdb_publics.specs.PublicOrder.{record_size, extent};
 ghost use Rattle.pdb_publics.specs.PublicStreams.{PUBLIC_NAME_LIMIT, records_stream, publics_stream};
 ghost use Rattle.pdb_file.specs.UsedBuckets.{used_buckets};
-ghost use Rattle.pdb_file.specs.PdbFile.{pdb_streams};
+ghost use Rattle.pdb_file.specs.PdbFile.{database, pdb_streams};
 
 use crate::format::{
     BITMAP_LEN, BLOCK_SIZE, BUCKET_COUNT, CONTRIBUTION_LEN, DATA_BLOCKS, DBI_HEADER_LEN,
@@ -29,7 +29,7 @@ use std::alloc::Global;
 pub(crate) fn pdb_size(alloc: Global, parts: &PdbParts<'_, '_>) -> Result<u64, Memory>
     requires few { length parts.now.modules.now ≤ 65535 }
     requires names { All (λ row. length row.name ≤ PUBLIC_NAME_LIMIT) parts.now.publics.now }
-    ensures { IfOk result (λ size. size ≡ file_size (map length (pdb_streams parts.now))) }
+    ensures { IfOk result (λ size. size ≡ file_size (map length (pdb_streams (database parts.now)))) }
 {
     let lengths = stream_lengths(alloc, parts)?;
     let Ok(size) = u64::try_from(file_size(&lengths)) else {
@@ -88,7 +88,7 @@ fn block_number(n: u128) -> u128
 fn stream_lengths(alloc: Global, parts: &PdbParts<'_, '_>) -> Result<[u128; 9], Memory>
     requires few { length parts.now.modules.now ≤ 65535 }
     requires names { All (λ row. length row.name ≤ PUBLIC_NAME_LIMIT) parts.now.publics.now }
-    ensures lengths { IfOk result (λ lengths. lengths ≡ map length (pdb_streams parts.now)) }
+    ensures lengths { IfOk result (λ lengths. lengths ≡ map length (pdb_streams (database parts.now))) }
     ensures small { IfOk result (λ lengths. All (λ len. len < 2 ^ 100) lengths) }
 {
     let publics = publics_len(alloc, parts.publics)?;

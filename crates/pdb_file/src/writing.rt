@@ -6,7 +6,7 @@ ghost use Rattle.link_base.specs.PeFormat.{SIZEOF_SECTION_HEADER};
 ghost use Rattle.pdb_msf.specs.WrittenFile.{MSF_LIMIT, file_size, msf_of};
 ghost use Rattle.pdb_dbi.specs.DbiStream.{STREAM_LIMIT, dbi_of};
 ghost use Rattle.pdb_publics.specs.PublicStreams.{PUBLIC_NAME_LIMIT, records_stream, publics_stream};
-ghost use Rattle.pdb_file.specs.PdbFile.{front_streams, public_streams, pdb_streams, IsTooLarge};
+ghost use Rattle.pdb_file.specs.PdbFile.{database, front_streams, public_streams, pdb_streams, IsTooLarge};
 
 use crate::joined::JoinedStreams;
 use crate::sizes::pdb_size;
@@ -44,9 +44,9 @@ pub fn write_pdb(alloc: Global, parts: &PdbParts<'_, '_>) -> Result<Vec<u8>, Msf
     requires sections { length parts.now.headers.now ≤ SIZEOF_SECTION_HEADER * SECTION_LIMIT }
     requires modules { All (λ row. row.«module» < length parts.now.modules.now) parts.now.contributions.now }
     requires names { All (λ row. length row.name ≤ PUBLIC_NAME_LIMIT) parts.now.publics.now }
-    ensures written { IfOk result (λ pdb. pdb.items ≡ msf_of (pdb_streams parts.now)) }
-    ensures too_large { IfErr result (IsTooLarge (pdb_streams parts.now)) }
-    ensures fits { OnOk result (file_size (map length (pdb_streams parts.now)) ≤ MSF_LIMIT) }
+    ensures written { IfOk result (λ pdb. pdb.items ≡ msf_of (pdb_streams (database parts.now))) }
+    ensures too_large { IfErr result (IsTooLarge (pdb_streams (database parts.now))) }
+    ensures fits { OnOk result (file_size (map length (pdb_streams (database parts.now))) ≤ MSF_LIMIT) }
 {
     let Ok(size) = pdb_size(alloc, parts) else {
         return Err(MsfError::Memory);
@@ -66,8 +66,8 @@ fn write_streams(alloc: Global, parts: &PdbParts<'_, '_>) -> Result<Vec<u8>, Msf
     requires names { All (λ row. length row.name ≤ PUBLIC_NAME_LIMIT) parts.now.publics.now }
     requires records { length (records_stream parts.now.publics.now) ≤ STREAM_LIMIT }
     requires publics { length (publics_stream parts.now.publics.now) ≤ STREAM_LIMIT }
-    ensures written { IfOk result (λ pdb. pdb.items ≡ msf_of (pdb_streams parts.now)) }
-    ensures too_large { IfErr result (IsTooLarge (pdb_streams parts.now)) }
+    ensures written { IfOk result (λ pdb. pdb.items ≡ msf_of (pdb_streams (database parts.now))) }
+    ensures too_large { IfErr result (IsTooLarge (pdb_streams (database parts.now))) }
 {
     match joined_streams(alloc, parts) {
         Ok(streams) => write_msf(alloc, &streams.bytes, &streams.lengths),
@@ -84,7 +84,7 @@ fn joined_streams(alloc: Global, parts: &PdbParts<'_, '_>) -> Result<JoinedStrea
     requires names { All (λ row. length row.name ≤ PUBLIC_NAME_LIMIT) parts.now.publics.now }
     requires records { length (records_stream parts.now.publics.now) ≤ STREAM_LIMIT }
     requires publics { length (publics_stream parts.now.publics.now) ≤ STREAM_LIMIT }
-    ensures { IfOk result (λ streams. streams ≡ pdb_streams parts.now) }
+    ensures { IfOk result (λ streams. streams ≡ pdb_streams (database parts.now)) }
 {
     let mut streams = JoinedStreams::new(alloc);
     push_front(alloc, &mut streams, parts)?;
@@ -103,7 +103,7 @@ fn push_front(
     requires sections { length parts.now.headers.now ≤ SIZEOF_SECTION_HEADER * SECTION_LIMIT }
     requires modules { All (λ row. row.«module» < length parts.now.modules.now) parts.now.contributions.now }
     requires size { length (dbi_of parts.now.modules.now parts.now.contributions.now parts.now.headers.now) ≤ STREAM_LIMIT }
-    ensures { OnOk result (streams.new ≡ streams.old ++ front_streams parts.now) }
+    ensures { OnOk result (streams.new ≡ streams.old ++ front_streams (database parts.now)) }
 {
     let info = write_info(alloc, parts.time, parts.id)?;
     let types = write_types(alloc)?;

@@ -1,5 +1,5 @@
 use Rattle.std.proofs.Common.{ℕ, List, [], ◌∷◌, ◌++◌, ap, ◌∙◌}
-use Rattle.pdb_file.specs.PdbFile.{front_streams, public_streams, pdb_streams}
+use Rattle.pdb_file.specs.PdbFile.{database, front_streams, public_streams, pdb_streams}
 use Rattle.pdb_file.proofs.writing.joined_streams.Goals as goal
 
 pub returns : goal.returns
@@ -10,4 +10,4 @@ returns c =
     ∙ ap (λ (streams : List (List ℕ)). streams ++ parts.headers.now ∷ [])
     (c.in_ok-push_publics.ensures
     ∙ ap (λ (streams : List (List ℕ)). streams ++ public_streams parts.publics.now)
-    (c.in_ok-push_front.ensures ∙ ap (λ (streams : List (List ℕ)). streams ++ front_streams parts) c.new-streams.ensures))
+    (c.in_ok-push_front.ensures ∙ ap (λ (streams : List (List ℕ)). streams ++ front_streams (database parts)) c.new-streams.ensures))

@@ -1,0 +1,3 @@
+pub mod ContributionLemmas
+pub mod DatabaseLemmas
+pub mod WorkedDatabase
