@@ -1,1 +1,2 @@
 pub mod WorkedEntry
+pub mod IdentifierLemmas

@@ -18,8 +18,7 @@ use Rattle.relocate.specs.Field.{field_width, field_end, no_fix}
 use Rattle.relocate.specs.Judged.{IsPatchable, ArePatchable}
 use Rattle.relocate.specs.PatchedBytes.{is_based}
 use Rattle.relocate.proofs.CallerLemmas.{ends_within, based_width}
-use Rattle.link_image.specs.BaseFields.{base_field}
-use Rattle.link_image.specs.Steps.{fields_of, fields_at, section_fields, all_fields}
+use Rattle.address_fields.specs.AddressFields.{base_field, fields_of, fields_at, section_fields, all_fields}
 
 -- each field stands at or above the end of the one before it, the first at or above a low place, and the last ends at or
 -- below a high place

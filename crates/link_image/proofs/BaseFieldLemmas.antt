@@ -18,9 +18,9 @@ use Rattle.relocate.specs.PatchedBytes.{is_based}
 use Rattle.relocate.proofs.CallerLemmas.{ends_within, based_width, among_fields}
 use Rattle.link_pieces.specs.TablePieces.{KeptParts, whole_pieces}
 use Rattle.link_plan.specs.Planned.{HaveFields, planned_fixes}
-use Rattle.link_image.specs.BaseFields.{base_field, IsBaseField, AreBaseFields}
+use Rattle.address_fields.specs.AddressFields.{base_field, Fits, fields_of, fields_at, section_fields, all_fields}
+use Rattle.link_image.specs.BaseFields.{IsBaseField, AreBaseFields}
 use Rattle.link_image.specs.LinkedBytes.{contents_at}
-use Rattle.link_image.specs.Steps.{Fits, fields_of, fields_at, section_fields, all_fields}
 use Rattle.link_image.proofs.HeldLemmas.{patchable_at}
 use Rattle.link_image.proofs.AscendLemmas.{Climb, climb_higher, climb_lower, climb_ascending, climb_apart, piece_climbs, section_climbs, all_climb, FieldsInside}
 

@@ -1,10 +1,10 @@
--- The table of exports of a link has the size that is told of it before anything has a place; and the tables of imports and of
--- exports by their numbers.
+-- The table of exports of a link and its debug directory have the sizes that are told of them before anything has a place; and the
+-- tables by their numbers.
 use Rattle.std.proofs.Common.{◌≡◌, ℕ, ◌<◌, Bool, true, false, cond, eqb, is_some, List, [], ◌∷◌, ◌++◌, length, map, get_or, Option, Some, None, refl, sym, ap, ◌∙◌, subst, arith}
 use Rattle.std.specs.List.{AllZip}
 use Rattle.std.proofs.Math.ListN.{get_or-map}
 use Rattle.std.proofs.lemmas.Bool.{eqb-true}
-use Rattle.std.proofs.lemmas.List.{map-append, get_or_push, get_or_append_left}
+use Rattle.std.proofs.lemmas.List.{map-append, get_or_append_left, get_or-append_right}
 use Rattle.address_layout.specs.declared.layout.Layout.{Layout}
 use Rattle.directives.specs.declared.item.Export.{Export}
 use Rattle.symbol_names.specs.Exports.{forwarder}
@@ -17,11 +17,13 @@ use Rattle.export_tables.specs.ReadBack.{SameSize}
 use Rattle.export_tables.specs.Ordinals.{ordinals_of, ordinal_fault}
 use Rattle.export_tables.proofs.LengthLemmas.{size_of_table}
 use Rattle.export_tables.proofs.SizeLemmas.{same_table_size, same_numbered}
-use Rattle.synthetic_sections.specs.LinkerPieces.{EXPORTS, size_at}
+use Rattle.synthetic_sections.specs.LinkerPieces.{EXPORTS, DEBUG_DATA, size_at, entry_size}
+use Rattle.link_debug.specs.LinkDebug.{no_identifier, data_bytes}
+use Rattle.link_debug.proofs.DataLemmas.{IsSized, length-entry, length-bytes}
 use Rattle.link_exports.specs.Exports.{refused_rows, numbers_fault, numbers_of, export_to, table_row, unplaced_row, size_of, size_if, ExportsView, exports_from, AreTold}
 use Rattle.link_pieces.specs.TablePieces.{kept_rows, KeptParts, table_sizes, kept_imports}
 use Rattle.link_imports.specs.Imports.{import_sizes}
-use Rattle.link_image.specs.LinkedBytes.{table_rva, table_rvas, import_tables_at, exported_row, exported_rows, export_table_at, tables_at}
+use Rattle.link_image.specs.LinkedBytes.{table_rva, table_rvas, import_tables_at, exported_row, exported_rows, export_table_at, debug_entry_at, tables_at}
 
 -- ---- a link with a table
 
@@ -154,12 +156,26 @@ import_lengths link layout =
     let rvas = table_rvas link layout in
     sizes_kept rows rvas (import_tables_of rows rvas) (sizes_of rows) refl refl
 
-pub length-tables : (link : KeptParts) (layout : Layout) (rows : List Export) (dll : List ℕ) (time : ℕ) → link.parts.exports ≡ exports_from rows dll time → AreTold link.parts.exports → (number : ℕ) → length (get_or (tables_at link layout) number []) ≡ size_at (table_sizes link) number
-length-tables link layout rows dll time is told number =
+-- those behind the import tables
+abbrev later_tables : KeptParts → Layout → List (List ℕ)
+later_tables link layout = export_table_at link layout ∷ debug_entry_at link layout ∷ data_bytes link.parts.debug no_identifier ∷ []
+
+entry_length : (link : KeptParts) (layout : Layout) → length (debug_entry_at link layout) ≡ entry_size link.parts.debug.size
+unfolding debug_entry_at
+entry_length link layout = length-entry link.parts.debug layout.sections.items (table_rva link layout DEBUG_DATA)
+
+later_lengths : (link : KeptParts) (layout : Layout) (rows : List Export) (dll : List ℕ) (time : ℕ) → link.parts.exports ≡ exports_from rows dll time → AreTold link.parts.exports → IsSized link.parts.debug → map length (later_tables link layout) ≡ link.parts.exports.size ∷ entry_size link.parts.debug.size ∷ link.parts.debug.size ∷ []
+later_lengths link layout rows dll time is told sized =
+    ap (λ (n : ℕ). n ∷ length (debug_entry_at link layout) ∷ length (data_bytes link.parts.debug no_identifier) ∷ []) (export_length link layout rows dll time is told)
+    ∙ ap (λ (n : ℕ). link.parts.exports.size ∷ n ∷ length (data_bytes link.parts.debug no_identifier) ∷ []) (entry_length link layout)
+    ∙ ap (λ (n : ℕ). link.parts.exports.size ∷ entry_size link.parts.debug.size ∷ n ∷ []) (length-bytes link.parts.debug no_identifier refl sized)
+
+pub length-tables : (link : KeptParts) (layout : Layout) (rows : List Export) (dll : List ℕ) (time : ℕ) → link.parts.exports ≡ exports_from rows dll time → AreTold link.parts.exports → IsSized link.parts.debug → (number : ℕ) → length (get_or (tables_at link layout) number []) ≡ size_at (table_sizes link) number
+length-tables link layout rows dll time is told sized number =
     sym (get_or-map length (tables_at link layout) number [])
-    ∙ ap (λ (sizes : List ℕ). get_or sizes number 0) (map-append length (import_tables_at link layout) (export_table_at link layout ∷ []))
-    ∙ ap (λ (sizes : List ℕ). get_or (sizes ++ length (export_table_at link layout) ∷ []) number 0) (import_lengths link layout)
-    ∙ ap (λ (size : ℕ). get_or (import_sizes link.parts.modules (kept_imports link) ++ size ∷ []) number 0) (export_length link layout rows dll time is told)
+    ∙ ap (λ (sizes : List ℕ). get_or sizes number 0) (map-append length (import_tables_at link layout) (later_tables link layout))
+    ∙ ap (λ (sizes : List ℕ). get_or (sizes ++ map length (later_tables link layout)) number 0) (import_lengths link layout)
+    ∙ ap (λ (sizes : List ℕ). get_or (import_sizes link.parts.modules (kept_imports link) ++ sizes) number 0) (later_lengths link layout rows dll time is told sized)
 
 -- ---- by their numbers
 
@@ -171,17 +187,28 @@ five_tables : (link : KeptParts) (layout : Layout) → length (import_tables_at 
 unfolding import_tables_at import_tables_of
 five_tables link layout = refl
 
+-- the sizes behind those of the import tables
+abbrev later_sizes : KeptParts → List ℕ
+later_sizes link = link.parts.exports.size ∷ entry_size link.parts.debug.size ∷ link.parts.debug.size ∷ []
+
 pub import_size : (link : KeptParts) (number : ℕ) → number < 5 → size_at (table_sizes link) number ≡ size_at (import_sizes link.parts.modules (kept_imports link)) number
 import_size link number few =
-    get_or_append_left (import_sizes link.parts.modules (kept_imports link)) (link.parts.exports.size ∷ []) 0 number (omega (arith, few, five_sizes link))
+    get_or_append_left (import_sizes link.parts.modules (kept_imports link)) (later_sizes link) 0 number (omega (arith, few, five_sizes link))
 
 pub import_table : (link : KeptParts) (layout : Layout) (number : ℕ) → number < 5 → get_or (tables_at link layout) number [] ≡ get_or (import_tables_at link layout) number []
 import_table link layout number few =
-    get_or_append_left (import_tables_at link layout) (export_table_at link layout ∷ []) [] number (omega (arith, few, five_tables link layout))
+    get_or_append_left (import_tables_at link layout) (later_tables link layout) [] number (omega (arith, few, five_tables link layout))
 
 pub export_size : (link : KeptParts) → size_at (table_sizes link) 5 ≡ link.parts.exports.size
-export_size link = get_or_push (import_sizes link.parts.modules (kept_imports link)) link.parts.exports.size 0 5 (five_sizes link)
+export_size link = get_or-append_right (import_sizes link.parts.modules (kept_imports link)) (later_sizes link) 5 5 0 (five_sizes link) (omega arith)
+
+pub data_size_is : (link : KeptParts) → size_at (table_sizes link) 7 ≡ link.parts.debug.size
+data_size_is link = get_or-append_right (import_sizes link.parts.modules (kept_imports link)) (later_sizes link) 5 7 0 (five_sizes link) (omega arith)
 
 pub export_table_is : (link : KeptParts) (layout : Layout) → get_or (tables_at link layout) 5 [] ≡ export_table_at link layout
 export_table_is link layout =
-    get_or_push (import_tables_at link layout) (export_table_at link layout) [] 5 (five_tables link layout)
+    get_or-append_right (import_tables_at link layout) (later_tables link layout) 5 5 [] (five_tables link layout) (omega arith)
+
+pub data_table_is : (link : KeptParts) (layout : Layout) → get_or (tables_at link layout) 7 [] ≡ data_bytes link.parts.debug no_identifier
+data_table_is link layout =
+    get_or-append_right (import_tables_at link layout) (later_tables link layout) 5 7 [] (five_tables link layout) (omega arith)

@@ -30,6 +30,7 @@ use Rattle.link_plan.specs.declared.planning.LinkPlan.{LinkPlan}
 use Rattle.link_plan.specs.Planned.{placed_fix, fixes_if, planned_fixes, plan_pieces, HaveFields}
 use Rattle.link_plan.specs.Plan.{IsPlanOf, kept_parts}
 use Rattle.link_plan.proofs.CallerLemmas.{planned_at, table_at, plan_count}
+use Rattle.link_debug.proofs.DataLemmas.{IsSized, sized}
 use Rattle.link_exports.specs.Exports.{export_rows, dll_name, exports_of}
 use Rattle.link_image.specs.LinkedBytes.{tables_at, contents_at, placed_contents}
 use Rattle.link_image.proofs.ExportLemmas.{length-tables}
@@ -128,6 +129,9 @@ module _ (options : LinkOptions) (plan : LinkPlan) (planned : IsPlanOf options p
   pub exports_are : plan.names.exports ≡ exports_of options plan.modules.items
   exports_are = ap (λ (parts : LinkParts). parts.exports) planned.link_is.parts_are
 
+  pub debug_sized : IsSized plan.names.debug
+  debug_sized = subst IsSized (sym (ap (λ (parts : LinkParts). parts.debug) planned.link_is.parts_are)) (sized options)
+
   pub imports_are : AreImports plan.names.modules (kept_imports (kept_parts plan)) plan.imports
   imports_are = subst (λ (views : List ModuleView). AreImports views (kept_imports (kept_parts plan)) plan.imports) names_modules planned.imports
 
@@ -152,7 +156,7 @@ module _ (options : LinkOptions) (plan : LinkPlan) (planned : IsPlanOf options p
           let is = table_is (kept_parts plan) k (table_behind (kept_parts plan) k table) (omega (arith, lt, piece_count)) in
           let init : (get_or plan.pieces.items k no_piece).init ≡ true = ap (λ (p : Piece). p.init) (planned_is k) ∙ is.init in
           record {
-            filled = λ on. ap length (table_contents (kept_parts plan) layout k table) ∙ length-tables (kept_parts plan) layout (export_rows options plan.modules.items) (dll_name options.out) options.time exports_are planned.told (whole_piece (kept_parts plan) k).number ∙ sym is.size ∙ sym (same_size k lt);
+            filled = λ on. ap length (table_contents (kept_parts plan) layout k table) ∙ length-tables (kept_parts plan) layout (export_rows options plan.modules.items) (dll_name options.out) options.time exports_are planned.told debug_sized (whole_piece (kept_parts plan) k).number ∙ sym is.size ∙ sym (same_size k lt);
             empty = λ off. absurd (false≢true (sym off ∙ init));
           }
       by false other =

@@ -28,7 +28,9 @@ use Rattle.image_writer.specs.declared.headers.Headers.{Headers}
 use Rattle.image_writer.specs.ExpectedImage.{ImagePlan, MeansPlan, permits, expected_image, image_file}
 use Rattle.image_writer.specs.HeaderTable.{size_of_headers}
 use Rattle.image_writer.specs.WrittenImage.{written_plan, layout_plan}
-use Rattle.synthetic_sections.specs.LinkerPieces.{EXPORTS, size_at}
+use Rattle.synthetic_sections.specs.LinkerPieces.{EXPORTS, DEBUG_DATA, size_at}
+use Rattle.debug_entry.proofs.IdentifierLemmas.{length-identifier}
+use Rattle.link_debug.specs.LinkDebug.{data_bytes}
 use Rattle.link_pieces.specs.TablePieces.{KeptParts, kept_rows, table_sizes, table_index, whole_pieces, whole_piece, is_table}
 use Rattle.link_pieces.proofs.CallerLemmas.{table_there}
 use Rattle.link_words.specs.Outcome.{LinkOptions}
@@ -36,16 +38,17 @@ use Rattle.link_plan.specs.declared.planning.LinkPlan.{LinkPlan}
 use Rattle.link_plan.specs.Plan.{IsPlanOf, kept_parts}
 use Rattle.piece_bytes.specs.Owners.{section_of}
 use Rattle.link_image.specs.declared.placement.Placement.{Placement}
-use Rattle.link_image.specs.ImageHeaders.{headers_of}
+use Rattle.image_headers.specs.ImageHeaders.{headers_of}
 use Rattle.link_image.specs.LinkedBytes.{owners_in, rva_of, table_rva, table_rvas, import_tables_at, exported_rows, export_table_at, tables_at, contents_at, image_contents}
 use Rattle.link_image.specs.ExportFaults.{export_fault, in_table_fault}
-use Rattle.link_image.specs.LinkedImage.{extent_of, table_extent, directories_of, HoldsImports, HoldsExports}
+use Rattle.link_image.specs.LinkedImage.{extent_of, table_extent, directories_of, identifier_of, final_contents, HoldsImports, HoldsExports}
 use Rattle.link_image.specs.Steps.{reloc_tables, IsGiven, IsPlaced, IsReady}
-use Rattle.link_image.proofs.HeldLemmas.{piece_count, exports_are, same_size, table_contents, table_fixes}
+use Rattle.link_image.proofs.HeldLemmas.{piece_count, exports_are, debug_sized, same_size, table_contents, table_fixes}
 use Rattle.link_image.proofs.ExportLemmas.{HasTable, has_table, length-tables, import_size, import_table, export_size, export_table_is}
 use Rattle.link_image.proofs.ExportReadLemmas.{readable, exports_read, exports_read_by_ordinal, none_read as none_read_name, none_read_by_ordinal as none_read_ordinal, no_rows}
 use Rattle.link_image.proofs.MemoryLemmas.{directory_reads, directory_sized, above_headers, in_memory}
-use Rattle.link_image.proofs.MoveLemmas.{contents_room}
+use Rattle.link_image.proofs.MoveLemmas.{replaced_room}
+use Rattle.link_image.proofs.IdentityLemmas.{other_read, IsReplaced, data_replaced}
 use Rattle.pdata_table.specs.SortedContents.{is_among}
 use Rattle.relocate.proofs.JudgeLemmas.{or_none}
 use Rattle.link_image.specs.NamedSections.{pdata_pieces}
@@ -64,7 +67,7 @@ pub are_made : (link : KeptParts) → AreMade link
 are_made link number few sized = by (table_index link number) refl
   where
     by : (place : Option ℕ) → table_index link number ≡ place → (k : ℕ) × (table_index link number ≡ Some k)
-    by None none = absurd (table_there link number few sized none)
+    by None none = absurd (table_there link number (omega (arith, few)) sized none)
     by (Some k) found = (k, found)
 
 -- ---- what a file is loaded to
@@ -160,10 +163,19 @@ module _ (options : LinkOptions) (plan : LinkPlan) (placement : Placement) (owne
   sections = placement.sections.items
 
   abbrev contents : ℕ → List (List ℕ)
-  contents base = image_contents (kept_parts plan) (rows_of placement.sections.items) placement.layout (reloc_tables placement.table) base
+  contents base = final_contents headers (kept_parts plan) (rows_of placement.sections.items) placement.layout (reloc_tables placement.table) base
 
   abbrev image : ImagePlan
   image = layout_plan headers placement.sections.items placement.layout contents
+
+  abbrev identifier : List ℕ
+  identifier = identifier_of headers (kept_parts plan) (rows_of placement.sections.items) placement.layout (reloc_tables placement.table)
+
+  abbrev pdb_data : List ℕ
+  pdb_data = data_bytes plan.names.debug (identifier_of headers (kept_parts plan) (rows_of placement.sections.items) placement.layout (reloc_tables placement.table))
+
+  pub fits : (d : ℕ) → table_index (kept_parts plan) DEBUG_DATA ≡ Some d → IsReplaced (kept_parts plan) placement.layout pdb_data d
+  fits = data_replaced options plan planned placement.layout identifier (length-identifier _)
 
   abbrev table : ℕ → List ℕ
   table number = get_or (tables_at (kept_parts plan) placement.layout) number []
@@ -173,7 +185,7 @@ module _ (options : LinkOptions) (plan : LinkPlan) (placement : Placement) (owne
 
   long : (number : ℕ) → length (table number) ≡ size number
   long number =
-      length-tables (kept_parts plan) placement.layout (export_rows options plan.modules.items) (dll_name options.out) options.time (exports_are options plan planned) planned.told number
+      length-tables (kept_parts plan) placement.layout (export_rows options plan.modules.items) (dll_name options.out) options.time (exports_are options plan planned) planned.told (debug_sized options plan planned) number
 
   -- a table in the memory at a base
   record Stands (base number : ℕ) : Type 0 where
@@ -189,12 +201,19 @@ module _ (options : LinkOptions) (plan : LinkPlan) (placement : Placement) (owne
       by false e = refl
       by true among = absurd (false≢true (sym (ready.rows_are k among).no_table ∙ table))
 
+  -- the data that names the PDB is another one
+  data_apart : (number k : ℕ) → number < 7 → IsTableAt (kept_parts plan) number k → table_index (kept_parts plan) DEBUG_DATA ≡ Some k → ⊥
+  data_apart number k few at found =
+      let other = found_table (kept_parts plan) DEBUG_DATA k (omega arith) found in
+      omega (arith, few, at.number_is, other.number_is)
+
   -- what its piece holds in the image
-  table_linked : (base number k : ℕ) → IsTableAt (kept_parts plan) number k → get_or (contents base) k [] ≡ table number
-  table_linked base number k at =
+  table_linked : (base number k : ℕ) → number < 7 → IsTableAt (kept_parts plan) number k → get_or (contents base) k [] ≡ table number
+  table_linked base number k few at =
       let rva = get_or placement.layout.pieces.items k 0 in
       let owners = owners_in (rows_of placement.sections.items) placement.layout in
-      piece_read (kept_parts plan) (rows_of placement.sections.items) placement.layout base (reloc_tables placement.table) k at.there (table_apart k at.table)
+      other_read (table_index (kept_parts plan) DEBUG_DATA) pdb_data (image_contents (kept_parts plan) (rows_of placement.sections.items) placement.layout (reloc_tables placement.table) base) k (data_apart number k few at)
+      ∙ piece_read (kept_parts plan) (rows_of placement.sections.items) placement.layout base (reloc_tables placement.table) k at.there (table_apart k at.table)
       ∙ ap (λ (fixes : List Fix). patched_bytes base rva placement.layout owners fixes (contents_at (kept_parts plan) placement.layout k)) (table_fixes (kept_parts plan) k at.table)
       ∙ nothing_patched base rva placement.layout owners (contents_at (kept_parts plan) placement.layout k)
       ∙ table_contents (kept_parts plan) placement.layout k at.table
@@ -203,8 +222,8 @@ module _ (options : LinkOptions) (plan : LinkPlan) (placement : Placement) (owne
   table_size : (number k : ℕ) → IsTableAt (kept_parts plan) number k → (whole_piece (kept_parts plan) k).size ≡ size number
   table_size number k at = at.is.size ∙ ap size at.number_is
 
-  made_stands : (base number k : ℕ) → IsTableAt (kept_parts plan) number k → table_rva (kept_parts plan) placement.layout number ≡ get_or placement.layout.pieces.items k 0 → Stands base number
-  made_stands base number k at rva =
+  made_stands : (base number k : ℕ) → number < 7 → IsTableAt (kept_parts plan) number k → table_rva (kept_parts plan) placement.layout number ≡ get_or placement.layout.pieces.items k 0 → Stands base number
+  made_stands base number k few at rva =
       let lt : k < length plan.pieces.items = omega (arith, at.there, piece_count options plan planned) in
       let same = same_size options plan planned k lt in
       let sized = table_size number k at in
@@ -212,8 +231,8 @@ module _ (options : LinkOptions) (plan : LinkPlan) (placement : Placement) (owne
       let used = table_used options plan planned number k at in
       let own : OwnerAt placement.sections.items k = owner_at placement.sections.items k (ready.stands k lt used (inl some)) in
       let i = section_of (rows_of placement.sections.items) k in
-      let room = contents_room (kept_parts plan) plan.pieces.items plan.fixes.items placement.sections.items placement.layout owner (reloc_tables placement.table) ready base in
-      let linked = table_linked base number k at in
+      let room = replaced_room (kept_parts plan) plan.pieces.items plan.fixes.items placement.sections.items placement.layout owner (reloc_tables placement.table) ready (table_index (kept_parts plan) DEBUG_DATA) pdb_data fits base in
+      let linked = table_linked base number k few at in
       let len : length (get_or (contents base) k []) ≡ size number = ap length linked ∙ long number in
       let there = in_memory headers (plan.pieces.items ++ ready.rest) placement.sections.items placement.layout contents base ready.laid room i own.number own.there own.within in
       let here = subst (λ (n : ℕ). bytes_at (expected_image image base) (get_or placement.layout.pieces.items n 0) (length (get_or (contents base) n [])) ≡ get_or (contents base) n []) own.is there in
@@ -251,7 +270,7 @@ module _ (options : LinkOptions) (plan : LinkPlan) (placement : Placement) (owne
       where
         by : (place : Option ℕ) → table_index (kept_parts plan) number ≡ place → Stands base number
         by None none = none_stands base number few none (ap (rva_of placement.layout.pieces.items) none)
-        by (Some k) found = made_stands base number k (found_table (kept_parts plan) number k (omega (arith, few)) found) (ap (rva_of placement.layout.pieces.items) found)
+        by (Some k) found = made_stands base number k (omega (arith, few)) (found_table (kept_parts plan) number k (omega (arith, few)) found) (ap (rva_of placement.layout.pieces.items) found)
 
     rva_is : (number : ℕ) → number < 5 → slice_index (table_rvas (kept_parts plan) placement.layout) number ≡ table_rva (kept_parts plan) placement.layout number
     unfolding table_rvas

@@ -13,14 +13,16 @@ pub mod AddressLemmas
 pub mod AscendLemmas
 pub mod BaseFieldLemmas
 pub mod PieceMoves
+pub mod IdentityLemmas
 pub mod MoveLemmas
+pub mod IdentityFile
 pub mod SortedFile
-pub mod ListedLemmas
 pub mod TableLemmas
 pub mod FileLemmas
 pub mod ImportLemmas
 pub mod MapLemmas
 pub mod MeansLemmas
+pub mod PdbLemmas
 pub mod MemoryLemmas
 pub mod PlanLemmas
 pub mod OnePlacement

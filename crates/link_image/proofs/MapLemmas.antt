@@ -40,12 +40,17 @@ pub is_asked : {A : Type 0} (file : Option A) (name : A → List ℕ) → is_som
 is_asked None name some = absurd (false≢true some)
 is_asked (Some file) name some = refl
 
+pub listed_there : (options : LinkOptions) (plan : LinkPlan) (rows : List SectionRow) (layout : Layout) → IsPlanOf options plan.modules.items plan → lists_publics options ≡ true → listed plan.modules.items (map bare plan.pieces.items) plan.publics.items rows layout ≡ mapped_link options (kept_parts plan) rows layout
+listed_there options plan rows layout planned asked =
+    let link = kept_parts plan in
+    ap (λ (modules : List ModuleView). listed modules (map bare plan.pieces.items) plan.publics.items rows layout) (sym (ap (λ (parts : LinkParts). parts.modules) planned.link_is.parts_are))
+    ∙ ap (λ (pieces : List Piece). listed link.parts.modules pieces plan.publics.items rows layout) planned.pieces_are
+    ∙ ap (λ (publics : List PublicPlace). listed link.parts.modules (plan_pieces options link) publics rows layout) (planned.publics_are asked)
+
 pub map_there : (options : LinkOptions) (plan : LinkPlan) (rows : List SectionRow) (layout : Layout) (entry : ℕ) → IsPlanOf options plan.modules.items plan → lists_publics options ≡ true → entry ≡ entry_rva layout.pieces.items plan.entry → image_map (listed plan.modules.items (map bare plan.pieces.items) plan.publics.items rows layout) options.base entry ≡ link_map options (kept_parts plan) rows layout
 unfolding link_map
 map_there options plan rows layout entry planned asked begins =
     let link = kept_parts plan in
-    ap (λ (modules : List ModuleView). image_map (listed modules (map bare plan.pieces.items) plan.publics.items rows layout) options.base entry) (sym (ap (λ (parts : LinkParts). parts.modules) planned.link_is.parts_are))
-    ∙ ap (λ (pieces : List Piece). image_map (listed link.parts.modules pieces plan.publics.items rows layout) options.base entry) planned.pieces_are
-    ∙ ap (λ (publics : List PublicPlace). image_map (listed link.parts.modules (plan_pieces options link) publics rows layout) options.base entry) (planned.publics_are asked)
+    ap (λ (image : Mapped). image_map image options.base entry) (listed_there options plan rows layout planned asked)
     ∙ ap (image_map (mapped_link options link rows layout) options.base) begins
     ∙ ap (λ (place : Option EntryPlace). image_map (mapped_link options link rows layout) options.base (entry_rva layout.pieces.items place)) planned.entry_is

@@ -1,6 +1,6 @@
 -- The contents of the pieces of a link at two bases: the fields that hold addresses move with the base, and no other byte
 -- depends on it.
-use Rattle.std.proofs.Common.{◌≡◌, ℕ, ◌+◌, ◌*◌, ◌%◌, ◌^◌, ◌<◌, ◌≤◌, Bool, true, false, cond, List, [], ◌++◌, length, get_or, slice_index, eqb, inl, inr, refl, sym, ap, ◌∙◌, subst, arith}
+use Rattle.std.proofs.Common.{◌≡◌, ℕ, ◌+◌, ◌*◌, ◌%◌, ◌^◌, ◌<◌, ◌≤◌, Bool, true, false, cond, List, [], ◌++◌, length, length-append, get_or, slice_index, eqb, Option, Some, inl, inr, refl, sym, ap, ◌∙◌, subst, arith}
 use Rattle.std.specs.List.{All}
 use Rattle.std.proofs.lemmas.Bool.{cases_lt, false≢true}
 use Rattle.std.proofs.lemmas.List.{length-map, get_or_append_left, get_or-append_right}
@@ -12,6 +12,7 @@ use Rattle.section_group.specs.BarePieces.{bare}
 use Rattle.section_group.specs.SectionOrder.{no_piece}
 use Rattle.section_group.specs.Uniqueness.{SectionRow, rows_of}
 use Rattle.address_layout.specs.declared.layout.Layout.{Layout}
+use Rattle.address_layout.specs.Layout.{all_pieces}
 use Rattle.base_reloc.specs.declared.field.BaseField.{BaseField}
 use Rattle.base_reloc.specs.Blocks.{width_of}
 use Rattle.base_reloc.specs.Raising.{IsOutside, IsOutsideAll}
@@ -27,21 +28,23 @@ use Rattle.image_writer.specs.WrittenImage.{HaveRoom}
 use Rattle.image_writer.specs.MovedContents.{HaveOneLength, IsMoved, AreMoved}
 use Rattle.image_writer.specs.PieceInFile.{piece_at}
 use Rattle.pdata_table.specs.Rows.{HasWholeRows}
-use Rattle.pdata_table.specs.SortedContents.{joined, is_among}
+use Rattle.pdata_table.specs.SortedContents.{joined, is_among, sorted_contents}
 use Rattle.pdata_table.proofs.CallerLemmas.{length-sorted_at, sorted_agree}
 use Rattle.link_pieces.specs.TablePieces.{KeptParts, whole_pieces}
 use Rattle.link_plan.specs.Planned.{planned_fixes, HaveFields}
 use Rattle.link_plan.proofs.CallerLemmas.{plan_count}
 use Rattle.piece_bytes.specs.Owners.{section_of}
-use Rattle.link_image.specs.BaseFields.{holds_address, base_field, IsBaseField, AreBaseFields}
-use Rattle.link_image.specs.LinkedBytes.{owners_in, contents_at, placed_contents, linked_bytes, linked_contents, image_contents}
+use Rattle.address_fields.specs.AddressFields.{base_field}
+use Rattle.link_image.specs.BaseFields.{holds_address, IsBaseField, AreBaseFields}
+use Rattle.link_image.specs.LinkedBytes.{owners_in, contents_at, placed_contents, linked_bytes, linked_contents, image_contents, with_bytes}
 use Rattle.link_image.specs.NamedSections.{pdata_pieces}
 use Rattle.link_image.specs.Steps.{IsHeld, IsReady}
 use Rattle.link_image.proofs.HeldLemmas.{patchable_at, have_room_for, length-placed, placed_read, placed_held}
 use Rattle.link_image.proofs.UsedLemmas.{fields_used}
 use Rattle.link_image.proofs.StandsLemmas.{OwnerAt, owner_at}
 use Rattle.link_image.proofs.SortLemmas.{joined_whole}
-use Rattle.link_image.proofs.PieceMoves.{linked_read, length_linked, front_read, piece_read, table_read, length_piece, based_some, based_has_field, piece_stays, image_stays}
+use Rattle.link_image.proofs.IdentityLemmas.{other_read, length_with, byte_with, IsReplaced}
+use Rattle.link_image.proofs.PieceMoves.{linked_read, length_linked, length_sorted, front_read, piece_read, table_read, length_piece, based_some, based_has_field, piece_stays, image_stays}
 
 -- ---- a field that holds an address
 
@@ -206,7 +209,7 @@ module _ (link : KeptParts) (pieces : List Piece) (fixups : List (List Fix)) (se
     fix_raised k i lt within based =
         among_fields (RaisesFix (bytes_of own k) (bytes_of base k) delta) (planned_fixes link k) (get_or fixups k []) i (are_fields k lt) (judged_raised k lt) within (based_has_field (fix_at (planned_fixes link k) i) based) based
 
-    field_moved : (field : BaseField) → IsBaseField link layout.pieces.items field → IsMoved sections layout (contents own) (contents base) delta field
+    field_moved : (field : BaseField) → (here : IsBaseField link layout.pieces.items field) → (moved : IsMoved sections layout (contents own) (contents base) delta field) × (piece_at sections moved.section moved.number ≡ here.piece)
     field_moved field here =
         let k = here.piece in
         let fix : Fix = fix_at (planned_fixes link k) here.index in
@@ -218,19 +221,21 @@ module _ (link : KeptParts) (pieces : List Piece) (fixups : List (List Fix)) (se
         let apart = based_apart k here.index here.within here.based in
         let was = read_at own k place at.is here.there apart in
         let is = read_at base k place at.is here.there apart in
-        let width : width_of field ≡ field_width fix.kind = ap width_of here.is ∙ width_is (get_or layout.pieces.items k 0) fix here.based in
-        record {
-          section = section_of rows k;
-          number = at.number;
-          at = fix.at;
-          there = at.there;
-          below = at.within;
-          is = ap (λ (f : BaseField). f.rva) here.is ∙ ap (λ (j : ℕ). get_or layout.pieces.items j 0 + fix.at) (sym at.is);
-          inside = let len = ap (λ (bs : List ℕ). length bs) was in omega (arith, width, len, end);
-          raised = subst (AreRaised (get_or (contents own) place []) (get_or (contents base) place []) delta fix.at) (sym width)
-              (subst (λ (old : List ℕ). AreRaised old (get_or (contents base) place []) delta fix.at (field_width fix.kind)) (sym was)
-              (subst (λ (new : List ℕ). AreRaised (bytes_of own k) new delta fix.at (field_width fix.kind)) (sym is) raised.1));
-        }
+        let width : width_of field ≡ field_width fix.kind = ap width_of here.is ∙ width_is (get_or layout.pieces.items k 0) fix here.based in (
+          record {
+            section = section_of rows k;
+            number = at.number;
+            at = fix.at;
+            there = at.there;
+            below = at.within;
+            is = ap (λ (f : BaseField). f.rva) here.is ∙ ap (λ (j : ℕ). get_or layout.pieces.items j 0 + fix.at) (sym at.is);
+            inside = let len = ap (λ (bs : List ℕ). length bs) was in omega (arith, width, len, end);
+            raised = subst (AreRaised (get_or (contents own) place []) (get_or (contents base) place []) delta fix.at) (sym width)
+                (subst (λ (old : List ℕ). AreRaised old (get_or (contents base) place []) delta fix.at (field_width fix.kind)) (sym was)
+                (subst (λ (new : List ℕ). AreRaised (bytes_of own k) new delta fix.at (field_width fix.kind)) (sym is) raised.1));
+          },
+          at.is,
+        )
 
     module _ (fields : List BaseField) (are : AreBaseFields link layout.pieces.items fields) where
       -- a byte outside all fields is in no judged field that holds an address
@@ -268,6 +273,60 @@ module _ (link : KeptParts) (pieces : List Piece) (fixups : List (List Fix)) (se
   -- the fields that hold addresses are moved, and no other byte is
   pub contents_moved : (own base : ℕ) (fields : List BaseField) → own < 2 ^ 64 → AreBaseFields link layout.pieces.items fields → AreMoved sections layout (contents own) (contents base) (base_delta own base) fields
   contents_moved own base fields low are = record {
-    each = λ n d lt. field_moved own base low (get_or fields n d) (are.listed n d lt);
+    each = λ n d lt. (field_moved own base low (get_or fields n d) (are.listed n d lt)).0;
     stays = λ k t outside lt. others_stay own base low fields are k t outside;
   }
+
+  -- ---- with other bytes in the place of a piece without fields
+
+  module _ (place : Option ℕ) (bytes : List ℕ) (fits : (d : ℕ) → place ≡ Some d → IsReplaced link layout bytes d) where
+    abbrev replaced : ℕ → List (List ℕ)
+    replaced base = with_bytes place bytes (image_contents link (rows_of sections) layout tables base)
+
+    inside : (base d : ℕ) → place ≡ Some d → d < length (contents base)
+    inside base d is = omega (arith, (fits d is).there, length-append (sorted_contents (pdata_pieces rows) (linked base)) tables, length_sorted link rows layout base)
+
+    length_replaced : (base k : ℕ) → length (get_or (replaced base) k []) ≡ length (get_or (contents base) k [])
+    length_replaced base k =
+        length_with place bytes (contents base) (λ d is. (inside base d is, (fits d is).long ∙ sym (length_at base d (fits d is).there))) k
+
+    pub replaced_length : HaveOneLength replaced
+    replaced_length base other k = length_replaced base k ∙ one_length base other k ∙ sym (length_replaced other k)
+
+    pub replaced_room : (base : ℕ) → HaveRoom (pieces ++ ready.rest) sections (replaced base)
+    replaced_room base = λ i d lt.
+        let room = contents_room base i d lt in
+        let len = length_replaced base (get_or (all_pieces sections) i d) in
+        (omega (arith, room.0, len), λ some. room.1 (omega (arith, some, len)))
+
+    pub replaced_stay : holds_address link ≡ false → (base other : ℕ) → replaced base ≡ replaced other
+    replaced_stay none base other = ap (with_bytes place bytes) (contents_stay none base other)
+
+    moved_with : (own base delta : ℕ) (field : BaseField) (moved : IsMoved sections layout (contents own) (contents base) delta field) → (place ≡ Some (piece_at sections moved.section moved.number) → ⊥) → IsMoved sections layout (replaced own) (replaced base) delta field
+    moved_with own base delta field moved apart =
+        let k = piece_at sections moved.section moved.number in
+        let was = other_read place bytes (contents own) k apart in
+        let is = other_read place bytes (contents base) k apart in
+        record {
+          section = moved.section;
+          number = moved.number;
+          at = moved.at;
+          there = moved.there;
+          below = moved.below;
+          is = moved.is;
+          inside = omega (arith, moved.inside, ap (λ (bs : List ℕ). length bs) was);
+          raised = λ t lt.
+              ap (λ (bs : List ℕ). slice_index bs (moved.at + t)) is
+              ∙ moved.raised t lt
+              ∙ ap (λ (bs : List ℕ). slice_index (number_bytes (width_of field) ((number_at (width_of field) bs moved.at + delta) % 2 ^ (8 * width_of field))) t) (sym was);
+        }
+
+    pub replaced_moved : (own base : ℕ) (fields : List BaseField) → own < 2 ^ 64 → AreBaseFields link layout.pieces.items fields → AreMoved sections layout (replaced own) (replaced base) (base_delta own base) fields
+    replaced_moved own base fields low are = record {
+      each = λ n d lt.
+          let here = are.listed n d lt in
+          let moved = field_moved own base low (get_or fields n d) here in
+          moved_with own base (base_delta own base) (get_or fields n d) moved.0 (λ is.
+          omega (arith, here.within, ap (λ (fixes : List Fix). length fixes) (fits here.piece (is ∙ ap Some moved.1)).fixed));
+      stays = λ k t outside lt. byte_with place bytes (contents own) (contents base) k t (λ d is. (inside own d is, inside base d is)) (others_stay own base low fields are k t outside);
+    }

@@ -15,22 +15,35 @@ use Rattle.link_pieces.specs.TablePieces.{KeptParts, kept_rows, is_table, table_
 use Rattle.import_tables.specs.ImportDirectory.{Imports}
 use Rattle.import_tables.specs.ReadBack.{found_of}
 use Rattle.import_tables.specs.ImportTables.{tables_of as import_tables_of}
-use Rattle.synthetic_sections.specs.LinkerPieces.{EXPORTS}
+use Rattle.synthetic_sections.specs.LinkerPieces.{EXPORTS, DEBUG_ENTRY, DEBUG_DATA}
+use Rattle.link_debug.specs.LinkDebug.{no_identifier, entry_bytes, data_bytes}
 use Rattle.export_tables.specs.ExportTable.{export_table}
 use Rattle.export_tables.specs.ReadBack.{exported_name, exported_ordinal}
 use Rattle.link_plan.specs.Planned.{planned_fixes}
 use Rattle.piece_bytes.specs.Owners.{owners}
-use Rattle.link_image.specs.declared.headers.Directories.{Directories}
+use Rattle.image_headers.specs.declared.headers.Directories.{Directories}
 use Rattle.link_image.specs.NamedSections.{section_named}
 use Rattle.link_fields.specs.LoaderPlaces.{loader_place, TLS_NAME, LOAD_CONFIG_NAME}
 use Rattle.link_image.specs.LinkedImage.{place_extent, TLS_SIZE, config_size, extent_of, placed_extent, section_extent, table_directory, directories_of, HoldsImports, HoldsExports}
-use Rattle.link_image.specs.LinkedBytes.{owners_in, rva_of, table_rvas, import_tables_at, exported_rows, export_table_at, contents_at, linked_bytes, linked_contents, out_of_range, piece_range_fault, fields_range_fault}
+use Rattle.link_image.specs.LinkedBytes.{owners_in, rva_of, table_rvas, import_tables_at, exported_rows, export_table_at, debug_entry_at, contents_at, linked_bytes, linked_contents, out_of_range, piece_range_fault, fields_range_fault}
 
 module _ (layout other : Layout) (pieces : layout.pieces.items ≡ other.pieces.items) (sections : layout.sections.items ≡ other.sections.items) where
   held_same : (link : KeptParts) (k : ℕ) → contents_at link layout k ≡ contents_at link other k
-  unfolding contents_at import_tables_at export_table_at table_rvas
+  unfolding contents_at import_tables_at export_table_at debug_entry_at table_rvas
   held_same link k =
-      ap (λ (rvas : List ℕ). cond (is_table (length link.parts.modules) (whole_piece link k)) (get_or (import_tables_of (kept_rows link) (map (λ number. rva_of rvas (table_index link number)) (range_with_len 0 5)) ++ cond (eqb link.parts.exports.size 0) [] (export_table (exported_rows link rvas) link.parts.exports.ordinals link.parts.exports.dll link.parts.exports.time (rva_of rvas (table_index link EXPORTS))) ∷ []) (whole_piece link k).number []) (get_or (whole_contents link) k [])) pieces
+      ap (λ (rvas : List ℕ). held_by rvas layout.sections.items) pieces ∙ ap (held_by other.pieces.items) sections
+    where
+      held_by : List ℕ → List Placed → List ℕ
+      held_by rvas places =
+          cond (is_table (length link.parts.modules) (whole_piece link k))
+          (get_or
+          (import_tables_of (kept_rows link) (map (λ number. rva_of rvas (table_index link number)) (range_with_len 0 5))
+          ++ cond (eqb link.parts.exports.size 0) [] (export_table (exported_rows link rvas) link.parts.exports.ordinals link.parts.exports.dll link.parts.exports.time (rva_of rvas (table_index link EXPORTS)))
+          ∷ entry_bytes link.parts.debug places (rva_of rvas (table_index link DEBUG_DATA))
+          ∷ data_bytes link.parts.debug no_identifier
+          ∷ [])
+          (whole_piece link k).number [])
+          (get_or (whole_contents link) k [])
 
   piece_same : (link : KeptParts) (rows : List SectionRow) (base k : ℕ) → linked_bytes link rows layout base k ≡ linked_bytes link rows other base k
   piece_same link rows base k =
@@ -66,6 +79,7 @@ directories link resources exceptions relocations rvas = record {
   relocations = relocations;
   tls = place_extent rvas (loader_place link.parts TLS_NAME) TLS_SIZE;
   load_config = place_extent rvas (loader_place link.parts LOAD_CONFIG_NAME) (config_size link (loader_place link.parts LOAD_CONFIG_NAME));
+  debug = extent_of (whole_pieces link) rvas (table_index link DEBUG_ENTRY);
 }
 
 -- those of sections by their places, and of the rest by the RVAs of the pieces

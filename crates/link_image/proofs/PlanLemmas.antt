@@ -15,7 +15,7 @@ use Rattle.link_plan.specs.Plan.{IsPlanOf, kept_parts}
 use Rattle.link_image.specs.BaseFields.{AreBaseFields}
 use Rattle.link_image.specs.LinkedBytes.{contents_at}
 use Rattle.link_image.specs.LinkedImage.{link_input, AreGrouped, ArePlaced}
-use Rattle.link_image.specs.Steps.{Fits, all_fields}
+use Rattle.address_fields.specs.AddressFields.{Fits, all_fields}
 use Rattle.link_image.proofs.HeldLemmas.{piece_count, held_size}
 use Rattle.link_image.proofs.UsedLemmas.{fields_used}
 use Rattle.link_image.proofs.SectionLemmas.{standing, used_there, needs_there}

@@ -86,32 +86,32 @@ standing options link pieces sections grouped = stand_once (link_input options l
 -- ---- why there is no image
 
 pub bad_merge : (options : LinkOptions) (link : KeptParts) (name : List ℕ) → NamesFirstBad (merges_of options link.parts) name → IsBuildFault options link (faults.BadMerge name)
-bad_merge options link name named = inl (record { name = name; named = named; is = refl })
+bad_merge options link name named = inl (inl (record { name = name; named = named; is = refl }))
 
 pub too_many : (options : LinkOptions) (link : KeptParts) (pieces : List Piece) (sections : List OutSection) (reloc : Bool) (count : ℕ) → map bare pieces ≡ plan_pieces options link → AreGrouped options link pieces sections → reloc ≡ is_relocated options link → IsPlaceRefusal pieces sections reloc (bad.TooManySections count) → IsBuildFault options link (faults.TooManySections count)
 too_many options link pieces sections reloc count are grouped same refused =
-    inr (inr (inl (record {
+    inl (inr (inr (inl (record {
       sections = sections;
       grouped = grouped_modules options link pieces sections are grouped;
       count = count;
       refused = subst (λ (r : Bool). IsPlaceRefusal (plan_pieces options link) sections r (bad.TooManySections count)) same refused;
       is = refl;
-    })))
+    }))))
 
 pub too_large : (options : LinkOptions) (link : KeptParts) (pieces : List Piece) (sections : List OutSection) (reloc : Bool) (size : ℕ) → map bare pieces ≡ plan_pieces options link → AreGrouped options link pieces sections → reloc ≡ is_relocated options link → IsPlaceRefusal pieces sections reloc (bad.ImageTooLarge size) → IsBuildFault options link (faults.ImageTooLarge size)
 too_large options link pieces sections reloc size are grouped same refused =
     let bared : IsPlaceRefusal (map bare pieces) sections reloc (bad.ImageTooLarge size) = (refused.0, size_bare pieces sections reloc size refused.1, refused.2) in
-    inr (inr (inr (inl (record {
+    inl (inr (inr (inr (inl (record {
       sections = sections;
       grouped = grouped_modules options link pieces sections are grouped;
       size = size;
       refused = inl (subst (λ (r : Bool). IsPlaceRefusal (plan_pieces options link) sections r (bad.ImageTooLarge size)) same (subst (λ (ps : List Piece). IsPlaceRefusal ps sections reloc (bad.ImageTooLarge size)) are bared));
       is = refl;
-    }))))
+    })))))
 
 pub large_table : (options : LinkOptions) (link : KeptParts) (pieces : List Piece) (sections : List OutSection) (layout : Layout) (fields : List BaseField) (size : ℕ) → map bare pieces ≡ plan_pieces options link → AreGrouped options link pieces sections → ArePlaced pieces sections true layout → is_relocated options link ≡ true → AreBaseFields link layout.pieces.items fields → IsGrowRefusal layout (length (blocks_of fields)) (bad.ImageTooLarge size) → IsBuildFault options link (faults.ImageTooLarge size)
 large_table options link pieces sections layout fields size are grouped placed relocated based refused =
-    inr (inr (inr (inl (record {
+    inl (inr (inr (inr (inl (record {
       sections = sections;
       grouped = grouped_modules options link pieces sections are grouped;
       size = size;
@@ -124,25 +124,25 @@ large_table options link pieces sections layout fields size are grouped placed r
         refused = refused;
       });
       is = refl;
-    }))))
+    })))))
 
 pub bad_base : (options : LinkOptions) (link : KeptParts) (rows : List OutRow) (layout : Layout) (tables : List (List ℕ)) → IsPlacement options link rows layout tables → is_permitted (base_rule options) layout.image options.base ≡ false → IsBuildFault options link (faults.BaseRange options.base)
 bad_base options link rows layout tables placement refused =
-    inr (inr (inr (inr (inl (record { rows = rows; layout = layout; tables = tables; placement = placement; refused = refused; is = refl })))))
+    inl (inr (inr (inr (inr (inl (record { rows = rows; layout = layout; tables = tables; placement = placement; refused = refused; is = refl }))))))
 
 -- a value that does not fit
 pub bad_range : (options : LinkOptions) (link : KeptParts) (rows : List OutRow) (layout : Layout) (tables : List (List ℕ)) (fault : Fault) → IsPlacement options link rows layout tables → is_permitted (base_rule options) layout.image options.base ≡ true → in_table_fault link layout.pieces.items ≡ None → fields_range_fault link rows layout options.base ≡ Some fault → IsBuildFault options link fault
 bad_range options link rows layout tables fault placement permitted outside is =
-    inr (inr (inr (inr (inr (inr (record { rows = rows; layout = layout; tables = tables; placement = placement; permitted = permitted; outside = outside; is = is }))))))
+    inl (inr (inr (inr (inr (inr (inr (record { rows = rows; layout = layout; tables = tables; placement = placement; permitted = permitted; outside = outside; is = is })))))))
 
 -- a bad table: the exception table, or else that of the exports
 pub bad_table : (options : LinkOptions) (link : KeptParts) (fault : Fault) → HasNoBadMerge (merges_of options link.parts) → tables_fault link ≡ Some fault → IsBuildFault options link fault
-bad_table options link fault merges is = inr (inl (record { merges = merges; is = is }))
+bad_table options link fault merges is = inl (inr (inl (record { merges = merges; is = is })))
 
 -- one that lies in the table
 pub export_in_table : (options : LinkOptions) (link : KeptParts) (rows : List OutRow) (layout : Layout) (tables : List (List ℕ)) (fault : Fault) → IsPlacement options link rows layout tables → is_permitted (base_rule options) layout.image options.base ≡ true → in_table_fault link layout.pieces.items ≡ Some fault → IsBuildFault options link fault
 export_in_table options link rows layout tables fault placement permitted is =
-    inr (inr (inr (inr (inr (inl (record { rows = rows; layout = layout; tables = tables; placement = placement; permitted = permitted; is = is }))))))
+    inl (inr (inr (inr (inr (inr (inl (record { rows = rows; layout = layout; tables = tables; placement = placement; permitted = permitted; is = is })))))))
 
 pub used_there : (options : LinkOptions) (link : KeptParts) (pieces : List Piece) (k : ℕ) → k < length pieces → get_or (used_pieces link) k false ≡ true → is_used (link_input options link pieces) k ≡ true
 used_there options link pieces k lt kept = and_from _ _ (lt-ltb k (length pieces) lt) kept

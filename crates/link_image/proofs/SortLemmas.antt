@@ -108,7 +108,7 @@ module _ (link : KeptParts) (pieces : List Piece) (fixups : List (List Fix)) (se
         let read = subst (λ (bytes : List ℕ). bytes_at (file contents) (piece_place layout i k) (length bytes) ≡ bytes) (front contents k lt) here in
         ap (bytes_at (file contents) (piece_place layout i k)) (sym (like.long k (omega (arith, sized.0, count_is)) ∙ sized.1)) ∙ read
 
-    lies_at : (contents : List (List ℕ)) (j k : ℕ) → AreLike contents → j < length row → get_or row j 0 ≡ k → IsSized k → LiesIn layout pieces i (length (file contents)) k
+    pub lies_at : (contents : List (List ℕ)) (j k : ℕ) → AreLike contents → j < length row → get_or row j 0 ≡ k → IsSized k → LiesIn layout pieces i (length (file contents)) k
     lies_at contents j k like within is sized =
         record {
           there = sized.0;
@@ -144,7 +144,7 @@ module _ (link : KeptParts) (pieces : List Piece) (fixups : List (List Fix)) (se
           ];
     }
 
-    put_at : (contents : List (List ℕ)) (j k : ℕ) (part : List ℕ) → AreLike contents → j < length row → get_or row j 0 ≡ k → k < length pieces → length part ≡ length (get_or contents k []) → patched (piece_place layout i k) part (file contents) ≡ file (set contents k part)
+    pub put_at : (contents : List (List ℕ)) (j k : ℕ) (part : List ℕ) → AreLike contents → j < length row → get_or row j 0 ≡ k → k < length pieces → length part ≡ length (get_or contents k []) → patched (piece_place layout i k) part (file contents) ≡ file (set contents k part)
     put_at contents j k part like within is lt len =
         let inside : k < length contents = omega (arith, lt, count_is, like.count) in
         let new = set contents k part in

@@ -49,12 +49,12 @@ noted_more position number k pieces piece old new lt read was is =
     ∙ ap (λ (n : ℕ). first_below n (holds (is_numbered position number) pieces)) next
 
 -- all of them
-pub all_noted : (position : ℕ) (pieces : List Piece) (places : List (Option ℕ)) → length places ≡ 6 → ((number : ℕ) → number < 6 → get_or places number None ≡ numbered_index position pieces number) → places ≡ numbered_indexes position pieces
+pub all_noted : (position : ℕ) (pieces : List Piece) (places : List (Option ℕ)) → length places ≡ 8 → ((number : ℕ) → number < 8 → get_or places number None ≡ numbered_index position pieces number) → places ≡ numbered_indexes position pieces
 all_noted position pieces places count each =
-    let indexes = length-map-range_with_len (numbered_index position pieces) 0 6 in
+    let indexes = length-map-range_with_len (numbered_index position pieces) 0 8 in
     ext_get_or None places (numbered_indexes position pieces) (count ∙ sym indexes) (λ number lt.
-    let within : number < 6 = omega (arith, lt, count) in
-    each number within ∙ sym (get_or-map-range_with_len (numbered_index position pieces) 0 6 number number None within (omega arith)))
+    let within : number < 8 = omega (arith, lt, count) in
+    each number within ∙ sym (get_or-map-range_with_len (numbered_index position pieces) 0 8 number number None within (omega arith)))
 
 -- ---- the pieces of a link
 
@@ -87,24 +87,27 @@ module _ (options : LinkOptions) (plan : LinkPlan) (planned : IsPlanOf options p
       ∙ first_same (length plan.pieces.items) (holds (is_numbered (length plan.names.modules) number) plan.pieces.items) (holds (is_numbered (length plan.names.modules) number) (whole_pieces (kept_parts plan))) (λ k lt. ap (is_numbered (length plan.names.modules) number) (planned_is options plan planned k))
       ∙ ap (λ (n : ℕ). first_below n (holds (is_numbered (length plan.names.modules) number) (whole_pieces (kept_parts plan)))) (piece_count options plan planned)
 
-  pub places_are : (places : List (Option ℕ)) → places ≡ numbered_indexes (length plan.modules.items) plan.pieces.items → places ≡ map (table_index (kept_parts plan)) (range_with_len 0 6)
-  places_are places is = is ∙ ap (λ (f : ℕ → Option ℕ). map f (range_with_len 0 6)) (fun_ext numbered_is)
+  pub places_are : (places : List (Option ℕ)) → places ≡ numbered_indexes (length plan.modules.items) plan.pieces.items → places ≡ map (table_index (kept_parts plan)) (range_with_len 0 8)
+  places_are places is = is ∙ ap (λ (f : ℕ → Option ℕ). map f (range_with_len 0 8)) (fun_ext numbered_is)
+
+  pub place_is : (places : List (Option ℕ)) (number : ℕ) → places ≡ numbered_indexes (length plan.modules.items) plan.pieces.items → number < 8 → get_or places number None ≡ table_index (kept_parts plan) number
+  place_is places number is few = ap (λ (ps : List (Option ℕ)). get_or ps number None) (places_are places is) ∙ get_or-map-range_with_len (table_index (kept_parts plan)) 0 8 number number None few (omega arith)
 
   -- each is used
   pub table_used : (number k : ℕ) → IsTableAt (kept_parts plan) number k → get_or (used_pieces (kept_parts plan)) k false ≡ true
   table_used number k at = used_last options (kept_parts plan) k planned.link_is.kept_are at.behind at.there
 
   -- and is a piece of the plan
-  pub place_there : (number : ℕ) → number < 6 → IfSome (table_index (kept_parts plan) number) (λ k. k < length plan.pieces.items)
+  pub place_there : (number : ℕ) → number < 8 → IfSome (table_index (kept_parts plan) number) (λ k. k < length plan.pieces.items)
   place_there number few = by (table_index (kept_parts plan) number) refl
     where
       by : (place : Option ℕ) → table_index (kept_parts plan) number ≡ place → IfSome place (λ k. k < length plan.pieces.items)
       by None none = tt
       by (Some k) found = let at = found_table (kept_parts plan) number k (omega (arith, few)) found in omega (arith, at.there, piece_count options plan planned)
 
-  pub place_within : (places : List (Option ℕ)) (number bound : ℕ) → places ≡ numbered_indexes (length plan.modules.items) plan.pieces.items → number < 6 → length plan.pieces.items ≤ bound → IfSome (get_or places number None) (λ k. k < bound)
+  pub place_within : (places : List (Option ℕ)) (number bound : ℕ) → places ≡ numbered_indexes (length plan.modules.items) plan.pieces.items → number < 8 → length plan.pieces.items ≤ bound → IfSome (get_or places number None) (λ k. k < bound)
   place_within places number bound is few room =
-      subst (λ (place : Option ℕ). IfSome place (λ k. k < bound)) (sym (ap (λ (ps : List (Option ℕ)). get_or ps number None) (places_are places is) ∙ get_or-map-range_with_len (table_index (kept_parts plan)) 0 6 number number None few (omega arith)))
+      subst (λ (place : Option ℕ). IfSome place (λ k. k < bound)) (sym (place_is places number is few))
       (wider (table_index (kept_parts plan) number) (place_there number few))
     where
       wider : (place : Option ℕ) → IfSome place (λ k. k < length plan.pieces.items) → IfSome place (λ k. k < bound)
@@ -113,7 +116,7 @@ module _ (options : LinkOptions) (plan : LinkPlan) (planned : IsPlanOf options p
 
   pub places_within : (places : List (Option ℕ)) (bound : ℕ) → places ≡ numbered_indexes (length plan.modules.items) plan.pieces.items → length plan.pieces.items ≤ bound → All (λ place. IfSome place (λ k. k < bound)) places
   places_within places bound is room = λ number d lt.
-      let count : length places ≡ 6 = ap (λ (ps : List (Option ℕ)). length ps) is ∙ length-map-range_with_len (numbered_index (length plan.modules.items) plan.pieces.items) 0 6 in
+      let count : length places ≡ 8 = ap (λ (ps : List (Option ℕ)). length ps) is ∙ length-map-range_with_len (numbered_index (length plan.modules.items) plan.pieces.items) 0 8 in
       subst (λ (place : Option ℕ). IfSome place (λ k. k < bound)) (get_or_default places number None d lt) (place_within places number bound is (omega (arith, lt, count)) room)
 
   -- their RVAs
@@ -122,9 +125,9 @@ module _ (options : LinkOptions) (plan : LinkPlan) (planned : IsPlanOf options p
   rvas_are layout places rvas is read = read ∙ ap (λ (ps : List (Option ℕ)). map (rva_of layout.pieces.items) (take 5 ps)) (places_are places is)
 
   -- and sizes
-  pub extent_is : (rvas : List ℕ) (places : List (Option ℕ)) (number : ℕ) → number < 6 → places ≡ numbered_indexes (length plan.modules.items) plan.pieces.items → extent_of plan.pieces.items rvas (get_or places number None) ≡ extent_of (whole_pieces (kept_parts plan)) rvas (table_index (kept_parts plan) number)
+  pub extent_is : (rvas : List ℕ) (places : List (Option ℕ)) (number : ℕ) → number < 8 → places ≡ numbered_indexes (length plan.modules.items) plan.pieces.items → extent_of plan.pieces.items rvas (get_or places number None) ≡ extent_of (whole_pieces (kept_parts plan)) rvas (table_index (kept_parts plan) number)
   extent_is rvas places number few is =
-      ap (extent_of plan.pieces.items rvas) (ap (λ (ps : List (Option ℕ)). get_or ps number None) (places_are places is) ∙ get_or-map-range_with_len (table_index (kept_parts plan)) 0 6 number number None few (omega arith))
+      ap (extent_of plan.pieces.items rvas) (place_is places number is few)
       ∙ by (table_index (kept_parts plan) number) (place_there number few)
     where
       by : (place : Option ℕ) → IfSome place (λ k. k < length plan.pieces.items) → extent_of plan.pieces.items rvas place ≡ extent_of (whole_pieces (kept_parts plan)) rvas place

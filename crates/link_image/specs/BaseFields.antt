@@ -1,12 +1,11 @@
 -- The fields of a link that hold addresses: those that the table of base relocations lists (PE Format, "The .reloc Section
 -- (Image Only)").
-use Rattle.std.specs.Prelude.{◌≡◌, ◌<◌, ℕ, ◌+◌, true, Bool, ◌&&◌, not, ◌==◌, List, length, slice_index, slice_index_or}
+use Rattle.std.specs.Prelude.{◌≡◌, ◌<◌, ℕ, true, Bool, ◌&&◌, not, List, length, slice_index, slice_index_or}
 use Rattle.std.specs.List.{Contains, list_any, range_with_len}
-use Rattle.link_base.specs.PeFormat.{REL_AMD64_ADDR64}
+use Rattle.address_fields.specs.AddressFields.{base_field}
 use Rattle.base_reloc.specs.declared.field.BaseField.{BaseField}
 use Rattle.base_reloc.specs.PageBlocks.{IsAscending}
 use Rattle.base_reloc.specs.Raising.{ShareNoByte}
-use Rattle.relocate.specs.declared.fix.Fix.{Fix}
 use Rattle.relocate.specs.Field.{fix_at}
 use Rattle.relocate.specs.PatchedBytes.{is_based}
 use Rattle.link_pieces.specs.TablePieces.{KeptParts, whole_pieces}
@@ -26,10 +25,6 @@ abbrev pub is_relocated : LinkOptions → KeptParts → Bool
 is_relocated options link = not options.fixed && holds_address link
 
 -- ---- which they are
-
--- the field of a relocation of a piece at an RVA, of eight bytes or of four
-abbrev pub base_field : ℕ → Fix → BaseField
-base_field rva fix = record { rva = rva + fix.at; wide = fix.kind == REL_AMD64_ADDR64 }
 
 -- a relocation of a piece holds an address in this field
 pub record IsBaseField (link : KeptParts) (rvas : List ℕ) (field : BaseField) : Type 0 where

@@ -1,4 +1,4 @@
--- Why the pieces of modules make no image: the faults of the stages from tables to range, in their order. Own.
+-- Why the pieces of modules make no image, or no PDB: the faults of the stages from tables to range, in their order. Own.
 use Rattle.std.specs.Prelude.{◌≡◌, ℕ, true, false, List, length, Some, None, ◌⊎◌}
 use Rattle.link_base.specs.declared.fault.Fault.{Fault}
 use Rattle.link_base.specs.declared.fault.Fault.TheVariants as faults
@@ -22,7 +22,9 @@ use Rattle.link_image.specs.BaseFields.{is_relocated, AreBaseFields}
 use Rattle.link_image.specs.LinkedBytes.{fields_range_fault}
 use Rattle.link_image.specs.ExportFaults.{in_table_fault}
 use Rattle.link_image.specs.TableFaults.{tables_fault}
-use Rattle.link_image.specs.LinkedImage.{AreGrouped, ArePlaced, IsPlacement, base_rule}
+use Rattle.image_writer.specs.ExpectedImage.{ImagePlan, image_file}
+use Rattle.link_image.specs.LinkPdb.{link_streams, IsLarge}
+use Rattle.link_image.specs.LinkedImage.{AreGrouped, ArePlaced, IsPlacement, IsImageOf, base_rule}
 
 -- a merge is bad, and no earlier one
 pub record IsBadMerge (options : LinkOptions) (link : KeptParts) (fault : Fault) : Type 0 where
@@ -88,14 +90,24 @@ pub record HasBadRange (options : LinkOptions) (link : KeptParts) (fault : Fault
   pub outside : in_table_fault link layout.pieces.items ≡ None
   pub is : fields_range_fault link rows layout options.base ≡ Some fault
 
--- the fault is the one that stands
-abbrev pub IsBuildFault : LinkOptions → KeptParts → Fault → Type 0
-IsBuildFault options link fault =
+-- there is an image, but its PDB would be too large
+pub record HasLargePdb (options : LinkOptions) (link : KeptParts) (fault : Fault) : Type 0 where
+  pub image : ImagePlan
+  pub is_image : IsImageOf options link image
+  pub is : IsLarge options (link_streams options link is_image.rows is_image.layout is_image.tables (image_file image)) fault
+
+-- the fault is the one that stands, of those that leave no image
+abbrev pub IsImageFault : LinkOptions → KeptParts → Fault → Type 0
+IsImageFault options link fault =
     IsBadMerge options link fault
     ⊎ (HasBadTable options link fault
     ⊎ (HasTooManySections options link fault
     ⊎ (IsTooLarge options link fault
     ⊎ (HasBadBase options link fault ⊎ (HasExportInTable options link fault ⊎ HasBadRange options link fault)))))
+
+-- or of all
+abbrev pub IsBuildFault : LinkOptions → KeptParts → Fault → Type 0
+IsBuildFault options link fault = IsImageFault options link fault ⊎ HasLargePdb options link fault
 
 -- of want of memory nothing is said
 abbrev pub RefusesBuild : LinkOptions → KeptParts → Refusal → Type 0

@@ -1,11 +1,11 @@
 pub mod BaseFields
-pub mod ImageHeaders
 pub mod LinkedBytes
 pub mod ExportFaults
 pub mod TableFaults
 pub mod NamedSections
 pub mod LinkedImage
 pub mod LinkMap
+pub mod LinkPdb
 pub mod BuiltImage
 pub mod BuildFaults
 pub mod Steps

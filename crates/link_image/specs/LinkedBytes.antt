@@ -1,6 +1,7 @@
 -- What the pieces of a link hold in its image, and the first field whose value does not fit (PE Format, "The .idata
--- Section", "The .edata Section (Image Only)" and "Type Indicators", x64 Processors; the order is own).
-use Rattle.std.specs.Prelude.{ℕ, ◌+◌, if◌then◌else◌, List, [], ◌∷◌, ◌++◌, length, map, slice_index, slice_index_or, Option, Some, None, option_map, ◌==◌}
+-- Section", "The .edata Section (Image Only)", "Debug Directory (Image Only)" and "Type Indicators", x64 Processors; the order is
+-- own).
+use Rattle.std.specs.Prelude.{ℕ, ◌+◌, if◌then◌else◌, List, [], ◌∷◌, ◌++◌, length, map, slice_index, slice_index_or, Option, Some, None, option_map, ◌==◌, slice_set}
 use Rattle.std.specs.List.{range_with_len}
 use Rattle.link_base.specs.Refusals.{first_refusal_below}
 use Rattle.link_base.specs.declared.fault.Fault.{Fault}
@@ -16,7 +17,8 @@ use Rattle.relocate.specs.declared.fix.Target.{Target}
 use Rattle.relocate.specs.declared.fix.Target.TheVariants as target
 use Rattle.export_tables.specs.declared.row.ExportRow.{ExportRow}
 use Rattle.export_tables.specs.ExportTable.{export_table}
-use Rattle.synthetic_sections.specs.LinkerPieces.{EXPORTS}
+use Rattle.synthetic_sections.specs.LinkerPieces.{EXPORTS, DEBUG_DATA}
+use Rattle.link_debug.specs.LinkDebug.{no_identifier, entry_bytes, data_bytes}
 use Rattle.link_exports.specs.Exports.{table_row}
 use Rattle.import_tables.specs.ImportTables.{tables_of as import_tables_of}
 use Rattle.link_pieces.specs.TablePieces.{KeptParts, kept_rows, whole_pieces, whole_piece, whole_contents, table_index, is_table}
@@ -72,13 +74,26 @@ export_table_at link layout =
     if link.parts.exports.size == 0 then []
     else export_table (exported_rows link layout.pieces.items) link.parts.exports.ordinals link.parts.exports.dll link.parts.exports.time (table_rva link layout EXPORTS)
 
--- those of all tables, by their numbers
+-- ---- the debug directory
+
+-- the bytes of its entry, by the place of the data that this names; without a PDB there are none
+unfoldable pub debug_entry_at : KeptParts → Layout → List ℕ
+debug_entry_at link layout = entry_bytes link.parts.debug layout.sections.items (table_rva link layout DEBUG_DATA)
+
+-- ---- all tables
+
+-- those behind the import tables; the data that names the PDB has no identifier yet
+abbrev pub other_tables_at : KeptParts → Layout → List (List ℕ)
+other_tables_at link layout =
+    export_table_at link layout ∷ debug_entry_at link layout ∷ data_bytes link.parts.debug no_identifier ∷ []
+
+-- the bytes of each, by their numbers
 abbrev pub tables_at : KeptParts → Layout → List (List ℕ)
-tables_at link layout = import_tables_at link layout ++ export_table_at link layout ∷ []
+tables_at link layout = import_tables_at link layout ++ other_tables_at link layout
 
 -- ---- the bytes
 
--- what a piece holds before its fields are patched: a table of imports or exports its bytes by their places, any other
+-- what a piece holds before its fields are patched: a table its bytes by their places, any other
 -- piece what it has without a place
 unfoldable pub contents_at : KeptParts → Layout → ℕ → List ℕ
 contents_at link layout k =
@@ -103,6 +118,17 @@ linked_contents link rows layout base =
 abbrev pub image_contents : KeptParts → List SectionRow → Layout → List (List ℕ) → ℕ → List (List ℕ)
 image_contents link rows layout tables base =
     sorted_contents (pdata_pieces rows) (linked_contents link rows layout base) ++ tables
+
+-- ---- the identifier
+
+-- contents in which the piece of an index, where there is one, has these bytes
+abbrev pub with_bytes : Option ℕ → List ℕ → List (List ℕ) → List (List ℕ)
+with_bytes None bytes contents = contents
+with_bytes (Some k) bytes contents = slice_set contents k bytes
+
+-- the data that names the PDB has an identifier
+abbrev pub identified : KeptParts → List ℕ → List (List ℕ) → List (List ℕ)
+identified link identifier contents = with_bytes (table_index link DEBUG_DATA) (data_bytes link.parts.debug identifier) contents
 
 -- ---- values that do not fit
 

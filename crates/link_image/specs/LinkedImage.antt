@@ -23,9 +23,11 @@ use Rattle.import_tables.specs.ImportDirectory.{Imports, imports_of}
 use Rattle.import_tables.specs.ReadBack.{found_of}
 use Rattle.export_tables.specs.ExportDirectory.{export_of_name, export_of_ordinal}
 use Rattle.export_tables.specs.ReadBack.{exported_name, exported_ordinal}
-use Rattle.image_writer.specs.ExpectedImage.{ImagePlan}
+use Rattle.image_writer.specs.declared.headers.Headers.{Headers}
+use Rattle.image_writer.specs.ExpectedImage.{ImagePlan, image_file}
 use Rattle.image_writer.specs.WrittenImage.{written_plan}
-use Rattle.synthetic_sections.specs.LinkerPieces.{SLOTS, EXPORTS}
+use Rattle.debug_entry.specs.Identifier.{image_identifier}
+use Rattle.synthetic_sections.specs.LinkerPieces.{SLOTS, EXPORTS, DEBUG_ENTRY}
 use Rattle.link_pieces.specs.TablePieces.{KeptParts, kept_rows, whole_pieces, whole_contents, table_index}
 use Rattle.link_words.specs.Outcome.{LinkOptions}
 use Rattle.link_fields.specs.declared.entry.EntryPlace.{EntryPlace}
@@ -33,10 +35,10 @@ use Rattle.link_fields.specs.Entry.{entry_place}
 use Rattle.link_fields.specs.LoaderPlaces.{loader_place, TLS_NAME, LOAD_CONFIG_NAME}
 use Rattle.link_plan.specs.Plan.{merges_of}
 use Rattle.link_plan.specs.Planned.{used_pieces, plan_pieces}
-use Rattle.link_image.specs.declared.headers.Directories.{Directories}
+use Rattle.image_headers.specs.declared.headers.Directories.{Directories}
 use Rattle.link_image.specs.BaseFields.{is_relocated, AreBaseFields}
-use Rattle.link_image.specs.ImageHeaders.{headers_of}
-use Rattle.link_image.specs.LinkedBytes.{table_rvas, exported_rows, image_contents, fields_range_fault}
+use Rattle.image_headers.specs.ImageHeaders.{headers_of}
+use Rattle.link_image.specs.LinkedBytes.{table_rvas, exported_rows, image_contents, identified, fields_range_fault}
 use Rattle.link_image.specs.ExportFaults.{in_table_fault}
 use Rattle.link_image.specs.TableFaults.{tables_fault}
 use Rattle.link_image.specs.NamedSections.{section_named}
@@ -154,9 +156,29 @@ directories_of link rows layout tables = record {
   relocations = table_directory layout tables;
   tls = place_extent layout.pieces.items (loader_place link.parts TLS_NAME) TLS_SIZE;
   load_config = place_extent layout.pieces.items (loader_place link.parts LOAD_CONFIG_NAME) (config_size link (loader_place link.parts LOAD_CONFIG_NAME));
+  debug = table_extent link layout DEBUG_ENTRY;
 }
 
 -- ---- the image
+
+-- before it has an identifier
+abbrev pub unidentified_image : Headers → KeptParts → List SectionRow → Layout → List (List ℕ) → ImagePlan
+unidentified_image headers link rows layout tables =
+    written_plan headers rows layout.sections.items layout.pieces.items layout.image (image_contents link rows layout tables)
+
+-- its file is what the identifier tells
+abbrev pub identifier_of : Headers → KeptParts → List SectionRow → Layout → List (List ℕ) → List ℕ
+identifier_of headers link rows layout tables = image_identifier (image_file (unidentified_image headers link rows layout tables))
+
+-- the contents at each base, with the identifier
+abbrev pub final_contents : Headers → KeptParts → List SectionRow → Layout → List (List ℕ) → ℕ → List (List ℕ)
+final_contents headers link rows layout tables base =
+    identified link (identifier_of headers link rows layout tables) (image_contents link rows layout tables base)
+
+-- the headers, by the places
+abbrev pub link_headers : LinkOptions → KeptParts → List SectionRow → Layout → List (List ℕ) → Headers
+link_headers options link rows layout tables =
+    headers_of options (entry_rva layout.pieces.items (entry_place link.parts options.entry_name)) (directories_of link rows layout tables)
 
 -- the image of modules, in which every value fits
 pub record IsImageOf (options : LinkOptions) (link : KeptParts) (image : ImagePlan) : Type 0 where
@@ -167,7 +189,7 @@ pub record IsImageOf (options : LinkOptions) (link : KeptParts) (image : ImagePl
   pub permitted : is_permitted (base_rule options) layout.image options.base ≡ true
   pub outside : in_table_fault link layout.pieces.items ≡ None
   pub in_range : fields_range_fault link rows layout options.base ≡ None
-  pub is : image ≡ written_plan (headers_of options (entry_rva layout.pieces.items (entry_place link.parts options.entry_name)) (directories_of link rows layout tables)) rows layout.sections.items layout.pieces.items layout.image (image_contents link rows layout tables)
+  pub is : image ≡ written_plan (link_headers options link rows layout tables) rows layout.sections.items layout.pieces.items layout.image (final_contents (link_headers options link rows layout tables) link rows layout tables)
 
 -- ---- its imports
 

@@ -1,6 +1,6 @@
 -- What the steps of the code promise one another. It decides nothing.
 use Rattle.std.specs.Prelude.{◌≡◌, ◌≢◌, ◌<◌, ◌≤◌, ◌⊎◌, ℕ, ◌+◌, ◌^◌, ◌%◌, ◌==◌, true, false, nat_lt, if◌then◌else◌, List, [], ◌∷◌, ◌++◌, length, map, slice_index, slice_index_or, Option, Some, None}
-use Rattle.std.specs.List.{All, Contains, IsDistinct, filter, flat_map, range_with_len}
+use Rattle.std.specs.List.{All, Contains, IsDistinct, range_with_len}
 use Rattle.std.specs.declared.vec.Vec.{Vec}
 use Rattle.link_base.specs.Bytes.{first_below}
 use Rattle.link_base.specs.declared.fault.Fault.{Fault}
@@ -20,7 +20,7 @@ use Rattle.base_reloc.specs.PageBlocks.{blocks_of}
 use Rattle.piece_bytes.specs.PieceBytes.{size_at}
 use Rattle.pdata_table.specs.Rows.{ROW_SIZE}
 use Rattle.pdata_table.specs.SortedContents.{is_among, sorted_contents}
-use Rattle.relocate.specs.PatchedBytes.{is_based, HaveNoBased}
+use Rattle.relocate.specs.PatchedBytes.{HaveNoBased}
 use Rattle.relocate.specs.Value.{IsLeastOutside}
 use Rattle.image_writer.specs.declared.headers.Headers.{Headers}
 use Rattle.image_writer.specs.ExpectedImage.{image_file}
@@ -38,8 +38,10 @@ use Rattle.directives.specs.declared.item.Export.{Export}
 use Rattle.link_plan.specs.Laid.{StandsNamed}
 use Rattle.link_image.specs.declared.placement.Placement.{Placement}
 use Rattle.link_image.specs.NamedSections.{pdata_pieces}
-use Rattle.link_image.specs.BaseFields.{base_field, AreBaseFields}
-use Rattle.link_image.specs.LinkedBytes.{owners_in, contents_at, placed_contents, linked_bytes, linked_contents, out_of_range}
+use Rattle.link_image.specs.BaseFields.{AreBaseFields}
+use Rattle.link_image.specs.LinkedBytes.{owners_in, contents_at, placed_contents, linked_bytes, linked_contents, identified, out_of_range}
+use Rattle.debug_entry.specs.Identifier.{image_identifier}
+use Rattle.debug_rows.specs.ImageMap.{Mapped}
 use Rattle.link_image.specs.LinkedImage.{link_input, table_row, IsPlacement}
 use Rattle.section_group.specs.Merging.{HasNoBadMerge}
 use Rattle.section_group.specs.Placement.{IsGrouping}
@@ -52,24 +54,6 @@ pub record RefusesRange (base rva : ℕ) (layout : Layout) (owner : List ℕ) (f
   pub range : RelocRange
   pub least : IsLeastOutside base rva layout owner fixups bytes range
   pub is : fault ≡ out_of_range piece range
-
--- ---- the fields that hold addresses, as they are listed
-
-abbrev pub fields_of : ℕ → List Fix → List BaseField
-fields_of rva fixes = map (base_field rva) (filter is_based fixes)
-
-abbrev pub fields_at : List ℕ → List (List Fix) → ℕ → List BaseField
-fields_at rvas fixups k = fields_of (slice_index rvas k) (slice_index_or fixups k [])
-
-unfoldable pub section_fields : List ℕ → List (List Fix) → List ℕ → List BaseField
-section_fields rvas fixups indexes = flat_map (fields_at rvas fixups) indexes
-
-unfoldable pub all_fields : List ℕ → List (List Fix) → List OutSection → List BaseField
-all_fields rvas fixups sections = flat_map (λ section. section_fields rvas fixups section.pieces.items) sections
-
--- the RVA of each field of a piece is a number of 32 bits
-abbrev pub Fits : List ℕ → List (List Fix) → ℕ → Type 0
-Fits rvas fixups k = All (λ fix. slice_index rvas k + fix.at < 2 ^ 32) (slice_index_or fixups k [])
 
 -- ---- where everything stands
 
@@ -114,7 +98,7 @@ numbered_index position pieces number = first_below (length pieces) (holds (is_n
 
 -- the pieces of the tables, where they are made
 abbrev pub numbered_indexes : ℕ → List Piece → List (Option ℕ)
-numbered_indexes position pieces = map (numbered_index position pieces) (range_with_len 0 6)
+numbered_indexes position pieces = map (numbered_index position pieces) (range_with_len 0 8)
 
 -- what some exports of a link stand for
 abbrev pub targets_of : KeptParts → List Export → List (Option Target)
@@ -132,6 +116,10 @@ pub record AreMerged (options : LinkOptions) (link : KeptParts) (pieces : List P
 
 -- ---- pieces with their bytes
 
+-- the bytes of the tables, by their numbers: those of the imports, and the others
+abbrev pub all_bytes : {A B : Type 0} → List (Vec ℕ A) → List (Vec ℕ B) → List (List ℕ)
+all_bytes imports others = map (λ table. table.items) imports ++ map (λ table. table.items) others
+
 -- what a piece is given: a table its bytes, and any other what it has
 abbrev pub given_contents : ℕ → List (List ℕ) → Piece → List ℕ
 given_contents position tables piece =
@@ -139,7 +127,7 @@ given_contents position tables piece =
 
 -- a table can be given its bytes
 pub record CanBeGiven (piece : Piece) : Type 0 where
-  pub few : piece.number < 6
+  pub few : piece.number < 8
   pub init : piece.init ≡ true
 
 -- the pieces with what they are given, and after them what holds the table of base relocations, where there is one
@@ -208,3 +196,23 @@ sorted_file headers plan placement =
     file_of headers placement.sections.items placement.layout
     (sorted_contents (pdata_pieces (rows_of placement.sections.items)) (linked_contents (kept_parts plan) (rows_of placement.sections.items) placement.layout headers.base))
     (reloc_tables placement.table)
+
+-- with the identifier that this file tells
+abbrev pub identified_file : Headers → LinkPlan → Placement → List ℕ
+identified_file headers plan placement =
+    file_of headers placement.sections.items placement.layout
+    (identified (kept_parts plan) (image_identifier (sorted_file headers plan placement))
+    (sorted_contents (pdata_pieces (rows_of placement.sections.items)) (linked_contents (kept_parts plan) (rows_of placement.sections.items) placement.layout headers.base)))
+    (reloc_tables placement.table)
+
+-- what is listed of a plan at these places
+abbrev pub listed_link : LinkPlan → Placement → Mapped
+listed_link plan placement = record {
+  modules = plan.modules.items;
+  pieces = map bare plan.pieces.items;
+  publics = plan.publics.items;
+  sections = rows_of placement.sections.items;
+  places = placement.layout.sections.items;
+  rvas = placement.layout.pieces.items;
+  size = placement.layout.image;
+}

@@ -6,15 +6,15 @@
 //! meaning of names, and which fields there are, are left to the crates below.
 #![tactic(auto)]
 
-mod base_fields;
 mod exports;
 mod file;
-mod headers;
+mod identity;
 mod laws;
 mod make;
 mod map;
 mod patching;
 mod pdata;
+mod pdb;
 mod placement;
 mod sections;
 mod tables;

@@ -8,19 +8,22 @@ ghost use Rattle.link_words.specs.Outcome.{options_said};
 ghost use Rattle.link_plan.specs.Plan.{IsPlanOf, kept_parts};
 ghost use Rattle.link_image.specs.BuildFaults.{RefusesBuild};
 ghost use Rattle.link_image.specs.ExportFaults.{in_table_fault};
-ghost use Rattle.link_image.specs.LinkedBytes.{fields_range_fault};
+ghost use Rattle.debug_entry.specs.Identifier.{image_identifier};
+ghost use Rattle.link_image.specs.LinkedBytes.{owners_in, fields_range_fault};
 ghost use Rattle.link_image.specs.BuiltImage.{IsBuilt};
 ghost use Rattle.link_image.specs.LinkedImage.{base_rule};
-ghost use Rattle.link_image.specs.Steps.{IsPlaced, IsWritten, sorted_file};
+ghost use Rattle.link_image.specs.Steps.{IsPlaced, IsWritten, numbered_indexes, sorted_file, identified_file};
 
 use crate::exports::export_table;
 use crate::file::write_file;
-use crate::headers::headers_of;
+use crate::identity::identify;
 use crate::map::map_of;
 use crate::patching::patch_pieces;
 use crate::pdata::sort_pdata;
+use crate::pdb::pdb_of;
 use crate::placement::{Placement, check_own_base, entry_rva, place_all};
-use crate::tables::{directories_of, import_tables, table_places};
+use crate::tables::{directories_of, import_tables, other_tables, table_places};
+use image_headers::headers_of;
 use image_writer::Headers;
 use link_base::Refusal;
 use link_plan::LinkPlan;
@@ -28,21 +31,19 @@ use link_words::Options;
 use piece_bytes::owners_of;
 use std::alloc::Global;
 
-/// What a link makes.
+/// What a link makes: the file of the image, how many sections this has, and its map and its PDB, where they are asked for.
 #[derive(Drop)]
 pub struct Built {
-    /// The file of the image.
     pub image: Vec<u8>,
-    /// How many sections it has.
     pub sections: u32,
-    /// The text of its map, where one is asked for.
     pub map: Option<Vec<u8>>,
+    pub pdb: Option<Vec<u8>>,
 }
 
-/// The image of a plan, and its map. The input is refused for the first of: a bad merge (`BadMerge`), an exception table without
+/// The image of a plan, its map and its PDB. The input is refused for the first of: a bad merge (`BadMerge`), an exception table without
 /// whole rows (`BadPdata`), a bad export (`BadExport`), too many sections (`TooManySections`), an image that is too
 /// large (`ImageTooLarge`), a base at which it may not stand (`BaseRange`), an export that lies in the export table
-/// (`BadExport`), and a field whose value does not fit (`RelocRange`).
+/// (`BadExport`), a field whose value does not fit (`RelocRange`), and a PDB that is too large (`PdbTooLarge`).
 pub fn build<'a>(
     alloc: Global,
     plan: &LinkPlan<'a>,
@@ -57,7 +58,7 @@ pub fn build<'a>(
     image_of(alloc, plan, options, &placement)
 }
 
-/// The image of a plan whose pieces stand at these places, and its map.
+/// The image of a plan whose pieces stand at these places, its map and its PDB.
 fn image_of<'a>(
     alloc: Global,
     plan: &LinkPlan<'a>,
@@ -73,21 +74,28 @@ fn image_of<'a>(
     let entry = entry_rva(plan, options, placement);
     let places = table_places(plan.modules.len(), &plan.pieces);
     let exports = export_table(alloc, plan, options, placement, &places)?;
-    let tables = import_tables(alloc, plan, options, placement, &places)?;
+    let imports = import_tables(alloc, plan, options, placement, &places)?;
+    let others = other_tables(alloc, plan, options, placement, &places, exports)?;
     let directories = directories_of(plan, options, placement, &places);
     let headers = headers_of(options, entry, directories);
-    let mut image = write_file(alloc, plan, options, &headers, placement, &tables, &exports)?;
-    finish(alloc, &mut image, plan, options, &headers, placement)?;
-    let map = map_of(alloc, plan, options, placement, entry)?;
+    let mut image = write_file(alloc, plan, options, &headers, placement, &imports, &others)?;
+    let owner = owners_of(alloc, &placement.sections, placement.layout.pieces.len())?;
+    let id = finish(
+        alloc, &mut image, plan, options, &headers, placement, &places, &owner,
+    )?;
+    let map = map_of(alloc, plan, options, placement, &owner, entry)?;
+    let pdb = pdb_of(alloc, plan, options, placement, &owner, &id, &image)?;
     let sections = placement.sections.len() as u32;
     Ok(Built {
         image,
         sections,
         map,
+        pdb,
     })
 }
 
-/// Patches the fields in the file of an image, and puts the rows of its exception table in order.
+/// Patches the fields in the file of an image, puts the rows of its exception table in order, and gives it an identifier, which is zero
+/// where no PDB is asked for.
 fn finish<'a>(
     alloc: Global,
     image: &mut Vec<u8>,
@@ -95,20 +103,26 @@ fn finish<'a>(
     options: &Options<'a>,
     headers: &Headers,
     placement: &Placement<'a>,
-) -> Result<(), Refusal<'a>>
+    places: &[Option<usize>; 8],
+    owner: &[u32],
+) -> Result<[u8; 16], Refusal<'a>>
     requires plan { IsPlanOf (options_said options.now) plan.now.modules.items plan.now }
     requires placed { IsPlaced (options_said options.now) plan.now placement.now }
     requires permitted { is_permitted (base_rule (options_said options.now)) placement.now.layout.image options.now.base ≡ true }
+    requires places { places.now ≡ numbered_indexes (length plan.now.modules.items) plan.now.pieces.items }
     requires outside { in_table_fault (kept_parts plan.now) placement.now.layout.pieces.items ≡ None }
     requires base { headers.now.base ≡ options.now.base }
     requires directories { length headers.now.directories ≡ NUMBEROF_DIRECTORY_ENTRIES }
+    requires owner { owner.now ≡ owners_in (rows_of placement.now.sections.items) placement.now.layout }
     requires written { IsWritten headers.now placement.now (kept_parts plan.now) image.old.items }
     ensures in_range { OnOk result (fields_range_fault (kept_parts plan.now) (rows_of placement.now.sections.items) placement.now.layout options.now.base ≡ None) }
-    ensures sorted { OnOk result (image.new.items ≡ sorted_file headers.now plan.now placement.now) }
+    ensures identifier { IfOk result (λ id. options.now.debug ≡ true → id ≡ image_identifier (sorted_file headers.now plan.now placement.now)) }
+    ensures identified { OnOk result (image.new.items ≡ identified_file headers.now plan.now placement.now) }
     ensures refused { IfErr result (RefusesBuild (options_said options.now) (kept_parts plan.now)) }
 {
-    let owner = owners_of(alloc, &placement.sections, placement.layout.pieces.len())?;
-    patch_pieces(image, plan, headers, placement, &owner)?;
-    sort_pdata(alloc, image, plan, headers, placement, &owner)?;
-    Ok(())
+    patch_pieces(image, plan, headers, placement, owner)?;
+    sort_pdata(alloc, image, plan, headers, placement, owner)?;
+    Ok(identify(
+        alloc, image, plan, options, headers, placement, places, owner,
+    )?)
 }

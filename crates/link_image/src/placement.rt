@@ -10,8 +10,8 @@ ghost use Rattle.link_image.specs.LinkedImage.{base_rule, entry_rva, table_direc
 ghost use Rattle.link_image.specs.BuildFaults.{RefusesBuild};
 ghost use Rattle.link_image.specs.Steps.{IsPlaced, IsTable, EndsWithTable, reloc_tables};
 
-use crate::base_fields::{base_fields, hold_address};
 use crate::sections::{group_pieces, place_pieces};
+use address_fields::{base_fields, hold_address};
 use address_layout::{BaseRule, Layout, LayoutError, append_reloc, check_base};
 use base_reloc::blocks;
 use link_base::pe_format::{SCN_CNT_INITIALIZED_DATA, SCN_MEM_DISCARDABLE, SCN_MEM_READ};

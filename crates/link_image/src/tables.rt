@@ -1,4 +1,4 @@
-//! The import tables, once their pieces have places, and the directories.
+//! The tables of a link, once their pieces have places, and the directories.
 
 ghost use Rattle.std.specs.Prelude.{◌≡◌, ◌<◌, ◌^◌, ◌+◌, ℕ, Some, None, length, map, take, slice_index, slice_index_or, if◌then◌else◌, All, IfSome, IfOk};
 ghost use Rattle.std.specs.Option.{option_or};
@@ -8,13 +8,13 @@ ghost use Rattle.link_pieces.specs.TablePieces.{KeptParts, whole_contents};
 ghost use Rattle.link_pieces.specs.PieceIndex.{is_numbered};
 ghost use Rattle.link_words.specs.Outcome.{options_said};
 ghost use Rattle.link_plan.specs.Plan.{IsPlanOf, kept_parts};
-ghost use Rattle.link_image.specs.LinkedBytes.{rva_of, import_tables_at};
+ghost use Rattle.link_image.specs.LinkedBytes.{rva_of, import_tables_at, export_table_at, other_tables_at};
 ghost use Rattle.link_image.specs.LinkedImage.{extent_of, section_extent, place_extent, config_size, directories_of};
 ghost use Rattle.link_image.specs.NamedSections.{section_named};
 ghost use Rattle.link_image.specs.Steps.{numbered_indexes, reloc_tables, IsPlaced};
 
-use crate::headers::Directories;
 use crate::placement::{Placement, rva_in, table_directory};
+use image_headers::Directories;
 use import_tables::fill;
 use link_base::{Memory, Name, field_u32};
 use link_fields::EntryPlace;
@@ -22,7 +22,7 @@ use link_plan::LinkPlan;
 use link_words::Options;
 use section_group::{OutSection, Piece};
 use std::alloc::Global;
-use synthetic_sections::{EXPORTS, SLOTS};
+use synthetic_sections::{DEBUG_DATA, DEBUG_ENTRY, EXPORTS, SLOTS};
 
 /// The size of the directory of thread-local storage.
 const TLS_SIZE: u32 = 40;
@@ -30,12 +30,12 @@ const TLS_SIZE: u32 = 40;
 /// The number of the import directory among the import tables.
 const DIRECTORY: usize = 0;
 
-/// The index of the piece of each table of imports or exports, by its number, where the table is made. The pieces that
+/// The index of the piece of each table, by its number, where the table is made. The pieces that
 /// the linker makes are those of the module at a position.
-pub(crate) fn table_places(position: usize, pieces: &[Piece<'_>]) -> [Option<usize>; 6]
+pub(crate) fn table_places(position: usize, pieces: &[Piece<'_>]) -> [Option<usize>; 8]
     ensures { result ≡ numbered_indexes position pieces.now }
 {
-    let mut places = [None; 6];
+    let mut places = [None; 8];
     for k in 0..pieces.len() {
         note_table(&mut places, position, &pieces[k], k);
     }
@@ -43,8 +43,8 @@ pub(crate) fn table_places(position: usize, pieces: &[Piece<'_>]) -> [Option<usi
 }
 
 /// Notes the index of a piece, where it is a table of which no piece is noted.
-fn note_table(places: &mut [Option<usize>; 6], position: usize, piece: &Piece<'_>, k: usize)
-    ensures { (number : ℕ) → number < 6 → slice_index_or places.new number None
+fn note_table(places: &mut [Option<usize>; 8], position: usize, piece: &Piece<'_>, k: usize)
+    ensures { (number : ℕ) → number < 8 → slice_index_or places.new number None
         ≡ option_or (slice_index_or places.old number None) (if is_numbered position number piece.now then Some k else None) }
 {
     let number = piece.number as usize;
@@ -56,13 +56,36 @@ fn note_table(places: &mut [Option<usize>; 6], position: usize, piece: &Piece<'_
     }
 }
 
+/// The bytes of the tables behind those of the imports: the export table, which has these, and the entry of the debug directory and
+/// its data, which has no identifier yet.
+pub(crate) fn other_tables<'a>(
+    alloc: Global,
+    plan: &LinkPlan<'a>,
+    options: &Options<'a>,
+    placement: &Placement<'a>,
+    places: &[Option<usize>; 8],
+    exports: Vec<u8>,
+) -> Result<[Vec<u8>; 3], Memory>
+    requires plan { IsPlanOf (options_said options.now) plan.now.modules.items plan.now }
+    requires placed { IsPlaced (options_said options.now) plan.now placement.now }
+    requires places { places.now ≡ numbered_indexes (length plan.now.modules.items) plan.now.pieces.items }
+    requires exports { exports.items ≡ export_table_at (kept_parts plan.now) placement.now.layout }
+    ensures { IfOk result (λ tables. map (λ table. table.items) tables ≡ other_tables_at (kept_parts plan.now) placement.now.layout) }
+{
+    let debug = plan.names.debug();
+    let rva = rva_of(&placement.layout.pieces, places[DEBUG_DATA as usize]);
+    let debug_entry = debug.entry(alloc, &placement.layout.sections, rva)?;
+    let debug_data = debug.data(alloc, &[0; 16])?;
+    Ok([exports, debug_entry, debug_data])
+}
+
 /// The bytes of the import tables, whose pieces are these.
 pub(crate) fn import_tables<'a>(
     alloc: Global,
     plan: &LinkPlan<'a>,
     options: &Options<'a>,
     placement: &Placement<'a>,
-    places: &[Option<usize>; 6],
+    places: &[Option<usize>; 8],
 ) -> Result<[Vec<u8>; 5], Memory>
     requires plan { IsPlanOf (options_said options.now) plan.now.modules.items plan.now }
     requires placed { IsPlaced (options_said options.now) plan.now placement.now }
@@ -79,12 +102,12 @@ fn are_words(sizes: &[u32])
     ensures { (number : ℕ) → slice_index sizes.now number < 2 ^ 32 }
 {}
 
-/// The directories of the image, in which the tables of imports and exports are these pieces.
+/// The directories of the image, in which the tables are these pieces.
 pub(crate) fn directories_of<'a>(
     plan: &LinkPlan<'a>,
     options: &Options<'a>,
     placement: &Placement<'a>,
-    places: &[Option<usize>; 6],
+    places: &[Option<usize>; 8],
 ) -> Directories
     requires plan { IsPlanOf (options_said options.now) plan.now.modules.items plan.now }
     requires placed { IsPlaced (options_said options.now) plan.now placement.now }
@@ -105,6 +128,7 @@ pub(crate) fn directories_of<'a>(
             &plan.loader.load_config,
             config_size(&plan.pieces, &plan.loader.load_config),
         ),
+        debug: extent_of(&plan.pieces, rvas, places[DEBUG_ENTRY as usize]),
     }
 }
 
@@ -160,7 +184,7 @@ pub(crate) fn section_named(sections: &[OutSection<'_>], name: &[u8]) -> Option<
 }
 
 /// The RVAs of the import tables, which are the first of these pieces.
-fn table_rvas(rvas: &[u32], places: &[Option<usize>; 6]) -> [u32; 5]
+fn table_rvas(rvas: &[u32], places: &[Option<usize>; 8]) -> [u32; 5]
     requires { All (λ place. IfSome place (λ k. k < length rvas.now)) places.now }
     ensures { result ≡ map (rva_of rvas.now) (take 5 places.now) }
 {

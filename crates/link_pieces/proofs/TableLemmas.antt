@@ -1,17 +1,17 @@
--- The tables of imports and exports: what they are, that they are aligned, and that one with bytes is there.
-use Rattle.std.proofs.Common.{◌≡◌, ℕ, zero, suc, ◌<◌, ◌≤◌, Bool, true, false, cond, ◌||◌, eqb, List, [], ◌∷◌, ◌++◌, length, inl, inr, refl, sym, ap, subst, ◌∙◌, eq-eqb, arith}
+-- The tables that the linker makes: what they are, that they are aligned, and that one with bytes is there.
+use Rattle.std.proofs.Common.{◌≡◌, ℕ, zero, suc, ◌-◌, ◌<◌, ◌≤◌, Bool, true, false, cond, ◌||◌, eqb, List, [], ◌∷◌, ◌++◌, length, inl, inr, refl, sym, ap, subst, ◌∙◌, eq-eqb, arith}
 use Rattle.std.specs.Prelude.{codes}
 use Rattle.std.specs.List.{All, list_any}
 use Rattle.std.proofs.lemmas.Bool.{cases_lt, false≢true, lt-ltb}
 use Rattle.std.proofs.lemmas.Bool.Decides.{eqb_tells}
-use Rattle.std.proofs.lemmas.List.{get_or_push, get_or_append_left, length-append}
+use Rattle.std.proofs.lemmas.List.{get_or_append_left, get_or-append_right, length-append}
 use Rattle.std.proofs.lemmas.List.Elements.{All-nil, All-cons, All-append}
 use Rattle.std.proofs.lemmas.List.Folds.{list_any-append}
 use Rattle.section_group.specs.declared.piece.Piece.{Piece}
 use Rattle.address_layout.specs.Layout.{IsAlignment}
 use Rattle.import_tables.specs.ImportShape.{sizes_of}
 use Rattle.module_view.specs.Module.{ModuleView}
-use Rattle.synthetic_sections.specs.LinkerPieces.{SLOTS, EXPORTS, FIRST_THUNK, size_at, table_piece, table_if, table_pieces, export_table_pieces}
+use Rattle.synthetic_sections.specs.LinkerPieces.{SLOTS, EXPORTS, DEBUG_ENTRY, DEBUG_DATA, FIRST_THUNK, size_at, table_piece, table_if, table_pieces, export_table_pieces, entry_size, debug_pieces}
 use Rattle.link_imports.specs.Imports.{import_sizes}
 use Rattle.link_pieces.specs.PieceIndex.{is_numbered}
 use Rattle.link_pieces.specs.TablePieces.{KeptParts, kept_imports, tables_for, tables_of, table_sizes, is_table, IsLinkTable}
@@ -54,49 +54,76 @@ unfolding export_table_pieces
 all_exports P count size holds =
     all_if P (eqb size 0) (table_piece count EXPORTS (codes ".edata") 4 size) (λ made. holds (some_bytes size made))
 
+-- and what holds of the two pieces of the debug directory holds of both
+all_debug : (P : Piece → Type 0) (count size : ℕ) → (0 < entry_size size → P (table_piece count DEBUG_ENTRY (codes ".rdata") 4 (entry_size size))) → (0 < size → P (table_piece count DEBUG_DATA (codes ".rdata") 4 size)) → All P (debug_pieces count size)
+unfolding debug_pieces
+all_debug P count size entry holds =
+    All-append P _ _ (all_if P (eqb (entry_size size) 0) (table_piece count DEBUG_ENTRY (codes ".rdata") 4 (entry_size size)) (λ made. entry (some_bytes (entry_size size) made)))
+    (all_if P (eqb size 0) (table_piece count DEBUG_DATA (codes ".rdata") 4 size) (λ made. holds (some_bytes size made)))
+
 -- ---- what each is
 
 import_sizes_count : (modules : List ModuleView) (kept : List Bool) → length (import_sizes modules kept) ≡ 5
 unfolding sizes_of
 import_sizes_count modules kept = refl
 
--- the size of an import table, and that of the export table
+-- the size of an import table, and those of the others
+abbrev later_sizes : KeptParts → List ℕ
+later_sizes link = link.parts.exports.size ∷ entry_size link.parts.debug.size ∷ link.parts.debug.size ∷ []
+
 pub import_size : (link : KeptParts) (number : ℕ) → number < 5 → size_at (table_sizes link) number ≡ size_at (import_sizes link.parts.modules (kept_imports link)) number
 import_size link number few =
-    get_or_append_left (import_sizes link.parts.modules (kept_imports link)) (link.parts.exports.size ∷ []) 0 number (omega (arith, few, import_sizes_count link.parts.modules (kept_imports link)))
+    get_or_append_left (import_sizes link.parts.modules (kept_imports link)) (later_sizes link) 0 number (omega (arith, few, import_sizes_count link.parts.modules (kept_imports link)))
 
-export_size : (link : KeptParts) → size_at (table_sizes link) EXPORTS ≡ link.parts.exports.size
-export_size link =
-    get_or_push (import_sizes link.parts.modules (kept_imports link)) link.parts.exports.size 0 EXPORTS (import_sizes_count link.parts.modules (kept_imports link))
+later_size : (link : KeptParts) (number : ℕ) → 5 ≤ number → size_at (table_sizes link) number ≡ size_at (later_sizes link) (number - 5)
+later_size link number behind =
+    get_or-append_right (import_sizes link.parts.modules (kept_imports link)) (later_sizes link) 5 number 0 (import_sizes_count link.parts.modules (kept_imports link)) behind
+
+pub export_size : (link : KeptParts) → size_at (table_sizes link) EXPORTS ≡ link.parts.exports.size
+export_size link = later_size link 5 (omega arith)
+
+pub entry_size_is : (link : KeptParts) → size_at (table_sizes link) DEBUG_ENTRY ≡ entry_size link.parts.debug.size
+entry_size_is link = later_size link 6 (omega arith)
+
+pub data_size_is : (link : KeptParts) → size_at (table_sizes link) DEBUG_DATA ≡ link.parts.debug.size
+data_size_is link = later_size link 7 (omega arith)
 
 pub tables_are : (link : KeptParts) → All (IsLinkTable link) (tables_of link)
 tables_are link =
     let count = length link.parts.modules in
     let sizes = import_sizes link.parts.modules (kept_imports link) in
     let size = link.parts.exports.size in
-    All-append (IsLinkTable link) (table_pieces count sizes) (export_table_pieces count size)
+    All-append (IsLinkTable link) (table_pieces count sizes) (export_table_pieces count size ++ debug_pieces count link.parts.debug.size)
     (all_imports (IsLinkTable link) count sizes (λ number name align few aligned some.
     record { of_linker = refl; few = omega (arith, few); init = refl; some = some; size = sym (import_size link number few) }))
+    (All-append (IsLinkTable link) (export_table_pieces count size) (debug_pieces count link.parts.debug.size)
     (all_exports (IsLinkTable link) count size (λ some.
     record { of_linker = refl; few = omega arith; init = refl; some = some; size = sym (export_size link) }))
+    (all_debug (IsLinkTable link) count link.parts.debug.size
+    (λ some. record { of_linker = refl; few = omega arith; init = refl; some = some; size = sym (entry_size_is link) })
+    (λ some. record { of_linker = refl; few = omega arith; init = refl; some = some; size = sym (data_size_is link) })))
 
-pub tables_aligned : (modules : List ModuleView) (kept : List Bool) (size : ℕ) → All (λ (piece : Piece). IsAlignment piece.align) (tables_for modules kept size)
-tables_aligned modules kept size =
+pub tables_aligned : (modules : List ModuleView) (kept : List Bool) (size debug : ℕ) → All (λ (piece : Piece). IsAlignment piece.align) (tables_for modules kept size debug)
+tables_aligned modules kept size debug =
     let count = length modules in
-    All-append (λ (piece : Piece). IsAlignment piece.align) (table_pieces count (import_sizes modules kept)) (export_table_pieces count size)
+    All-append (λ (piece : Piece). IsAlignment piece.align) (table_pieces count (import_sizes modules kept)) (export_table_pieces count size ++ debug_pieces count debug)
     (all_imports (λ (piece : Piece). IsAlignment piece.align) count (import_sizes modules kept) (λ number name align few aligned some. aligned))
+    (All-append (λ (piece : Piece). IsAlignment piece.align) (export_table_pieces count size) (debug_pieces count debug)
     (all_exports (λ (piece : Piece). IsAlignment piece.align) count size (λ some. record { positive = omega arith; divides = refl }))
+    (all_debug (λ (piece : Piece). IsAlignment piece.align) count debug (λ some. record { positive = omega arith; divides = refl }) (λ some. record { positive = omega arith; divides = refl })))
 
 -- each is told by its number
-pub tables_told : (modules : List ModuleView) (kept : List Bool) (size : ℕ) → All (λ (piece : Piece). is_table (length modules) piece ≡ true) (tables_for modules kept size)
-tables_told modules kept size =
+pub tables_told : (modules : List ModuleView) (kept : List Bool) (size debug : ℕ) → All (λ (piece : Piece). is_table (length modules) piece ≡ true) (tables_for modules kept size debug)
+tables_told modules kept size debug =
     let count = length modules in
-    All-append (λ (piece : Piece). is_table count piece ≡ true) (table_pieces count (import_sizes modules kept)) (export_table_pieces count size)
+    All-append (λ (piece : Piece). is_table count piece ≡ true) (table_pieces count (import_sizes modules kept)) (export_table_pieces count size ++ debug_pieces count debug)
     (all_imports (λ (piece : Piece). is_table count piece ≡ true) count (import_sizes modules kept) (λ number name align few aligned some.
     rw (eq-eqb count count refl, lt-ltb number FIRST_THUNK (omega (arith, few))) refl))
+    (All-append (λ (piece : Piece). is_table count piece ≡ true) (export_table_pieces count size) (debug_pieces count debug)
     (all_exports (λ (piece : Piece). is_table count piece ≡ true) count size (λ some. rw (eq-eqb count count refl) refl))
+    (all_debug (λ (piece : Piece). is_table count piece ≡ true) count debug (λ some. rw (eq-eqb count count refl) refl) (λ some. rw (eq-eqb count count refl) refl)))
 
--- ---- there are at most six
+-- ---- there are at most eight
 
 few_if : (none : Bool) (piece : Piece) → length (cond none [] (piece ∷ [])) ≤ 1
 few_if true piece = omega arith
@@ -118,10 +145,17 @@ few_exports : (count size : ℕ) → length (export_table_pieces count size) ≤
 unfolding export_table_pieces
 few_exports count size = few_if (eqb size 0) (table_piece count EXPORTS (codes ".edata") 4 size)
 
-pub tables_few : (modules : List ModuleView) (kept : List Bool) (size : ℕ) → length (tables_for modules kept size) ≤ 6
-tables_few modules kept size =
+few_debug : (count size : ℕ) → length (debug_pieces count size) ≤ 2
+unfolding debug_pieces
+few_debug count size =
+    let entry = table_if count DEBUG_ENTRY (codes ".rdata") 4 (entry_size size) in
+    let rest = table_if count DEBUG_DATA (codes ".rdata") 4 size in
+    omega (arith, length-append entry rest, few_if (eqb (entry_size size) 0) (table_piece count DEBUG_ENTRY (codes ".rdata") 4 (entry_size size)), few_if (eqb size 0) (table_piece count DEBUG_DATA (codes ".rdata") 4 size))
+
+pub tables_few : (modules : List ModuleView) (kept : List Bool) (size debug : ℕ) → length (tables_for modules kept size debug) ≤ 8
+tables_few modules kept size debug =
     let count = length modules in
-    omega (arith, length-append (table_pieces count (import_sizes modules kept)) (export_table_pieces count size), few_imports count (import_sizes modules kept), few_exports count size)
+    omega (arith, length-append (table_pieces count (import_sizes modules kept)) (export_table_pieces count size ++ debug_pieces count debug), length-append (export_table_pieces count size) (debug_pieces count debug), few_imports count (import_sizes modules kept), few_exports count size, few_debug count debug)
 
 -- ---- one that has bytes is there
 
@@ -184,7 +218,49 @@ unfolding export_table_pieces
 export_made count size some =
     found_in (is_numbered count EXPORTS) (eqb size 0) (table_piece count EXPORTS (codes ".edata") 4 size) (none_false size some) (rw (eq-eqb count count refl) refl)
 
-pub table_made : (link : KeptParts) (number : ℕ) → number < 6 → 0 < size_at (table_sizes link) number → list_any (is_numbered (length link.parts.modules) number) (tables_of link) ≡ true
+entry_made : (count size : ℕ) → 0 < entry_size size → list_any (is_numbered count DEBUG_ENTRY) (debug_pieces count size) ≡ true
+unfolding debug_pieces
+entry_made count size some =
+    either_any (is_numbered count DEBUG_ENTRY) (table_if count DEBUG_ENTRY (codes ".rdata") 4 (entry_size size)) _
+    (found_in (is_numbered count DEBUG_ENTRY) (eqb (entry_size size) 0) (table_piece count DEBUG_ENTRY (codes ".rdata") 4 (entry_size size)) (none_false (entry_size size) some) (rw (eq-eqb count count refl) refl))
+
+data_made : (count size : ℕ) → 0 < size → list_any (is_numbered count DEBUG_DATA) (debug_pieces count size) ≡ true
+unfolding debug_pieces
+data_made count size some =
+    later_any (is_numbered count DEBUG_DATA) (table_if count DEBUG_ENTRY (codes ".rdata") 4 (entry_size size)) _
+    (found_in (is_numbered count DEBUG_DATA) (eqb size 0) (table_piece count DEBUG_DATA (codes ".rdata") 4 size) (none_false size some) (rw (eq-eqb count count refl) refl))
+
+-- one of the last three, by its number
+later_made : (link : KeptParts) (number : ℕ) → 5 ≤ number → number < 8 → 0 < size_at (table_sizes link) number → list_any (is_numbered (length link.parts.modules) number) (export_table_pieces (length link.parts.modules) link.parts.exports.size ++ debug_pieces (length link.parts.modules) link.parts.debug.size) ≡ true
+later_made link number behind few sized =
+    elim (cases_lt number 6) [
+      | inl export ↦
+          let same : number ≡ EXPORTS = omega (arith, behind, export) in
+          subst (λ (n : ℕ). list_any (is_numbered count n) tables ≡ true) (sym same)
+          (either_any (is_numbered count EXPORTS) (export_table_pieces count link.parts.exports.size) _
+          (export_made count link.parts.exports.size (subst (λ (n : ℕ). 0 < n) (ap (size_at (table_sizes link)) same ∙ export_size link) sized)))
+      | inr above ↦
+          elim (cases_lt number 7) [
+            | inl entry ↦
+                let same : number ≡ DEBUG_ENTRY = omega (arith, above, entry) in
+                subst (λ (n : ℕ). list_any (is_numbered count n) tables ≡ true) (sym same)
+                (later_any (is_numbered count DEBUG_ENTRY) (export_table_pieces count link.parts.exports.size) _
+                (entry_made count link.parts.debug.size (subst (λ (n : ℕ). 0 < n) (ap (size_at (table_sizes link)) same ∙ entry_size_is link) sized)))
+            | inr last ↦
+                let same : number ≡ DEBUG_DATA = omega (arith, few, last) in
+                subst (λ (n : ℕ). list_any (is_numbered count n) tables ≡ true) (sym same)
+                (later_any (is_numbered count DEBUG_DATA) (export_table_pieces count link.parts.exports.size) _
+                (data_made count link.parts.debug.size (subst (λ (n : ℕ). 0 < n) (ap (size_at (table_sizes link)) same ∙ data_size_is link) sized)))
+          ]
+    ]
+  where
+    count : ℕ
+    count = length link.parts.modules
+
+    tables : List Piece
+    tables = export_table_pieces count link.parts.exports.size ++ debug_pieces count link.parts.debug.size
+
+pub table_made : (link : KeptParts) (number : ℕ) → number < 8 → 0 < size_at (table_sizes link) number → list_any (is_numbered (length link.parts.modules) number) (tables_of link) ≡ true
 table_made link number few sized =
     let count = length link.parts.modules in
     let sizes = import_sizes link.parts.modules (kept_imports link) in
@@ -192,9 +268,5 @@ table_made link number few sized =
       | inl below ↦
           either_any (is_numbered count number) (table_pieces count sizes) _
           (import_made count sizes number below (subst (λ (n : ℕ). 0 < n) (import_size link number below) sized))
-      | inr last ↦
-          let same : number ≡ EXPORTS = omega (arith, few, last) in
-          let some = subst (λ (n : ℕ). 0 < n) (ap (size_at (table_sizes link)) same ∙ export_size link) sized in
-          subst (λ (n : ℕ). list_any (is_numbered count n) (tables_of link) ≡ true) (sym same)
-          (later_any (is_numbered count EXPORTS) (table_pieces count sizes) _ (export_made count link.parts.exports.size some))
+      | inr behind ↦ later_any (is_numbered count number) (table_pieces count sizes) _ (later_made link number behind few sized)
     ]

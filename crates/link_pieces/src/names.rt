@@ -14,17 +14,20 @@ ghost use Rattle.link_pieces.specs.ChoiceFaults.{conflict_fault, clash_fault};
 use coff_object::SymbolRecord;
 use comdat::{ChooseError, choose_all};
 use link_base::{Fault, Name, Refusal};
+use link_debug::LinkDebug;
 use link_exports::LinkExports;
 use module_view::Module;
 use std::alloc::Global;
 use std::marker::Model;
 use symbol_table::{Chosen, Meaning, NoMeaning, ResolvedNames, SymbolTable};
 
-/// What names mean in the modules of a link, of each group of whose COMDAT sections one is chosen, and what it exports.
+/// What names mean in the modules of a link, of each group of whose COMDAT sections one is chosen, what it exports, and
+/// what its image says of its PDB.
 #[derive(Drop)]
 pub struct LinkNames<'a> {
     names: ResolvedNames<'a>,
     exports: LinkExports<'a>,
+    debug: LinkDebug,
 }
 
 impl<'a> Model for LinkNames<'a> {
@@ -34,7 +37,7 @@ impl<'a> Model for LinkNames<'a> {
 
     ghost Value = { LinkParts };
 
-    ghost view = { λ t. parts_of t.names.link t.exports };
+    ghost view = { λ t. parts_of t.names.link t.exports t.debug };
 
     ghost invariant = { λ t. t.names.chosen ≡ chosen_sections t.names.link.modules };
 }
@@ -45,6 +48,13 @@ impl<'a> LinkNames<'a> {
         ensures { result.now ≡ self.now.exports }
     {
         &self.exports
+    }
+
+    /// What the image says of its PDB.
+    pub fn debug(&self) -> &LinkDebug
+        ensures { result.now ≡ self.now.debug }
+    {
+        &self.debug
     }
 
     /// What a name means.
@@ -75,22 +85,28 @@ impl<'a> LinkNames<'a> {
     }
 }
 
-/// What the names of a table mean, whose modules these are, with what the link exports. COMDAT sections that conflict are refused (`ComdatConflict`).
+/// What the names of a table mean, whose modules these are, with what the link exports and what its image says of its PDB. COMDAT
+/// sections that conflict are refused (`ComdatConflict`).
 pub fn link_names<'a>(
     alloc: Global,
     table: SymbolTable<'a>,
     modules: &[Module<'a>],
     exports: LinkExports<'a>,
+    debug: LinkDebug,
 ) -> Result<LinkNames<'a>, Refusal<'a>>
     requires few { length modules.now ≤ MODULE_LIMIT }
     requires same { table.modules ≡ modules.now }
-    ensures names { IfOk result (λ names. names ≡ parts_of table.entry exports.entry) }
+    ensures names { IfOk result (λ names. names ≡ parts_of table.entry exports.entry debug) }
     ensures accepted { OnOk result (conflict_fault modules.now ≡ None) }
     ensures refused { IfErr result (RefusesFor (conflict_fault modules.now)) }
 {
     let chosen = choose(alloc, modules)?;
     let names = table.resolved(alloc, chosen)?;
-    Ok(LinkNames { names, exports })
+    Ok(LinkNames {
+        names,
+        exports,
+        debug,
+    })
 }
 
 /// Which sections of the modules are chosen.

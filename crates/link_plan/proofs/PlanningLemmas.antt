@@ -11,6 +11,7 @@ use Rattle.link_words.specs.Outcome.{LinkOptions}
 use Rattle.symbol_names.specs.LinkView.{LinkView}
 use Rattle.lib_search.specs.LinkOf.{link_of}
 use Rattle.link_exports.specs.Exports.{ExportsView, exports_of}
+use Rattle.link_debug.specs.LinkDebug.{DebugView, debug_of}
 use Rattle.link_pieces.specs.LinkParts.{LinkParts, parts_of}
 use Rattle.lib_search.specs.declared.link_list.LinkList.{LinkList}
 use Rattle.lib_search.specs.Loading.{Loads}
@@ -20,12 +21,13 @@ use Rattle.link_plan.specs.PlanFaults.{plan_fault}
 use Rattle.link_plan.specs.Plan.{link_parts, IsPlanOf}
 use Rattle.link_plan.specs.Planning.{GivesPlan, Plans}
 
--- what names mean, with the exports, is what takes part in the link
-pub names_so : (options : LinkOptions) (modules own : List ModuleView) (table : LinkView) (exports : ExportsView) (names : LinkParts) → names ≡ parts_of table exports → table ≡ link_of options modules → exports ≡ exports_of options own → own ≡ modules → names ≡ link_parts options modules
-names_so options modules own table exports names is tables exported same =
+-- what names mean, with the exports and the PDB, is what takes part in the link
+pub names_so : (options : LinkOptions) (modules own : List ModuleView) (table : LinkView) (exports : ExportsView) (debug : DebugView) (names : LinkParts) → names ≡ parts_of table exports debug → table ≡ link_of options modules → exports ≡ exports_of options own → debug ≡ debug_of options → own ≡ modules → names ≡ link_parts options modules
+names_so options modules own table exports debug names is tables exported debugged same =
     is
-    ∙ ap (λ (l : LinkView). parts_of l exports) tables
-    ∙ ap (parts_of (link_of options modules)) (exported ∙ ap (exports_of options) same)
+    ∙ ap (λ (l : LinkView). parts_of l exports debug) tables
+    ∙ ap (λ (e : ExportsView). parts_of (link_of options modules) e debug) (exported ∙ ap (exports_of options) same)
+    ∙ ap (parts_of (link_of options modules) (exports_of options modules)) debugged
 
 -- the modules that join have a plan
 pub gives_plan : (options : LinkOptions) (before after : FilesView) (list : LinkList) (plan : LinkPlan) → GivesList options before after list → IsPlanOf options list.modules.items plan → plan.modules.items ≡ list.modules.items → GivesPlan options before after plan

@@ -9,6 +9,7 @@ use Rattle.section_group.specs.PieceContents.{piece_contents, HasItsBytes}
 use Rattle.module_view.specs.Module.{ModuleView}
 use Rattle.lib_search.specs.LinkOf.{link_of}
 use Rattle.link_exports.specs.Exports.{exports_of, AreTold}
+use Rattle.link_debug.specs.LinkDebug.{debug_of}
 use Rattle.link_pieces.specs.LinkParts.{LinkParts, parts_of}
 use Rattle.module_view.specs.Opening.{IsOpened}
 use Rattle.link_directives.specs.LinkDirectives.{link_merges}
@@ -26,7 +27,7 @@ use Rattle.link_plan.specs.LinkPublics.{lists_publics, link_publics}
 
 -- what takes part in a link of these modules
 abbrev pub link_parts : LinkOptions → List ModuleView → LinkParts
-link_parts options modules = parts_of (link_of options modules) (exports_of options modules)
+link_parts options modules = parts_of (link_of options modules) (exports_of options modules) (debug_of options)
 
 -- with what is kept of it
 pub record IsLinkOf (options : LinkOptions) (modules : List ModuleView) (link : KeptParts) : Type 0 where

@@ -135,6 +135,7 @@ fn keep_pieces<'a>(
         position,
         &imports.shape.lengths,
         names.exports().size(),
+        names.debug().size(),
     )?;
     let slots = SlotPlaces {
         first: count as u32,

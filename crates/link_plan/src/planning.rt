@@ -17,6 +17,7 @@ use debug_rows::PublicPlace;
 use input_arena::Inputs;
 use lib_search::{LinkList, complete};
 use link_base::{Name, Refusal, Stop};
+use link_debug::LinkDebug;
 use link_directives::link_merges;
 use link_exports::link_exports;
 use link_fields::{EntryPlace, LoaderPlaces};
@@ -53,7 +54,7 @@ pub struct LinkPlan<'a> {
     pub exported: Vec<Option<Target>>,
     /// Where the names stand that the loader of a program looks for.
     pub loader: LoaderPlaces,
-    /// The public symbols of what is kept, where a map lists them.
+    /// The public symbols of what is kept, where a map or a PDB lists them.
     pub publics: Vec<PublicPlace<'a>>,
 }
 
@@ -100,7 +101,8 @@ fn plan_of<'a>(
     let LinkList { modules, table } = list;
     check_mismatch(alloc, &modules)?;
     let exports = link_exports(alloc, options, &modules)?;
-    let names = link_names(alloc, table, &modules, exports)?;
+    let debug = LinkDebug::of(alloc, options)?;
+    let names = link_names(alloc, table, &modules, exports, debug)?;
     check_clash(&names)?;
     let meant = meanings_of(alloc, &names, &modules, options)?;
     let link = lay_pieces(alloc, &names, &modules, meant, options)?;

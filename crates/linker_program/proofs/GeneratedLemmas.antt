@@ -20,7 +20,10 @@ use Rattle.link_plan.specs.Plan.{link_parts, IsLinkOf}
 use Rattle.link_plan.specs.PlanFaults.{plan_fault}
 use Rattle.link_image.specs.declared.make.Built.{Built}
 use Rattle.link_image.specs.BuiltImage.{IsBuilt}
+use Rattle.image_writer.specs.ExpectedImage.{image_file}
+use Rattle.pdb_msf.specs.WrittenFile.{msf_of}
 use Rattle.link_image.specs.LinkMap.{link_map}
+use Rattle.link_image.specs.LinkPdb.{link_streams}
 use Rattle.generated_world.specs.GeneratedWorld.{generated_files, generated_words}
 use Rattle.linker_program.specs.declared.answer.Answer.{Answer}
 use Rattle.linker_program.specs.declared.status.Status.{Status}
@@ -64,8 +67,8 @@ pub image_tells : (r : Result Answer Memory) (options : LinkOptions) (modules : 
     → IsLinkOf options modules link → plan_fault options (link_parts options modules) ≡ None → IsBuilt options link built
     → IfOk r (λ answer. Says answer (image_told count built.image.items)) → IfOk r (TellsLink (ModulesOutcome options modules) count)
 image_tells (Ok answer) options modules link built count link_is planned is says =
-    let plan : Plan = record { options = options; modules = modules; image = is.image; map = link_map options link is.is_image.rows is.is_image.layout } in
-    let made : IsPlan options modules link plan = record { options_are = refl; modules_are = refl; image_is = is.is_image; map_is = refl } in
+    let plan : Plan = record { options = options; modules = modules; image = is.image; map = link_map options link is.is_image.rows is.is_image.layout; pdb = msf_of (link_streams options link is.is_image.rows is.is_image.layout is.is_image.tables (image_file is.image)) } in
+    let made : IsPlan options modules link plan = record { options_are = refl; modules_are = refl; image_is = is.is_image; map_is = refl; pdb_is = refl; pdb_fits = is.pdb_fits } in
     let outcome : BuildOutcome options modules (Linked plan) = record { link = link; link_is = link_is; is = made } in
     record { link = Linked plan; linked = rw planned outcome; says = subst (λ (file : List ℕ). Says answer (image_told count file)) is.file says }
 image_tells (Err error) options modules link built count link_is planned is says = tt

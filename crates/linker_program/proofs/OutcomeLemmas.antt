@@ -1,5 +1,5 @@
 -- Words and files have one outcome.
-use Rattle.std.proofs.Common.{◌≡◌, ℕ, ◌+◌, ◌≤◌, ◌⊎◌, Bool, true, false, cond, List, ◌++◌, length, subst, Option, Some, None, Result, Ok, Err, refl, sym, ap, ◌∙◌, inl, inr, arith}
+use Rattle.std.proofs.Common.{◌≡◌, ℕ, ◌+◌, ◌≤◌, ◌⊎◌, Bool, true, false, cond, List, ◌++◌, length, map, subst, Option, Some, None, Result, Ok, Err, refl, sym, ap, ◌∙◌, inl, inr, arith}
 use Rattle.std.proofs.lemmas.Bool.{cases_lt, false≢true}
 use Rattle.std.proofs.lemmas.List.{length-map}
 use Rattle.link_base.specs.declared.fault.Fault.{Fault}
@@ -21,7 +21,11 @@ use Rattle.address_layout.specs.Layout.{IsLayout, HasImageSize, IsPlaceRefusal, 
 use Rattle.address_layout.proofs.CallerLemmas.{one_image_size, size_same_rows}
 use Rattle.base_reloc.specs.declared.field.BaseField.{BaseField}
 use Rattle.base_reloc.specs.PageBlocks.{blocks_of}
-use Rattle.image_writer.specs.ExpectedImage.{ImagePlan}
+use Rattle.image_writer.specs.ExpectedImage.{ImagePlan, image_file}
+use Rattle.debug_entry.specs.Identifier.{image_identifier}
+use Rattle.pdb_msf.specs.WrittenFile.{file_size, msf_of}
+use Rattle.image_pdb.specs.ImagePdb.{image_streams}
+use Rattle.link_image.specs.LinkPdb.{section_headers_in, streams_at, link_streams, Fits}
 use Rattle.image_writer.specs.WrittenImage.{written_plan}
 use Rattle.module_view.specs.Module.{ModuleView}
 use Rattle.link_pieces.specs.LinkParts.{LinkParts}
@@ -40,20 +44,19 @@ use Rattle.link_words.specs.Commands.{words_say}
 use Rattle.link_fields.specs.Entry.{entry_place}
 use Rattle.link_image.specs.BaseFields.{is_relocated}
 use Rattle.image_writer.specs.declared.headers.Headers.{Headers}
-use Rattle.link_image.specs.ImageHeaders.{headers_of}
-use Rattle.link_image.specs.LinkedImage.{base_rule, entry_rva, directories_of, AreGrouped, ArePlaced, IsWhole, IsPlacement, IsImageOf}
-use Rattle.link_image.specs.LinkedBytes.{linked_contents, image_contents, fields_range_fault}
+use Rattle.image_headers.specs.ImageHeaders.{headers_of}
+use Rattle.link_image.specs.LinkedImage.{base_rule, entry_rva, directories_of, link_headers, AreGrouped, ArePlaced, IsWhole, IsPlacement, IsImageOf}
+use Rattle.link_image.specs.LinkedBytes.{linked_contents, image_contents, identified, fields_range_fault}
 use Rattle.link_image.specs.ExportFaults.{in_table_fault}
 use Rattle.pdata_table.specs.SortedContents.{sorted_contents}
 use Rattle.link_image.specs.NamedSections.{pdata_pieces}
-use Rattle.link_image.specs.BuildFaults.{IsBadMerge, HasBadTable, HasExportInTable, HasTooManySections, HasLargeTable, IsTooLarge, HasBadBase, HasBadRange, IsBuildFault}
+use Rattle.link_image.specs.BuildFaults.{IsBadMerge, HasBadTable, HasExportInTable, HasTooManySections, HasLargeTable, IsTooLarge, HasBadBase, HasBadRange, HasLargePdb, IsImageFault, IsBuildFault}
 use Rattle.link_image.proofs.PlaceLemmas.{range_by_places, contents_by_places, directories_by_places}
 use Rattle.link_image.proofs.OnePlacement.{same_rows, same_layout, same_fields, one_refused_size, one_grown_size, SamePlacement, one_placement}
 use Rattle.generated_world.specs.GeneratedWorld.{generated_files, generated_words}
-use Rattle.linker_program.specs.Unbuilt.{is_unbuilt_link}
 use Rattle.linker_program.specs.Generated.{generated_shown}
 use Rattle.linker_program.specs.Ending.{Plan, Outcome, Usage, Refused, Linked, Shown}
-use Rattle.linker_program.specs.Outcome.{IsPlan, KeptOutcome, BuildOutcome, OutcomeAfter, ModulesOutcome, LinkOutcome, AtLoading, AtModules, AskedOutcome, LinkShown, GenSaid, CommandOutcome, WordsOutcome, HasOutcome}
+use Rattle.linker_program.specs.Outcome.{IsPlan, KeptOutcome, BuildOutcome, OutcomeAfter, ModulesOutcome, LinkOutcome, AtLoading, AtModules, LinkShown, GenSaid, CommandOutcome, WordsOutcome, HasOutcome}
 
 -- ---- the bad merge
 
@@ -217,59 +220,59 @@ inside_or options link f rows layout tables x placement outside =
 merge_or : (options : LinkOptions) (link : KeptParts) (fault : Fault) (sections : List OutSection) → IsBadMerge options link fault → AreGrouped options link (plan_pieces options link) sections → ⊥
 merge_or options link fault sections x grouped = no_bad_merge options link (plan_pieces options link) sections fault x grouped
 
-same_fault : (options : LinkOptions) (link : KeptParts) (f g : Fault) → IsBuildFault options link f → IsBuildFault options link g → f ≡ g
-same_fault options link f g (inl x) (inl y) = same_merge options link f g x y
-same_fault options link f g (inl x) (inr (inl y)) = absurd (merge_or_table options link f g x y)
-same_fault options link f g (inl x) (inr (inr (inl y))) = absurd (merge_or options link f y.sections x y.grouped)
-same_fault options link f g (inl x) (inr (inr (inr (inl y)))) = absurd (merge_or options link f y.sections x y.grouped)
-same_fault options link f g (inl x) (inr (inr (inr (inr (inl y))))) = absurd (merge_or options link f y.placement.sections x y.placement.grouped)
-same_fault options link f g (inl x) (inr (inr (inr (inr (inr (inl y)))))) = absurd (merge_or options link f y.placement.sections x y.placement.grouped)
-same_fault options link f g (inl x) (inr (inr (inr (inr (inr (inr (y))))))) = absurd (merge_or options link f y.placement.sections x y.placement.grouped)
-same_fault options link f g (inr (inl x)) (inl y) = absurd (merge_or_table options link g f y x)
-same_fault options link f g (inr (inl x)) (inr (inl y)) = same_table options link f g x y
-same_fault options link f g (inr (inl x)) (inr (inr (inl y))) = absurd (table_or options link f y.sections x y.grouped)
-same_fault options link f g (inr (inl x)) (inr (inr (inr (inl y)))) = absurd (table_or options link f y.sections x y.grouped)
-same_fault options link f g (inr (inl x)) (inr (inr (inr (inr (inl y))))) = absurd (table_or options link f y.placement.sections x y.placement.grouped)
-same_fault options link f g (inr (inl x)) (inr (inr (inr (inr (inr (inl y)))))) = absurd (table_or options link f y.placement.sections x y.placement.grouped)
-same_fault options link f g (inr (inl x)) (inr (inr (inr (inr (inr (inr (y))))))) = absurd (table_or options link f y.placement.sections x y.placement.grouped)
-same_fault options link f g (inr (inr (inl x))) (inl y) = absurd (merge_or options link g x.sections y x.grouped)
-same_fault options link f g (inr (inr (inl x))) (inr (inl y)) = absurd (table_or options link g x.sections y x.grouped)
-same_fault options link f g (inr (inr (inl x))) (inr (inr (inl y))) = same_many options link f g x y
-same_fault options link f g (inr (inr (inl x))) (inr (inr (inr (inl y)))) = absurd (many_or_large options link f g x y)
-same_fault options link f g (inr (inr (inl x))) (inr (inr (inr (inr (inl y))))) = absurd (many_or_placement options link f y.rows y.layout y.tables x y.placement)
-same_fault options link f g (inr (inr (inl x))) (inr (inr (inr (inr (inr (inl y)))))) = absurd (many_or_placement options link f y.rows y.layout y.tables x y.placement)
-same_fault options link f g (inr (inr (inl x))) (inr (inr (inr (inr (inr (inr (y))))))) = absurd (many_or_placement options link f y.rows y.layout y.tables x y.placement)
-same_fault options link f g (inr (inr (inr (inl x)))) (inl y) = absurd (merge_or options link g x.sections y x.grouped)
-same_fault options link f g (inr (inr (inr (inl x)))) (inr (inl y)) = absurd (table_or options link g x.sections y x.grouped)
-same_fault options link f g (inr (inr (inr (inl x)))) (inr (inr (inl y))) = absurd (many_or_large options link g f y x)
-same_fault options link f g (inr (inr (inr (inl x)))) (inr (inr (inr (inl y)))) = same_large options link f g x y
-same_fault options link f g (inr (inr (inr (inl x)))) (inr (inr (inr (inr (inl y))))) = absurd (large_or_placement options link f y.rows y.layout y.tables x y.placement)
-same_fault options link f g (inr (inr (inr (inl x)))) (inr (inr (inr (inr (inr (inl y)))))) = absurd (large_or_placement options link f y.rows y.layout y.tables x y.placement)
-same_fault options link f g (inr (inr (inr (inl x)))) (inr (inr (inr (inr (inr (inr (y))))))) = absurd (large_or_placement options link f y.rows y.layout y.tables x y.placement)
-same_fault options link f g (inr (inr (inr (inr (inl x))))) (inl y) = absurd (merge_or options link g x.placement.sections y x.placement.grouped)
-same_fault options link f g (inr (inr (inr (inr (inl x))))) (inr (inl y)) = absurd (table_or options link g x.placement.sections y x.placement.grouped)
-same_fault options link f g (inr (inr (inr (inr (inl x))))) (inr (inr (inl y))) = absurd (many_or_placement options link g x.rows x.layout x.tables y x.placement)
-same_fault options link f g (inr (inr (inr (inr (inl x))))) (inr (inr (inr (inl y)))) = absurd (large_or_placement options link g x.rows x.layout x.tables y x.placement)
-same_fault options link f g (inr (inr (inr (inr (inl x))))) (inr (inr (inr (inr (inl y))))) = x.is ∙ sym y.is
-same_fault options link f g (inr (inr (inr (inr (inl x))))) (inr (inr (inr (inr (inr (inl y)))))) = absurd (base_or_inside options link f g x y)
-same_fault options link f g (inr (inr (inr (inr (inl x))))) (inr (inr (inr (inr (inr (inr (y))))))) = absurd (base_or_range options link f g x y)
-same_fault options link f g (inr (inr (inr (inr (inr (inl x)))))) (inl y) = absurd (merge_or options link g x.placement.sections y x.placement.grouped)
-same_fault options link f g (inr (inr (inr (inr (inr (inl x)))))) (inr (inl y)) = absurd (table_or options link g x.placement.sections y x.placement.grouped)
-same_fault options link f g (inr (inr (inr (inr (inr (inl x)))))) (inr (inr (inl y))) = absurd (many_or_placement options link g x.rows x.layout x.tables y x.placement)
-same_fault options link f g (inr (inr (inr (inr (inr (inl x)))))) (inr (inr (inr (inl y)))) = absurd (large_or_placement options link g x.rows x.layout x.tables y x.placement)
-same_fault options link f g (inr (inr (inr (inr (inr (inl x)))))) (inr (inr (inr (inr (inl y))))) = absurd (base_or_inside options link g f y x)
-same_fault options link f g (inr (inr (inr (inr (inr (inl x)))))) (inr (inr (inr (inr (inr (inl y)))))) = same_in_table options link f g x y
-same_fault options link f g (inr (inr (inr (inr (inr (inl x)))))) (inr (inr (inr (inr (inr (inr (y))))))) = absurd (inside_or options link f y.rows y.layout y.tables x y.placement y.outside)
-same_fault options link f g (inr (inr (inr (inr (inr (inr (x))))))) (inl y) = absurd (merge_or options link g x.placement.sections y x.placement.grouped)
-same_fault options link f g (inr (inr (inr (inr (inr (inr (x))))))) (inr (inl y)) = absurd (table_or options link g x.placement.sections y x.placement.grouped)
-same_fault options link f g (inr (inr (inr (inr (inr (inr (x))))))) (inr (inr (inl y))) = absurd (many_or_placement options link g x.rows x.layout x.tables y x.placement)
-same_fault options link f g (inr (inr (inr (inr (inr (inr (x))))))) (inr (inr (inr (inl y)))) = absurd (large_or_placement options link g x.rows x.layout x.tables y x.placement)
-same_fault options link f g (inr (inr (inr (inr (inr (inr (x))))))) (inr (inr (inr (inr (inl y))))) = absurd (base_or_range options link g f y x)
-same_fault options link f g (inr (inr (inr (inr (inr (inr (x))))))) (inr (inr (inr (inr (inr (inl y)))))) = absurd (inside_or options link g x.rows x.layout x.tables y x.placement x.outside)
-same_fault options link f g (inr (inr (inr (inr (inr (inr (x))))))) (inr (inr (inr (inr (inr (inr (y))))))) = same_range options link f g x y
+same_image_fault : (options : LinkOptions) (link : KeptParts) (f g : Fault) → IsImageFault options link f → IsImageFault options link g → f ≡ g
+same_image_fault options link f g (inl x) (inl y) = same_merge options link f g x y
+same_image_fault options link f g (inl x) (inr (inl y)) = absurd (merge_or_table options link f g x y)
+same_image_fault options link f g (inl x) (inr (inr (inl y))) = absurd (merge_or options link f y.sections x y.grouped)
+same_image_fault options link f g (inl x) (inr (inr (inr (inl y)))) = absurd (merge_or options link f y.sections x y.grouped)
+same_image_fault options link f g (inl x) (inr (inr (inr (inr (inl y))))) = absurd (merge_or options link f y.placement.sections x y.placement.grouped)
+same_image_fault options link f g (inl x) (inr (inr (inr (inr (inr (inl y)))))) = absurd (merge_or options link f y.placement.sections x y.placement.grouped)
+same_image_fault options link f g (inl x) (inr (inr (inr (inr (inr (inr (y))))))) = absurd (merge_or options link f y.placement.sections x y.placement.grouped)
+same_image_fault options link f g (inr (inl x)) (inl y) = absurd (merge_or_table options link g f y x)
+same_image_fault options link f g (inr (inl x)) (inr (inl y)) = same_table options link f g x y
+same_image_fault options link f g (inr (inl x)) (inr (inr (inl y))) = absurd (table_or options link f y.sections x y.grouped)
+same_image_fault options link f g (inr (inl x)) (inr (inr (inr (inl y)))) = absurd (table_or options link f y.sections x y.grouped)
+same_image_fault options link f g (inr (inl x)) (inr (inr (inr (inr (inl y))))) = absurd (table_or options link f y.placement.sections x y.placement.grouped)
+same_image_fault options link f g (inr (inl x)) (inr (inr (inr (inr (inr (inl y)))))) = absurd (table_or options link f y.placement.sections x y.placement.grouped)
+same_image_fault options link f g (inr (inl x)) (inr (inr (inr (inr (inr (inr (y))))))) = absurd (table_or options link f y.placement.sections x y.placement.grouped)
+same_image_fault options link f g (inr (inr (inl x))) (inl y) = absurd (merge_or options link g x.sections y x.grouped)
+same_image_fault options link f g (inr (inr (inl x))) (inr (inl y)) = absurd (table_or options link g x.sections y x.grouped)
+same_image_fault options link f g (inr (inr (inl x))) (inr (inr (inl y))) = same_many options link f g x y
+same_image_fault options link f g (inr (inr (inl x))) (inr (inr (inr (inl y)))) = absurd (many_or_large options link f g x y)
+same_image_fault options link f g (inr (inr (inl x))) (inr (inr (inr (inr (inl y))))) = absurd (many_or_placement options link f y.rows y.layout y.tables x y.placement)
+same_image_fault options link f g (inr (inr (inl x))) (inr (inr (inr (inr (inr (inl y)))))) = absurd (many_or_placement options link f y.rows y.layout y.tables x y.placement)
+same_image_fault options link f g (inr (inr (inl x))) (inr (inr (inr (inr (inr (inr (y))))))) = absurd (many_or_placement options link f y.rows y.layout y.tables x y.placement)
+same_image_fault options link f g (inr (inr (inr (inl x)))) (inl y) = absurd (merge_or options link g x.sections y x.grouped)
+same_image_fault options link f g (inr (inr (inr (inl x)))) (inr (inl y)) = absurd (table_or options link g x.sections y x.grouped)
+same_image_fault options link f g (inr (inr (inr (inl x)))) (inr (inr (inl y))) = absurd (many_or_large options link g f y x)
+same_image_fault options link f g (inr (inr (inr (inl x)))) (inr (inr (inr (inl y)))) = same_large options link f g x y
+same_image_fault options link f g (inr (inr (inr (inl x)))) (inr (inr (inr (inr (inl y))))) = absurd (large_or_placement options link f y.rows y.layout y.tables x y.placement)
+same_image_fault options link f g (inr (inr (inr (inl x)))) (inr (inr (inr (inr (inr (inl y)))))) = absurd (large_or_placement options link f y.rows y.layout y.tables x y.placement)
+same_image_fault options link f g (inr (inr (inr (inl x)))) (inr (inr (inr (inr (inr (inr (y))))))) = absurd (large_or_placement options link f y.rows y.layout y.tables x y.placement)
+same_image_fault options link f g (inr (inr (inr (inr (inl x))))) (inl y) = absurd (merge_or options link g x.placement.sections y x.placement.grouped)
+same_image_fault options link f g (inr (inr (inr (inr (inl x))))) (inr (inl y)) = absurd (table_or options link g x.placement.sections y x.placement.grouped)
+same_image_fault options link f g (inr (inr (inr (inr (inl x))))) (inr (inr (inl y))) = absurd (many_or_placement options link g x.rows x.layout x.tables y x.placement)
+same_image_fault options link f g (inr (inr (inr (inr (inl x))))) (inr (inr (inr (inl y)))) = absurd (large_or_placement options link g x.rows x.layout x.tables y x.placement)
+same_image_fault options link f g (inr (inr (inr (inr (inl x))))) (inr (inr (inr (inr (inl y))))) = x.is ∙ sym y.is
+same_image_fault options link f g (inr (inr (inr (inr (inl x))))) (inr (inr (inr (inr (inr (inl y)))))) = absurd (base_or_inside options link f g x y)
+same_image_fault options link f g (inr (inr (inr (inr (inl x))))) (inr (inr (inr (inr (inr (inr (y))))))) = absurd (base_or_range options link f g x y)
+same_image_fault options link f g (inr (inr (inr (inr (inr (inl x)))))) (inl y) = absurd (merge_or options link g x.placement.sections y x.placement.grouped)
+same_image_fault options link f g (inr (inr (inr (inr (inr (inl x)))))) (inr (inl y)) = absurd (table_or options link g x.placement.sections y x.placement.grouped)
+same_image_fault options link f g (inr (inr (inr (inr (inr (inl x)))))) (inr (inr (inl y))) = absurd (many_or_placement options link g x.rows x.layout x.tables y x.placement)
+same_image_fault options link f g (inr (inr (inr (inr (inr (inl x)))))) (inr (inr (inr (inl y)))) = absurd (large_or_placement options link g x.rows x.layout x.tables y x.placement)
+same_image_fault options link f g (inr (inr (inr (inr (inr (inl x)))))) (inr (inr (inr (inr (inl y))))) = absurd (base_or_inside options link g f y x)
+same_image_fault options link f g (inr (inr (inr (inr (inr (inl x)))))) (inr (inr (inr (inr (inr (inl y)))))) = same_in_table options link f g x y
+same_image_fault options link f g (inr (inr (inr (inr (inr (inl x)))))) (inr (inr (inr (inr (inr (inr (y))))))) = absurd (inside_or options link f y.rows y.layout y.tables x y.placement y.outside)
+same_image_fault options link f g (inr (inr (inr (inr (inr (inr (x))))))) (inl y) = absurd (merge_or options link g x.placement.sections y x.placement.grouped)
+same_image_fault options link f g (inr (inr (inr (inr (inr (inr (x))))))) (inr (inl y)) = absurd (table_or options link g x.placement.sections y x.placement.grouped)
+same_image_fault options link f g (inr (inr (inr (inr (inr (inr (x))))))) (inr (inr (inl y))) = absurd (many_or_placement options link g x.rows x.layout x.tables y x.placement)
+same_image_fault options link f g (inr (inr (inr (inr (inr (inr (x))))))) (inr (inr (inr (inl y)))) = absurd (large_or_placement options link g x.rows x.layout x.tables y x.placement)
+same_image_fault options link f g (inr (inr (inr (inr (inr (inr (x))))))) (inr (inr (inr (inr (inl y))))) = absurd (base_or_range options link g f y x)
+same_image_fault options link f g (inr (inr (inr (inr (inr (inr (x))))))) (inr (inr (inr (inr (inr (inl y)))))) = absurd (inside_or options link g x.rows x.layout x.tables y x.placement x.outside)
+same_image_fault options link f g (inr (inr (inr (inr (inr (inr (x))))))) (inr (inr (inr (inr (inr (inr (y))))))) = same_range options link f g x y
 
 -- modules have a fault, or an image
-fault_or_image : (options : LinkOptions) (link : KeptParts) (f : Fault) (image : ImagePlan) → IsBuildFault options link f → IsImageOf options link image → ⊥
+fault_or_image : (options : LinkOptions) (link : KeptParts) (f : Fault) (image : ImagePlan) → IsImageFault options link f → IsImageOf options link image → ⊥
 fault_or_image options link f image (inl x) y = merge_or options link f y.placement.sections x y.placement.grouped
 fault_or_image options link f image (inr (inl x)) y = table_or options link f y.placement.sections x y.placement.grouped
 fault_or_image options link f image (inr (inr (inl x))) y = many_or_placement options link f y.rows y.layout y.tables x y.placement
@@ -284,8 +287,14 @@ fault_or_image options link f image (inr (inr (inr (inr (inr (inr (x))))))) y =
 
 -- ---- the plan
 
-same_image : (options : LinkOptions) (link : KeptParts) (a b : ImagePlan) → IsImageOf options link a → IsImageOf options link b → a ≡ b
-same_image options link a b x y =
+-- what is made of an image by its headers, its sections, their places, the RVAs of its pieces, its size and their contents
+abbrev MadeOf : Type 0 → Type 0
+MadeOf A = Headers → List SectionRow → List Placed → List ℕ → ℕ → (ℕ → List (List ℕ)) → A
+
+same_made : {A : Type 0} (made : MadeOf A) (options : LinkOptions) (link : KeptParts) (a b : ImagePlan) (x : IsImageOf options link a) (y : IsImageOf options link b)
+    → made (link_headers options link x.rows x.layout x.tables) x.rows x.layout.sections.items x.layout.pieces.items x.layout.image (image_contents link x.rows x.layout x.tables)
+    ≡ made (link_headers options link y.rows y.layout y.tables) y.rows y.layout.sections.items y.layout.pieces.items y.layout.image (image_contents link y.rows y.layout y.tables)
+same_made {A} made options link a b x y =
     let place = entry_place link.parts options.entry_name in
     let same = one_placement options link x.rows y.rows x.layout y.layout x.tables y.tables x.placement y.placement in
     let linked : linked_contents link x.rows x.layout ≡ linked_contents link y.rows y.layout =
@@ -297,16 +306,58 @@ same_image options link a b x y =
     (directories_by_places link x.rows x.layout y.layout x.tables (sym same.layouts.pieces) (sym same.layouts.sections)
     ∙ ap (λ (r : List SectionRow). directories_of link r y.layout x.tables) same.rows_same
     ∙ ap (directories_of link y.rows y.layout) same.tables_same) in
-    x.is
-    ∙ ap (λ (h : Headers). written_plan h x.rows x.layout.sections.items x.layout.pieces.items x.layout.image (image_contents link x.rows x.layout x.tables)) heads
-    ∙ ap (λ (cs : ℕ → List (List ℕ)). written_plan headers x.rows x.layout.sections.items x.layout.pieces.items x.layout.image (λ base. sorted_contents (pdata_pieces x.rows) (cs base) ++ x.tables)) linked
-    ∙ ap (λ (r : List SectionRow). written_plan headers x.rows x.layout.sections.items x.layout.pieces.items x.layout.image (λ base. sorted_contents (pdata_pieces r) (linked_contents link y.rows y.layout base) ++ x.tables)) same.rows_same
-    ∙ ap (λ (ts : List (List ℕ)). written_plan headers x.rows x.layout.sections.items x.layout.pieces.items x.layout.image (image_contents link y.rows y.layout ts)) same.tables_same
-    ∙ ap (λ (r : List SectionRow). written_plan headers r x.layout.sections.items x.layout.pieces.items x.layout.image (image_contents link y.rows y.layout y.tables)) same.rows_same
-    ∙ ap (λ (p : List Placed). written_plan headers y.rows p x.layout.pieces.items x.layout.image (image_contents link y.rows y.layout y.tables)) (sym same.layouts.sections)
-    ∙ ap (λ (r : List ℕ). written_plan headers y.rows y.layout.sections.items r x.layout.image (image_contents link y.rows y.layout y.tables)) (sym same.layouts.pieces)
-    ∙ ap (λ (n : ℕ). written_plan headers y.rows y.layout.sections.items y.layout.pieces.items n (image_contents link y.rows y.layout y.tables)) (sym same.layouts.image)
-    ∙ sym y.is
+    ap (λ (h : Headers). made h x.rows x.layout.sections.items x.layout.pieces.items x.layout.image (image_contents link x.rows x.layout x.tables)) heads
+    ∙ ap (λ (cs : ℕ → List (List ℕ)). made headers x.rows x.layout.sections.items x.layout.pieces.items x.layout.image (λ base. sorted_contents (pdata_pieces x.rows) (cs base) ++ x.tables)) linked
+    ∙ ap (λ (r : List SectionRow). made headers x.rows x.layout.sections.items x.layout.pieces.items x.layout.image (λ base. sorted_contents (pdata_pieces r) (linked_contents link y.rows y.layout base) ++ x.tables)) same.rows_same
+    ∙ ap (λ (ts : List (List ℕ)). made headers x.rows x.layout.sections.items x.layout.pieces.items x.layout.image (image_contents link y.rows y.layout ts)) same.tables_same
+    ∙ ap (λ (r : List SectionRow). made headers r x.layout.sections.items x.layout.pieces.items x.layout.image (image_contents link y.rows y.layout y.tables)) same.rows_same
+    ∙ ap (λ (p : List Placed). made headers y.rows p x.layout.pieces.items x.layout.image (image_contents link y.rows y.layout y.tables)) (sym same.layouts.sections)
+    ∙ ap (λ (r : List ℕ). made headers y.rows y.layout.sections.items r x.layout.image (image_contents link y.rows y.layout y.tables)) (sym same.layouts.pieces)
+    ∙ ap (λ (n : ℕ). made headers y.rows y.layout.sections.items y.layout.pieces.items n (image_contents link y.rows y.layout y.tables)) (sym same.layouts.image)
+
+-- the identifier, and the image that has it
+abbrev identifier_by : MadeOf (List ℕ)
+identifier_by h rows places rvas size contents = image_identifier (image_file (written_plan h rows places rvas size contents))
+
+abbrev image_by : KeptParts → MadeOf ImagePlan
+image_by link h rows places rvas size contents =
+    written_plan h rows places rvas size (λ base. identified link (identifier_by h rows places rvas size contents) (contents base))
+
+same_image : (options : LinkOptions) (link : KeptParts) (a b : ImagePlan) → IsImageOf options link a → IsImageOf options link b → a ≡ b
+same_image options link a b x y = x.is ∙ same_made (image_by link) options link a b x y ∙ sym y.is
+
+-- what its PDB has
+abbrev streams_by : LinkOptions → KeptParts → List ℕ → MadeOf (List (List ℕ))
+streams_by options link file h rows places rvas size contents =
+    image_streams (record { modules = link.parts.modules; pieces = plan_pieces options link; publics = link_publics link; sections = rows; places = places; rvas = rvas; size = size })
+    options.time (identifier_by h rows places rvas size contents) (section_headers_in file (length rows))
+
+pub same_streams : (options : LinkOptions) (link : KeptParts) (a b : ImagePlan) (x : IsImageOf options link a) (y : IsImageOf options link b) → link_streams options link x.rows x.layout x.tables (image_file a) ≡ link_streams options link y.rows y.layout y.tables (image_file b)
+unfolding streams_at
+same_streams options link a b x y =
+    ap (λ (image : ImagePlan). link_streams options link x.rows x.layout x.tables (image_file image)) (same_image options link a b x y)
+    ∙ same_made (streams_by options link (image_file b)) options link a b x y
+
+-- ---- one fault of all
+
+large_or_fits : (options : LinkOptions) (link : KeptParts) (f : Fault) (image : ImagePlan) (is : IsImageOf options link image) → HasLargePdb options link f → Fits options (link_streams options link is.rows is.layout is.tables (image_file image)) → ⊥
+large_or_fits options link f image is x fits =
+    let same = ap (λ (ss : List (List ℕ)). file_size (map length ss)) (same_streams options link x.image image x.is_image is) in
+    omega (arith, same, x.is.large, fits x.is.asked)
+
+same_fault : (options : LinkOptions) (link : KeptParts) (f g : Fault) → IsBuildFault options link f → IsBuildFault options link g → f ≡ g
+same_fault options link f g (inl x) (inl y) = same_image_fault options link f g x y
+same_fault options link f g (inl x) (inr y) = absurd (fault_or_image options link f y.image x y.is_image)
+same_fault options link f g (inr x) (inl y) = absurd (fault_or_image options link g x.image y x.is_image)
+same_fault options link f g (inr x) (inr y) =
+    x.is.is
+    ∙ ap (λ (ss : List (List ℕ)). faults.PdbTooLarge (file_size (map length ss))) (same_streams options link x.image y.image x.is_image y.is_image)
+    ∙ sym y.is.is
+
+-- modules have a fault, or a plan
+fault_or_plan : (options : LinkOptions) (modules : List ModuleView) (link : KeptParts) (f : Fault) (plan : Plan) → IsBuildFault options link f → IsPlan options modules link plan → ⊥
+fault_or_plan options modules link f plan (inl x) y = fault_or_image options link f plan.image x y.image_is
+fault_or_plan options modules link f plan (inr x) y = large_or_fits options link f plan.image y.image_is x y.pdb_fits
 
 -- the map of a layout, by its lists
 abbrev map_at : LinkOptions → KeptParts → List SectionRow → List Placed → List ℕ → ℕ → List ℕ
@@ -326,24 +377,26 @@ one_map options link a b x y =
     let same = one_placement options link x.rows y.rows x.layout y.layout x.tables y.tables x.placement y.placement in
     same_map options link x.rows y.rows x.layout y.layout same.rows_same same.layouts
 
-plan_from : LinkOptions → List ModuleView → ImagePlan → List ℕ → Plan
-plan_from options modules image text = record { options = options; modules = modules; image = image; map = text }
+plan_from : LinkOptions → List ModuleView → ImagePlan → List ℕ → List ℕ → Plan
+plan_from options modules image text pdb = record { options = options; modules = modules; image = image; map = text; pdb = pdb }
 
-same_parts : (p q : Plan) → p.options ≡ q.options → p.modules ≡ q.modules → p.image ≡ q.image → p.map ≡ q.map → p ≡ q
+same_parts : (p q : Plan) → p.options ≡ q.options → p.modules ≡ q.modules → p.image ≡ q.image → p.map ≡ q.map → p.pdb ≡ q.pdb → p ≡ q
 unfolding plan_from
-same_parts p q options modules image text =
-    let start : p ≡ plan_from p.options p.modules p.image p.map = refl in
-    let end : q ≡ plan_from q.options q.modules q.image q.map = refl in
+same_parts p q options modules image text pdb =
+    let start : p ≡ plan_from p.options p.modules p.image p.map p.pdb = refl in
+    let end : q ≡ plan_from q.options q.modules q.image q.map q.pdb = refl in
     start
-    ∙ ap (λ (o : LinkOptions). plan_from o p.modules p.image p.map) options
-    ∙ ap (λ (m : List ModuleView). plan_from q.options m p.image p.map) modules
-    ∙ ap (λ (i : ImagePlan). plan_from q.options q.modules i p.map) image
-    ∙ ap (plan_from q.options q.modules q.image) text
+    ∙ ap (λ (o : LinkOptions). plan_from o p.modules p.image p.map p.pdb) options
+    ∙ ap (λ (m : List ModuleView). plan_from q.options m p.image p.map p.pdb) modules
+    ∙ ap (λ (i : ImagePlan). plan_from q.options q.modules i p.map p.pdb) image
+    ∙ ap (λ (t : List ℕ). plan_from q.options q.modules q.image t p.pdb) text
+    ∙ ap (plan_from q.options q.modules q.image q.map) pdb
     ∙ sym end
 
 same_plan : (options : LinkOptions) (modules : List ModuleView) (link : KeptParts) (p q : Plan) → IsPlan options modules link p → IsPlan options modules link q → p ≡ q
 same_plan options modules link p q x y =
     same_parts p q (x.options_are ∙ sym y.options_are) (x.modules_are ∙ sym y.modules_are) (same_image options link p.image q.image x.image_is y.image_is) (x.map_is ∙ one_map options link p.image q.image x.image_is y.image_is ∙ sym y.map_is)
+    (x.pdb_is ∙ ap msf_of (same_streams options link p.image q.image x.image_is y.image_is) ∙ sym y.pdb_is)
 
 -- ---- what is kept
 
@@ -365,12 +418,12 @@ same_later : (options : LinkOptions) (modules : List ModuleView) (link : KeptPar
 same_later options modules link (Usage index kind) b x y = absurd x
 same_later options modules link (Refused f) (Usage index kind) x y = absurd y
 same_later options modules link (Refused f) (Refused g) x y = ap (λ (h : Fault). Refused h) (same_fault options link f g x y)
-same_later options modules link (Refused f) (Linked q) x y = absurd (fault_or_image options link f q.image x y.image_is)
+same_later options modules link (Refused f) (Linked q) x y = absurd (fault_or_plan options modules link f q x y)
 same_later options modules link (Refused f) (Shown line) x y = absurd y
 same_later options modules link (Shown line) b x y = absurd x
 same_later options modules link (Linked p) (Shown line) x y = absurd y
 same_later options modules link (Linked p) (Usage index kind) x y = absurd y
-same_later options modules link (Linked p) (Refused g) x y = absurd (fault_or_image options link g p.image y x.image_is)
+same_later options modules link (Linked p) (Refused g) x y = absurd (fault_or_plan options modules link g p y x)
 same_later options modules link (Linked p) (Linked q) x y = ap (λ (r : Plan). Linked r) (same_plan options modules link p q x y)
 
 same_built : (options : LinkOptions) (modules : List ModuleView) (a b : Outcome) → BuildOutcome options modules a → BuildOutcome options modules b → a ≡ b
@@ -395,10 +448,6 @@ same_link options store a b (AtModules modules loads has) (AtModules others load
     same_modules options modules a b has
     (subst (λ (ms : List ModuleView). ModulesOutcome options ms b) (sym (one_loading store options modules others loads loads_too)) has_too)
 
-same_asked : (asks : Bool) (options : LinkOptions) (store : Store) (a b : Outcome) → AskedOutcome asks options store a → AskedOutcome asks options store b → a ≡ b
-same_asked true options store a b x y = x ∙ sym y
-same_asked false options store a b x y = same_link options store a b x y
-
 -- a generated program
 same_shown : (options : LinkOptions) (count : ℕ) (a b : Outcome) → LinkShown options count a → LinkShown options count b → a ≡ b
 same_shown options count a b x y = x.is ∙ ap (generated_shown count) (same_link options (generated_files count) x.link y.link x.linked y.linked) ∙ sym y.is
@@ -411,7 +460,7 @@ same_gen (Ok (Show image pdb base symbol len)) count a b x y = absurd x
 same_gen (Ok (Gen n)) count a b x y = absurd x
 
 same_command : (command : CommandSaid) (store : Store) (a b : Outcome) → CommandOutcome command store a → CommandOutcome command store b → a ≡ b
-same_command (Link options) store a b x y = same_asked (is_unbuilt_link options) options store a b x y
+same_command (Link options) store a b x y = same_link options store a b x y
 same_command (At image base rva len) store a b x y = x ∙ sym y
 same_command (Show image pdb base symbol len) store a b x y = x ∙ sym y
 same_command (Gen count) store a b x y = same_gen (words_say (generated_words count)) count a b x y

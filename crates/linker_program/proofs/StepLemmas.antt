@@ -1,6 +1,6 @@
 -- From what the steps of a run promise to what the run promises.
-use Rattle.std.proofs.Common.{◌≡◌, ℕ, List, [], ◌∷◌, ◌++◌, length, Option, option_map, Result, Ok, Err, refl, sym, ap, ◌∙◌, ◌⊎◌, subst, inl, inr}
-use Rattle.std.specs.Prelude.{IfOk, OnErr, Some, None, false, codes}
+use Rattle.std.proofs.Common.{◌≡◌, ℕ, Bool, true, cond, List, [], ◌∷◌, ◌++◌, length, Option, option_map, Result, Ok, Err, refl, sym, ap, ◌∙◌, ◌⊎◌, subst, inl, inr}
+use Rattle.std.specs.Prelude.{IfOk, OnErr, Some, None, false}
 use Rattle.std.specs.declared.vec.Vec.{Vec}
 use Rattle.link_base.specs.declared.fault.Fault.{Fault}
 use Rattle.link_base.specs.declared.memory.Memory.{Memory}
@@ -25,7 +25,10 @@ use Rattle.link_plan.specs.Planning.{GivesPlan, JoinsBadly, FaultsPlan}
 use Rattle.link_image.specs.declared.make.Built.{Built}
 use Rattle.link_image.specs.LinkedImage.{IsImageOf, HoldsImports, HoldsExports}
 use Rattle.link_image.specs.BuiltImage.{IsBuilt}
+use Rattle.image_writer.specs.ExpectedImage.{image_file}
+use Rattle.pdb_msf.specs.WrittenFile.{msf_of}
 use Rattle.link_image.specs.LinkMap.{link_map}
+use Rattle.link_image.specs.LinkPdb.{link_streams}
 use Rattle.link_image.proofs.PlaceLemmas.{imports_by_places, exports_by_places}
 use Rattle.link_image.proofs.OnePlacement.{one_placement}
 use Rattle.link_image.specs.BuildFaults.{RefusesBuild}
@@ -34,11 +37,10 @@ use Rattle.linker_program.specs.declared.linked.Linked.{Linked as LinkedBytes}
 use Rattle.linker_program.specs.declared.status.Status.{Status}
 use Rattle.linker_program.specs.declared.status.Status.TheVariants as status
 use Rattle.linker_program.specs.Ending.{Outcome, Usage, Refused, Linked, Plan}
-use Rattle.linker_program.proofs.OutcomeLemmas.{one_link, same_map}
-use Rattle.linker_program.specs.Outcome.{IsPlan, BuildOutcome, LinkOutcome, AtLoading, AtModules, unbuilt, CommandOutcome, HasOutcome}
-use Rattle.linker_program.specs.Unbuilt.{is_unbuilt_link}
+use Rattle.linker_program.proofs.OutcomeLemmas.{one_link, same_map, same_streams}
+use Rattle.linker_program.specs.Outcome.{IsPlan, BuildOutcome, LinkOutcome, AtLoading, AtModules, HasOutcome}
 use Rattle.linker_program.specs.RunLines.{write_failure_line}
-use Rattle.linker_program.specs.LinkRun.{map_outputs, outputs_of, Expects, IsMade, LinkTries, ImageTries, PairTries, NothingTried, LinkAnswers, ShowAnswers, CommandAnswers, LeftByMemory, Answers}
+use Rattle.linker_program.specs.LinkRun.{asked_output, pdb_name, outputs_of, Expects, IsMade, LinkTries, ImageTries, PairTries, NothingTried, LinkAnswers, ShowAnswers, CommandAnswers, LeftByMemory, Answers}
 use Rattle.linker_program.specs.Steps.{Refuses, RefusesWords, TellsReadFailure, ModulesHave, IsLinked, RefusesModules, AnswersWrite, LeftByWrites}
 use Rattle.linker_program.specs.WriteSteps.{linked_outputs, linked_summary}
 
@@ -75,6 +77,7 @@ made_later has later files plan image follows made = record {
   imports = made.imports;
   exports = made.exports;
   map = made.map;
+  pdb = made.pdb;
 }
 
 answers_later : (has later : Store → Outcome → Type 0) (tries : Option Store → List ℕ → Type 0) (before after : FilesView) (answer : Status) (line : List ℕ) → Follows has later before → LinkAnswers has tries before after answer line → LinkAnswers later tries before after answer line
@@ -117,13 +120,13 @@ if_refused (Err error) has tries before after fault kept expects refuses = tt
 
 -- ---- outputs that are written
 
-written_answers : (options : LinkOptions) (modules : List ModuleView) (tries : Option Store → List ℕ → Type 0) (before after : FilesView) (linked : LinkedBytes) (answer : Status) (line : List ℕ) → IsLinked options modules linked → AnswersWrite before after (linked_outputs options.out options.map_file linked) (linked_summary options.out linked) answer line → LinkAnswers (ModulesHave options modules) tries before after answer line
+written_answers : (options : LinkOptions) (modules : List ModuleView) (tries : Option Store → List ℕ → Type 0) (before after : FilesView) (linked : LinkedBytes) (answer : Status) (line : List ℕ) → IsLinked options modules linked → AnswersWrite before after (linked_outputs options linked) (linked_summary options.out linked) answer line → LinkAnswers (ModulesHave options modules) tries before after answer line
 written_answers options modules tries before after linked status.Done line is wrote = (
   is.plan,
   (
     linked.image.items,
     record {
-      made = record { outcome = record { told = λ store told. is.outcome }; means = is.means; imports = is.imports; exports = is.exports; map = is.map };
+      made = record { outcome = record { told = λ store told. is.outcome }; means = is.means; imports = is.imports; exports = is.exports; map = is.map; pdb = is.pdb };
       files = subst (λ (outputs : List NamedBytes). FirstWritten before after outputs (length outputs)) is.outputs wrote.files;
       says = rw (is.asked, ← is.modules_are, ← is.sections_are) wrote.says;
     },
@@ -136,7 +139,7 @@ written_answers options modules tries before after linked status.WriteFailed lin
     (
       wrote.0,
       record {
-        made = record { outcome = record { told = λ store told. is.outcome }; means = is.means; imports = is.imports; exports = is.exports; map = is.map };
+        made = record { outcome = record { told = λ store told. is.outcome }; means = is.means; imports = is.imports; exports = is.exports; map = is.map; pdb = is.pdb };
         files = subst (λ (outputs : List NamedBytes). NextTorn before after outputs wrote.0) is.outputs wrote.1.files;
         says = subst (λ (outputs : List NamedBytes). line ≡ write_failure_line (output_at outputs wrote.0).name) is.outputs wrote.1.says;
       },
@@ -150,13 +153,13 @@ written_answers options modules tries before after linked status.ReadFailed line
 written_answers options modules tries before after linked status.PutFailed line is none = absurd none
 
 pub if_written : (r : Result Answer Memory) (options : LinkOptions) (modules : List ModuleView) (tries : Option Store → List ℕ → Type 0) (before after : FilesView) (linked : LinkedBytes) → IsLinked options modules linked
-    → IfOk r (λ answer. AnswersWrite before after (linked_outputs options.out options.map_file linked) (linked_summary options.out linked) answer.status answer.line.items)
+    → IfOk r (λ answer. AnswersWrite before after (linked_outputs options linked) (linked_summary options.out linked) answer.status answer.line.items)
     → IfOk r (λ answer. LinkAnswers (ModulesHave options modules) tries before after answer.status answer.line.items)
 if_written (Ok answer) options modules tries before after linked is wrote = written_answers options modules tries before after linked answer.status answer.line.items is wrote
 if_written (Err error) options modules tries before after linked is wrote = tt
 
 pub on_left : (r : Result Answer Memory) (options : LinkOptions) (modules : List ModuleView) (before after : FilesView) (linked : LinkedBytes) → IsLinked options modules linked
-    → OnErr r (LeftByWrites before after (linked_outputs options.out options.map_file linked))
+    → OnErr r (LeftByWrites before after (linked_outputs options linked))
     → OnErr r (LeftByMemory (ModulesHave options modules) before after)
 on_left (Ok answer) options modules before after linked is left = tt
 on_left (Err error) options modules before after linked is left = elim left [
@@ -166,7 +169,7 @@ on_left (Err error) options modules before after linked is left = elim left [
     (
       linked.image.items,
       record {
-        made = record { outcome = record { told = λ store told. is.outcome }; means = is.means; imports = is.imports; exports = is.exports; map = is.map };
+        made = record { outcome = record { told = λ store told. is.outcome }; means = is.means; imports = is.imports; exports = is.exports; map = is.map; pdb = is.pdb };
         count = some.0;
         files = subst (λ (outputs : List NamedBytes). FirstWritten before after outputs some.0 ⊎ NextTorn before after outputs some.0) is.outputs some.1;
       },
@@ -237,16 +240,20 @@ refused_build options modules link (refusal.Fault fault) link_is planned is =
     rw planned outcome
 refused_build options modules link refusal.Memory link_is planned is = tt
 
--- a text that is there where it is asked for
-written_map : (file : Option (List ℕ)) (text : List ℕ) → map_outputs file (option_map (λ name. text) file) ≡ map_outputs file (Some text)
+-- bytes that are there where they are asked for
+written_map : (file : Option (List ℕ)) (text : List ℕ) → asked_output file (option_map (λ name. text) file) ≡ asked_output file (Some text)
 written_map None text = refl
 written_map (Some name) text = refl
 
+written_pdb : (asked : Bool) (name bytes : List ℕ) → asked_output (cond asked (Some name) None) (cond asked (Some bytes) None) ≡ asked_output (cond asked (Some name) None) (Some bytes)
+written_pdb true name bytes = refl
+written_pdb false name bytes = refl
+
 -- an image that is made
-pub linked : (options : LinkOptions) (modules : List ModuleView) (link : KeptParts) (built : Built) (made : LinkedBytes) → IsLinkOf options modules link → plan_fault options (link_parts options modules) ≡ None → IsBuilt options link built → made.image ≡ built.image → made.map ≡ built.map → made.sections ≡ built.sections → made.modules ≡ length modules → IsLinked options modules made
-linked options modules link built made link_is planned is image map_same sections count =
-    let plan : Plan = record { options = options; modules = modules; image = is.image; map = text } in
-    let made_plan : IsPlan options modules link plan = record { options_are = refl; modules_are = refl; image_is = is.is_image; map_is = refl } in
+pub linked : (options : LinkOptions) (modules : List ModuleView) (link : KeptParts) (built : Built) (made : LinkedBytes) → IsLinkOf options modules link → plan_fault options (link_parts options modules) ≡ None → IsBuilt options link built → made.image ≡ built.image → made.map ≡ built.map → made.pdb ≡ built.pdb → made.sections ≡ built.sections → made.modules ≡ length modules → IsLinked options modules made
+linked options modules link built made link_is planned is image map_same pdb_same sections count =
+    let plan : Plan = record { options = options; modules = modules; image = is.image; map = text; pdb = database } in
+    let made_plan : IsPlan options modules link plan = record { options_are = refl; modules_are = refl; image_is = is.is_image; map_is = refl; pdb_is = refl; pdb_fits = is.pdb_fits } in
     let outcome : BuildOutcome options modules (Linked plan) = record { link = link; link_is = link_is; is = made_plan } in
     record {
       plan = plan;
@@ -256,10 +263,15 @@ linked options modules link built made link_is planned is image map_same section
       imports = λ other other_is. by_imports other (one_link options modules link other link_is other_is);
       exports = λ other other_is. by_exports other (one_link options modules link other link_is other_is);
       map = λ other other_is. by_map other (one_link options modules link other link_is other_is);
+      pdb = λ other other_is. by_pdb other (one_link options modules link other link_is other_is);
       outputs =
-          ap (λ (maps : List NamedBytes). maps ++ record { name = options.out; bytes = made.image.items } ∷ [])
-          (ap (λ (it : Option (Vec ℕ _)). map_outputs options.map_file (option_map (λ t. t.items) it)) map_same
-          ∙ ap (map_outputs options.map_file) is.map_is
+          ap (λ (pdbs : List NamedBytes). pdbs ++ (asked_output options.map_file (option_map (λ t. t.items) made.map) ++ record { name = options.out; bytes = made.image.items } ∷ []))
+          (ap (λ (it : Option (Vec ℕ _)). asked_output (pdb_name options) (option_map (λ t. t.items) it)) pdb_same
+          ∙ ap (asked_output (pdb_name options)) is.pdb_is
+          ∙ written_pdb options.debug options.pdb database)
+          ∙ ap (λ (maps : List NamedBytes). asked_output (pdb_name options) (Some database) ++ (maps ++ record { name = options.out; bytes = made.image.items } ∷ []))
+          (ap (λ (it : Option (Vec ℕ _)). asked_output options.map_file (option_map (λ t. t.items) it)) map_same
+          ∙ ap (asked_output options.map_file) is.map_is
           ∙ written_map options.map_file text);
       modules_are = count;
       sections_are = sections ∙ is.count;
@@ -267,6 +279,15 @@ linked options modules link built made link_is planned is image map_same section
   where
     text : List ℕ
     text = link_map options link is.is_image.rows is.is_image.layout
+
+    database : List ℕ
+    database = msf_of (link_streams options link is.is_image.rows is.is_image.layout is.is_image.tables (image_file is.image))
+
+    own_pdb : (other : IsImageOf options link is.image) → database ≡ msf_of (link_streams options link other.rows other.layout other.tables (image_file is.image))
+    own_pdb other = ap msf_of (same_streams options link is.image is.image is.is_image other)
+
+    by_pdb : (other : KeptParts) → link ≡ other → (it : IsImageOf options other is.image) → database ≡ msf_of (link_streams options other it.rows it.layout it.tables (image_file is.image))
+    by_pdb other same = subst (λ (l : KeptParts). (it : IsImageOf options l is.image) → database ≡ msf_of (link_streams options l it.rows it.layout it.tables (image_file is.image))) same own_pdb
 
     own_map : (other : IsImageOf options link is.image) → text ≡ link_map options link other.rows other.layout
     own_map other =
@@ -309,19 +330,10 @@ link_answers words options before after status.Usage line said h = absurd h
 link_answers words options before after status.OutOfMemory line said h = absurd h
 link_answers words options before after status.PutFailed line said h = absurd h
 
--- words that ask for what is not built
-unbuilt_outcome : (words : List (List ℕ)) (store : Store) (command : CommandSaid) → words_say words ≡ Ok command → CommandOutcome command store unbuilt → HasOutcome words store unbuilt
-unbuilt_outcome words store command said is = record { is = rw said is }
-
 pub usage_answers : (words : List (List ℕ)) (files : FilesView) (index : ℕ) (kind : List ℕ) (answer : Answer) → ((store : Store) → HasOutcome words store (Usage index kind)) → RefusesWords answer index kind → Answers words files files answer.status answer.line.items
 usage_answers words files index kind answer has refuses =
     subst (λ (s : Status). Answers words files files s answer.line.items) (sym refuses.status)
     (index, (kind, record { outcome = has; files = untouched files; says = refuses.line }))
-
-pub if_unbuilt : (r : Result Answer Memory) (words : List (List ℕ)) (files : FilesView) (command : CommandSaid) → words_say words ≡ Ok command → ((store : Store) → CommandOutcome command store unbuilt) → IfOk r (λ answer. RefusesWords answer 0 (codes "NotBuilt")) → IfOk r (λ answer. Answers words files files answer.status answer.line.items)
-if_unbuilt (Ok answer) words files command said is refuses =
-    usage_answers words files 0 (codes "NotBuilt") answer (λ store. unbuilt_outcome words store command said (is store)) refuses
-if_unbuilt (Err error) words files command said is refuses = tt
 
 -- words that are refused
 pub if_words_refused : (r : Result Answer Memory) (words : List (List ℕ)) (files : FilesView) (index : ℕ) (kind : UsageKind) → words_say words ≡ Err (refuse index kind) → IfOk r (λ answer. RefusesWords answer index (usage_word kind)) → IfOk r (λ answer. Answers words files files answer.status answer.line.items)
@@ -329,24 +341,24 @@ if_words_refused (Ok answer) words files index kind said refuses =
     usage_answers words files index (usage_word kind) answer (λ store. record { is = rw said refl }) refuses
 if_words_refused (Err error) words files index kind said refuses = tt
 
--- the link that the words ask for, where all of it is built
-asked_follows : (words : List (List ℕ)) (files : FilesView) (options : LinkOptions) → words_say words ≡ Ok (Link options) → is_unbuilt_link options ≡ false → Follows (LinkOutcome options) (HasOutcome words) files
-asked_follows words files options said built = λ store told outcome has. record { is = rw (said, built) has }
+-- the link that the words ask for
+asked_follows : (words : List (List ℕ)) (files : FilesView) (options : LinkOptions) → words_say words ≡ Ok (Link options) → Follows (LinkOutcome options) (HasOutcome words) files
+asked_follows words files options said = λ store told outcome has. record { is = rw said has }
 
-pub if_linked : (r : Result Answer Memory) (words : List (List ℕ)) (before after : FilesView) (options : LinkOptions) → words_say words ≡ Ok (Link options) → is_unbuilt_link options ≡ false
+pub if_linked : (r : Result Answer Memory) (words : List (List ℕ)) (before after : FilesView) (options : LinkOptions) → words_say words ≡ Ok (Link options)
     → IfOk r (λ answer. LinkAnswers (LinkOutcome options) (LinkTries options) before after answer.status answer.line.items)
     → IfOk r (λ answer. Answers words before after answer.status answer.line.items)
-if_linked (Ok answer) words before after options said built h =
+if_linked (Ok answer) words before after options said h =
     link_answers words options before after answer.status answer.line.items said
-    (answers_later (LinkOutcome options) (HasOutcome words) (LinkTries options) before after answer.status answer.line.items (asked_follows words before options said built) h)
-if_linked (Err error) words before after options said built h = tt
+    (answers_later (LinkOutcome options) (HasOutcome words) (LinkTries options) before after answer.status answer.line.items (asked_follows words before options said) h)
+if_linked (Err error) words before after options said h = tt
 
-pub on_linked : (r : Result Answer Memory) (words : List (List ℕ)) (before after : FilesView) (options : LinkOptions) → words_say words ≡ Ok (Link options) → is_unbuilt_link options ≡ false
+pub on_linked : (r : Result Answer Memory) (words : List (List ℕ)) (before after : FilesView) (options : LinkOptions) → words_say words ≡ Ok (Link options)
     → OnErr r (LeftByMemory (LinkOutcome options) before after)
     → OnErr r (LeftByMemory (HasOutcome words) before after)
-on_linked (Ok answer) words before after options said built h = tt
-on_linked (Err error) words before after options said built h =
-    left_later (LinkOutcome options) (HasOutcome words) before after (asked_follows words before options said built) h
+on_linked (Ok answer) words before after options said h = tt
+on_linked (Err error) words before after options said h =
+    left_later (LinkOutcome options) (HasOutcome words) before after (asked_follows words before options said) h
 
 -- what an answer left, where memory ran out before its line was printed
 left_by_link : (has : Store → Outcome → Type 0) (tries : Option Store → List ℕ → Type 0) (before after : FilesView) (answer : Status) (line : List ℕ) → LinkAnswers has tries before after answer line → LeftByMemory has before after

@@ -50,7 +50,6 @@ use Rattle.symbol_table.specs.OpenNames.{is_provided}
 use Rattle.lib_search.specs.Inputs.{modules_among, opening_fault}
 use Rattle.lib_search.specs.SearchSteps.{wants_library, next_member, member_by_reference, member_by_alternate, first_listing}
 use Rattle.lib_search.specs.Loading.{inputs_state}
-use Rattle.linker_program.specs.Unbuilt.{is_unbuilt_link}
 
 file_header : List ℕ
 file_header =
@@ -89,10 +88,6 @@ asked = refl
 entry_asked : options.entry_name ≡ Some (codes "main")
 unfolding settings options_of word_says known is_word is_text
 entry_asked = refl
-
-built : is_unbuilt_link options ≡ false
-unfolding is_unbuilt_link settings options_of word_says known is_word is_text default_entry with_extension stem
-built = refl
 
 -- the modules that join
 modules : List ModuleView

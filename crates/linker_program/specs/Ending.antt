@@ -5,13 +5,14 @@ use Rattle.image_writer.specs.ExpectedImage.{ImagePlan}
 use Rattle.module_view.specs.Module.{ModuleView}
 use Rattle.link_words.specs.Outcome.{LinkOptions}
 
--- what is linked, and of what it is made: the options, and the modules in the order of joining; and the text of its map, whether
--- one is asked for or not
+-- what is linked, and of what it is made: the options, and the modules in the order of joining; and the text of its map and the
+-- file of its PDB, whether they are asked for or not
 pub record Plan : Type 0 where
   pub options : LinkOptions
   pub modules : List ModuleView
   pub image : ImagePlan
   pub map : List ℕ
+  pub pdb : List ℕ
 
 pub data Outcome : Type 0 where
   -- the words are refused: the index of the word and the kind of the refusal

@@ -1,5 +1,4 @@
 pub mod Outcome
-pub mod Unbuilt
 pub mod RunLines
 pub mod LinkRun
 pub mod Steps

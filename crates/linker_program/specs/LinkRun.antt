@@ -1,13 +1,13 @@
 -- What a run of the linker promises, by the status that it ends with: what is printed, what the files hold
 -- afterwards, and where each status comes from. Own.
-use Rattle.std.specs.Prelude.{◌≡◌, ℕ, List, [], ◌∷◌, ◌++◌, length, Option, Some, None, Result, Ok, Err, ◌⊎◌}
+use Rattle.std.specs.Prelude.{◌≡◌, ℕ, if◌then◌else◌, List, [], ◌∷◌, ◌++◌, length, Option, Some, None, Result, Ok, Err, ◌⊎◌}
 use Rattle.std.specs.Option.{ForSome}
 use Rattle.link_base.specs.declared.fault.Fault.{Fault}
 use Rattle.diagnostics.specs.FaultLine.{fault_line_text}
 use Rattle.link_files.specs.Store.{Store}
 use Rattle.link_files.specs.Outside.{FilesView, SinkView, AreUntouched, ReadFailed, LinePrinted, LineTorn, NothingPrinted}
 use Rattle.link_files.specs.Outputs.{NamedBytes, output_at, FirstWritten, NextTorn}
-use Rattle.image_writer.specs.ExpectedImage.{MeansPlan}
+use Rattle.image_writer.specs.ExpectedImage.{MeansPlan, image_file}
 use Rattle.link_words.specs.Outcome.{Refused as RefusedWord}
 use Rattle.link_words.specs.Outcome.{LinkOptions, CommandSaid, Link, At, Show, Gen}
 use Rattle.link_words.specs.Commands.{words_say}
@@ -16,7 +16,9 @@ use Rattle.lib_search.specs.Loading.{TriesDefault}
 use Rattle.link_pieces.specs.TablePieces.{KeptParts}
 use Rattle.link_plan.specs.Plan.{IsLinkOf}
 use Rattle.link_image.specs.LinkedImage.{IsImageOf, HoldsImports, HoldsExports}
+use Rattle.pdb_msf.specs.WrittenFile.{msf_of}
 use Rattle.link_image.specs.LinkMap.{link_map}
+use Rattle.link_image.specs.LinkPdb.{link_streams}
 use Rattle.linker_program.specs.declared.status.Status.{Status}
 use Rattle.linker_program.specs.declared.status.Status.TheVariants as status
 use Rattle.linker_program.specs.Ending.{Outcome, Usage, Refused, Linked, Shown, Plan}
@@ -34,16 +36,21 @@ status_code status.PutFailed = 6
 
 -- ---- what a link leaves; `has` is the outcome that it has, by the files
 
--- a map of a name and a text, where there are both
-abbrev pub map_outputs : Option (List ℕ) → Option (List ℕ) → List NamedBytes
-map_outputs None text = []
-map_outputs (Some name) None = []
-map_outputs (Some name) (Some text) = record { name = name; bytes = text } ∷ []
+-- an output of a name and bytes, where there are both
+abbrev pub asked_output : Option (List ℕ) → Option (List ℕ) → List NamedBytes
+asked_output None bytes = []
+asked_output (Some name) None = []
+asked_output (Some name) (Some bytes) = record { name = name; bytes = bytes } ∷ []
 
--- the outputs of a link that is done, in the order of their writes: the map, where one is asked for, and the image
+-- the name of the PDB, where one is asked for
+abbrev pub pdb_name : LinkOptions → Option (List ℕ)
+pdb_name options = if options.debug then Some options.pdb else None
+
+-- the outputs of a link that is done, in the order of their writes: the PDB and the map, where they are asked for, and the image
 abbrev pub outputs_of : Plan → List ℕ → List NamedBytes
 outputs_of plan image =
-    map_outputs plan.options.map_file (Some plan.map) ++ record { name = plan.options.out; bytes = image } ∷ []
+    asked_output (pdb_name plan.options) (Some plan.pdb)
+    ++ (asked_output plan.options.map_file (Some plan.map) ++ record { name = plan.options.out; bytes = image } ∷ [])
 
 -- where the files are known, the link has this outcome
 pub record Expects (has : Store → Outcome → Type 0) (files : FilesView) (outcome : Outcome) : Type 0 where
@@ -65,13 +72,20 @@ abbrev pub HasMap : Plan → Type 0
 HasMap plan =
     (link : KeptParts) → IsLinkOf plan.options plan.modules link → (is : IsImageOf plan.options link plan.image) → plan.map ≡ link_map plan.options link is.rows is.layout
 
--- the plan is the outcome, the image means it and has the imports and exports, and the map is that of the image
+-- and the PDB does, with the identifier that the image has
+abbrev pub HasPdb : Plan → Type 0
+HasPdb plan =
+    (link : KeptParts) → IsLinkOf plan.options plan.modules link → (is : IsImageOf plan.options link plan.image)
+    → plan.pdb ≡ msf_of (link_streams plan.options link is.rows is.layout is.tables (image_file plan.image))
+
+-- the plan is the outcome, the image means it and has the imports and exports, and the map and the PDB are those of the image
 pub record IsMade (has : Store → Outcome → Type 0) (files : FilesView) (plan : Plan) (image : List ℕ) : Type 0 where
   pub outcome : Expects has files (Linked plan)
   pub means : MeansPlan plan.image image
   pub imports : HasImports plan image
   pub exports : HasExports plan image
   pub map : HasMap plan
+  pub pdb : HasPdb plan
 
 -- every output is whole
 pub record LinkDone (has : Store → Outcome → Type 0) (before after : FilesView) (plan : Plan) (image line : List ℕ) : Type 0 where
@@ -166,7 +180,7 @@ CommandAnswers (Ok (Show image pdb base symbol len)) has before after answer lin
 CommandAnswers (Ok (Gen count)) has before after answer line = ShowAnswers has NothingTried before after answer line
 CommandAnswers (Err word) has before after answer line = ⊥
 
--- the words are refused, or ask for what is not built
+-- the words are refused
 pub record WordsRefused (words : List (List ℕ)) (before after : FilesView) (index : ℕ) (kind line : List ℕ) : Type 0 where
   pub outcome : (store : Store) → HasOutcome words store (Usage index kind)
   pub files : AreUntouched before after

@@ -1,6 +1,6 @@
 -- The expected outcome of a run: what its words and files decide, stage by stage. The first stage that has a fault ends it,
 -- and where none has, the plan is linked. The order of the stages is own.
-use Rattle.std.specs.Prelude.{◌≡◌, ℕ, List, Option, Some, None, Result, Ok, Err, Bool, true, false, codes}
+use Rattle.std.specs.Prelude.{◌≡◌, ℕ, List, Option, Some, None, Result, Ok, Err}
 use Rattle.link_base.specs.declared.fault.Fault.{Fault}
 use Rattle.link_files.specs.Store.{Store}
 use Rattle.module_view.specs.Module.{ModuleView}
@@ -13,13 +13,15 @@ use Rattle.link_plan.specs.Plan.{link_parts, IsLinkOf}
 use Rattle.lib_search.specs.Loading.{HasLoadingFault, Loads}
 use Rattle.link_plan.specs.PlanFaults.{plan_fault}
 use Rattle.link_image.specs.LinkedImage.{IsImageOf}
+use Rattle.image_writer.specs.ExpectedImage.{image_file}
+use Rattle.pdb_msf.specs.WrittenFile.{msf_of}
 use Rattle.link_image.specs.LinkMap.{link_map}
+use Rattle.link_image.specs.LinkPdb.{link_streams, Fits}
 use Rattle.link_image.specs.BuildFaults.{IsBuildFault}
 use Rattle.generated_world.specs.GeneratedWorld.{generated_files, generated_words}
 use Rattle.linker_program.specs.Ending.{Plan, Outcome, Usage, Refused, Linked, Shown}
 use Rattle.linker_program.specs.Shown.{AtOutcome, ShowOutcome}
 use Rattle.linker_program.specs.Generated.{generated_shown}
-use Rattle.linker_program.specs.Unbuilt.{is_unbuilt_link}
 
 -- ---- the modules of a link
 
@@ -29,6 +31,8 @@ pub record IsPlan (options : LinkOptions) (modules : List ModuleView) (link : Ke
   pub modules_are : plan.modules ≡ modules
   pub image_is : IsImageOf options link plan.image
   pub map_is : plan.map ≡ link_map options link image_is.rows image_is.layout
+  pub pdb_is : plan.pdb ≡ msf_of (link_streams options link image_is.rows image_is.layout image_is.tables (image_file plan.image))
+  pub pdb_fits : Fits options (link_streams options link image_is.rows image_is.layout image_is.tables (image_file plan.image))
 
 -- modules that come to the tables have a fault there or later, or a plan
 abbrev pub KeptOutcome : LinkOptions → List ModuleView → KeptParts → Outcome → Type 0
@@ -60,14 +64,6 @@ pub data LinkOutcome (options : LinkOptions) (store : Store) (outcome : Outcome)
   AtLoading : (fault : Fault) → HasLoadingFault store options fault → outcome ≡ Refused fault → LinkOutcome options store outcome
   AtModules : (modules : List ModuleView) → Loads store options modules → ModulesOutcome options modules outcome → LinkOutcome options store outcome
 
-abbrev pub unbuilt : Outcome
-unbuilt = Usage 0 (codes "NotBuilt")
-
--- a link is carried out where all that it asks for is built
-abbrev pub AskedOutcome : Bool → LinkOptions → Store → Outcome → Type 0
-AskedOutcome true options store outcome = outcome ≡ unbuilt
-AskedOutcome false options store outcome = LinkOutcome options store outcome
-
 -- what a link of the files of a generated program comes to, as it is shown
 pub record LinkShown (options : LinkOptions) (count : ℕ) (outcome : Outcome) : Type 0 where
   pub link : Outcome
@@ -86,7 +82,7 @@ GenOutcome count outcome = GenSaid (words_say (generated_words count)) count out
 
 -- the outcome of a command
 abbrev pub CommandOutcome : CommandSaid → Store → Outcome → Type 0
-CommandOutcome (Link options) store outcome = AskedOutcome (is_unbuilt_link options) options store outcome
+CommandOutcome (Link options) store outcome = LinkOutcome options store outcome
 CommandOutcome (At image base rva len) store outcome = AtOutcome image base rva len store outcome
 CommandOutcome (Show image pdb base symbol len) store outcome = ShowOutcome image pdb base symbol len store outcome
 CommandOutcome (Gen count) store outcome = GenOutcome count outcome

@@ -17,7 +17,7 @@ use Rattle.linker_program.specs.declared.status.Status.TheVariants as status
 use Rattle.linker_program.specs.Ending.{Outcome, Refused, Linked, Plan}
 use Rattle.linker_program.specs.Outcome.{ModulesOutcome}
 use Rattle.linker_program.specs.RunLines.{usage_line, read_failure_line, write_failure_line}
-use Rattle.linker_program.specs.LinkRun.{NothingWritten, HasImports, HasExports, HasMap, outputs_of}
+use Rattle.linker_program.specs.LinkRun.{NothingWritten, HasImports, HasExports, HasMap, HasPdb, outputs_of}
 use Rattle.linker_program.specs.WriteSteps.{linked_outputs}
 
 -- ---- answers
@@ -52,7 +52,8 @@ pub record IsLinked (options : LinkOptions) (modules : List ModuleView) (linked 
   pub imports : HasImports plan linked.image.items
   pub exports : HasExports plan linked.image.items
   pub map : HasMap plan
-  pub outputs : linked_outputs options.out options.map_file linked ≡ outputs_of plan linked.image.items
+  pub pdb : HasPdb plan
+  pub outputs : linked_outputs options linked ≡ outputs_of plan linked.image.items
   pub modules_are : linked.modules ≡ length plan.modules
   pub sections_are : linked.sections ≡ length plan.image.rows
 

@@ -16,7 +16,6 @@ mod show_symbol;
 mod shown_file;
 mod status;
 mod sums;
-mod unbuilt;
 mod write;
 
 pub use laws::one_outcome;

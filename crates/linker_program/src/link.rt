@@ -1,4 +1,4 @@
-//! One link: its modules are read and joined, the image and its map are made, and the outputs are written.
+//! One link: its modules are read and joined, the image, its map and its PDB are made, and the outputs are written.
 
 ghost use Rattle.std.specs.Prelude.{◌≡◌, ◌<◌, ◌-◌, ◌^◌, IfOk, IfErr, OnErr};
 ghost use Rattle.link_files.specs.Outside.{files_of};
@@ -45,7 +45,7 @@ pub(crate) fn link<'a, F: Files>(
     }
 }
 
-/// Makes the image of a plan with its map, and writes what comes of it.
+/// Makes the image of a plan with its map and its PDB, and writes what comes of it.
 fn link_planned<'a, F: Files>(
     alloc: Global,
     files: &mut F,
@@ -69,7 +69,7 @@ fn link_planned<'a, F: Files>(
     }
 }
 
-/// Makes the image of a plan, with its map.
+/// Makes the image of a plan, with its map and its PDB.
 fn make<'a>(
     alloc: Global,
     options: &Options<'a>,
@@ -85,5 +85,6 @@ fn make<'a>(
         sections: built.sections,
         image: built.image,
         map: built.map,
+        pdb: built.pdb,
     })
 }

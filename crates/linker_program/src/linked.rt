@@ -11,4 +11,6 @@ pub struct Linked {
     pub image: Vec<u8>,
     /// The text of its map, where one is asked for.
     pub map: Option<Vec<u8>>,
+    /// The file of its PDB, where one is asked for.
+    pub pdb: Option<Vec<u8>>,
 }

@@ -11,7 +11,6 @@ use crate::link::link;
 use crate::show::show_at;
 use crate::show_symbol::show_symbol;
 use crate::status::Status;
-use crate::unbuilt::is_unbuilt_link;
 use bumpalo::Bump;
 use link_base::Memory;
 use link_files::{Files, PutError, Sink};
@@ -83,12 +82,7 @@ fn answer<'a, F: Files>(
         (files_of F.store F.read_faults F.write_faults files.new)) }
 {
     match read_words(alloc, words) {
-        Ok(Command::Link(options)) => {
-            if is_unbuilt_link(&options) {
-                return words_refused(alloc, 0, b"NotBuilt");
-            }
-            link(alloc, files, arena, &options)
-        }
+        Ok(Command::Link(options)) => link(alloc, files, arena, &options),
         Ok(
             Command::At {
                 image,

@@ -1,9 +1,11 @@
 //! The last step of a link: its outputs are written.
 
 ghost use Rattle.std.specs.Prelude.{◌≡◌, ◌<◌, ◌-◌, ◌^◌, ◌++◌, map, option_map, IfOk, OnOk, OnErr, string_bytes};
+ghost use Rattle.std.specs.Option.{option_copied};
 ghost use Rattle.link_files.specs.Outside.{files_of};
 ghost use Rattle.link_files.specs.Outputs.{named_bytes};
-ghost use Rattle.linker_program.specs.LinkRun.{map_outputs};
+ghost use Rattle.link_words.specs.Outcome.{options_said};
+ghost use Rattle.linker_program.specs.LinkRun.{asked_output, pdb_name};
 ghost use Rattle.linker_program.specs.Steps.{AnswersWrite, LeftByWrites};
 ghost use Rattle.linker_program.specs.WriteSteps.{linked_outputs, linked_summary};
 
@@ -28,12 +30,12 @@ pub(crate) fn write_linked<F: Files>(
     ensures written { IfOk result (λ answer. AnswersWrite
         (files_of F.store F.read_faults F.write_faults files.old)
         (files_of F.store F.read_faults F.write_faults files.new)
-        (linked_outputs (string_bytes options.now.out) (option_map string_bytes options.now.map) linked) (linked_summary (string_bytes options.now.out) linked)
+        (linked_outputs (options_said options.now) linked) (linked_summary (string_bytes options.now.out) linked)
         answer.status answer.line.items) }
     ensures memory { OnErr result (LeftByWrites
         (files_of F.store F.read_faults F.write_faults files.old)
         (files_of F.store F.read_faults F.write_faults files.new)
-        (linked_outputs (string_bytes options.now.out) (option_map string_bytes options.now.map) linked)) }
+        (linked_outputs (options_said options.now) linked)) }
 {
     let line = summary_line(
         alloc,
@@ -43,6 +45,7 @@ pub(crate) fn write_linked<F: Files>(
         linked.image.len() as u64,
     )?;
     let mut outputs = Vec::new(alloc);
+    push_pdb(&mut outputs, options, linked.pdb)?;
     push_map(&mut outputs, options, linked.map)?;
     outputs.push(Output {
         name: options.out.as_str(),
@@ -64,24 +67,54 @@ pub(crate) fn write_linked<F: Files>(
     }
 }
 
+/// Appends the PDB, where there is one and it is asked for.
+fn push_pdb<'w>(
+    outputs: &mut Vec<Output<'w>>,
+    options: &'w Options<'_>,
+    bytes: Option<Vec<u8>>,
+) -> Result<(), Memory>
+    ensures { OnOk result (map named_bytes outputs.new.items ≡ map named_bytes outputs.old.items
+        ++ asked_output (pdb_name (options_said options.now)) (option_map (λ bytes. bytes.items) bytes)) }
+{
+    let name = if options.debug {
+        Some(options.pdb.as_str())
+    } else {
+        None
+    };
+    push_asked(outputs, name, bytes)
+}
+
 /// Appends the map, where there is one and it is asked for.
 fn push_map<'w>(
     outputs: &mut Vec<Output<'w>>,
     options: &'w Options<'_>,
-    text: Option<Vec<u8>>,
+    bytes: Option<Vec<u8>>,
 ) -> Result<(), Memory>
     ensures { OnOk result (map named_bytes outputs.new.items ≡ map named_bytes outputs.old.items
-        ++ map_outputs (option_map string_bytes options.now.map) (option_map (λ text. text.items) text)) }
+        ++ asked_output (option_map string_bytes options.now.map) (option_map (λ bytes. bytes.items) bytes)) }
 {
-    let Some(name) = &options.map else {
+    let name = match &options.map {
+        Some(name) => Some(name.as_str()),
+        None => None,
+    };
+    push_asked(outputs, name, bytes)
+}
+
+/// Appends an output, where there are its name and its bytes.
+fn push_asked<'w>(
+    outputs: &mut Vec<Output<'w>>,
+    name: Option<&'w str>,
+    bytes: Option<Vec<u8>>,
+) -> Result<(), Memory>
+    ensures { OnOk result (map named_bytes outputs.new.items ≡ map named_bytes outputs.old.items
+        ++ asked_output (option_copied name.entry) (option_map (λ bytes. bytes.items) bytes)) }
+{
+    let Some(name) = name else {
         return Ok(());
     };
-    let Some(bytes) = text else {
+    let Some(bytes) = bytes else {
         return Ok(());
     };
-    outputs.push(Output {
-        name: name.as_str(),
-        bytes,
-    })?;
+    outputs.push(Output { name, bytes })?;
     Ok(())
 }

@@ -1,4 +1,4 @@
--- The sections that the linker makes itself for imports and exports, as pieces of a module behind all others (PE Format, "The .idata Section" and "The .edata Section (Image Only)";
+-- The sections that the linker makes itself for imports, exports and debuggers, as pieces of a module behind all others (PE Format, "The .idata Section", "The .edata Section (Image Only)" and "Debug Directory (Image Only)";
 -- the numbers of the pieces, and jumps and slots as pieces, are own).
 use Rattle.std.specs.Prelude.{ℕ, ◌+◌, Bool, true, false, ◌==◌, if◌then◌else◌, List, [], ◌∷◌, ◌++◌, replicate, slice_index_or, None, codes}
 use Rattle.link_base.specs.PeFormat.{SCN_CNT_CODE, SCN_CNT_INITIALIZED_DATA, SCN_MEM_EXECUTE, SCN_MEM_READ}
@@ -62,6 +62,23 @@ EXPORTS = 5
 -- without bytes it is not made
 unfoldable pub export_table_pieces : ℕ → ℕ → List Piece
 export_table_pieces position size = table_if position EXPORTS (codes ".edata") 4 size
+
+-- ---- the debug directory
+
+-- the number of its entry, and that of the data that the entry names
+abbrev pub DEBUG_ENTRY : ℕ
+DEBUG_ENTRY = 6
+
+abbrev pub DEBUG_DATA : ℕ
+DEBUG_DATA = 7
+
+-- the size of the entry, by that of the data; without data there is none
+abbrev pub entry_size : ℕ → ℕ
+entry_size size = if size == 0 then 0 else 28
+
+unfoldable pub debug_pieces : ℕ → ℕ → List Piece
+debug_pieces position size =
+    table_if position DEBUG_ENTRY (codes ".rdata") 4 (entry_size size) ++ table_if position DEBUG_DATA (codes ".rdata") 4 size
 
 -- the bytes of a table are not known before it has a place: until then it holds nothing
 abbrev pub no_bytes : Piece → List ℕ

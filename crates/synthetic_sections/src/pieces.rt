@@ -1,10 +1,10 @@
-//! The pieces that the linker makes for imports.
+//! The pieces that the linker makes for imports, exports and debuggers.
 
 ghost use Rattle.std.specs.Prelude.{◌≡◌, ◌<◌, ◌+◌, ◌^◌, ◌∷◌, ◌++◌, [], map, unwrap_or, OnOk};
 ghost use Rattle.std.specs.Option.{option_copied};
 ghost use Rattle.section_group.specs.BarePieces.{bare};
 ghost use Rattle.section_group.specs.PieceContents.{piece_contents};
-ghost use Rattle.synthetic_sections.specs.LinkerPieces.{made_piece, table_if, table_pieces, export_table_pieces, no_bytes, thunk_piece, thunk_bytes, slot_piece, slot_bytes};
+ghost use Rattle.synthetic_sections.specs.LinkerPieces.{made_piece, table_if, table_pieces, export_table_pieces, debug_pieces, no_bytes, thunk_piece, thunk_bytes, slot_piece, slot_bytes};
 
 use link_base::pe_format::{SCN_CNT_CODE, SCN_CNT_INITIALIZED_DATA, SCN_MEM_EXECUTE, SCN_MEM_READ};
 use link_base::{Memory, Name};
@@ -15,6 +15,15 @@ pub const SLOTS: u32 = 2;
 
 /// The number of the export table.
 pub const EXPORTS: u32 = 5;
+
+/// The number of the entry of the debug directory.
+pub const DEBUG_ENTRY: u32 = 6;
+
+/// The number of the data that the entry names.
+pub const DEBUG_DATA: u32 = 7;
+
+/// The size of the entry.
+const ENTRY_SIZE: u32 = 28;
 
 /// The number of the jump of the first module.
 pub const FIRST_THUNK: u32 = 16;
@@ -68,6 +77,22 @@ pub fn push_export_table(
     ensures contents { OnOk result (map piece_contents pieces.new.items ≡ map piece_contents pieces.old.items ++ map no_bytes (export_table_pieces position size)) }
 {
     push_table(pieces, position, EXPORTS, b".edata", 4, size)
+}
+
+/// Appends the debug directory, whose entry names data of this size, as pieces of the module at a position (PE Format, "Debug
+/// Directory (Image Only)"). Without data there is no entry. They hold nothing until they have places.
+#[tactic(auto, unfolding(crate::specs::LinkerPieces::debug_pieces))]
+pub fn push_debug_directory(
+    pieces: &mut Vec<Piece<'_>>,
+    position: u32,
+    size: u32,
+) -> Result<(), Memory>
+    ensures pieces { OnOk result (map bare pieces.new.items ≡ map bare pieces.old.items ++ debug_pieces position size) }
+    ensures contents { OnOk result (map piece_contents pieces.new.items ≡ map piece_contents pieces.old.items ++ map no_bytes (debug_pieces position size)) }
+{
+    let entry = if size == 0 { 0 } else { ENTRY_SIZE };
+    push_table(pieces, position, DEBUG_ENTRY, b".rdata", 4, entry)?;
+    push_table(pieces, position, DEBUG_DATA, b".rdata", 4, size)
 }
 
 /// Appends one of the tables, where it has bytes.

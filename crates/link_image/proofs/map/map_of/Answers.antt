@@ -1,7 +1,8 @@
-use Rattle.std.proofs.Common.{ℕ, not, List, Some, string_bytes, refl, ap, ◌∙◌}
+use Rattle.std.proofs.Common.{ℕ, Bool, not, ◌||◌, List, Some, string_bytes, ap, ◌∙◌}
 use Rattle.section_group.specs.Uniqueness.{rows_of}
 use Rattle.link_words.specs.Outcome.{options_said}
 use Rattle.link_plan.specs.Plan.{kept_parts}
+use Rattle.debug_rows.specs.ImageMap.{Mapped, image_map}
 use Rattle.link_image.specs.LinkMap.{link_map}
 use Rattle.link_image.proofs.MapLemmas.{text_there, is_asked, map_there}
 use Rattle.link_image.proofs.map.map_of.Goals as goal
@@ -16,6 +17,6 @@ returns c =
     let text = link_map options (kept_parts plan) rows placement.layout in
     let asked = is_asked c.args.options.now.map string_bytes some in
     let made = c.in_ok-text.ensures
-    ∙ rw (c.deref-2.ensures.value, c.deref-3.ensures.value, c.deref-4.ensures.value, c.deref-5.ensures.value) refl
-    ∙ map_there options plan rows placement.layout c.args.entry c.requires.plan asked c.requires.entry in
+    ∙ ap (λ (image : Mapped). image_map image c.args.options.now.base c.args.entry) c.listed_image-image.ensures.listed
+    ∙ map_there options plan rows placement.layout c.args.entry c.requires.plan (ap (λ (b : Bool). b || options.debug) asked) c.requires.entry in
     ap (λ (t : List ℕ). Some t) made ∙ text_there c.args.options.now.map string_bytes text some

@@ -5,7 +5,7 @@ use Rattle.link_words.specs.Outcome.{options_said}
 use Rattle.link_plan.specs.Plan.{kept_parts}
 use Rattle.link_image.specs.BaseFields.{AreBaseFields}
 use Rattle.link_image.specs.LinkedImage.{ArePlaced}
-use Rattle.link_image.specs.Steps.{all_fields}
+use Rattle.address_fields.specs.AddressFields.{all_fields}
 use Rattle.link_image.proofs.SectionLemmas.{placed_alone}
 use Rattle.link_image.proofs.PlanLemmas.{plan_fit, plan_fields, plan_within, plan_fixes}
 use Rattle.link_image.proofs.placement.place_all.Goals as goal

@@ -3,11 +3,11 @@ use Rattle.std.specs.Prelude.{codes}
 use Rattle.section_group.specs.declared.piece.Piece.{Piece}
 use Rattle.link_words.specs.Outcome.{options_said}
 use Rattle.link_plan.specs.Plan.{kept_parts}
-use Rattle.link_image.specs.declared.headers.Directories.{Directories}
+use Rattle.image_headers.specs.declared.headers.Directories.{Directories}
 use Rattle.section_group.specs.PieceContents.{piece_contents}
 use Rattle.section_group.specs.Uniqueness.{rows_of}
 use Rattle.link_fields.specs.declared.entry.EntryPlace.{EntryPlace}
-use Rattle.link_fields.specs.LoaderPlaces.{loader_place, TLS_NAME}
+use Rattle.link_fields.specs.LoaderPlaces.{loader_place, TLS_NAME, LOAD_CONFIG_NAME}
 use Rattle.link_image.specs.LinkedImage.{extent_of, table_extent, section_extent, place_extent, config_size, table_directory, TLS_SIZE}
 use Rattle.link_image.specs.Steps.{reloc_tables}
 use Rattle.link_image.proofs.SectionLemmas.{sections_each}
@@ -32,6 +32,12 @@ extent_of-requires-3-clause-rva c = place_within (options_said c.args.options.no
 
 pub extent_of-requires-3-clause-piece : goal.extent_of-requires-3-clause-piece
 extent_of-requires-3-clause-piece c = place_within (options_said c.args.options.now) c.args.plan.now c.requires.plan c.args.places.now 2 (length c.deref-5.result.now) c.requires.places (omega arith) (omega (arith, ap (λ (ps : List Piece). length ps) c.deref-5.ensures.value))
+
+pub extent_of-requires-4-clause-rva : goal.extent_of-requires-4-clause-rva
+extent_of-requires-4-clause-rva c = place_within (options_said c.args.options.now) c.args.plan.now c.requires.plan c.args.places.now 6 (length c.deref-11.result.now) c.requires.places (omega arith) (omega (arith, ap length c.deref-11.ensures.value, c.requires.placed.room))
+
+pub extent_of-requires-4-clause-piece : goal.extent_of-requires-4-clause-piece
+extent_of-requires-4-clause-piece c = place_within (options_said c.args.options.now) c.args.plan.now c.requires.plan c.args.places.now 6 (length c.deref-10.result.now) c.requires.places (omega arith) (omega (arith, ap (λ (ps : List Piece). length ps) c.deref-10.ensures.value))
 
 pub section_extent-requires : goal.section_extent-requires
 section_extent-requires c =
@@ -73,9 +79,9 @@ place_extent-requires-2-clause-fits c =
     (if_some plan.loader.load_config (λ (place : EntryPlace). get_or c.args.placement.now.layout.pieces.items place.piece 0 < 2 ^ 32 → get_or c.args.placement.now.layout.pieces.items place.piece 0 + place.value < 2 ^ 32) (λ place is.
     c.requires.placed.fits place (c.requires.plan.load_config_stands place is) (load_config_used (options_said c.args.options.now) plan c.requires.plan place is)))
 
-directories : ℕ × ℕ → ℕ × ℕ → ℕ × ℕ → ℕ × ℕ → ℕ × ℕ → ℕ × ℕ → ℕ × ℕ → ℕ × ℕ → Directories
-directories exports resources exceptions imports slots relocations tls load_config =
-    record { exports = exports; resources = resources; exceptions = exceptions; imports = imports; slots = slots; relocations = relocations; tls = tls; load_config = load_config }
+directories : ℕ × ℕ → ℕ × ℕ → ℕ × ℕ → ℕ × ℕ → ℕ × ℕ → ℕ × ℕ → ℕ × ℕ → ℕ × ℕ → ℕ × ℕ → Directories
+directories exports resources exceptions imports slots relocations tls load_config debug =
+    record { exports = exports; resources = resources; exceptions = exceptions; imports = imports; slots = slots; relocations = relocations; tls = tls; load_config = load_config; debug = debug }
 
 pub returns : goal.returns
 unfolding directories
@@ -105,16 +111,21 @@ returns c =
     ∙ ap (λ (rs : List ℕ). place_extent rs plan.loader.load_config c.config_size.result) c.deref-8.ensures.value
     ∙ ap (place_extent rvas plan.loader.load_config) size
     ∙ ap (λ (place : Option EntryPlace). place_extent rvas place (config_size (kept_parts plan) place)) c.requires.plan.load_config_is in
+    let debug = c.extent_of-4.ensures
+    ∙ ap (λ (ps : List Piece). extent_of ps c.deref-11.result.now (get_or c.args.places.now 6 None)) c.deref-10.ensures.value
+    ∙ ap (λ (rs : List ℕ). extent_of plan.pieces.items rs (get_or c.args.places.now 6 None)) c.deref-11.ensures.value
+    ∙ extent_is (options_said c.args.options.now) plan c.requires.plan rvas c.args.places.now 6 (omega arith) c.requires.places in
     let extent = table_extent (kept_parts plan) layout in
     let resources = section_extent rows layout (codes ".rsrc") in
     let exceptions = section_extent rows layout (codes ".pdata") in
     let relocations = table_directory layout (reloc_tables c.args.placement.now.table) in
     let own_tls = place_extent rvas (loader_place plan.names TLS_NAME) TLS_SIZE in
-    ap (λ (e : ℕ × ℕ). directories e c.section_extent.result c.section_extent-2.result c.extent_of-2.result c.extent_of-3.result c.table_directory.result c.place_extent.result c.place_extent-2.result) exports
-    ∙ ap (λ (e : ℕ × ℕ). directories (extent 5) e c.section_extent-2.result c.extent_of-2.result c.extent_of-3.result c.table_directory.result c.place_extent.result c.place_extent-2.result) c.section_extent.ensures
-    ∙ ap (λ (e : ℕ × ℕ). directories (extent 5) resources e c.extent_of-2.result c.extent_of-3.result c.table_directory.result c.place_extent.result c.place_extent-2.result) c.section_extent-2.ensures
-    ∙ ap (λ (e : ℕ × ℕ). directories (extent 5) resources exceptions e c.extent_of-3.result c.table_directory.result c.place_extent.result c.place_extent-2.result) imports
-    ∙ ap (λ (e : ℕ × ℕ). directories (extent 5) resources exceptions (extent 0) e c.table_directory.result c.place_extent.result c.place_extent-2.result) slots
-    ∙ ap (λ (e : ℕ × ℕ). directories (extent 5) resources exceptions (extent 0) (extent 2) e c.place_extent.result c.place_extent-2.result) c.table_directory.ensures
-    ∙ ap (λ (e : ℕ × ℕ). directories (extent 5) resources exceptions (extent 0) (extent 2) relocations e c.place_extent-2.result) tls
-    ∙ ap (directories (extent 5) resources exceptions (extent 0) (extent 2) relocations own_tls) load_config
+    ap (λ (e : ℕ × ℕ). directories e c.section_extent.result c.section_extent-2.result c.extent_of-2.result c.extent_of-3.result c.table_directory.result c.place_extent.result c.place_extent-2.result c.extent_of-4.result) exports
+    ∙ ap (λ (e : ℕ × ℕ). directories (extent 5) e c.section_extent-2.result c.extent_of-2.result c.extent_of-3.result c.table_directory.result c.place_extent.result c.place_extent-2.result c.extent_of-4.result) c.section_extent.ensures
+    ∙ ap (λ (e : ℕ × ℕ). directories (extent 5) resources e c.extent_of-2.result c.extent_of-3.result c.table_directory.result c.place_extent.result c.place_extent-2.result c.extent_of-4.result) c.section_extent-2.ensures
+    ∙ ap (λ (e : ℕ × ℕ). directories (extent 5) resources exceptions e c.extent_of-3.result c.table_directory.result c.place_extent.result c.place_extent-2.result c.extent_of-4.result) imports
+    ∙ ap (λ (e : ℕ × ℕ). directories (extent 5) resources exceptions (extent 0) e c.table_directory.result c.place_extent.result c.place_extent-2.result c.extent_of-4.result) slots
+    ∙ ap (λ (e : ℕ × ℕ). directories (extent 5) resources exceptions (extent 0) (extent 2) e c.place_extent.result c.place_extent-2.result c.extent_of-4.result) c.table_directory.ensures
+    ∙ ap (λ (e : ℕ × ℕ). directories (extent 5) resources exceptions (extent 0) (extent 2) relocations e c.place_extent-2.result c.extent_of-4.result) tls
+    ∙ ap (λ (e : ℕ × ℕ). directories (extent 5) resources exceptions (extent 0) (extent 2) relocations own_tls e c.extent_of-4.result) load_config
+    ∙ ap (directories (extent 5) resources exceptions (extent 0) (extent 2) relocations own_tls (place_extent rvas (loader_place plan.names LOAD_CONFIG_NAME) (config_size (kept_parts plan) (loader_place plan.names LOAD_CONFIG_NAME)))) debug

@@ -44,7 +44,7 @@ pub returns-in_err-check_clash-clause-refused : goal.returns-in_err-check_clash-
 returns-in_err-check_clash-clause-refused c =
     let options = options_said c.args.options.now in
     let link = link_parts options c.args.list.modules.items in
-    let names_are = names_so (options_said c.args.options.now) c.args.list.modules.items c.deref-2.result.now _ _ c.in_ok-names.names c.in_ok-names.ensures.names c.requires.names c.in_ok-exports.ensures.exports c.deref-2.ensures.value in
+    let names_are = names_so (options_said c.args.options.now) c.args.list.modules.items c.deref-2.result.now _ _ _ c.in_ok-names.names c.in_ok-names.ensures.names c.requires.names c.in_ok-exports.ensures.exports c.in_ok-debug.ensures c.deref-2.ensures.value in
     let given = err_from_is_err_and c.from_residual-in_err-check_clash.result c.from_residual-in_err-check_clash.ensures.1 in
     rw (given.1, given.2)
     (clash_stage options link c.in_err-check_clash.field-0.0
@@ -57,18 +57,23 @@ returns-in_err-exports-clause-refused c =
     let given = err_from_is_err_and c.from_residual-in_err-exports.result c.from_residual-in_err-exports.ensures.1 in
     rw (given.1, given.2) tt
 
+pub returns-in_err-debug-clause-refused : goal.returns-in_err-debug-clause-refused
+returns-in_err-debug-clause-refused c =
+    let given = err_from_is_err_and c.from_residual-in_err-debug.result c.from_residual-in_err-debug.ensures.1 in
+    rw (given.1, given.2) tt
+
 pub meanings_of-requires-clause-same : goal.meanings_of-requires-clause-same
 meanings_of-requires-clause-same c =
-    ap (λ (l : LinkParts). l.modules) (names_so (options_said c.args.options.now) c.args.list.modules.items c.deref-2.result.now _ _ c.in_ok-names.names c.in_ok-names.ensures.names c.requires.names c.in_ok-exports.ensures.exports c.deref-2.ensures.value) ∙ sym c.deref-4.ensures.value
+    ap (λ (l : LinkParts). l.modules) (names_so (options_said c.args.options.now) c.args.list.modules.items c.deref-2.result.now _ _ _ c.in_ok-names.names c.in_ok-names.ensures.names c.requires.names c.in_ok-exports.ensures.exports c.in_ok-debug.ensures c.deref-2.ensures.value) ∙ sym c.deref-4.ensures.value
 
 pub meanings_of-requires-clause-words : goal.meanings_of-requires-clause-words
-meanings_of-requires-clause-words c = ap (λ (l : LinkParts). l.words) (names_so (options_said c.args.options.now) c.args.list.modules.items c.deref-2.result.now _ _ c.in_ok-names.names c.in_ok-names.ensures.names c.requires.names c.in_ok-exports.ensures.exports c.deref-2.ensures.value)
+meanings_of-requires-clause-words c = ap (λ (l : LinkParts). l.words) (names_so (options_said c.args.options.now) c.args.list.modules.items c.deref-2.result.now _ _ _ c.in_ok-names.names c.in_ok-names.ensures.names c.requires.names c.in_ok-exports.ensures.exports c.in_ok-debug.ensures c.deref-2.ensures.value)
 
 pub returns-in_err-meant-clause-refused : goal.returns-in_err-meant-clause-refused
 returns-in_err-meant-clause-refused c =
     let options = options_said c.args.options.now in
     let link = link_parts options c.args.list.modules.items in
-    let names_are = names_so (options_said c.args.options.now) c.args.list.modules.items c.deref-2.result.now _ _ c.in_ok-names.names c.in_ok-names.ensures.names c.requires.names c.in_ok-exports.ensures.exports c.deref-2.ensures.value in
+    let names_are = names_so (options_said c.args.options.now) c.args.list.modules.items c.deref-2.result.now _ _ _ c.in_ok-names.names c.in_ok-names.ensures.names c.requires.names c.in_ok-exports.ensures.exports c.in_ok-debug.ensures c.deref-2.ensures.value in
     let well =
     chosen_so link c.in_ok-names.names c.deref.result.now c.deref-3.result.now names_are c.deref.ensures.value c.in_ok-check_mismatch.ensures.accepted c.deref-3.ensures.value c.in_ok-names.ensures.accepted c.in_ok-check_clash.ensures.accepted in
     let given = err_from_is_err_and c.from_residual-in_err-meant.result c.from_residual-in_err-meant.ensures.1 in
@@ -78,13 +83,13 @@ returns-in_err-meant-clause-refused c =
 
 pub lay_pieces-requires-clause-same : goal.lay_pieces-requires-clause-same
 lay_pieces-requires-clause-same c =
-    ap (λ (l : LinkParts). l.modules) (names_so (options_said c.args.options.now) c.args.list.modules.items c.deref-2.result.now _ _ c.in_ok-names.names c.in_ok-names.ensures.names c.requires.names c.in_ok-exports.ensures.exports c.deref-2.ensures.value) ∙ sym c.deref-5.ensures.value
+    ap (λ (l : LinkParts). l.modules) (names_so (options_said c.args.options.now) c.args.list.modules.items c.deref-2.result.now _ _ _ c.in_ok-names.names c.in_ok-names.ensures.names c.requires.names c.in_ok-exports.ensures.exports c.in_ok-debug.ensures c.deref-2.ensures.value) ∙ sym c.deref-5.ensures.value
 
 pub returns-in_err-link-clause-refused : goal.returns-in_err-link-clause-refused
 returns-in_err-link-clause-refused c =
     let options = options_said c.args.options.now in
     let link = link_parts options c.args.list.modules.items in
-    let names_are = names_so (options_said c.args.options.now) c.args.list.modules.items c.deref-2.result.now _ _ c.in_ok-names.names c.in_ok-names.ensures.names c.requires.names c.in_ok-exports.ensures.exports c.deref-2.ensures.value in
+    let names_are = names_so (options_said c.args.options.now) c.args.list.modules.items c.deref-2.result.now _ _ _ c.in_ok-names.names c.in_ok-names.ensures.names c.requires.names c.in_ok-exports.ensures.exports c.in_ok-debug.ensures c.deref-2.ensures.value in
     let well =
     chosen_so link c.in_ok-names.names c.deref.result.now c.deref-3.result.now names_are c.deref.ensures.value c.in_ok-check_mismatch.ensures.accepted c.deref-3.ensures.value c.in_ok-names.ensures.accepted c.in_ok-check_clash.ensures.accepted in
     let meant = ap (meaning_fault options) (sym names_are) ∙ c.in_ok-meant.ensures.accepted in
@@ -102,7 +107,7 @@ pub returns-clause-planned : goal.returns-clause-planned
 returns-clause-planned c =
     let options = options_said c.args.options.now in
     let link = link_parts options c.args.list.modules.items in
-    let names_are = names_so (options_said c.args.options.now) c.args.list.modules.items c.deref-2.result.now _ _ c.in_ok-names.names c.in_ok-names.ensures.names c.requires.names c.in_ok-exports.ensures.exports c.deref-2.ensures.value in
+    let names_are = names_so (options_said c.args.options.now) c.args.list.modules.items c.deref-2.result.now _ _ _ c.in_ok-names.names c.in_ok-names.ensures.names c.requires.names c.in_ok-exports.ensures.exports c.in_ok-debug.ensures c.deref-2.ensures.value in
     let well =
     chosen_so link c.in_ok-names.names c.deref.result.now c.deref-3.result.now names_are c.deref.ensures.value c.in_ok-check_mismatch.ensures.accepted c.deref-3.ensures.value c.in_ok-names.ensures.accepted c.in_ok-check_clash.ensures.accepted in
     let meant = ap (meaning_fault options) (sym names_are) ∙ c.in_ok-meant.ensures.accepted in

@@ -1,41 +1,30 @@
-use Rattle.std.proofs.Common.{◌≡◌, map, string_bytes, Ok, refl, sym, ◌∙◌}
+use Rattle.std.proofs.Common.{◌≡◌, map, string_bytes, Ok}
 use Rattle.link_files.specs.Outside.{files_of}
 use Rattle.link_words.specs.Outcome.{Link, At, Show, Gen, options_said}
 use Rattle.link_words.specs.Commands.{words_say}
-use Rattle.linker_program.proofs.StepLemmas.{if_unbuilt, if_words_refused, if_linked, on_linked}
+use Rattle.linker_program.proofs.StepLemmas.{if_words_refused, if_linked, on_linked}
 use Rattle.linker_program.proofs.ShownLemmas.{if_at, if_show, on_show}
 use Rattle.linker_program.proofs.GenWordLemmas.{gen_bounds}
 use Rattle.linker_program.proofs.GeneratedLemmas.{if_generated}
 use Rattle.linker_program.proofs.linker.answer.Goals as goal
 
-pub returns-then-is_unbuilt_link-clause-answered : goal.returns-then-is_unbuilt_link-clause-answered
-returns-then-is_unbuilt_link-clause-answered g c =
-    let files = files_of g.F.Files.store g.F.Files.read_faults g.F.Files.write_faults c.args.files.now in
-    let words = map string_bytes c.args.words.now in
-    let options = options_said c.in-Ok-Link.options in
-    let said : words_say words ≡ Ok (Link options) = rw c.in-Ok-Link.field-0-is at c.in-Ok-Link.ensures in
-    let asked = sym c.is_unbuilt_link.ensures ∙ c.if-is_unbuilt_link.true in
-    if_unbuilt c.words_refused.result words files (Link options) said (λ store. rw asked refl) c.words_refused.ensures
-
-pub returns-else-is_unbuilt_link-clause-answered : goal.returns-else-is_unbuilt_link-clause-answered
-returns-else-is_unbuilt_link-clause-answered g c =
+pub returns-in-Ok-Link-clause-answered : goal.returns-in-Ok-Link-clause-answered
+returns-in-Ok-Link-clause-answered g c =
     let before = files_of g.F.Files.store g.F.Files.read_faults g.F.Files.write_faults c.args.files.now in
     let after = files_of g.F.Files.store g.F.Files.read_faults g.F.Files.write_faults c.link.new.files in
     let words = map string_bytes c.args.words.now in
     let options = options_said c.in-Ok-Link.options in
     let said : words_say words ≡ Ok (Link options) = rw c.in-Ok-Link.field-0-is at c.in-Ok-Link.ensures in
-    let built = sym c.is_unbuilt_link.ensures ∙ c.if-is_unbuilt_link.false in
-    if_linked c.link.result words before after options said built c.link.ensures.answered
+    if_linked c.link.result words before after options said c.link.ensures.answered
 
-pub returns-else-is_unbuilt_link-clause-memory : goal.returns-else-is_unbuilt_link-clause-memory
-returns-else-is_unbuilt_link-clause-memory g c =
+pub returns-in-Ok-Link-clause-memory : goal.returns-in-Ok-Link-clause-memory
+returns-in-Ok-Link-clause-memory g c =
     let before = files_of g.F.Files.store g.F.Files.read_faults g.F.Files.write_faults c.args.files.now in
     let after = files_of g.F.Files.store g.F.Files.read_faults g.F.Files.write_faults c.link.new.files in
     let words = map string_bytes c.args.words.now in
     let options = options_said c.in-Ok-Link.options in
     let said : words_say words ≡ Ok (Link options) = rw c.in-Ok-Link.field-0-is at c.in-Ok-Link.ensures in
-    let built = sym c.is_unbuilt_link.ensures ∙ c.if-is_unbuilt_link.false in
-    on_linked c.link.result words before after options said built c.link.ensures.memory
+    on_linked c.link.result words before after options said c.link.ensures.memory
 
 pub returns-in-Ok-At-clause-answered : goal.returns-in-Ok-At-clause-answered
 returns-in-Ok-At-clause-answered g c =
@@ -83,5 +72,5 @@ returns-in-Ok-Gen-clause-answered g c =
 pub returns-in-Err-Usage-clause-answered : goal.returns-in-Err-Usage-clause-answered
 returns-in-Err-Usage-clause-answered g c =
     let files = files_of g.F.Files.store g.F.Files.read_faults g.F.Files.write_faults c.args.files.now in
-    if_words_refused c.words_refused-in-Err-Usage.result (map string_bytes c.args.words.now) files c.in-Err-Usage.index c.in-Err-Usage.kind
-    (rw c.in-Err-Usage.field-0-is at c.in-Err-Usage.ensures) (rw c.usage_word.ensures at c.words_refused-in-Err-Usage.ensures)
+    if_words_refused c.words_refused.result (map string_bytes c.args.words.now) files c.in-Err-Usage.index c.in-Err-Usage.kind
+    (rw c.in-Err-Usage.field-0-is at c.in-Err-Usage.ensures) (rw c.usage_word.ensures at c.words_refused.ensures)

@@ -1,0 +1,30 @@
+use Rattle.std.proofs.Common.{ℕ, List, [], ◌∷◌, length, get_or, None, ap, ◌∙◌, arith}
+use Rattle.address_layout.specs.declared.layout.Placed.{Placed}
+use Rattle.link_debug.specs.LinkDebug.{DebugView, no_identifier, entry_bytes, data_bytes}
+use Rattle.link_words.specs.Outcome.{options_said}
+use Rattle.link_plan.specs.Plan.{kept_parts}
+use Rattle.link_image.specs.LinkedBytes.{rva_of, export_table_at, debug_entry_at}
+use Rattle.link_image.proofs.TableLemmas.{place_is, place_within}
+use Rattle.link_image.proofs.tables.other_tables.Goals as goal
+
+pub rva_of-rva-requires : goal.rva_of-rva-requires
+rva_of-rva-requires c = place_within (options_said c.args.options.now) c.args.plan.now c.requires.plan c.args.places.now 7 (length c.deref.result.now) c.requires.places (omega arith) (omega (arith, ap length c.deref.ensures.value, c.requires.placed.room))
+
+pub returns : goal.returns
+unfolding debug_entry_at
+returns c =
+    let options = options_said c.args.options.now in
+    let plan = c.args.plan.now in
+    let layout = c.args.placement.now.layout in
+    let link = kept_parts c.args.plan.now in
+    let rva = c.rva_of-rva.ensures
+    ∙ ap (λ (rvas : List ℕ). rva_of rvas (get_or c.args.places.now 7 None)) c.deref.ensures.value
+    ∙ ap (rva_of layout.pieces.items) (place_is options plan c.requires.plan c.args.places.now 7 c.requires.places (omega arith)) in
+    let entry = c.in_ok-debug_entry.ensures
+    ∙ ap (λ (debug : DebugView). entry_bytes debug c.deref-2.result.now c.rva_of-rva.result) c.debug-debug.ensures
+    ∙ ap (λ (sections : List Placed). entry_bytes plan.names.debug sections c.rva_of-rva.result) c.deref-2.ensures.value
+    ∙ ap (entry_bytes plan.names.debug layout.sections.items) rva in
+    let rest = c.in_ok-debug_data.ensures ∙ ap (λ (debug : DebugView). data_bytes debug no_identifier) c.debug-debug.ensures in
+    ap (λ (exports : List ℕ). exports ∷ c.in_ok-debug_entry.debug_entry.items ∷ c.in_ok-debug_data.debug_data.items ∷ []) c.requires.exports
+    ∙ ap (λ (bytes : List ℕ). export_table_at link layout ∷ bytes ∷ c.in_ok-debug_data.debug_data.items ∷ []) entry
+    ∙ ap (λ (bytes : List ℕ). export_table_at link layout ∷ debug_entry_at link layout ∷ bytes ∷ []) rest
