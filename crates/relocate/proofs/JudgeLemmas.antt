@@ -35,7 +35,7 @@ pub absolute_width : (kind : ℕ) → kind ≡ 0 → field_width kind ≡ 0
 unfolding field_width
 absolute_width kind e = rw e refl
 
-absolute_passes : (body_len : Option ℕ) (large pdata : Bool) (fix : Fix) (overlaps : Bool) → fix.kind ≡ 0 → fault_of body_len large pdata fix overlaps ≡ None
+pub absolute_passes : (body_len : Option ℕ) (large pdata : Bool) (fix : Fix) (overlaps : Bool) → fix.kind ≡ 0 → fault_of body_len large pdata fix overlaps ≡ None
 unfolding fault_of
 absolute_passes body_len large pdata fix overlaps e = rw (e) refl
 

@@ -6,6 +6,7 @@ pub mod ValueLemmas
 pub mod WriteLemmas
 pub mod PatchLemmas
 pub mod FindLemmas
+pub mod ApartLemmas
 pub mod PatchedLemmas
 pub mod OrderLemmas
 pub mod BaseLemmas

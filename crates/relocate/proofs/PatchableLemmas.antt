@@ -105,10 +105,10 @@ met_either_way a b c d h =
       | inr le ↦ le-ltb _ _ (omega arith)
     ]
 
-AnyTwoParted : List Fix → Type 0
+pub AnyTwoParted : List Fix → Type 0
 AnyTwoParted fixes = (i j : ℕ) (d : Fix) → (i ≡ j → ⊥) → i < length fixes → j < length fixes → shares_byte (get_or fixes i d) (get_or fixes j d) ≡ false
 
-any_two : (fixes : List Fix) → AllPairs (λ first second. shares_byte first second ≡ false) fixes → AnyTwoParted fixes
+pub any_two : (fixes : List Fix) → AllPairs (λ first second. shares_byte first second ≡ false) fixes → AnyTwoParted fixes
 unfolding AnyTwoParted
 any_two fixes pairs i j d apart low high =
     elim (cases_lt i j) [
@@ -117,6 +117,10 @@ any_two fixes pairs i j d apart low high =
           let lt : j < i = omega arith in
           met_either_way (get_or fixes j d).at (field_end (get_or fixes j d)) (get_or fixes i d).at (field_end (get_or fixes i d)) (pairs j i d lt low)
     ]
+
+pub two_of : (fixes : List Fix) → AnyTwoParted fixes → AllPairs (λ first second. shares_byte first second ≡ false) fixes
+unfolding AnyTwoParted
+two_of fixes parted i j d lt within = parted i j d (omega arith) (omega arith) within
 
 -- where the element at m of a list with the elements at a and b exchanged stood
 Moved : ℕ → ℕ → ℕ → ℕ → Type 0
@@ -146,7 +150,7 @@ moved fixes a b m d in_a in_b in_m =
       ]
     ]
 
-swap_keeps : (fixes : List Fix) (a b : ℕ) → a < length fixes → b < length fixes → AnyTwoParted fixes → AnyTwoParted (swap fixes a b)
+pub swap_keeps : (fixes : List Fix) (a b : ℕ) → a < length fixes → b < length fixes → AnyTwoParted fixes → AnyTwoParted (swap fixes a b)
 unfolding AnyTwoParted
 swap_keeps fixes a b in_a in_b parted i j d apart low high =
     let len = length-swap fixes a b in

@@ -1,13 +1,13 @@
 //! The fields of relocations in any order.
 
-ghost use Rattle.std.specs.Prelude.{◌≡◌, ℕ, ◌+◌, ◌≤◌, None, Some, true, false, IfOk, IfErr};
+ghost use Rattle.std.specs.Prelude.{◌≡◌, ℕ, ◌+◌, ◌<◌, ◌≤◌, length, None, Some, true, false, IfOk, IfErr};
 ghost use Rattle.std.specs.Bool.{MatchBool};
-ghost use Rattle.std.specs.List.{filter};
-ghost use Rattle.relocate.specs.Field.{has_field, field_width, ranges_meet, field_end};
-ghost use Rattle.relocate.specs.FieldFaults.{field_fault, RefusesFor};
-ghost use Rattle.relocate.specs.Judged.{AreTheFields, ArePatchable, size_of};
+ghost use Rattle.relocate.specs.Field.{ranges_meet, field_end};
+ghost use Rattle.relocate.specs.FieldFaults.{overlaps_earlier, field_fault, RefusesFor};
+ghost use Rattle.relocate.specs.Judged.{AreApart, AreTheFields, ArePatchable, size_of};
 ghost use Rattle.relocate.specs.Taken.{width_at, AreNarrow};
 
+use crate::ascending::with_fields;
 use crate::error::FieldError;
 use crate::fix::Fix;
 use crate::judge::fault_of;
@@ -29,24 +29,75 @@ pub(crate) fn sorted_fields(
     ensures patchable { IfOk result (λ fields. ArePatchable (size_of body_len) fields.items) }
     ensures refused { IfErr result (RefusesFor (field_fault body_len large pdata fixes.now)) }
 {
-    let mut fields = judged_fields(alloc, body_len, fixes, large, pdata)?;
+    let mut fields = with_fields(alloc, fixes)?;
     fields.sort_by_key(|fix| fix.at)?;
+    judge_any_order(alloc, body_len, fixes, &fields, large, pdata)?;
     Ok(fields)
 }
 
-/// The fields of relocations, in their order.
-fn judged_fields(
+/// Judges relocations, whose fields these are. Only where two of the fields share a byte is it looked for which do first.
+fn judge_any_order(
+    alloc: Global,
+    body_len: Option<usize>,
+    fixes: &[Fix],
+    fields: &[Fix],
+    large: bool,
+    pdata: bool,
+) -> Result<(), FieldError>
+    requires { AreTheFields fixes.now fields.now }
+    ensures accepted { IfOk result (λ _. field_fault body_len large pdata fixes.now ≡ None) }
+    ensures refused { IfErr result (RefusesFor (field_fault body_len large pdata fixes.now)) }
+{
+    if are_apart(fields) {
+        return judge_apart(body_len, fixes, large, pdata);
+    }
+    judge_by_places(alloc, body_len, fixes, large, pdata)
+}
+
+/// Whether each of these fields ends before the next begins.
+fn are_apart(fields: &[Fix]) -> bool
+    ensures { MatchBool result (AreApart fields.now) (AreApart fields.now → ⊥) }
+{
+    let mut end = 0;
+    for fix in fields {
+        if u64::from(fix.at) < end {
+            return false;
+        }
+        end = field_end(fix);
+    }
+    true
+}
+
+/// Judges relocations of which no field shares a byte with that of an earlier one.
+fn judge_apart(
+    body_len: Option<usize>,
+    fixes: &[Fix],
+    large: bool,
+    pdata: bool,
+) -> Result<(), FieldError>
+    requires { (k : ℕ) → k < length fixes.now → overlaps_earlier fixes.now k ≡ false }
+    ensures accepted { IfOk result (λ _. field_fault body_len large pdata fixes.now ≡ None) }
+    ensures refused { IfErr result (RefusesFor (field_fault body_len large pdata fixes.now)) }
+{
+    for fix in fixes {
+        if let Some(error) = fault_of(body_len, large, pdata, fix, false) {
+            return Err(error);
+        }
+    }
+    Ok(())
+}
+
+/// Judges relocations in their order, by the places of the fields before.
+fn judge_by_places(
     alloc: Global,
     body_len: Option<usize>,
     fixes: &[Fix],
     large: bool,
     pdata: bool,
-) -> Result<Vec<Fix>, FieldError>
+) -> Result<(), FieldError>
     ensures accepted { IfOk result (λ _. field_fault body_len large pdata fixes.now ≡ None) }
-    ensures fields { IfOk result (λ fields. fields.items ≡ filter has_field fixes.now) }
     ensures refused { IfErr result (RefusesFor (field_fault body_len large pdata fixes.now)) }
 {
-    let mut fields = Vec::with_capacity(alloc, fixes.len())?;
     let mut taken = BTreeMap::new(alloc);
     for fix in fixes {
         if fix.kind == REL_AMD64_ABSOLUTE {
@@ -56,9 +107,8 @@ fn judged_fields(
             return Err(error);
         }
         taken.insert(u64::from(fix.at), u64::from(field_width(fix.kind)))?;
-        fields.push(*fix)?;
     }
-    Ok(fields)
+    Ok(())
 }
 
 /// Whether a field shares a byte with one of those that are taken, each with its width at its place. A field begins at
