@@ -1,0 +1,141 @@
+-- The fields of a candidate, section by section.
+use Rattle.std.proofs.Common.{◌≡◌, ℕ, ◌+◌, ◌-◌, ◌<◌, inl, inr, false, List, [], ◌++◌, length, get_or, map, Vec, Option, Some, option_map, unwrap_or, slice_get, length-append, refl, sym, ap, ◌∙◌, subst, arith}
+use Rattle.std.specs.declared.alloc.Global.{Global}
+use Rattle.std.specs.List.{AllPairs, Contains, filter}
+use Rattle.std.specs.List.Sorted.{IsPermutation}
+use Rattle.std.proofs.lemmas.Bool.{cases_lt}
+use Rattle.std.proofs.lemmas.List.{length-map, get_or-map}
+use Rattle.std.proofs.lemmas.List.Elements.{Contains-get_or, Contains-append_left, Contains-append_right, Contains-append_cases}
+use Rattle.std.proofs.lemmas.List.Sorted.{Contains-permutation, IsPermutation-sym}
+use Rattle.std.proofs.lemmas.Option.{slice_get-get_or}
+use Rattle.std.proofs.Math.ListN.{get_or-append}
+use Rattle.std.proofs.Math.Seq.{get_or-append_right}
+use Rattle.relocate.specs.declared.fix.Fix.{Fix}
+use Rattle.relocate.specs.Field.{has_field, no_fix}
+use Rattle.relocate.specs.FieldFaults.{overlaps_earlier}
+use Rattle.icf.specs.declared.candidate.FoldCandidate.{FoldCandidate}
+use Rattle.icf.specs.declared.field.Owner.{Owner}
+use Rattle.icf.specs.declared.field.Field.{Field}
+use Rattle.icf.specs.Sections.{fixes_at, fields_at}
+use Rattle.icf.specs.Fields.{field_in, IsBefore, IsAmong, AreFieldsBelow, AreFieldLists}
+use Rattle.icf.proofs.SectionLemmas.{one_section}
+
+-- ---- a list of relocations
+
+pub fixes_read : (fixes : List (Vec Fix Global)) (piece : ℕ) (own : Vec Fix Global) → piece < length fixes → own ≡ get_or fixes piece own → fixes_at fixes piece ≡ own.items
+fixes_read fixes piece own lt is =
+    ap (λ (o : Option (Vec Fix Global)). unwrap_or (option_map (λ v. v.items) o) []) (slice_get-get_or fixes piece own lt ∙ ap Some (sym is))
+
+pub fixes_apart : (fixes : List (Vec Fix Global)) (piece : ℕ) (own : List Fix) → fixes_at fixes piece ≡ own
+    → ((k : ℕ) → k < length (fixes_at fixes piece) → overlaps_earlier (fixes_at fixes piece) k ≡ false) → (k : ℕ) → k < length own → overlaps_earlier own k ≡ false
+fixes_apart fixes piece own is apart =
+    subst (λ (xs : List Fix). (k : ℕ) → k < length xs → overlaps_earlier xs k ≡ false) is apart
+
+-- ---- items of a list that a function makes
+
+pub contains_map : {X Y : Type 0} (f : X → Y) (xs : List X) (x : X) → Contains xs x → Contains (map f xs) (f x)
+contains_map f xs x there =
+    let lt = there.1 in (
+      there.0,
+      omega (arith, length-map xs f),
+      get_or-map f xs there.0 x (f x) lt ∙ ap f there.2,
+    )
+
+pub map_contains : {X Y : Type 0} (f : X → Y) (xs : List X) (d : X) (y : Y) → Contains (map f xs) y → (x : X) × (Contains xs x × (y ≡ f x))
+map_contains f xs d y there =
+    let lt = there.1 in
+    let within : there.0 < length xs = omega (arith, length-map xs f) in (
+      get_or xs there.0 d,
+      (Contains-get_or xs there.0 d within, sym there.2 ∙ get_or-map f xs there.0 d y within),
+    )
+
+-- ---- one section more
+
+module _ (owners : List (Option Owner)) (fixes : List (Vec Fix Global)) (sections : List ℕ) where
+  pub gathered_none : (fields : List Field) → fields ≡ [] → AreFieldsBelow owners fixes sections 0 fields
+  gathered_none fields none = subst (AreFieldsBelow owners fixes sections 0) (sym none) (record {
+    ascending = λ i j d lt within. absurd (omega arith);
+    only = λ field there. let lt = there.1 in absurd (omega arith);
+    every = λ rank piece fix lt is there. absurd (omega arith);
+  })
+
+  module _ (rank piece : ℕ) (is : slice_get sections rank ≡ Some piece) (sorted : List Fix) (moved : IsPermutation (filter has_field (fixes_at fixes piece)) sorted)
+      (rises : AllPairs (λ left right. left.at < right.at) sorted) (fields : List Field) (old : AreFieldsBelow owners fixes sections rank fields) where
+    added : List Field
+    added = map (field_in owners rank) sorted
+
+    ordered : AllPairs IsBefore (fields ++ map (field_in owners rank) sorted)
+    ordered i j d lt within = elim (cases_lt j (length fields)) [
+      | inl low ↦
+          let first = get_or-append fields (map (field_in owners rank) sorted) d i (omega arith) in
+          let second = get_or-append fields (map (field_in owners rank) sorted) d j low in
+          subst (λ (f : Field). IsBefore f (get_or (fields ++ map (field_in owners rank) sorted) j d)) (sym first)
+          (subst (IsBefore (get_or fields i d)) (sym second) (old.ascending i j d lt low))
+      | inr high ↦
+          let size = length-append fields (map (field_in owners rank) sorted) in
+          let same = length-map sorted (field_in owners rank) in
+          let place : j - length fields < length sorted = omega arith in
+          let second = get_or-append_right fields (map (field_in owners rank) sorted) j d high ∙ get_or-map (field_in owners rank) sorted (j - length fields) no_fix d place in
+          elim (cases_lt i (length fields)) [
+            | inl low ↦
+                let first = get_or-append fields (map (field_in owners rank) sorted) d i low in
+                let among = old.only (get_or fields i d) (Contains-get_or fields i d low) in
+                subst (λ (f : Field). IsBefore f (get_or (fields ++ map (field_in owners rank) sorted) j d)) (sym first)
+                (subst (IsBefore (get_or fields i d)) (sym second) (inl among.below))
+            | inr high' ↦
+                let place' : i - length fields < length sorted = omega arith in
+                let first = get_or-append_right fields (map (field_in owners rank) sorted) i d high' ∙ get_or-map (field_in owners rank) sorted (i - length fields) no_fix d place' in
+                subst (λ (f : Field). IsBefore f (get_or (fields ++ map (field_in owners rank) sorted) j d)) (sym first)
+                (subst (IsBefore (field_in owners rank (get_or sorted (i - length fields) no_fix))) (sym second)
+                (inr (refl, rises (i - length fields) (j - length fields) no_fix (omega arith) place)))
+          ]
+    ]
+
+    among_more : (field : Field) → IsAmong owners fixes sections rank field → IsAmong owners fixes sections (rank + 1) field
+    among_more field among = record {
+      piece = among.piece;
+      fix = among.fix;
+      below = let lt = among.below in omega arith;
+      section = among.section;
+      there = among.there;
+      is = among.is;
+    }
+
+    among_new : (field : Field) → Contains (map (field_in owners rank) sorted) field → IsAmong owners fixes sections (rank + 1) field
+    among_new field there =
+        let from = map_contains (field_in owners rank) sorted no_fix field there in
+        let same : field.rank ≡ rank = ap (λ (f : Field). f.rank) from.1.1 in
+        record {
+          piece = piece;
+          fix = from.0;
+          below = omega arith;
+          section = ap (slice_get sections) same ∙ is;
+          there = Contains-permutation sorted (filter has_field (fixes_at fixes piece)) from.0 (IsPermutation-sym (filter has_field (fixes_at fixes piece)) sorted moved) from.1.0;
+          is = from.1.1 ∙ ap (λ (r : ℕ). field_in owners r from.0) (sym same);
+        }
+
+    pub gathered_more : (longer : List Field) → longer ≡ fields ++ map (field_in owners rank) sorted → AreFieldsBelow owners fixes sections (rank + 1) longer
+    gathered_more longer pushed = subst (AreFieldsBelow owners fixes sections (rank + 1)) (sym pushed) (record {
+      ascending = ordered;
+      only = λ field there. elim (Contains-append_cases fields (map (field_in owners rank) sorted) field there) [
+        | inl before ↦ among_more field (old.only field before)
+        | inr new ↦ among_new field new
+      ];
+      every = λ other other_piece fix lt has there. elim (cases_lt other rank) [
+        | inl low ↦ Contains-append_left fields (map (field_in owners rank) sorted) (field_in owners other fix) (old.every other other_piece fix low has there)
+        | inr high ↦
+            let same : other ≡ rank = omega arith in
+            let one = one_section sections rank other_piece piece (ap (slice_get sections) (sym same) ∙ has) is in
+            let here = Contains-permutation (filter has_field (fixes_at fixes piece)) sorted fix moved (subst (λ (p : ℕ). Contains (fields_at fixes p) fix) one there) in
+            subst (λ (r : ℕ). Contains (fields ++ map (field_in owners rank) sorted) (field_in owners r fix)) (sym same)
+            (Contains-append_right fields (map (field_in owners rank) sorted) (field_in owners rank fix) (contains_map (field_in owners rank) sorted fix here))
+      ];
+    })
+
+-- ---- the fields of all candidates, where the lists are known by other names
+
+pub gathered_as : (owners given : List (Option Owner)) (fixes : List (Vec Fix Global)) (candidates : List FoldCandidate) (lists read : List (Vec Field Global)) → given ≡ owners → read ≡ lists
+    → AreFieldLists given fixes candidates (length candidates) lists → AreFieldLists owners fixes candidates (length candidates) read
+gathered_as owners given fixes candidates lists read same_owners same_lists are =
+    subst (λ (l : List (Vec Field Global)). AreFieldLists owners fixes candidates (length candidates) l) (sym same_lists)
+    (subst (λ (o : List (Option Owner)). AreFieldLists o fixes candidates (length candidates) lists) same_owners are)

@@ -1,0 +1,8 @@
+pub mod Sections
+pub mod Alike
+pub mod Folding
+pub mod FirstEqual
+pub mod Owners
+pub mod Fields
+pub mod Contents
+pub mod Rounds
