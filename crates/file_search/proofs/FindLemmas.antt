@@ -135,6 +135,7 @@ gives_here folders given names place before_total mid_total after_total before a
       files = untouched_further before after later so_far.files gives.files;
       total_is = gives.total_is ∙ ap (λ (total : ℕ). total + length found.bytes) so_far.total_kept;
       within = gives.within;
+      together = gives.together;
       told = there;
       no_fault = λ store is.
           ap (read_fault given before_total) (there store is)

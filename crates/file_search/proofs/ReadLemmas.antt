@@ -7,7 +7,7 @@ use Rattle.std.proofs.Math.Seq.{take-length}
 use Rattle.std.proofs.lemmas.List.{length-map, map-append, take_more, get_or-map}
 use Rattle.std.proofs.lemmas.List.Sums.{sum_by_push}
 use Rattle.std.proofs.lemmas.List.Elements.{All-nil, All-same, All-push}
-use Rattle.link_base.specs.Limits.{FILE_LIMIT}
+use Rattle.link_base.specs.Limits.{FILE_LIMIT, INPUT_LIMIT}
 use Rattle.link_base.specs.Refusals.{first_refusal_below}
 use Rattle.link_base.specs.declared.stop.Stop.{Stop}
 use Rattle.link_base.specs.declared.stop.Stop.TheVariants as stop
@@ -22,10 +22,15 @@ use Rattle.file_search.specs.Reading.{Tries, GivesNamed, ReadsNamed, GivesInputs
 use Rattle.file_search.specs.declared.found.FoundFile.{FoundFile as Found}
 use Rattle.file_search.proofs.FindLemmas.{untouched_further}
 
+abbrev pub file_len : FoundFile → ℕ
+file_len file = length file.bytes
+
 -- the first inputs were read
 pub record ReadSoFar (options : LinkOptions) (index total : ℕ) (before after : FilesView) (found : List FoundFile) : Type 0 where
   pub files : AreUntouched before after
   pub within : All (λ file. length file.bytes ≤ FILE_LIMIT) found
+  pub counted : total ≡ sum_by file_len found
+  pub together : total ≤ INPUT_LIMIT
   pub no_fault : ForSome before.store (λ store. first_refusal_below index (reading_fault_at store options) ≡ None)
   pub told : ForSome before.store (λ store. found ≡ map (file_or_none store options) (take index options.inputs))
   pub sum : ForSome before.store (λ store. total ≡ total_before store options index)
@@ -35,6 +40,8 @@ unfolding first_refusal_below
 none_read options total files found zero empty = record {
   files = record { store = refl; reads = refl; writes = refl };
   within = All-same (λ (file : FoundFile). length file.bytes ≤ FILE_LIMIT) found [] empty (All-nil (λ (file : FoundFile). length file.bytes ≤ FILE_LIMIT));
+  counted = zero ∙ ap (sum_by file_len) (sym empty);
+  together = omega (arith, zero);
   no_fault = λ store is. refl;
   told = λ store is. empty;
   sum = λ store is. zero;
@@ -72,6 +79,8 @@ more options index total after_total before after later all name found lt named 
     record {
       files = untouched_further before after later so_far.files gives.files;
       within = All-push (λ (file : FoundFile). length file.bytes ≤ FILE_LIMIT) all found so_far.within gives.within;
+      counted = gives.total_is ∙ ap (λ (sum : ℕ). sum + length found.bytes) so_far.counted ∙ sym (sum_by_push file_len all found);
+      together = gives.together;
       no_fault = λ store is.
           first_refusal_below-more index (reading_fault_at store options) (so_far.no_fault store is)
           (fault_here options index total store name named (so_far.sum store is) ∙ gives.no_fault store (so_far.files.store ∙ is));
@@ -138,6 +147,7 @@ all_read text_of items options index total before after found same le ge so_far 
     record {
       files = so_far.files;
       within = so_far.within;
+      together = omega (arith, so_far.counted, so_far.together);
       no_fault = λ store is.
           ap (λ (n : ℕ). first_refusal_below n (reading_fault_at store options)) (sym end) ∙ so_far.no_fault store is;
       told = λ store is.

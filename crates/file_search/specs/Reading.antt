@@ -1,5 +1,6 @@
 -- What reading files that are looked for under several names promises, by the result. Own.
 use Rattle.std.specs.Prelude.{◌≡◌, ◌+◌, ◌<◌, ◌≤◌, ℕ, true, false, List, length, map, All, Option, Some, None, Result, Ok, Err, Vec}
+use Rattle.std.specs.List.{sum_by}
 use Rattle.std.specs.Option.{ForSome}
 use Rattle.link_base.specs.Limits.{FILE_LIMIT, INPUT_LIMIT}
 use Rattle.link_base.specs.Refusals.{first_refusal_below}
@@ -79,6 +80,7 @@ pub record GivesNamed (folders : List (List ℕ)) (name : List ℕ) (before_tota
   pub files : AreUntouched before after
   pub total_is : after_total ≡ before_total + length found.bytes
   pub within : length found.bytes ≤ FILE_LIMIT
+  pub together : after_total ≤ INPUT_LIMIT
   pub told : ForSome before.store (λ store. input_file store folders name ≡ Some found)
   pub no_fault : ForSome before.store (λ store. read_fault name before_total (input_file store folders name) ≡ None)
 
@@ -115,6 +117,7 @@ pub record TriesInput (store : Store) (options : LinkOptions) (name : List ℕ) 
 pub record GivesInputs (options : LinkOptions) (after_total : ℕ) (before after : FilesView) (found : List FoundFile) : Type 0 where
   pub files : AreUntouched before after
   pub within : All (λ file. length file.bytes ≤ FILE_LIMIT) found
+  pub together : sum_by (λ file. length file.bytes) found ≤ INPUT_LIMIT
   pub no_fault : ForSome before.store (λ store. reading_fault store options ≡ None)
   pub told : ForSome before.store (λ store. found ≡ input_files store options)
   pub total_is : ForSome before.store (λ store. after_total ≡ input_total store options)

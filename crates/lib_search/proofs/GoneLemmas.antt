@@ -1,5 +1,5 @@
 -- A loading that has gone on from a state, and how it goes on from there or ends.
-use Rattle.std.proofs.Common.{◌≡◌, ℕ, ◌+◌, ◌-◌, ◌*◌, ◌^◌, ◌<◌, Bool, true, false, cond, nat_lt, List, length, Option, Some, None, Err, sym, ap, ◌∙◌, lt-ltb, arith}
+use Rattle.std.proofs.Common.{◌≡◌, ℕ, ◌+◌, ◌-◌, ◌*◌, ◌^◌, ◌<◌, Bool, true, false, cond, nat_lt, List, length, Option, Some, None, Err, refl, sym, ap, ◌∙◌, lt-ltb, arith}
 use Rattle.std.specs.Option.{ForSome}
 use Rattle.link_base.specs.Limits.{MODULE_LIMIT}
 use Rattle.link_base.specs.declared.fault.Fault.{Fault}
@@ -14,6 +14,7 @@ use Rattle.link_words.specs.Outcome.{LinkOptions}
 use Rattle.symbol_names.specs.LinkView.{LinkView}
 use Rattle.file_search.specs.DefaultLibraries.{default_libraries}
 use Rattle.file_search.specs.DefaultSteps.{wanted_by}
+use Rattle.res_merge.specs.declared.resource.Resource.{Resource}
 use Rattle.lib_search.specs.declared.link_list.LinkList.{LinkList}
 use Rattle.lib_search.specs.declared.loading.Loading.{Loading}
 use Rattle.lib_search.specs.SearchSteps.{MemberPlace, Searched, SearchState, Goes, goes_unless, with_member, join_fault, join_step, next_member, next_step, wants_library}
@@ -46,13 +47,13 @@ gone_read options state before after later loading more total after_total gone r
 }
 
 -- one stops it
-pub gone_stops : (options : LinkOptions) (state : SearchState) (before after later : FilesView) (loading : Loading) (total after_total : ℕ) (stop : Stop) → GoneOn options state before after loading total → wants_library options (state_now loading total) ≡ true → ReadsDefault options (state_now loading total) after_total after later (Err stop) → CompletesFrom options state before later (Err stop)
-gone_stops options state before after later loading total after_total (stop.Fault fault) gone wants faults = record {
+pub gone_stops : (options : LinkOptions) (state : SearchState) (before after later : FilesView) (loading : Loading) (total after_total : ℕ) (resources : List Resource) (stop : Stop) → GoneOn options state before after loading total → wants_library options (state_now loading total) ≡ true → ReadsDefault options (state_now loading total) after_total after later (Err stop) → CompletesFrom options state resources before later (Err stop)
+gone_stops options state before after later loading total after_total resources (stop.Fault fault) gone wants faults = record {
   files = untouched_further before after later gone.files faults.files;
   told = λ store is reached.
       faults_there store options (state_now loading total) fault (gone.told store is reached) (faults.told store (gone.files.store ∙ is));
 }
-gone_stops options state before after later loading total after_total (stop.Read failed) gone wants fails = record {
+gone_stops options state before after later loading total after_total resources (stop.Read failed) gone wants fails = record {
   files = failed_further before after later gone.files fails.files;
   told = λ store is reached. record {
     state = state_now loading total;
@@ -61,7 +62,7 @@ gone_stops options state before after later loading total after_total (stop.Read
     tries = fails.told store (gone.files.store ∙ is);
   };
 }
-gone_stops options state before after later loading total after_total stop.Memory gone wants leaves = left_further before after later gone.files leaves
+gone_stops options state before after later loading total after_total resources stop.Memory gone wants leaves = left_further before after later gone.files leaves
 
 -- ---- what is left to do
 
@@ -108,8 +109,8 @@ gone_joins options state before after loading more total place gone none is well
 }
 
 -- a member does not open
-pub gone_refused : (options : LinkOptions) (state : SearchState) (before after : FilesView) (loading : Loading) (search : Searched) (total : ℕ) (place : MemberPlace) (refused : Refusal) → GoneOn options state before after loading total → wants_library options (state_now loading total) ≡ false → next_member loading.search.searched ≡ Some place → search ≡ loading.search.searched → RefusesFor (join_fault search place) refused → CompletesFrom options state before after (Err (stop_of refused))
-gone_refused options state before after loading search total place (refusal.Fault fault) gone none is same bad = record {
+pub gone_refused : (options : LinkOptions) (state : SearchState) (before after : FilesView) (loading : Loading) (search : Searched) (total : ℕ) (place : MemberPlace) (resources : List Resource) (refused : Refusal) → GoneOn options state before after loading total → wants_library options (state_now loading total) ≡ false → next_member loading.search.searched ≡ Some place → search ≡ loading.search.searched → RefusesFor (join_fault search place) refused → CompletesFrom options state resources before after (Err (stop_of refused))
+gone_refused options state before after loading search total place resources (refusal.Fault fault) gone none is same bad = record {
   files = gone.files;
   told = λ store told reached.
       faults_there store options (state_now loading total) fault (gone.told store told reached)
@@ -117,17 +118,18 @@ gone_refused options state before after loading search total place (refusal.Faul
       ∙ ap (λ (o : Option Fault). goes_unless o (state_of (with_member loading.search.searched place) total loading.read))
       (ap (λ (s : Searched). join_fault s place) (sym same) ∙ bad));
 }
-gone_refused options state before after loading search total place refusal.Memory gone none is same bad = record {
+gone_refused options state before after loading search total place resources refusal.Memory gone none is same bad = record {
   store = gone.files.store;
   writes = gone.files.writes;
 }
 
 -- nothing is left to join
-pub gone_ends : (options : LinkOptions) (state : SearchState) (before after : FilesView) (loading : Loading) (total : ℕ) (list : LinkList) → GoneOn options state before after loading total → wants_library options (state_now loading total) ≡ false → next_member loading.search.searched ≡ None → list.modules.items ≡ modules_now loading → list.table ≡ loading.search.searched.link → GivesFrom options state before after list
-gone_ends options state before after loading total list gone none is modules_are table_is = record {
+pub gone_ends : (options : LinkOptions) (state : SearchState) (before after : FilesView) (loading : Loading) (total : ℕ) (resources : List Resource) (list : LinkList) → GoneOn options state before after loading total → wants_library options (state_now loading total) ≡ false → next_member loading.search.searched ≡ None → list.modules.items ≡ modules_now loading → list.table ≡ loading.search.searched.link → list.resources.items ≡ resources → GivesFrom options state resources before after list
+gone_ends options state before after loading total resources list gone none is modules_are table_is resources_are = record {
   files = gone.files;
   few = let long = ap (λ ms. length ms) modules_are in omega (arith, long, gone.kept.few);
   names_are = table_is ∙ gone.kept.link_is ∙ ap (link_of options) (sym modules_are);
+  resources_are = resources_are;
   told = λ store told reached. record {
     state = state_now loading total;
     ends = record {
@@ -135,5 +137,6 @@ gone_ends options state before after loading total list gone none is modules_are
       next = member_step options store loading total None none is;
     };
     modules_are = modules_are;
+    entries_are = refl;
   };
 }

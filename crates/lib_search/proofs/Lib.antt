@@ -1,3 +1,10 @@
+pub mod FileLemmas
+pub mod ResourceLemmas
+pub mod SaidLemmas
+pub mod MergeLemmas
+pub mod KeyLemmas
+pub mod KeptLemmas
+mod WorkedResources
 pub mod LibraryLemmas
 pub mod InputLemmas
 pub mod ModuleLemmas

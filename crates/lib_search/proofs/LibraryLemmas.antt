@@ -116,9 +116,9 @@ not_refused None e = refl
 not_refused (Some x) e = absurd cc
 
 -- where its header is well formed, its fault is that of the module
-pub joins_as : (library : FoundFile) (at : ℕ) (modules : List ModuleView) (file name bytes : List ℕ) → member_fault (long_names_of library.bytes) library.bytes at ≡ None → file ≡ library.file → name ≡ name_of_member library at → bytes ≡ data_of library.bytes at → joining_fault file (Some name) bytes modules ≡ member_fault_in library at modules
-joins_as library at modules file name bytes none file_is name_is bytes_are =
-    ap (λ (f : List ℕ). joining_fault f (Some name) bytes modules) file_is
-    ∙ ap (λ (n : List ℕ). joining_fault library.file (Some n) bytes modules) name_is
-    ∙ ap (λ (b : List ℕ). joining_fault library.file (Some (name_of_member library at)) b modules) bytes_are
-    ∙ sym (ap (λ (o : Option LibError). option_or (option_map (bad_library library.file) o) (joining_fault library.file (Some (name_of_member library at)) (data_of library.bytes at) modules)) none)
+pub joins_as : (library : FoundFile) (at : ℕ) (merges : Bool) (modules : List ModuleView) (file name bytes : List ℕ) → member_fault (long_names_of library.bytes) library.bytes at ≡ None → file ≡ library.file → name ≡ name_of_member library at → bytes ≡ data_of library.bytes at → joining_fault file (Some name) bytes merges modules ≡ member_fault_in library at merges modules
+joins_as library at merges modules file name bytes none file_is name_is bytes_are =
+    ap (λ (f : List ℕ). joining_fault f (Some name) bytes merges modules) file_is
+    ∙ ap (λ (n : List ℕ). joining_fault library.file (Some n) bytes merges modules) name_is
+    ∙ ap (λ (b : List ℕ). joining_fault library.file (Some (name_of_member library at)) b merges modules) bytes_are
+    ∙ sym (ap (λ (o : Option LibError). option_or (option_map (bad_library library.file) o) (joining_fault library.file (Some (name_of_member library at)) (data_of library.bytes at) merges modules)) none)

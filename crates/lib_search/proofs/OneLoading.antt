@@ -1,10 +1,12 @@
--- A link has one loading: one fault of it, or one list of modules that join.
+-- A link has one loading: one fault of it, or one list of modules that join, with the entries of its
+-- resource files.
 use Rattle.std.proofs.Common.{◌≡◌, ℕ, ◌<◌, ◌≤◌, zero, suc, List, Some, None, sym, ap, ◌∙◌, inl, inr, arith}
 use Rattle.std.proofs.lemmas.Bool.{cases_lt}
 use Rattle.link_base.specs.declared.fault.Fault.{Fault}
 use Rattle.link_files.specs.Store.{Store}
 use Rattle.module_view.specs.Module.{ModuleView}
 use Rattle.link_words.specs.Outcome.{LinkOptions}
+use Rattle.res_merge.specs.Entries.{Entry}
 use Rattle.lib_search.specs.SearchSteps.{SearchState, Ends, Faults, next_step}
 use Rattle.lib_search.specs.Loading.{state_in, state_after_one, state_after, EndsAt, FaultsAt, HasLoadingFault, AtRead, AtOpening, AtStep, Loads}
 
@@ -84,13 +86,15 @@ one_fault store options f g (AtStep state x) (AtRead s) = absurd (no_some g (sym
 one_fault store options f g (AtStep state x) (AtOpening read opened) = absurd (no_some g (sym x.reached.opened ∙ opened))
 one_fault store options f g (AtStep state x) (AtStep other y) = same_step store options state other f g x y
 
--- ---- one list of modules
+-- ---- one list of modules, and one of entries
 
-pub fault_or_loads : (store : Store) (options : LinkOptions) (fault : Fault) (modules : List ModuleView) → HasLoadingFault store options fault → Loads store options modules → ⊥
-fault_or_loads store options fault modules (AtRead r) y = no_some fault (sym y.ends.reached.read ∙ r)
-fault_or_loads store options fault modules (AtOpening read opened) y = no_some fault (sym y.ends.reached.opened ∙ opened)
-fault_or_loads store options fault modules (AtStep state x) y = not_both store options state y.state fault x y.ends
+pub fault_or_loads : (store : Store) (options : LinkOptions) (fault : Fault) (modules : List ModuleView) (entries : List Entry) → HasLoadingFault store options fault → Loads store options modules entries → ⊥
+fault_or_loads store options fault modules entries (AtRead r) y = no_some fault (sym y.ends.reached.read ∙ r)
+fault_or_loads store options fault modules entries (AtOpening read opened) y = no_some fault (sym y.ends.reached.opened ∙ opened)
+fault_or_loads store options fault modules entries (AtStep state x) y = not_both store options state y.state fault x y.ends
 
-pub one_loading : (store : Store) (options : LinkOptions) (modules others : List ModuleView) → Loads store options modules → Loads store options others → modules ≡ others
-one_loading store options modules others x y =
-    x.modules_are ∙ ap (λ (s : SearchState). s.searched.link.modules) (same_end store options x.state y.state x.ends y.ends) ∙ sym y.modules_are
+pub one_loading : (store : Store) (options : LinkOptions) (modules others : List ModuleView) (entries other_entries : List Entry) → Loads store options modules entries → Loads store options others other_entries → (modules ≡ others) × (entries ≡ other_entries)
+one_loading store options modules others entries other_entries x y = (
+  x.modules_are ∙ ap (λ (s : SearchState). s.searched.link.modules) (same_end store options x.state y.state x.ends y.ends) ∙ sym y.modules_are,
+  x.entries_are ∙ sym y.entries_are,
+)

@@ -15,8 +15,8 @@ use Rattle.lib_search.specs.SearchSteps.{MemberPlace, Searched, is_place, unless
 use Rattle.lib_search.specs.SearchParts.{IsPassed}
 use Rattle.lib_search.proofs.ModuleLemmas.{of_each_push, of_all_push}
 
-abbrev pub searched_of : LinkView → List FoundFile → List MemberPlace → Searched
-searched_of link libraries joined = record { link = link; libraries = libraries; joined = joined }
+abbrev pub searched_of : LinkView → List FoundFile → Bool → List MemberPlace → Searched
+searched_of link libraries merges joined = record { link = link; libraries = libraries; merges = merges; joined = joined }
 
 -- ---- what is asked for
 
@@ -113,11 +113,12 @@ passed_joined s place passed over = record {
 }
 
 -- the parts after a member joined
-pub joins_now : (s : Searched) (place : MemberPlace) (view : ModuleView) (link : LinkView) (libraries : List FoundFile) (joined : List MemberPlace) → link ≡ with_module s.link view → view ≡ member_at s place → libraries ≡ s.libraries → joined ≡ s.joined ++ place ∷ [] → searched_of link libraries joined ≡ with_member s place
-joins_now s place view link libraries joined link_is view_is libraries_are joined_is =
-    ap (λ (l : LinkView). searched_of l libraries joined) (link_is ∙ ap (with_module s.link) view_is)
-    ∙ ap (λ (ls : List FoundFile). searched_of (with_module s.link (member_at s place)) ls joined) libraries_are
-    ∙ ap (searched_of (with_module s.link (member_at s place)) s.libraries) joined_is
+pub joins_now : (s : Searched) (place : MemberPlace) (view : ModuleView) (link : LinkView) (libraries : List FoundFile) (merges : Bool) (joined : List MemberPlace) → link ≡ with_module s.link view → view ≡ member_at s place → libraries ≡ s.libraries → merges ≡ s.merges → joined ≡ s.joined ++ place ∷ [] → searched_of link libraries merges joined ≡ with_member s place
+joins_now s place view link libraries merges joined link_is view_is libraries_are merges_is joined_is =
+    ap (λ (l : LinkView). searched_of l libraries merges joined) (link_is ∙ ap (with_module s.link) view_is)
+    ∙ ap (λ (ls : List FoundFile). searched_of (with_module s.link (member_at s place)) ls merges joined) libraries_are
+    ∙ ap (λ (b : Bool). searched_of (with_module s.link (member_at s place)) s.libraries b joined) merges_is
+    ∙ ap (searched_of (with_module s.link (member_at s place)) s.libraries s.merges) joined_is
 
 pub fresh_joined : (joined : List MemberPlace) (place : MemberPlace) → list_any (is_place place) joined ≡ false → cond (list_any (is_place place) joined) joined (joined ++ place ∷ []) ≡ joined ++ place ∷ []
 fresh_joined joined place fresh = ap (λ (b : Bool). cond b joined (joined ++ place ∷ [])) fresh

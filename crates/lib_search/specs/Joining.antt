@@ -1,5 +1,5 @@
 -- Why a file or a member does not open as a module, does not join, or is no library. Own.
-use Rattle.std.specs.Prelude.{ℕ, Bool, ◌&&◌, nat_le, if◌then◌else◌, List, length, Option, Some, None, option_map}
+use Rattle.std.specs.Prelude.{ℕ, Bool, ◌&&◌, ◌||◌, nat_le, if◌then◌else◌, List, length, Option, Some, None, option_map}
 use Rattle.std.specs.List.{list_any}
 use Rattle.std.specs.Option.{option_or}
 use Rattle.link_base.specs.Limits.{MODULE_LIMIT}
@@ -31,20 +31,20 @@ module_fault file member None = None
 abbrev pub count_fault : ℕ → Option Fault
 count_fault position = if nat_le MODULE_LIMIT position then Some (InputLimit 65535) else None
 
--- a module has a section of resources: merging those of several modules is left out
+-- a module has a section of resources: merging it with other resources is left out
 abbrev pub brings_resources : ModuleView → Bool
 brings_resources view = has_resources view.bytes
 
--- the file has one, and so has a module before it
-abbrev pub second_fault : List ℕ → Option (List ℕ) → List ℕ → List ModuleView → Option Fault
-second_fault file member bytes modules =
-    if has_resources (object_bytes bytes) && list_any brings_resources modules then Some (Unsupported file member SecondResource) else None
+-- the file has one, and so has a module before it, or a resource file was opened
+abbrev pub second_fault : List ℕ → Option (List ℕ) → List ℕ → Bool → List ModuleView → Option Fault
+second_fault file member bytes merges modules =
+    if has_resources (object_bytes bytes) && (merges || list_any brings_resources modules) then Some (Unsupported file member SecondResource) else None
 
--- why a file, or a member of one, does not join after these modules
-abbrev pub joining_fault : List ℕ → Option (List ℕ) → List ℕ → List ModuleView → Option Fault
-joining_fault file member bytes modules =
+-- why a file, or a member of one, does not join after these modules: whether a resource file was opened stands before them
+abbrev pub joining_fault : List ℕ → Option (List ℕ) → List ℕ → Bool → List ModuleView → Option Fault
+joining_fault file member bytes merges modules =
     option_or (module_fault file member (file_error bytes))
-    (option_or (second_fault file member bytes modules) (count_fault (length modules)))
+    (option_or (second_fault file member bytes merges modules) (count_fault (length modules)))
 
 -- ---- a library
 

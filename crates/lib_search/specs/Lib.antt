@@ -1,5 +1,8 @@
 pub mod LinkOf
+pub mod SaidFaults
 pub mod Joining
+pub mod ResourceFiles
+pub mod ResourceParts
 pub mod Inputs
 pub mod SearchSteps
 pub mod Loading

@@ -1,14 +1,17 @@
--- What joins in a link: its inputs, and the members that the search of libraries finds. Own.
+-- What joins in a link: its inputs, and the members that the search of libraries finds; and the entries of its resource files.
+-- Own.
 use Rattle.std.specs.Prelude.{◌≡◌, ℕ, zero, suc, true, List, [], Option, Some, None}
 use Rattle.link_base.specs.declared.fault.Fault.{Fault}
 use Rattle.link_files.specs.Store.{Store}
 use Rattle.module_view.specs.Module.{ModuleView}
 use Rattle.link_words.specs.Outcome.{LinkOptions}
+use Rattle.res_merge.specs.Entries.{Entry}
 use Rattle.file_search.specs.FileNames.{tried_names}
 use Rattle.file_search.specs.FoundFiles.{FoundFile}
 use Rattle.file_search.specs.InputFiles.{input_files, input_total, reading_fault}
 use Rattle.file_search.specs.Reading.{Tries}
 use Rattle.lib_search.specs.LinkOf.{link_of}
+use Rattle.lib_search.specs.ResourceFiles.{entries_among, merges_resources}
 use Rattle.lib_search.specs.Inputs.{modules_among, libraries_among, opening_fault}
 use Rattle.lib_search.specs.SearchSteps.{SearchState, Step, Ends, Faults, Goes, next_step, wants_library, next_default}
 
@@ -20,6 +23,7 @@ inputs_state options files total = record {
   searched = record {
     link = link_of options (modules_among files);
     libraries = libraries_among files;
+    merges = merges_resources files;
     joined = [];
   };
   total = total;
@@ -68,11 +72,12 @@ pub data HasLoadingFault (store : Store) (options : LinkOptions) (fault : Fault)
   AtOpening : reading_fault store options ≡ None → opening_fault (input_files store options) ≡ Some fault → HasLoadingFault store options fault
   AtStep : (state : SearchState) → FaultsAt store options state fault → HasLoadingFault store options fault
 
--- these modules join, in this order
-pub record Loads (store : Store) (options : LinkOptions) (modules : List ModuleView) : Type 0 where
+-- these modules join, in this order, and these are the entries of the resource files
+pub record Loads (store : Store) (options : LinkOptions) (modules : List ModuleView) (entries : List Entry) : Type 0 where
   pub state : SearchState
   pub ends : EndsAt store options state
   pub modules_are : modules ≡ state.searched.link.modules
+  pub entries_are : entries ≡ entries_among (input_files store options)
 
 -- ---- the names that are tried
 

@@ -8,12 +8,15 @@ use Rattle.link_base.specs.declared.stop.Stop.TheVariants as stop
 use Rattle.link_files.specs.Outside.{FilesView, AreUntouched, ReadFailed}
 use Rattle.module_view.specs.Module.{ModuleView}
 use Rattle.link_words.specs.Outcome.{LinkOptions}
+use Rattle.res_merge.specs.declared.resource.Resource.{Resource}
 use Rattle.file_search.specs.FileNames.{tried_names}
+use Rattle.file_search.specs.InputFiles.{input_files}
 use Rattle.file_search.specs.DefaultLibraries.{default_names}
 use Rattle.file_search.specs.DefaultSteps.{KeepsDefaults}
 use Rattle.file_search.specs.Reading.{LeavesFiles, Tries}
 use Rattle.lib_search.specs.declared.link_list.LinkList.{LinkList}
 use Rattle.lib_search.specs.declared.loading.Loading.{Loading}
+use Rattle.lib_search.specs.ResourceFiles.{entries_among}
 use Rattle.lib_search.specs.LinkOf.{link_of}
 use Rattle.lib_search.specs.SearchSteps.{SearchState, Faults, Goes, next_step, next_default}
 use Rattle.lib_search.specs.AlternateParts.{KeepsSearch}
@@ -67,15 +70,16 @@ pub record FailsFrom (options : LinkOptions) (state : SearchState) (before after
   pub files : ReadFailed before after
   pub told : ForSome before.store (λ store. Reaches store options state → TriesDefault store options name)
 
--- the modules that join
-pub record GivesFrom (options : LinkOptions) (state : SearchState) (before after : FilesView) (list : LinkList) : Type 0 where
+-- the modules that join, beside these resources
+pub record GivesFrom (options : LinkOptions) (state : SearchState) (resources : List Resource) (before after : FilesView) (list : LinkList) : Type 0 where
   pub files : AreUntouched before after
   pub few : length list.modules.items ≤ MODULE_LIMIT
   pub names_are : list.table ≡ link_of options list.modules.items
-  pub told : ForSome before.store (λ store. Reaches store options state → Loads store options list.modules.items)
+  pub resources_are : list.resources.items ≡ resources
+  pub told : ForSome before.store (λ store. Reaches store options state → Loads store options list.modules.items (entries_among (input_files store options)))
 
-abbrev pub CompletesFrom : LinkOptions → SearchState → FilesView → FilesView → Result LinkList Stop → Type 0
-CompletesFrom options state before after (Ok list) = GivesFrom options state before after list
-CompletesFrom options state before after (Err (stop.Fault fault)) = FaultsFrom options state before after fault
-CompletesFrom options state before after (Err (stop.Read name)) = FailsFrom options state before after name
-CompletesFrom options state before after (Err stop.Memory) = LeavesFiles before after
+abbrev pub CompletesFrom : LinkOptions → SearchState → List Resource → FilesView → FilesView → Result LinkList Stop → Type 0
+CompletesFrom options state resources before after (Ok list) = GivesFrom options state resources before after list
+CompletesFrom options state resources before after (Err (stop.Fault fault)) = FaultsFrom options state before after fault
+CompletesFrom options state resources before after (Err (stop.Read name)) = FailsFrom options state before after name
+CompletesFrom options state resources before after (Err stop.Memory) = LeavesFiles before after

@@ -32,6 +32,8 @@ pub record Searched : Type 0 where
   -- the names that are asked for, and the modules
   pub link : LinkView
   pub libraries : List FoundFile
+  -- a resource file was opened
+  pub merges : Bool
   -- the members that have joined
   pub joined : List MemberPlace
 
@@ -120,17 +122,17 @@ abbrev pub header_fault : FoundFile → ℕ → Option Fault
 header_fault library at =
     option_map (bad_library library.file) (member_fault (long_names_of library.bytes) library.bytes at)
 
-abbrev pub member_fault_in : FoundFile → ℕ → List ModuleView → Option Fault
-member_fault_in library at modules =
+abbrev pub member_fault_in : FoundFile → ℕ → Bool → List ModuleView → Option Fault
+member_fault_in library at merges modules =
     option_or (header_fault library at)
-    (joining_fault library.file (Some (name_of_member library at)) (data_of library.bytes at) modules)
+    (joining_fault library.file (Some (name_of_member library at)) (data_of library.bytes at) merges modules)
 
 abbrev pub member_at : Searched → MemberPlace → ModuleView
 member_at searched place = member_view (library_at searched.libraries place.0) place.1
 
 abbrev pub join_fault : Searched → MemberPlace → Option Fault
 join_fault searched place =
-    member_fault_in (library_at searched.libraries place.0) place.1 searched.link.modules
+    member_fault_in (library_at searched.libraries place.0) place.1 searched.merges searched.link.modules
 
 abbrev pub with_module : LinkView → ModuleView → LinkView
 with_module link view = record link { modules = link.modules ++ view ∷ [] }

@@ -11,25 +11,26 @@ use link_base::{Fault, Kind, MODULE_LIMIT, Name, Refusal};
 use module_view::{Module, ModuleError, Origin, open_module};
 use std::alloc::Global;
 
-/// Opens a file or a member as a module after these. One that does not open is refused, the second one that brings resources,
-/// and one too many.
+/// Opens a file or a member as a module after these. One that does not open is refused, one that brings resources where one of
+/// these does or a resource file was opened, and one too many.
 pub(crate) fn join<'a>(
     alloc: Global,
     origin: Origin<'a>,
     bytes: &'a [u8],
+    merges: bool,
     modules: &[Module<'a>],
 ) -> Result<Module<'a>, Refusal<'a>>
     requires { length bytes.now ≤ most_bytes }
     ensures opened { IfOk result (λ opened. opened ≡ view_of origin.entry bytes.now) }
-    ensures accepted { OnOk result (joining_fault origin.entry.file origin.entry.member bytes.now modules.now ≡ None) }
+    ensures accepted { OnOk result (joining_fault origin.entry.file origin.entry.member bytes.now merges modules.now ≡ None) }
     ensures few { OnOk result (length modules.now < most_modules) }
-    ensures refused { IfErr result (RefusesFor (joining_fault origin.entry.file origin.entry.member bytes.now modules.now)) }
+    ensures refused { IfErr result (RefusesFor (joining_fault origin.entry.file origin.entry.member bytes.now merges modules.now)) }
 {
     let file = origin.file.again();
     let member = again(&origin.member);
     match open_module(alloc, origin, bytes) {
         Ok(module) => {
-            if module.has_resources() && bring_resources(modules) {
+            if module.has_resources() && (merges || bring_resources(modules)) {
                 return Err(Refusal::Fault(Fault::Unsupported {
                     file,
                     member,

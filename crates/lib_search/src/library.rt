@@ -57,12 +57,13 @@ impl<'a> OpenLibrary<'a> {
         &self,
         alloc: Global,
         at: u32,
+        merges: bool,
         modules: &[Module<'a>],
     ) -> Result<Module<'a>, Refusal<'a>>
         ensures opened { IfOk result (λ opened. opened ≡ member_view self.now at) }
-        ensures accepted { OnOk result (member_fault_in self.now at modules.now ≡ None) }
+        ensures accepted { OnOk result (member_fault_in self.now at merges modules.now ≡ None) }
         ensures few { OnOk result (length modules.now < most_modules) }
-        ensures refused { IfErr result (RefusesFor (member_fault_in self.now at modules.now)) }
+        ensures refused { IfErr result (RefusesFor (member_fault_in self.now at merges modules.now)) }
     {
         let member = match self.library.member(at) {
             Ok(member) => member,
@@ -72,7 +73,7 @@ impl<'a> OpenLibrary<'a> {
             file: self.file.again(),
             member: Some(member.name),
         };
-        join(alloc, origin, member.bytes, modules)
+        join(alloc, origin, member.bytes, merges, modules)
     }
 }
 
@@ -151,15 +152,16 @@ impl<'a> Libraries<'a> {
         &self,
         alloc: Global,
         place: (usize, u32),
+        merges: bool,
         modules: &[Module<'a>],
     ) -> Result<Module<'a>, Refusal<'a>>
         requires { place.0 < length self.now }
         ensures opened { IfOk result (λ opened. opened ≡ member_view (library_at self.now place.0) place.1) }
-        ensures accepted { OnOk result (member_fault_in (library_at self.now place.0) place.1 modules.now ≡ None) }
+        ensures accepted { OnOk result (member_fault_in (library_at self.now place.0) place.1 merges modules.now ≡ None) }
         ensures few { OnOk result (length modules.now < most_modules) }
-        ensures refused { IfErr result (RefusesFor (member_fault_in (library_at self.now place.0) place.1 modules.now)) }
+        ensures refused { IfErr result (RefusesFor (member_fault_in (library_at self.now place.0) place.1 merges modules.now)) }
     {
-        self.list[place.0].open_member(alloc, place.1, modules)
+        self.list[place.0].open_member(alloc, place.1, merges, modules)
     }
 }
 

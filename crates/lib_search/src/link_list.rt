@@ -13,19 +13,27 @@ use link_base::Stop;
 use link_files::Files;
 use link_words::Options;
 use module_view::Module;
+use res_merge::Resource;
 use std::alloc::Global;
 use symbol_table::SymbolTable;
 
-/// What takes part in a link: the modules, in the order of joining, and the table of their names.
+/// What takes part in a link: the modules, in the order of joining, the table of their names, and the resources of the resource
+/// files among the inputs, in the order of the words and in each file in its order.
 #[derive(Drop)]
 pub struct LinkList<'a> {
     pub modules: Vec<Module<'a>>,
     pub table: SymbolTable<'a>,
+    pub resources: Vec<Resource<'a>>,
 }
 
 /// Reads and opens the inputs that the options name, and searches libraries for what they ask for: those among the inputs, then
 /// the default libraries. The first fault of an input, of a default library or of a member that is to join is refused
-/// (`NotFound`, `FileTooLarge`, `InputLimit`, `BadObject`, `BadLibrary`, `BadDirective`, `Unsupported`).
+/// (`NotFound`, `FileTooLarge`, `InputLimit`, `BadObject`, `BadImport`, `BadLibrary`, `BadDirective`, `Unsupported`).
+///
+/// An input that begins with the empty entry of a resource file is one. Behind a module with a section `.rsrc` it is refused
+/// (`Unsupported`), and so is such a module behind it, also one of a library. Then the first malformed entry is refused
+/// (`BadResource`), more than 65,535 entries of this file and those before it (`TooManyResources`), and the first entry whose
+/// type, name and language an earlier one of these files has (`DuplicateResource`).
 pub fn complete<'a, F: Files>(
     alloc: Global,
     files: &mut F,
@@ -44,7 +52,14 @@ pub fn complete<'a, F: Files>(
         Err(stop) => return Err(stop),
     };
     match start(alloc, inputs, options, &read) {
-        Ok(loading) => search(alloc, files, inputs, options, loading),
+        Ok(begun) => search(
+            alloc,
+            files,
+            inputs,
+            options,
+            begun.loading,
+            begun.resources,
+        ),
         Err(refusal) => Err(Stop::from(refusal)),
     }
 }
@@ -56,11 +71,12 @@ fn search<'a, F: Files>(
     inputs: &mut Inputs<'a>,
     options: &Options<'a>,
     loading: Loading<'a>,
+    resources: Vec<Resource<'a>>,
 ) -> Result<LinkList<'a>, Stop<'a>>
     requires reads_below { F.read_faults files.old < 2 ^ 64 - 1 }
     requires writes_below { F.write_faults files.old < 2 ^ 64 - 1 }
     requires kept { KeepsLoading (options_said options.now) loading }
-    ensures { CompletesFrom (options_said options.now) (state_now loading.entry inputs.old)
+    ensures { CompletesFrom (options_said options.now) (state_now loading.entry inputs.old) resources.entry.items
         (files_of F.store F.read_faults F.write_faults files.old)
         (files_of F.store F.read_faults F.write_faults files.new) result }
 {
@@ -75,7 +91,11 @@ fn search<'a, F: Files>(
         }
         let Some(place) = loading.search.next_member() else {
             let (modules, table) = loading.search.finish();
-            return Ok(LinkList { modules, table });
+            return Ok(LinkList {
+                modules,
+                table,
+                resources,
+            });
         };
         match join_member(alloc, inputs, &mut loading, place) {
             Ok(()) => {}

@@ -1,13 +1,20 @@
 //! A loading: what has joined, and the default libraries that are still to be read.
 
-ghost use Rattle.std.specs.Prelude.{◌≡◌, ◌≤◌, ◌<◌, ◌+◌, ◌-◌, ◌^◌, None, true, length, All, IfOk, OnOk, IfErr};
-ghost use Rattle.link_base.specs.Limits.{FILE_LIMIT as most_bytes};
+ghost use Rattle.std.specs.Prelude.{◌≡◌, ◌≤◌, ◌<◌, ◌+◌, ◌-◌, ◌^◌, [], None, true, length, map, All, IfOk, OnOk, IfErr};
+ghost use Rattle.std.specs.List.{sum_by};
+ghost use Rattle.link_base.specs.Limits.{FILE_LIMIT as most_bytes, INPUT_LIMIT as most_together, MODULE_LIMIT as most_modules};
 ghost use Rattle.link_base.specs.Refusals.{RefusesFor};
 ghost use Rattle.link_files.specs.Outside.{files_of};
 ghost use Rattle.link_words.specs.Outcome.{LinkOptions, options_said};
 ghost use Rattle.file_search.specs.DefaultLibraries.{default_names};
 ghost use Rattle.file_search.specs.DefaultSteps.{KeepsDefaults};
 ghost use Rattle.file_search.specs.Reading.{file_found, files_found};
+ghost use Rattle.res_merge.specs.Entries.{entry_of};
+ghost use Rattle.res_merge.specs.Order.{AreMergeable};
+ghost use Rattle.res_merge.specs.Found.{AreNumbered};
+ghost use Rattle.lib_search.specs.LinkOf.{link_of};
+ghost use Rattle.lib_search.specs.SaidFaults.{RefusesSaid};
+ghost use Rattle.lib_search.specs.ResourceFiles.{entries_among};
 ghost use Rattle.lib_search.specs.Inputs.{opening_fault};
 ghost use Rattle.lib_search.specs.Loading.{inputs_state};
 ghost use Rattle.lib_search.specs.AlternateParts.{KeepsSearch};
@@ -17,7 +24,7 @@ ghost use Rattle.lib_search.specs.SearchParts.{IsFresh};
 ghost use Rattle.lib_search.specs.SearchSteps.{join_fault, with_member, with_library, wants_library};
 
 use crate::library::OpenLibrary;
-use crate::open::open_inputs;
+use crate::open::{OpenInputs, open_inputs};
 use crate::search::Search;
 use file_search::{DefaultLibraries, FoundFile, find_file};
 use input_arena::Inputs;
@@ -25,6 +32,7 @@ use link_base::{Memory, Refusal, Stop};
 use link_files::Files;
 use link_words::Options;
 use module_view::Module;
+use res_merge::Resource;
 use std::alloc::Global;
 
 /// What has joined so far, the default libraries that are searched, and how many of these were read.
@@ -35,22 +43,67 @@ pub(crate) struct Loading<'a> {
     pub(crate) read: usize,
 }
 
+/// What the inputs are: a loading begins with them, and the resources of the resource files among them.
+#[derive(Drop)]
+pub(crate) struct Begun<'a> {
+    pub(crate) loading: Loading<'a>,
+    pub(crate) resources: Vec<Resource<'a>>,
+}
+
 /// Opens the inputs, with which a loading begins. The first that does not open is refused.
 pub(crate) fn start<'a>(
     alloc: Global,
     inputs: &mut Inputs<'a>,
     options: &Options<'a>,
     files: &[FoundFile<'a>],
-) -> Result<Loading<'a>, Refusal<'a>>
-    requires { All (λ file. length file.bytes.now ≤ most_bytes) files.now }
-    ensures kept { IfOk result (KeepsLoading (options_said options.now)) }
-    ensures state { IfOk result (λ loading. state_now loading inputs.new ≡ inputs_state (options_said options.now) (files_found files.now) inputs.old) }
+) -> Result<Begun<'a>, Refusal<'a>>
+    requires short { All (λ file. length file.bytes.now ≤ most_bytes) files.now }
+    requires together { sum_by (λ file. length file.bytes) (files_found files.now) ≤ most_together }
+    ensures kept { IfOk result (λ begun. KeepsLoading (options_said options.now) begun.loading) }
+    ensures mergeable { IfOk result (λ begun. AreMergeable (map entry_of begun.resources.items)) }
+    ensures numbered { IfOk result (λ begun. AreNumbered (map entry_of begun.resources.items)) }
+    ensures resources { IfOk result (λ begun. map entry_of begun.resources.items ≡ entries_among (files_found files.now)) }
+    ensures state { IfOk result (λ begun. state_now begun.loading inputs.new ≡ inputs_state (options_said options.now) (files_found files.now) inputs.old) }
     ensures accepted { OnOk result (opening_fault (files_found files.now) ≡ None) }
-    ensures refused { IfErr result (RefusesFor (opening_fault (files_found files.now))) }
+    ensures refused { IfErr result (RefusesSaid (opening_fault (files_found files.now))) }
 {
     let opened = open_inputs(alloc, files)?;
-    let defaults = defaults_of(alloc, inputs, options, &opened.modules)?;
-    let search = Search::new(alloc, options, opened)?;
+    let OpenInputs {
+        modules,
+        libraries,
+        resource_files,
+        ..
+    } = opened;
+    let merges = resource_files.opened;
+    let loading = loading_of(alloc, inputs, options, modules, libraries, merges)?;
+    Ok(Begun {
+        loading,
+        resources: resource_files.resources,
+    })
+}
+
+/// A loading that begins with these modules and libraries, where a resource file was opened or not.
+fn loading_of<'a>(
+    alloc: Global,
+    inputs: &mut Inputs<'a>,
+    options: &Options<'a>,
+    modules: Vec<Module<'a>>,
+    libraries: Vec<OpenLibrary<'a>>,
+    merges: bool,
+) -> Result<Loading<'a>, Memory>
+    requires { length modules.items ≤ most_modules }
+    ensures kept { IfOk result (KeepsLoading (options_said options.now)) }
+    ensures searched { IfOk result (λ loading. loading.search.searched ≡ record {
+      link = link_of (options_said options.now) modules.entry.items;
+      libraries = libraries.entry.items;
+      merges = merges;
+      joined = [];
+    }) }
+    ensures unread { IfOk result (λ loading. loading.read ≡ 0) }
+    ensures total_kept { inputs.new ≡ inputs.old }
+{
+    let defaults = defaults_of(alloc, inputs, options, &modules)?;
+    let search = Search::new(alloc, options, modules, libraries, merges)?;
     Ok(Loading {
         search,
         defaults,

@@ -14,7 +14,7 @@ ghost use Rattle.lib_search.specs.SearchParts.{IsFresh};
 use crate::alternates::Alternates;
 use crate::asked::asked_words;
 use crate::library::OpenLibrary;
-use crate::open::{OpenInputs, push_module};
+use crate::open::push_module;
 use crate::searched::Searched;
 use link_base::{Memory, Refusal};
 use link_words::Options;
@@ -33,23 +33,25 @@ pub(crate) struct Search<'a> {
 }
 
 impl<'a> Search<'a> {
-    /// The search begins with the inputs.
+    /// The search begins with the modules and the libraries among the inputs, where one of these is a resource file or not.
     pub(crate) fn new(
         alloc: Global,
         options: &Options<'a>,
-        inputs: OpenInputs<'a>,
+        modules: Vec<Module<'a>>,
+        libraries: Vec<OpenLibrary<'a>>,
+        merges: bool,
     ) -> Result<Search<'a>, Memory>
-        requires { length inputs.modules.items ≤ most_modules }
+        requires { length modules.items ≤ most_modules }
         ensures kept { IfOk result KeepsSearch }
         ensures searched { IfOk result (λ search. search.searched ≡ record {
-          link = link_of (options_said options.now) inputs.entry.modules.items;
-          libraries = inputs.entry.libraries.items;
+          link = link_of (options_said options.now) modules.entry.items;
+          libraries = libraries.entry.items;
+          merges = merges;
           joined = [];
         }) }
     {
-        let OpenInputs { modules, libraries } = inputs;
         let table = table_of(alloc, options, &modules)?;
-        let searched = Searched::new(alloc, table, libraries)?;
+        let searched = Searched::new(alloc, table, libraries, merges)?;
         let alternates = alternates_of(alloc, &searched, options, &modules)?;
         Ok(Search {
             modules,

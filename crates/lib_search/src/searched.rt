@@ -22,6 +22,8 @@ use symbol_table::SymbolTable;
 pub(crate) struct Searched<'a> {
     table: SymbolTable<'a>,
     libraries: Libraries<'a>,
+    /// A resource file was opened.
+    merges: bool,
     joined: IndexSet<(usize, u32)>,
 }
 
@@ -30,7 +32,7 @@ impl<'a> Model for Searched<'a> {
 
     ghost Value = { Searched };
 
-    ghost view = { λ s. record { link = s.table; libraries = s.libraries; joined = s.joined.keys } };
+    ghost view = { λ s. record { link = s.table; libraries = s.libraries; merges = s.merges; joined = s.joined.keys } };
 }
 
 impl<'a> Searched<'a> {
@@ -39,12 +41,14 @@ impl<'a> Searched<'a> {
         alloc: Global,
         table: SymbolTable<'a>,
         libraries: Vec<OpenLibrary<'a>>,
+        merges: bool,
     ) -> Result<Searched<'a>, Memory>
-        ensures { IfOk result (λ searched. searched ≡ record { link = table.entry; libraries = libraries.entry.items; joined = [] }) }
+        ensures { IfOk result (λ searched. searched ≡ record { link = table.entry; libraries = libraries.entry.items; merges = merges; joined = [] }) }
     {
         Ok(Searched {
             table,
             libraries: Libraries::of(alloc, libraries)?,
+            merges,
             joined: IndexSet::new(alloc),
         })
     }
@@ -124,7 +128,8 @@ impl<'a> Searched<'a> {
         ensures few { OnOk result (length self.now.link.modules < most_modules) }
         ensures refused { IfErr result (RefusesFor (join_fault self.now place)) }
     {
-        self.libraries.open_member(alloc, place, modules)
+        self.libraries
+            .open_member(alloc, place, self.merges, modules)
     }
 
     /// The member at a place joins as this module.
@@ -150,11 +155,13 @@ impl<'a> Searched<'a> {
         let Searched {
             table,
             libraries,
+            merges,
             joined,
         } = self;
         Ok(Searched {
             table,
             libraries: libraries.with(library)?,
+            merges,
             joined,
         })
     }

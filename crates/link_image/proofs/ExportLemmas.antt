@@ -17,13 +17,15 @@ use Rattle.export_tables.specs.ReadBack.{SameSize}
 use Rattle.export_tables.specs.Ordinals.{ordinals_of, ordinal_fault}
 use Rattle.export_tables.proofs.LengthLemmas.{size_of_table}
 use Rattle.export_tables.proofs.SizeLemmas.{same_table_size, same_numbered}
-use Rattle.synthetic_sections.specs.LinkerPieces.{EXPORTS, DEBUG_DATA, size_at, entry_size}
+use Rattle.synthetic_sections.specs.LinkerPieces.{EXPORTS, DEBUG_DATA, RESOURCES, size_at, entry_size}
 use Rattle.link_debug.specs.LinkDebug.{no_identifier, data_bytes}
+use Rattle.link_resources.specs.LinkResources.{IsSized as IsSizedTree}
+use Rattle.link_resources.proofs.TreeLemmas as tree
 use Rattle.link_debug.proofs.DataLemmas.{IsSized, length-entry, length-bytes}
 use Rattle.link_exports.specs.Exports.{refused_rows, numbers_fault, numbers_of, export_to, table_row, unplaced_row, size_of, size_if, ExportsView, exports_from, AreTold}
 use Rattle.link_pieces.specs.TablePieces.{kept_rows, KeptParts, table_sizes, kept_imports}
 use Rattle.link_imports.specs.Imports.{import_sizes}
-use Rattle.link_image.specs.LinkedBytes.{table_rva, table_rvas, import_tables_at, exported_row, exported_rows, export_table_at, debug_entry_at, tables_at}
+use Rattle.link_image.specs.LinkedBytes.{table_rva, table_rvas, import_tables_at, exported_row, exported_rows, export_table_at, debug_entry_at, resource_tree_at, other_tables_at, tables_at}
 
 -- ---- a link with a table
 
@@ -156,21 +158,36 @@ import_lengths link layout =
     let rvas = table_rvas link layout in
     sizes_kept rows rvas (import_tables_of rows rvas) (sizes_of rows) refl refl
 
--- those behind the import tables
+-- what names the PDB has its size, and so has the resource tree
+pub record AreSized (link : KeptParts) : Type 0 where
+  pub debug : IsSized link.parts.debug
+  pub tree : IsSizedTree link.parts.resources
+
+-- the sizes behind those of the import tables
+abbrev later_sizes : KeptParts → List ℕ
+later_sizes link =
+    link.parts.exports.size ∷ entry_size link.parts.debug.size ∷ link.parts.debug.size ∷ link.parts.resources.size ∷ []
+
+-- the tables behind those of the imports
 abbrev later_tables : KeptParts → Layout → List (List ℕ)
-later_tables link layout = export_table_at link layout ∷ debug_entry_at link layout ∷ data_bytes link.parts.debug no_identifier ∷ []
+later_tables link layout = other_tables_at link layout
 
 entry_length : (link : KeptParts) (layout : Layout) → length (debug_entry_at link layout) ≡ entry_size link.parts.debug.size
 unfolding debug_entry_at
 entry_length link layout = length-entry link.parts.debug layout.sections.items (table_rva link layout DEBUG_DATA)
 
-later_lengths : (link : KeptParts) (layout : Layout) (rows : List Export) (dll : List ℕ) (time : ℕ) → link.parts.exports ≡ exports_from rows dll time → AreTold link.parts.exports → IsSized link.parts.debug → map length (later_tables link layout) ≡ link.parts.exports.size ∷ entry_size link.parts.debug.size ∷ link.parts.debug.size ∷ []
-later_lengths link layout rows dll time is told sized =
-    ap (λ (n : ℕ). n ∷ length (debug_entry_at link layout) ∷ length (data_bytes link.parts.debug no_identifier) ∷ []) (export_length link layout rows dll time is told)
-    ∙ ap (λ (n : ℕ). link.parts.exports.size ∷ n ∷ length (data_bytes link.parts.debug no_identifier) ∷ []) (entry_length link layout)
-    ∙ ap (λ (n : ℕ). link.parts.exports.size ∷ entry_size link.parts.debug.size ∷ n ∷ []) (length-bytes link.parts.debug no_identifier refl sized)
+tree_length : (link : KeptParts) (layout : Layout) → AreSized link → length (resource_tree_at link layout) ≡ link.parts.resources.size
+unfolding resource_tree_at
+tree_length link layout sized = tree.length-bytes link.parts.resources (table_rva link layout RESOURCES) sized.tree
 
-pub length-tables : (link : KeptParts) (layout : Layout) (rows : List Export) (dll : List ℕ) (time : ℕ) → link.parts.exports ≡ exports_from rows dll time → AreTold link.parts.exports → IsSized link.parts.debug → (number : ℕ) → length (get_or (tables_at link layout) number []) ≡ size_at (table_sizes link) number
+later_lengths : (link : KeptParts) (layout : Layout) (rows : List Export) (dll : List ℕ) (time : ℕ) → link.parts.exports ≡ exports_from rows dll time → AreTold link.parts.exports → AreSized link → map length (later_tables link layout) ≡ later_sizes link
+later_lengths link layout rows dll time is told sized =
+    ap (λ (n : ℕ). n ∷ length (debug_entry_at link layout) ∷ length (data_bytes link.parts.debug no_identifier) ∷ length (resource_tree_at link layout) ∷ []) (export_length link layout rows dll time is told)
+    ∙ ap (λ (n : ℕ). link.parts.exports.size ∷ n ∷ length (data_bytes link.parts.debug no_identifier) ∷ length (resource_tree_at link layout) ∷ []) (entry_length link layout)
+    ∙ ap (λ (n : ℕ). link.parts.exports.size ∷ entry_size link.parts.debug.size ∷ n ∷ length (resource_tree_at link layout) ∷ []) (length-bytes link.parts.debug no_identifier refl sized.debug)
+    ∙ ap (λ (n : ℕ). link.parts.exports.size ∷ entry_size link.parts.debug.size ∷ link.parts.debug.size ∷ n ∷ []) (tree_length link layout sized)
+
+pub length-tables : (link : KeptParts) (layout : Layout) (rows : List Export) (dll : List ℕ) (time : ℕ) → link.parts.exports ≡ exports_from rows dll time → AreTold link.parts.exports → AreSized link → (number : ℕ) → length (get_or (tables_at link layout) number []) ≡ size_at (table_sizes link) number
 length-tables link layout rows dll time is told sized number =
     sym (get_or-map length (tables_at link layout) number [])
     ∙ ap (λ (sizes : List ℕ). get_or sizes number 0) (map-append length (import_tables_at link layout) (later_tables link layout))
@@ -186,10 +203,6 @@ five_sizes link = refl
 five_tables : (link : KeptParts) (layout : Layout) → length (import_tables_at link layout) ≡ 5
 unfolding import_tables_at import_tables_of
 five_tables link layout = refl
-
--- the sizes behind those of the import tables
-abbrev later_sizes : KeptParts → List ℕ
-later_sizes link = link.parts.exports.size ∷ entry_size link.parts.debug.size ∷ link.parts.debug.size ∷ []
 
 pub import_size : (link : KeptParts) (number : ℕ) → number < 5 → size_at (table_sizes link) number ≡ size_at (import_sizes link.parts.modules (kept_imports link)) number
 import_size link number few =
@@ -212,3 +225,10 @@ export_table_is link layout =
 pub data_table_is : (link : KeptParts) (layout : Layout) → get_or (tables_at link layout) 7 [] ≡ data_bytes link.parts.debug no_identifier
 data_table_is link layout =
     get_or-append_right (import_tables_at link layout) (later_tables link layout) 5 7 [] (five_tables link layout) (omega arith)
+
+pub tree_size_is : (link : KeptParts) → size_at (table_sizes link) 8 ≡ link.parts.resources.size
+tree_size_is link = get_or-append_right (import_sizes link.parts.modules (kept_imports link)) (later_sizes link) 5 8 0 (five_sizes link) (omega arith)
+
+pub tree_table_is : (link : KeptParts) (layout : Layout) → get_or (tables_at link layout) 8 [] ≡ resource_tree_at link layout
+tree_table_is link layout =
+    get_or-append_right (import_tables_at link layout) (later_tables link layout) 5 8 [] (five_tables link layout) (omega arith)

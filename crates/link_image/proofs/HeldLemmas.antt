@@ -28,12 +28,13 @@ use Rattle.link_fields.specs.Fixes.{piece_fixes}
 use Rattle.link_words.specs.Outcome.{LinkOptions}
 use Rattle.link_plan.specs.declared.planning.LinkPlan.{LinkPlan}
 use Rattle.link_plan.specs.Planned.{placed_fix, fixes_if, planned_fixes, plan_pieces, HaveFields}
-use Rattle.link_plan.specs.Plan.{IsPlanOf, kept_parts}
+use Rattle.link_resources.specs.LinkResources.{ResourcesView, resources_with, IsSized as IsSizedTree}
+use Rattle.link_plan.specs.Plan.{IsPlanOf, plan_resources, kept_parts}
 use Rattle.link_plan.proofs.CallerLemmas.{planned_at, table_at, plan_count}
 use Rattle.link_debug.proofs.DataLemmas.{IsSized, sized}
 use Rattle.link_exports.specs.Exports.{export_rows, dll_name, exports_of}
 use Rattle.link_image.specs.LinkedBytes.{tables_at, contents_at, placed_contents}
-use Rattle.link_image.proofs.ExportLemmas.{length-tables}
+use Rattle.link_image.proofs.ExportLemmas.{AreSized, length-tables}
 use Rattle.link_image.specs.Steps.{HoldTables, IsHeld}
 
 -- ---- by what a piece is
@@ -132,6 +133,16 @@ module _ (options : LinkOptions) (plan : LinkPlan) (planned : IsPlanOf options p
   pub debug_sized : IsSized plan.names.debug
   debug_sized = subst IsSized (sym (ap (λ (parts : LinkParts). parts.debug) planned.link_is.parts_are)) (sized options)
 
+  -- the resources, with the size of their tree
+  pub resources_are : plan.names.resources ≡ resources_with options (plan_resources plan)
+  resources_are = ap (λ (parts : LinkParts). parts.resources) planned.link_is.parts_are
+
+  pub tree_sized : IsSizedTree plan.names.resources
+  tree_sized = ap (λ (resources : ResourcesView). resources.size) resources_are
+
+  pub both_sized : AreSized (kept_parts plan)
+  both_sized = record { debug = debug_sized; tree = tree_sized }
+
   pub imports_are : AreImports plan.names.modules (kept_imports (kept_parts plan)) plan.imports
   imports_are = subst (λ (views : List ModuleView). AreImports views (kept_imports (kept_parts plan)) plan.imports) names_modules planned.imports
 
@@ -156,7 +167,7 @@ module _ (options : LinkOptions) (plan : LinkPlan) (planned : IsPlanOf options p
           let is = table_is (kept_parts plan) k (table_behind (kept_parts plan) k table) (omega (arith, lt, piece_count)) in
           let init : (get_or plan.pieces.items k no_piece).init ≡ true = ap (λ (p : Piece). p.init) (planned_is k) ∙ is.init in
           record {
-            filled = λ on. ap length (table_contents (kept_parts plan) layout k table) ∙ length-tables (kept_parts plan) layout (export_rows options plan.modules.items) (dll_name options.out) options.time exports_are planned.told debug_sized (whole_piece (kept_parts plan) k).number ∙ sym is.size ∙ sym (same_size k lt);
+            filled = λ on. ap length (table_contents (kept_parts plan) layout k table) ∙ length-tables (kept_parts plan) layout (export_rows options plan.modules.items) (dll_name options.out) options.time exports_are planned.told both_sized (whole_piece (kept_parts plan) k).number ∙ sym is.size ∙ sym (same_size k lt);
             empty = λ off. absurd (false≢true (sym off ∙ init));
           }
       by false other =

@@ -1,5 +1,6 @@
 -- The imports of the modules, read back from the memory that an image of theirs is loaded to.
 use Rattle.std.proofs.Common.{◌≡◌, ℕ, ◌+◌, ◌*◌, ◌^◌, ◌<◌, ◌≤◌, ◌⊎◌, Bool, true, false, cond, eqb, List, [], ◌∷◌, ◌++◌, length, get_or, slice_index, slice_get, Option, Some, None, refl, sym, ap, ◌∙◌, subst, inl, inr, arith}
+use Rattle.std.specs.Prelude.{codes}
 use Rattle.std.specs.List.{All, list_any}
 use Rattle.link_exports.specs.Exports.{export_rows, dll_name}
 use Rattle.export_tables.specs.declared.row.ExportRow.{ExportRow}
@@ -28,9 +29,16 @@ use Rattle.image_writer.specs.declared.headers.Headers.{Headers}
 use Rattle.image_writer.specs.ExpectedImage.{ImagePlan, MeansPlan, permits, expected_image, image_file}
 use Rattle.image_writer.specs.HeaderTable.{size_of_headers}
 use Rattle.image_writer.specs.WrittenImage.{written_plan, layout_plan}
-use Rattle.synthetic_sections.specs.LinkerPieces.{EXPORTS, DEBUG_DATA, size_at}
+use Rattle.synthetic_sections.specs.LinkerPieces.{EXPORTS, DEBUG_DATA, RESOURCES, size_at}
 use Rattle.debug_entry.proofs.IdentifierLemmas.{length-identifier}
 use Rattle.link_debug.specs.LinkDebug.{data_bytes}
+use Rattle.link_resources.proofs.TreeLemmas.{sized_tree, bytes_are}
+use Rattle.res_merge.specs.Entries.{Key}
+use Rattle.res_merge.specs.Order.{in_order}
+use Rattle.res_merge.specs.Tree.{tree_of, tree_size}
+use Rattle.res_merge.specs.Lookup.{resource_data}
+use Rattle.res_merge.specs.Found.{IsSmallKey, data_of}
+use Rattle.res_merge.proofs.Theorems.{resources_found}
 use Rattle.link_pieces.specs.TablePieces.{KeptParts, kept_rows, table_sizes, table_index, whole_pieces, whole_piece, is_table}
 use Rattle.link_pieces.proofs.CallerLemmas.{table_there}
 use Rattle.link_words.specs.Outcome.{LinkOptions}
@@ -39,12 +47,12 @@ use Rattle.link_plan.specs.Plan.{IsPlanOf, kept_parts}
 use Rattle.piece_bytes.specs.Owners.{section_of}
 use Rattle.link_image.specs.declared.placement.Placement.{Placement}
 use Rattle.image_headers.specs.ImageHeaders.{headers_of}
-use Rattle.link_image.specs.LinkedBytes.{owners_in, rva_of, table_rva, table_rvas, import_tables_at, exported_rows, export_table_at, tables_at, contents_at, image_contents}
+use Rattle.link_image.specs.LinkedBytes.{owners_in, rva_of, table_rva, table_rvas, import_tables_at, exported_rows, export_table_at, resource_tree_at, tables_at, contents_at, image_contents}
 use Rattle.link_image.specs.ExportFaults.{export_fault, in_table_fault}
-use Rattle.link_image.specs.LinkedImage.{extent_of, table_extent, directories_of, identifier_of, final_contents, HoldsImports, HoldsExports}
+use Rattle.link_image.specs.LinkedImage.{extent_of, table_extent, section_extent, resource_extent, directories_of, identifier_of, final_contents, HoldsImports, HoldsExports, HoldsResources}
 use Rattle.link_image.specs.Steps.{reloc_tables, IsGiven, IsPlaced, IsReady}
-use Rattle.link_image.proofs.HeldLemmas.{piece_count, exports_are, debug_sized, same_size, table_contents, table_fixes}
-use Rattle.link_image.proofs.ExportLemmas.{HasTable, has_table, length-tables, import_size, import_table, export_size, export_table_is}
+use Rattle.link_image.proofs.HeldLemmas.{piece_count, exports_are, tree_sized, both_sized, same_size, table_contents, table_fixes}
+use Rattle.link_image.proofs.ExportLemmas.{HasTable, has_table, length-tables, import_size, import_table, export_size, export_table_is, tree_size_is, tree_table_is}
 use Rattle.link_image.proofs.ExportReadLemmas.{readable, exports_read, exports_read_by_ordinal, none_read as none_read_name, none_read_by_ordinal as none_read_ordinal, no_rows}
 use Rattle.link_image.proofs.MemoryLemmas.{directory_reads, directory_sized, above_headers, in_memory}
 use Rattle.link_image.proofs.MoveLemmas.{replaced_room}
@@ -61,7 +69,7 @@ use Rattle.link_image.proofs.TableLemmas.{IsTableAt, found_table, table_used}
 
 abbrev AreMade : KeptParts → Type 0
 AreMade link =
-    (number : ℕ) → number < 6 → 0 < size_at (table_sizes link) number → (k : ℕ) × (table_index link number ≡ Some k)
+    (number : ℕ) → number < 9 → 0 < size_at (table_sizes link) number → (k : ℕ) × (table_index link number ≡ Some k)
 
 pub are_made : (link : KeptParts) → AreMade link
 are_made link number few sized = by (table_index link number) refl
@@ -185,7 +193,7 @@ module _ (options : LinkOptions) (plan : LinkPlan) (placement : Placement) (owne
 
   long : (number : ℕ) → length (table number) ≡ size number
   long number =
-      length-tables (kept_parts plan) placement.layout (export_rows options plan.modules.items) (dll_name options.out) options.time (exports_are options plan planned) planned.told (debug_sized options plan planned) number
+      length-tables (kept_parts plan) placement.layout (export_rows options plan.modules.items) (dll_name options.out) options.time (exports_are options plan planned) planned.told (both_sized options plan planned) number
 
   -- a table in the memory at a base
   record Stands (base number : ℕ) : Type 0 where
@@ -201,14 +209,17 @@ module _ (options : LinkOptions) (plan : LinkPlan) (placement : Placement) (owne
       by false e = refl
       by true among = absurd (false≢true (sym (ready.rows_are k among).no_table ∙ table))
 
-  -- the data that names the PDB is another one
-  data_apart : (number k : ℕ) → number < 7 → IsTableAt (kept_parts plan) number k → table_index (kept_parts plan) DEBUG_DATA ≡ Some k → ⊥
+  -- it is not the data that names the PDB
+  abbrev IsOther : ℕ → Type 0
+  IsOther number = number ≡ DEBUG_DATA → ⊥
+
+  data_apart : (number k : ℕ) → IsOther number → IsTableAt (kept_parts plan) number k → table_index (kept_parts plan) DEBUG_DATA ≡ Some k → ⊥
   data_apart number k few at found =
       let other = found_table (kept_parts plan) DEBUG_DATA k (omega arith) found in
-      omega (arith, few, at.number_is, other.number_is)
+      few (omega (arith, at.number_is, other.number_is))
 
   -- what its piece holds in the image
-  table_linked : (base number k : ℕ) → number < 7 → IsTableAt (kept_parts plan) number k → get_or (contents base) k [] ≡ table number
+  table_linked : (base number k : ℕ) → IsOther number → IsTableAt (kept_parts plan) number k → get_or (contents base) k [] ≡ table number
   table_linked base number k few at =
       let rva = get_or placement.layout.pieces.items k 0 in
       let owners = owners_in (rows_of placement.sections.items) placement.layout in
@@ -222,7 +233,7 @@ module _ (options : LinkOptions) (plan : LinkPlan) (placement : Placement) (owne
   table_size : (number k : ℕ) → IsTableAt (kept_parts plan) number k → (whole_piece (kept_parts plan) k).size ≡ size number
   table_size number k at = at.is.size ∙ ap size at.number_is
 
-  made_stands : (base number k : ℕ) → number < 7 → IsTableAt (kept_parts plan) number k → table_rva (kept_parts plan) placement.layout number ≡ get_or placement.layout.pieces.items k 0 → Stands base number
+  made_stands : (base number k : ℕ) → IsOther number → IsTableAt (kept_parts plan) number k → table_rva (kept_parts plan) placement.layout number ≡ get_or placement.layout.pieces.items k 0 → Stands base number
   made_stands base number k few at rva =
       let lt : k < length plan.pieces.items = omega (arith, at.there, piece_count options plan planned) in
       let same = same_size options plan planned k lt in
@@ -248,7 +259,7 @@ module _ (options : LinkOptions) (plan : LinkPlan) (placement : Placement) (owne
       }
 
   module _ (made : AreMade (kept_parts plan)) where
-    none_stands : (base number : ℕ) → number < 6 → table_index (kept_parts plan) number ≡ None → table_rva (kept_parts plan) placement.layout number ≡ 0 → Stands base number
+    none_stands : (base number : ℕ) → number < 9 → table_index (kept_parts plan) number ≡ None → table_rva (kept_parts plan) placement.layout number ≡ 0 → Stands base number
     none_stands base number few none rva =
         let nothing : size number ≡ 0 = by (cases_lt 0 (size number)) in
         let empty : table number ≡ [] = empty_is (table number) (long number ∙ nothing) in
@@ -265,12 +276,15 @@ module _ (options : LinkOptions) (plan : LinkPlan) (placement : Placement) (owne
         by (inl some) = absurd (let there = made number few some in nowhere there.0 there.1)
         by (inr zero) = omega arith
 
-    stands : (base number : ℕ) → number < 6 → Stands base number
-    stands base number few = by (table_index (kept_parts plan) number) refl
+    other_stands : (base number : ℕ) → number < 9 → IsOther number → Stands base number
+    other_stands base number few other = by (table_index (kept_parts plan) number) refl
       where
         by : (place : Option ℕ) → table_index (kept_parts plan) number ≡ place → Stands base number
         by None none = none_stands base number few none (ap (rva_of placement.layout.pieces.items) none)
-        by (Some k) found = made_stands base number k (omega (arith, few)) (found_table (kept_parts plan) number k (omega (arith, few)) found) (ap (rva_of placement.layout.pieces.items) found)
+        by (Some k) found = made_stands base number k other (found_table (kept_parts plan) number k (omega (arith, few)) found) (ap (rva_of placement.layout.pieces.items) found)
+
+    stands : (base number : ℕ) → number < 6 → Stands base number
+    stands base number few = other_stands base number (omega (arith, few)) (λ same. omega (arith, few, same))
 
     rva_is : (number : ℕ) → number < 5 → slice_index (table_rvas (kept_parts plan) placement.layout) number ≡ table_rva (kept_parts plan) placement.layout number
     unfolding table_rvas
@@ -419,3 +433,64 @@ module _ (options : LinkOptions) (plan : LinkPlan) (placement : Placement) (owne
                 ∙ ap (λ (s : ℕ). export_of_ordinal (expected_image image base) (table_extent (kept_parts plan) placement.layout EXPORTS).0 s ordinal) size
                 ∙ ordinal_read base ordinal;
           }
+
+    -- ---- resources
+
+    module _ (some : 0 < plan.names.resources.size) where
+      tree_ends : table_rva (kept_parts plan) placement.layout RESOURCES + plan.names.resources.size < 2 ^ 32
+      tree_ends =
+          let end = (other_stands 0 RESOURCES (omega arith) (λ same. omega (arith, same))).ends in
+          omega (arith, end, tree_size_is (kept_parts plan))
+
+      -- the directory is that of the tree
+      tree_extent : resource_extent (kept_parts plan) (rows_of placement.sections.items) placement.layout ≡ (table_rva (kept_parts plan) placement.layout RESOURCES, plan.names.resources.size)
+      tree_extent = by (eqb plan.names.resources.size 0) refl ∙ there (table_index (kept_parts plan) RESOURCES) refl
+        where
+          by : (none : Bool) → eqb plan.names.resources.size 0 ≡ none → cond none (section_extent (rows_of placement.sections.items) placement.layout (codes ".rsrc")) (table_extent (kept_parts plan) placement.layout RESOURCES) ≡ table_extent (kept_parts plan) placement.layout RESOURCES
+          by true none = absurd (omega (arith, some, eqb-true plan.names.resources.size 0 none))
+          by false other = refl
+
+          there : (place : Option ℕ) → table_index (kept_parts plan) RESOURCES ≡ place → table_extent (kept_parts plan) placement.layout RESOURCES ≡ (table_rva (kept_parts plan) placement.layout RESOURCES, plan.names.resources.size)
+          there None none =
+              absurd (let there = made RESOURCES (omega arith) (omega (arith, some, tree_size_is (kept_parts plan))) in nothing_some there.0 (sym none ∙ there.1))
+          there (Some k) found =
+              let at = found_table (kept_parts plan) RESOURCES k (omega arith) found in
+              let size : (get_or (whole_pieces (kept_parts plan)) k no_piece).size ≡ plan.names.resources.size = table_size RESOURCES k at ∙ tree_size_is (kept_parts plan) in
+              ap (extent_of (whole_pieces (kept_parts plan)) placement.layout.pieces.items) found
+              ∙ ap (λ (n : ℕ). (get_or placement.layout.pieces.items k 0, n)) size
+              ∙ ap (λ (r : ℕ). (r, plan.names.resources.size)) (sym (ap (rva_of placement.layout.pieces.items) found))
+
+      tree_directory : (entry : ℕ) → headers ≡ headers_of options entry (directories_of (kept_parts plan) (rows_of placement.sections.items) placement.layout (reloc_tables placement.table)) → (directory_rva (image_file image) 2 ≡ table_rva (kept_parts plan) placement.layout RESOURCES) × (directory_size (image_file image) 2 ≡ plan.names.resources.size)
+      unfolding written_plan
+      tree_directory entry is =
+          let extent = resource_extent (kept_parts plan) (rows_of placement.sections.items) placement.layout in
+          let rva = ap (λ (e : ℕ × ℕ). e.0) tree_extent in
+          let sized = ap (λ (e : ℕ × ℕ). e.1) tree_extent in
+          let third = ap (λ (h : Headers). slice_get h.directories 2) is in
+          (directory_reads image 2 extent third (omega (arith, rva, tree_ends)) ∙ rva, directory_sized image 2 extent third (omega (arith, sized, tree_ends)) ∙ sized)
+
+      -- the tree is in memory
+      held_tree : (base : ℕ) → bytes_at (expected_image image base) (table_rva (kept_parts plan) placement.layout RESOURCES) plan.names.resources.size ≡ tree_of plan.names.resources.time (table_rva (kept_parts plan) placement.layout RESOURCES) (in_order plan.names.resources.entries)
+      unfolding resource_tree_at
+      held_tree base =
+          let rva = table_rva (kept_parts plan) placement.layout RESOURCES in
+          let held = (other_stands base RESOURCES (omega arith) (λ same. omega (arith, same))).held in
+          let tree : table RESOURCES ≡ tree_of plan.names.resources.time rva (in_order plan.names.resources.entries) =
+          tree_table_is (kept_parts plan) placement.layout ∙ bytes_are plan.names.resources rva some in
+          ap (bytes_at (expected_image image base) rva) (sym (long RESOURCES ∙ tree_size_is (kept_parts plan))) ∙ held ∙ tree
+
+      resource_read : (base : ℕ) (kind name : Key) (language : ℕ) → IsSmallKey kind → IsSmallKey name → resource_data (expected_image image base) (table_rva (kept_parts plan) placement.layout RESOURCES) plan.names.resources.size kind name language ≡ data_of kind name language plan.names.resources.entries
+      resource_read base kind name language small also =
+          let rva = table_rva (kept_parts plan) placement.layout RESOURCES in
+          let entries = plan.names.resources.entries in
+          let size : plan.names.resources.size ≡ tree_size (in_order entries) =
+          tree_sized options plan planned ∙ sized_tree entries (omega (arith, some, tree_sized options plan planned)) in
+          resources_found (expected_image image base) plan.names.resources.time rva plan.names.resources.size entries planned.mergeable planned.numbered (omega (arith, size, tree_ends)) (held_tree base) kind name language small also
+
+    pub resources_there : (entry : ℕ) (file : List ℕ) → headers ≡ headers_of options entry (directories_of (kept_parts plan) (rows_of placement.sections.items) placement.layout (reloc_tables placement.table)) → file ≡ image_file image → MeansPlan image file → HoldsResources (kept_parts plan) file
+    resources_there entry file is written means some base memory kind name language loads small also =
+        let at = tree_directory some entry is in
+        ap (λ (m : List ℕ). resource_data m (directory_rva file 2) (directory_size file 2) kind name language) (loaded_is image file means base memory loads)
+        ∙ ap (λ (r : ℕ). resource_data (expected_image image base) r (directory_size file 2) kind name language) (ap (λ (bytes : List ℕ). directory_rva bytes 2) written ∙ at.0)
+        ∙ ap (λ (s : ℕ). resource_data (expected_image image base) (table_rva (kept_parts plan) placement.layout RESOURCES) s kind name language) (ap (λ (bytes : List ℕ). directory_size bytes 2) written ∙ at.1)
+        ∙ resource_read some base kind name language small also

@@ -61,7 +61,7 @@ use Rattle.link_image.specs.Steps.{reloc_tables, file_of, sorted_file, identifie
 use Rattle.link_image.proofs.HeldLemmas.{imports_are}
 use Rattle.link_image.proofs.FieldLemmas.{total_is}
 use Rattle.link_image.proofs.IdentityLemmas.{other_read, with_front}
-use Rattle.link_image.proofs.ImportLemmas.{are_made, fits, imports_there, exports_there}
+use Rattle.link_image.proofs.ImportLemmas.{are_made, fits, imports_there, exports_there, resources_there}
 use Rattle.link_image.proofs.MoveLemmas.{replaced_length, replaced_room, replaced_stay, replaced_moved}
 use Rattle.link_image.proofs.PieceMoves.{length_sorted}
 
@@ -312,6 +312,8 @@ module _ (options : LinkOptions) (plan : LinkPlan) (placement : Placement) (owne
             imports_there options plan placement owner planned placed ready headers (are_made (kept_parts plan)) (entry_rva placement.layout.pieces.items plan.entry) made.image.items refl file (subst (MeansPlan image) (sym file) (means permitted)) (imports_are options plan planned).readable;
         exports =
             exports_there options plan placement owner planned placed ready headers (are_made (kept_parts plan)) outside given (entry_rva placement.layout.pieces.items plan.entry) made.image.items refl file (subst (MeansPlan image) (sym file) (means permitted));
+        resources =
+            resources_there options plan placement owner planned placed ready headers (are_made (kept_parts plan)) (entry_rva placement.layout.pieces.items plan.entry) made.image.items refl file (subst (MeansPlan image) (sym file) (means permitted));
         count = count ∙ sym (length-section_rows (plan.pieces.items ++ ready.rest) placement.sections.items placement.layout ready.laid);
         map_is = map_is;
         pdb_is = pdb_is ∙ asked_same options.debug (λ asked. streams_are id made.image.items (told asked) is);

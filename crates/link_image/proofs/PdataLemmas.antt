@@ -19,7 +19,7 @@ use Rattle.section_group.specs.Uniqueness.{SectionRow, row_of, rows_of}
 use Rattle.address_layout.specs.declared.layout.Layout.{Layout}
 use Rattle.address_layout.specs.Layout.{all_pieces}
 use Rattle.pdata_table.specs.SortedContents.{is_among}
-use Rattle.synthetic_sections.specs.LinkerPieces.{SLOTS, EXPORTS, size_at, table_piece, table_if, table_pieces, export_table_pieces, DEBUG_ENTRY, DEBUG_DATA, entry_size, debug_pieces}
+use Rattle.synthetic_sections.specs.LinkerPieces.{SLOTS, EXPORTS, size_at, table_piece, table_if, table_pieces, export_table_pieces, DEBUG_ENTRY, DEBUG_DATA, entry_size, debug_pieces, RESOURCES, resource_pieces}
 use Rattle.link_pieces.specs.Pieces.{link_pieces}
 use Rattle.link_pieces.specs.TablePieces.{KeptParts, kept_imports, tables_of, whole_pieces, whole_piece}
 use Rattle.link_imports.specs.Imports.{import_sizes}
@@ -122,12 +122,20 @@ debug_apart position size =
     both (table_if position DEBUG_ENTRY (codes ".rdata") 4 (entry_size size)) (table_if position DEBUG_DATA (codes ".rdata") 4 size) (not_in_table position DEBUG_ENTRY (codes ".rdata") 4 (entry_size size) refl)
     (not_in_table position DEBUG_DATA (codes ".rdata") 4 size refl)
 
+tree_apart : (position size : ℕ) → NoPdata (resource_pieces position size)
+unfolding resource_pieces
+tree_apart position size = not_in_table position RESOURCES (codes ".rsrc") 4 size refl
+
 tables_apart : (link : KeptParts) → NoPdata (tables_of link)
 tables_apart link =
     let count = length link.parts.modules in
     let sizes = import_sizes link.parts.modules (kept_imports link) in
-    both (table_pieces count sizes) (export_table_pieces count link.parts.exports.size ++ debug_pieces count link.parts.debug.size) (imports_apart count sizes)
-    (both (export_table_pieces count link.parts.exports.size) (debug_pieces count link.parts.debug.size) (exports_apart count link.parts.exports.size) (debug_apart count link.parts.debug.size))
+    let exports = export_table_pieces count link.parts.exports.size in
+    let debug = debug_pieces count link.parts.debug.size in
+    let tree = resource_pieces count link.parts.resources.size in
+    both (table_pieces count sizes) (exports ++ (debug ++ tree)) (imports_apart count sizes)
+    (both exports (debug ++ tree) (exports_apart count link.parts.exports.size)
+    (both debug tree (debug_apart count link.parts.debug.size) (tree_apart count link.parts.resources.size)))
 
 -- a piece of the exception table is one of the link's
 pub pdata_inside : (link : KeptParts) (k : ℕ) → k < length (whole_pieces link) → is_pdata (whole_piece link k) ≡ true → k < length (link_pieces link.parts)

@@ -15,8 +15,9 @@ use Rattle.link_pieces.specs.TablePieces.{KeptParts, kept_rows, is_table, table_
 use Rattle.import_tables.specs.ImportDirectory.{Imports}
 use Rattle.import_tables.specs.ReadBack.{found_of}
 use Rattle.import_tables.specs.ImportTables.{tables_of as import_tables_of}
-use Rattle.synthetic_sections.specs.LinkerPieces.{EXPORTS, DEBUG_ENTRY, DEBUG_DATA}
+use Rattle.synthetic_sections.specs.LinkerPieces.{EXPORTS, DEBUG_ENTRY, DEBUG_DATA, RESOURCES}
 use Rattle.link_debug.specs.LinkDebug.{no_identifier, entry_bytes, data_bytes}
+use Rattle.link_resources.specs.LinkResources.{tree_bytes}
 use Rattle.export_tables.specs.ExportTable.{export_table}
 use Rattle.export_tables.specs.ReadBack.{exported_name, exported_ordinal}
 use Rattle.link_plan.specs.Planned.{planned_fixes}
@@ -25,11 +26,11 @@ use Rattle.image_headers.specs.declared.headers.Directories.{Directories}
 use Rattle.link_image.specs.NamedSections.{section_named}
 use Rattle.link_fields.specs.LoaderPlaces.{loader_place, TLS_NAME, LOAD_CONFIG_NAME}
 use Rattle.link_image.specs.LinkedImage.{place_extent, TLS_SIZE, config_size, extent_of, placed_extent, section_extent, table_directory, directories_of, HoldsImports, HoldsExports}
-use Rattle.link_image.specs.LinkedBytes.{owners_in, rva_of, table_rvas, import_tables_at, exported_rows, export_table_at, debug_entry_at, contents_at, linked_bytes, linked_contents, out_of_range, piece_range_fault, fields_range_fault}
+use Rattle.link_image.specs.LinkedBytes.{owners_in, rva_of, table_rvas, import_tables_at, exported_rows, export_table_at, debug_entry_at, resource_tree_at, contents_at, linked_bytes, linked_contents, out_of_range, piece_range_fault, fields_range_fault}
 
 module _ (layout other : Layout) (pieces : layout.pieces.items ≡ other.pieces.items) (sections : layout.sections.items ≡ other.sections.items) where
   held_same : (link : KeptParts) (k : ℕ) → contents_at link layout k ≡ contents_at link other k
-  unfolding contents_at import_tables_at export_table_at debug_entry_at table_rvas
+  unfolding contents_at import_tables_at export_table_at debug_entry_at resource_tree_at table_rvas
   held_same link k =
       ap (λ (rvas : List ℕ). held_by rvas layout.sections.items) pieces ∙ ap (held_by other.pieces.items) sections
     where
@@ -41,6 +42,7 @@ module _ (layout other : Layout) (pieces : layout.pieces.items ≡ other.pieces.
           ++ cond (eqb link.parts.exports.size 0) [] (export_table (exported_rows link rvas) link.parts.exports.ordinals link.parts.exports.dll link.parts.exports.time (rva_of rvas (table_index link EXPORTS)))
           ∷ entry_bytes link.parts.debug places (rva_of rvas (table_index link DEBUG_DATA))
           ∷ data_bytes link.parts.debug no_identifier
+          ∷ tree_bytes link.parts.resources (rva_of rvas (table_index link RESOURCES))
           ∷ [])
           (whole_piece link k).number [])
           (get_or (whole_contents link) k [])
@@ -72,7 +74,7 @@ range_by_places link rows layout other base pieces sections =
 directories : KeptParts → ℕ × ℕ → ℕ × ℕ → ℕ × ℕ → List ℕ → Directories
 directories link resources exceptions relocations rvas = record {
   exports = extent_of (whole_pieces link) rvas (table_index link EXPORTS);
-  resources = resources;
+  resources = cond (eqb link.parts.resources.size 0) resources (extent_of (whole_pieces link) rvas (table_index link RESOURCES));
   exceptions = exceptions;
   imports = extent_of (whole_pieces link) rvas (table_index link 0);
   slots = extent_of (whole_pieces link) rvas (table_index link 2);

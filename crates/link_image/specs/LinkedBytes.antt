@@ -1,5 +1,5 @@
 -- What the pieces of a link hold in its image, and the first field whose value does not fit (PE Format, "The .idata
--- Section", "The .edata Section (Image Only)", "Debug Directory (Image Only)" and "Type Indicators", x64 Processors; the order is
+-- Section", "The .edata Section (Image Only)", "Debug Directory (Image Only)", "The .rsrc Section" and "Type Indicators", x64 Processors; the order is
 -- own).
 use Rattle.std.specs.Prelude.{ℕ, ◌+◌, if◌then◌else◌, List, [], ◌∷◌, ◌++◌, length, map, slice_index, slice_index_or, Option, Some, None, option_map, ◌==◌, slice_set}
 use Rattle.std.specs.List.{range_with_len}
@@ -17,8 +17,9 @@ use Rattle.relocate.specs.declared.fix.Target.{Target}
 use Rattle.relocate.specs.declared.fix.Target.TheVariants as target
 use Rattle.export_tables.specs.declared.row.ExportRow.{ExportRow}
 use Rattle.export_tables.specs.ExportTable.{export_table}
-use Rattle.synthetic_sections.specs.LinkerPieces.{EXPORTS, DEBUG_DATA}
+use Rattle.synthetic_sections.specs.LinkerPieces.{EXPORTS, DEBUG_DATA, RESOURCES}
 use Rattle.link_debug.specs.LinkDebug.{no_identifier, entry_bytes, data_bytes}
+use Rattle.link_resources.specs.LinkResources.{tree_bytes}
 use Rattle.link_exports.specs.Exports.{table_row}
 use Rattle.import_tables.specs.ImportTables.{tables_of as import_tables_of}
 use Rattle.link_pieces.specs.TablePieces.{KeptParts, kept_rows, whole_pieces, whole_piece, whole_contents, table_index, is_table}
@@ -80,12 +81,22 @@ export_table_at link layout =
 unfoldable pub debug_entry_at : KeptParts → Layout → List ℕ
 debug_entry_at link layout = entry_bytes link.parts.debug layout.sections.items (table_rva link layout DEBUG_DATA)
 
+-- ---- the resource tree
+
+-- its bytes, by its place; without resources there are none
+unfoldable pub resource_tree_at : KeptParts → Layout → List ℕ
+resource_tree_at link layout = tree_bytes link.parts.resources (table_rva link layout RESOURCES)
+
 -- ---- all tables
 
 -- those behind the import tables; the data that names the PDB has no identifier yet
 abbrev pub other_tables_at : KeptParts → Layout → List (List ℕ)
 other_tables_at link layout =
-    export_table_at link layout ∷ debug_entry_at link layout ∷ data_bytes link.parts.debug no_identifier ∷ []
+    export_table_at link layout
+    ∷ debug_entry_at link layout
+    ∷ data_bytes link.parts.debug no_identifier
+    ∷ resource_tree_at link layout
+    ∷ []
 
 -- the bytes of each, by their numbers
 abbrev pub tables_at : KeptParts → Layout → List (List ℕ)

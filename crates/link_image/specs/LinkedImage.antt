@@ -1,8 +1,8 @@
 -- The image of modules: their pieces in sections, the places of these, and what they make. Own.
-use Rattle.std.specs.Prelude.{◌≡◌, ◌≤◌, ℕ, ◌+◌, ◌-◌, Bool, true, false, if◌then◌else◌, List, [], ◌∷◌, ◌++◌, length, slice_index, slice_index_or, Option, Some, None, codes}
+use Rattle.std.specs.Prelude.{◌≡◌, ◌≤◌, ℕ, ◌+◌, ◌-◌, ◌<◌, ◌==◌, Bool, true, false, if◌then◌else◌, List, [], ◌∷◌, ◌++◌, length, slice_index, slice_index_or, Option, Some, None, codes}
 use Rattle.link_base.specs.Bytes.{u32_at, has_bytes}
 use Rattle.link_base.specs.Limits.{SECTION_LIMIT, IMAGE_LIMIT}
-use Rattle.link_base.specs.PeFormat.{SCN_CNT_INITIALIZED_DATA, SCN_MEM_DISCARDABLE, SCN_MEM_READ, DIRECTORY_ENTRY_EXPORT, DIRECTORY_ENTRY_IMPORT}
+use Rattle.link_base.specs.PeFormat.{SCN_CNT_INITIALIZED_DATA, SCN_MEM_DISCARDABLE, SCN_MEM_READ, DIRECTORY_ENTRY_EXPORT, DIRECTORY_ENTRY_IMPORT, DIRECTORY_ENTRY_RESOURCE}
 use Rattle.section_group.specs.declared.piece.Piece.{Piece}
 use Rattle.section_group.specs.declared.piece.OutSection.{OutSection}
 use Rattle.section_group.specs.SectionOrder.{Input, input_from, no_piece}
@@ -23,11 +23,14 @@ use Rattle.import_tables.specs.ImportDirectory.{Imports, imports_of}
 use Rattle.import_tables.specs.ReadBack.{found_of}
 use Rattle.export_tables.specs.ExportDirectory.{export_of_name, export_of_ordinal}
 use Rattle.export_tables.specs.ReadBack.{exported_name, exported_ordinal}
+use Rattle.res_merge.specs.Entries.{Key, Entry}
+use Rattle.res_merge.specs.Lookup.{resource_data}
+use Rattle.res_merge.specs.Found.{IsSmallKey, data_of}
 use Rattle.image_writer.specs.declared.headers.Headers.{Headers}
 use Rattle.image_writer.specs.ExpectedImage.{ImagePlan, image_file}
 use Rattle.image_writer.specs.WrittenImage.{written_plan}
 use Rattle.debug_entry.specs.Identifier.{image_identifier}
-use Rattle.synthetic_sections.specs.LinkerPieces.{SLOTS, EXPORTS, DEBUG_ENTRY}
+use Rattle.synthetic_sections.specs.LinkerPieces.{SLOTS, EXPORTS, DEBUG_ENTRY, RESOURCES}
 use Rattle.link_pieces.specs.TablePieces.{KeptParts, kept_rows, whole_pieces, whole_contents, table_index}
 use Rattle.link_words.specs.Outcome.{LinkOptions}
 use Rattle.link_fields.specs.declared.entry.EntryPlace.{EntryPlace}
@@ -146,10 +149,15 @@ config_size link (Some place) = u32_or_zero (slice_index_or (whole_contents link
 abbrev pub table_extent : KeptParts → Layout → ℕ → ℕ × ℕ
 table_extent link layout number = extent_of (whole_pieces link) layout.pieces.items (table_index link number)
 
+-- those of the resources: of the tree that the linker makes, or else of the section that a module has
+abbrev pub resource_extent : KeptParts → List SectionRow → Layout → ℕ × ℕ
+resource_extent link rows layout =
+    if link.parts.resources.size == 0 then section_extent rows layout (codes ".rsrc") else table_extent link layout RESOURCES
+
 abbrev pub directories_of : KeptParts → List SectionRow → Layout → List (List ℕ) → Directories
 directories_of link rows layout tables = record {
   exports = table_extent link layout EXPORTS;
-  resources = section_extent rows layout (codes ".rsrc");
+  resources = resource_extent link rows layout;
   exceptions = section_extent rows layout (codes ".pdata");
   imports = table_extent link layout DIRECTORY;
   slots = table_extent link layout SLOTS;
@@ -207,3 +215,15 @@ HoldsImports link layout image =
 pub record HoldsExports (link : KeptParts) (layout : Layout) (image : List ℕ) : Type 0 where
   pub by_name : (base : ℕ) (memory name : List ℕ) → loaded image base ≡ Some memory → export_of_name memory (directory_rva image DIRECTORY_ENTRY_EXPORT) (directory_size image DIRECTORY_ENTRY_EXPORT) name ≡ exported_name (exported_rows link layout.pieces.items) name
   pub by_ordinal : (base : ℕ) (memory : List ℕ) (ordinal : ℕ) → loaded image base ≡ Some memory → export_of_ordinal memory (directory_rva image DIRECTORY_ENTRY_EXPORT) (directory_size image DIRECTORY_ENTRY_EXPORT) ordinal ≡ exported_ordinal (exported_rows link layout.pieces.items) link.parts.exports.ordinals ordinal
+
+-- ---- its resources
+
+-- at each base that a file is loaded at, its resource directory leads to the data of each of these resources, and to no others
+abbrev pub HoldsEntries : List Entry → List ℕ → Type 0
+HoldsEntries entries image =
+    (base : ℕ) (memory : List ℕ) (kind name : Key) (language : ℕ) → loaded image base ≡ Some memory → IsSmallKey kind → IsSmallKey name
+    → resource_data memory (directory_rva image DIRECTORY_ENTRY_RESOURCE) (directory_size image DIRECTORY_ENTRY_RESOURCE) kind name language ≡ data_of kind name language entries
+
+-- to those of the resource files of the link, where there are any
+abbrev pub HoldsResources : KeptParts → List ℕ → Type 0
+HoldsResources link image = 0 < link.parts.resources.size → HoldsEntries link.parts.resources.entries image

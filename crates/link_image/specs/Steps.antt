@@ -98,7 +98,7 @@ numbered_index position pieces number = first_below (length pieces) (holds (is_n
 
 -- the pieces of the tables, where they are made
 abbrev pub numbered_indexes : ℕ → List Piece → List (Option ℕ)
-numbered_indexes position pieces = map (numbered_index position pieces) (range_with_len 0 8)
+numbered_indexes position pieces = map (numbered_index position pieces) (range_with_len 0 9)
 
 -- what some exports of a link stand for
 abbrev pub targets_of : KeptParts → List Export → List (Option Target)
@@ -127,7 +127,7 @@ given_contents position tables piece =
 
 -- a table can be given its bytes
 pub record CanBeGiven (piece : Piece) : Type 0 where
-  pub few : piece.number < 8
+  pub few : piece.number < 9
   pub init : piece.init ≡ true
 
 -- the pieces with what they are given, and after them what holds the table of base relocations, where there is one

@@ -85,7 +85,7 @@ pub(crate) fn export_table<'a>(
     plan: &LinkPlan<'a>,
     options: &Options<'a>,
     placement: &Placement<'a>,
-    places: &[Option<usize>; 8],
+    places: &[Option<usize>; 9],
 ) -> Result<Vec<u8>, Refusal<'a>>
     requires plan { IsPlanOf (options_said options.now) plan.now.modules.items plan.now }
     requires placed { IsPlaced (options_said options.now) plan.now placement.now }

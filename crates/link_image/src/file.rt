@@ -28,7 +28,7 @@ pub(crate) fn write_file<'a>(
     headers: &Headers,
     placement: &Placement<'a>,
     imports: &[Vec<u8>; 5],
-    others: &[Vec<u8>; 3],
+    others: &[Vec<u8>; 4],
 ) -> Result<Vec<u8>, Memory>
     requires plan { IsPlanOf (options_said options.now) plan.now.modules.items plan.now }
     requires placed { IsPlaced (options_said options.now) plan.now placement.now }
@@ -59,7 +59,7 @@ fn whole_pieces<'b, 'a: 'b>(
     position: usize,
     pieces: &[Piece<'a>],
     imports: &'b [Vec<u8>; 5],
-    others: &'b [Vec<u8>; 3],
+    others: &'b [Vec<u8>; 4],
     table: &'b Option<Vec<u8>>,
 ) -> Result<Vec<Piece<'b>>, Memory>
     requires given { All (λ piece. is_table position piece ≡ true → CanBeGiven piece) pieces.now }
@@ -82,7 +82,7 @@ fn with_table<'b, 'a: 'b>(
     position: usize,
     piece: &Piece<'a>,
     imports: &'b [Vec<u8>; 5],
-    others: &'b [Vec<u8>; 3],
+    others: &'b [Vec<u8>; 4],
 ) -> Piece<'b>
     requires { is_table position piece.now ≡ true → CanBeGiven piece.now }
     ensures same { bare result ≡ bare piece.now }
@@ -106,7 +106,7 @@ fn given_body<'b, 'a: 'b>(
     position: usize,
     piece: &Piece<'a>,
     imports: &'b [Vec<u8>; 5],
-    others: &'b [Vec<u8>; 3],
+    others: &'b [Vec<u8>; 4],
 ) -> Option<&'b [u8]>
     requires { is_table position piece.now ≡ true → CanBeGiven piece.now }
     ensures table { is_table position piece.now ≡ true → option_copied result ≡ Some (slice_index_or (all_bytes imports.now others.now) piece.now.number []) }

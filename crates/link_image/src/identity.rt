@@ -26,7 +26,7 @@ pub(crate) fn identify<'a>(
     options: &Options<'a>,
     headers: &Headers,
     placement: &Placement<'a>,
-    places: &[Option<usize>; 8],
+    places: &[Option<usize>; 9],
     owner: &[u32],
 ) -> Result<[u8; 16], Memory>
     requires plan { IsPlanOf (options_said options.now) plan.now.modules.items plan.now }

@@ -103,7 +103,7 @@ fn finish<'a>(
     options: &Options<'a>,
     headers: &Headers,
     placement: &Placement<'a>,
-    places: &[Option<usize>; 8],
+    places: &[Option<usize>; 9],
     owner: &[u32],
 ) -> Result<[u8; 16], Refusal<'a>>
     requires plan { IsPlanOf (options_said options.now) plan.now.modules.items plan.now }

@@ -9,7 +9,7 @@ ghost use Rattle.link_pieces.specs.PieceIndex.{is_numbered};
 ghost use Rattle.link_words.specs.Outcome.{options_said};
 ghost use Rattle.link_plan.specs.Plan.{IsPlanOf, kept_parts};
 ghost use Rattle.link_image.specs.LinkedBytes.{rva_of, import_tables_at, export_table_at, other_tables_at};
-ghost use Rattle.link_image.specs.LinkedImage.{extent_of, section_extent, place_extent, config_size, directories_of};
+ghost use Rattle.link_image.specs.LinkedImage.{extent_of, section_extent, resource_extent, place_extent, config_size, directories_of};
 ghost use Rattle.link_image.specs.NamedSections.{section_named};
 ghost use Rattle.link_image.specs.Steps.{numbered_indexes, reloc_tables, IsPlaced};
 
@@ -22,7 +22,7 @@ use link_plan::LinkPlan;
 use link_words::Options;
 use section_group::{OutSection, Piece};
 use std::alloc::Global;
-use synthetic_sections::{DEBUG_DATA, DEBUG_ENTRY, EXPORTS, SLOTS};
+use synthetic_sections::{DEBUG_DATA, DEBUG_ENTRY, EXPORTS, RESOURCES, SLOTS};
 
 /// The size of the directory of thread-local storage.
 const TLS_SIZE: u32 = 40;
@@ -32,10 +32,10 @@ const DIRECTORY: usize = 0;
 
 /// The index of the piece of each table, by its number, where the table is made. The pieces that
 /// the linker makes are those of the module at a position.
-pub(crate) fn table_places(position: usize, pieces: &[Piece<'_>]) -> [Option<usize>; 8]
+pub(crate) fn table_places(position: usize, pieces: &[Piece<'_>]) -> [Option<usize>; 9]
     ensures { result ≡ numbered_indexes position pieces.now }
 {
-    let mut places = [None; 8];
+    let mut places = [None; 9];
     for k in 0..pieces.len() {
         note_table(&mut places, position, &pieces[k], k);
     }
@@ -43,8 +43,8 @@ pub(crate) fn table_places(position: usize, pieces: &[Piece<'_>]) -> [Option<usi
 }
 
 /// Notes the index of a piece, where it is a table of which no piece is noted.
-fn note_table(places: &mut [Option<usize>; 8], position: usize, piece: &Piece<'_>, k: usize)
-    ensures { (number : ℕ) → number < 8 → slice_index_or places.new number None
+fn note_table(places: &mut [Option<usize>; 9], position: usize, piece: &Piece<'_>, k: usize)
+    ensures { (number : ℕ) → number < 9 → slice_index_or places.new number None
         ≡ option_or (slice_index_or places.old number None) (if is_numbered position number piece.now then Some k else None) }
 {
     let number = piece.number as usize;
@@ -56,16 +56,16 @@ fn note_table(places: &mut [Option<usize>; 8], position: usize, piece: &Piece<'_
     }
 }
 
-/// The bytes of the tables behind those of the imports: the export table, which has these, and the entry of the debug directory and
-/// its data, which has no identifier yet.
+/// The bytes of the tables behind those of the imports: the export table, which has these, the entry of the debug directory and
+/// its data, which has no identifier yet, and the resource tree.
 pub(crate) fn other_tables<'a>(
     alloc: Global,
     plan: &LinkPlan<'a>,
     options: &Options<'a>,
     placement: &Placement<'a>,
-    places: &[Option<usize>; 8],
+    places: &[Option<usize>; 9],
     exports: Vec<u8>,
-) -> Result<[Vec<u8>; 3], Memory>
+) -> Result<[Vec<u8>; 4], Memory>
     requires plan { IsPlanOf (options_said options.now) plan.now.modules.items plan.now }
     requires placed { IsPlaced (options_said options.now) plan.now placement.now }
     requires places { places.now ≡ numbered_indexes (length plan.now.modules.items) plan.now.pieces.items }
@@ -76,7 +76,9 @@ pub(crate) fn other_tables<'a>(
     let rva = rva_of(&placement.layout.pieces, places[DEBUG_DATA as usize]);
     let debug_entry = debug.entry(alloc, &placement.layout.sections, rva)?;
     let debug_data = debug.data(alloc, &[0; 16])?;
-    Ok([exports, debug_entry, debug_data])
+    let tree_rva = rva_of(&placement.layout.pieces, places[RESOURCES as usize]);
+    let tree = plan.names.resources().tree(alloc, tree_rva)?;
+    Ok([exports, debug_entry, debug_data, tree])
 }
 
 /// The bytes of the import tables, whose pieces are these.
@@ -85,7 +87,7 @@ pub(crate) fn import_tables<'a>(
     plan: &LinkPlan<'a>,
     options: &Options<'a>,
     placement: &Placement<'a>,
-    places: &[Option<usize>; 8],
+    places: &[Option<usize>; 9],
 ) -> Result<[Vec<u8>; 5], Memory>
     requires plan { IsPlanOf (options_said options.now) plan.now.modules.items plan.now }
     requires placed { IsPlaced (options_said options.now) plan.now placement.now }
@@ -107,7 +109,7 @@ pub(crate) fn directories_of<'a>(
     plan: &LinkPlan<'a>,
     options: &Options<'a>,
     placement: &Placement<'a>,
-    places: &[Option<usize>; 8],
+    places: &[Option<usize>; 9],
 ) -> Directories
     requires plan { IsPlanOf (options_said options.now) plan.now.modules.items plan.now }
     requires placed { IsPlaced (options_said options.now) plan.now placement.now }
@@ -117,7 +119,7 @@ pub(crate) fn directories_of<'a>(
     let rvas = &placement.layout.pieces;
     Directories {
         exports: extent_of(&plan.pieces, rvas, places[EXPORTS as usize]),
-        resources: section_extent(placement, b".rsrc"),
+        resources: resource_extent(plan, options, placement, places),
         exceptions: section_extent(placement, b".pdata"),
         imports: extent_of(&plan.pieces, rvas, places[DIRECTORY]),
         slots: extent_of(&plan.pieces, rvas, places[SLOTS as usize]),
@@ -130,6 +132,29 @@ pub(crate) fn directories_of<'a>(
         ),
         debug: extent_of(&plan.pieces, rvas, places[DEBUG_ENTRY as usize]),
     }
+}
+
+/// The RVA and the size of the resources: those of the tree that the linker makes, or else those of the first section `.rsrc`,
+/// which a module has.
+fn resource_extent<'a>(
+    plan: &LinkPlan<'a>,
+    options: &Options<'a>,
+    placement: &Placement<'a>,
+    places: &[Option<usize>; 9],
+) -> (u32, u32)
+    requires plan { IsPlanOf (options_said options.now) plan.now.modules.items plan.now }
+    requires placed { IsPlaced (options_said options.now) plan.now placement.now }
+    requires places { places.now ≡ numbered_indexes (length plan.now.modules.items) plan.now.pieces.items }
+    ensures { result ≡ resource_extent (kept_parts plan.now) (rows_of placement.now.sections.items) placement.now.layout }
+{
+    if plan.names.resources().size() == 0 {
+        return section_extent(placement, b".rsrc");
+    }
+    extent_of(
+        &plan.pieces,
+        &placement.layout.pieces,
+        places[RESOURCES as usize],
+    )
 }
 
 /// The RVA of a place in a piece, and a size there, or zeros where there is no place.
@@ -184,7 +209,7 @@ pub(crate) fn section_named(sections: &[OutSection<'_>], name: &[u8]) -> Option<
 }
 
 /// The RVAs of the import tables, which are the first of these pieces.
-fn table_rvas(rvas: &[u32], places: &[Option<usize>; 8]) -> [u32; 5]
+fn table_rvas(rvas: &[u32], places: &[Option<usize>; 9]) -> [u32; 5]
     requires { All (λ place. IfSome place (λ k. k < length rvas.now)) places.now }
     ensures { result ≡ map (rva_of rvas.now) (take 5 places.now) }
 {

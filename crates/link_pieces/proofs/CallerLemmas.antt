@@ -109,7 +109,7 @@ pub whole_at : (link : KeptParts) (k : ℕ) → k < length (link_pieces link.par
 whole_at link k lt = get_or_append_left (link_pieces link.parts) (tables_of link) no_piece k lt
 
 -- one that has bytes is there
-pub table_there : (link : KeptParts) (number : ℕ) → number < 8 → 0 < size_at (table_sizes link) number → table_index link number ≡ None → ⊥
+pub table_there : (link : KeptParts) (number : ℕ) → number < 9 → 0 < size_at (table_sizes link) number → table_index link number ≡ None → ⊥
 table_there link number few sized none =
     let test = is_numbered (length link.parts.modules) number in
     let pieces = whole_pieces link in
@@ -123,7 +123,7 @@ table_there link number few sized none =
         rw (each 0 (omega arith)) (no_any test pieces (λ k lt. each (suc k) (omega (arith, lt))))
 
 -- and is one of those behind the pieces of the link
-pub table_found : (link : KeptParts) (number k : ℕ) → number < 8 → table_index link number ≡ Some k → (length (link_pieces link.parts) ≤ k) × (k < length (whole_pieces link))
+pub table_found : (link : KeptParts) (number k : ℕ) → number < 9 → table_index link number ≡ Some k → (length (link_pieces link.parts) ≤ k) × (k < length (whole_pieces link))
 table_found link number k few e =
     let count = length link.parts.modules in
     let pieces = link_pieces link.parts in

@@ -11,7 +11,7 @@ use Rattle.section_group.specs.declared.piece.Piece.{Piece}
 use Rattle.address_layout.specs.Layout.{IsAlignment}
 use Rattle.import_tables.specs.ImportShape.{sizes_of}
 use Rattle.module_view.specs.Module.{ModuleView}
-use Rattle.synthetic_sections.specs.LinkerPieces.{SLOTS, EXPORTS, DEBUG_ENTRY, DEBUG_DATA, FIRST_THUNK, size_at, table_piece, table_if, table_pieces, export_table_pieces, entry_size, debug_pieces}
+use Rattle.synthetic_sections.specs.LinkerPieces.{SLOTS, EXPORTS, DEBUG_ENTRY, DEBUG_DATA, RESOURCES, FIRST_THUNK, size_at, table_piece, table_if, table_pieces, export_table_pieces, entry_size, debug_pieces, resource_pieces}
 use Rattle.link_imports.specs.Imports.{import_sizes}
 use Rattle.link_pieces.specs.PieceIndex.{is_numbered}
 use Rattle.link_pieces.specs.TablePieces.{KeptParts, kept_imports, tables_for, tables_of, table_sizes, is_table, IsLinkTable}
@@ -61,6 +61,11 @@ all_debug P count size entry holds =
     All-append P _ _ (all_if P (eqb (entry_size size) 0) (table_piece count DEBUG_ENTRY (codes ".rdata") 4 (entry_size size)) (λ made. entry (some_bytes (entry_size size) made)))
     (all_if P (eqb size 0) (table_piece count DEBUG_DATA (codes ".rdata") 4 size) (λ made. holds (some_bytes size made)))
 
+all_resources : (P : Piece → Type 0) (count size : ℕ) → (0 < size → P (table_piece count RESOURCES (codes ".rsrc") 4 size)) → All P (resource_pieces count size)
+unfolding resource_pieces
+all_resources P count size holds =
+    all_if P (eqb size 0) (table_piece count RESOURCES (codes ".rsrc") 4 size) (λ made. holds (some_bytes size made))
+
 -- ---- what each is
 
 import_sizes_count : (modules : List ModuleView) (kept : List Bool) → length (import_sizes modules kept) ≡ 5
@@ -69,7 +74,8 @@ import_sizes_count modules kept = refl
 
 -- the size of an import table, and those of the others
 abbrev later_sizes : KeptParts → List ℕ
-later_sizes link = link.parts.exports.size ∷ entry_size link.parts.debug.size ∷ link.parts.debug.size ∷ []
+later_sizes link =
+    link.parts.exports.size ∷ entry_size link.parts.debug.size ∷ link.parts.debug.size ∷ link.parts.resources.size ∷ []
 
 pub import_size : (link : KeptParts) (number : ℕ) → number < 5 → size_at (table_sizes link) number ≡ size_at (import_sizes link.parts.modules (kept_imports link)) number
 import_size link number few =
@@ -88,42 +94,56 @@ entry_size_is link = later_size link 6 (omega arith)
 pub data_size_is : (link : KeptParts) → size_at (table_sizes link) DEBUG_DATA ≡ link.parts.debug.size
 data_size_is link = later_size link 7 (omega arith)
 
+pub tree_size_is : (link : KeptParts) → size_at (table_sizes link) RESOURCES ≡ link.parts.resources.size
+tree_size_is link = later_size link 8 (omega arith)
+
 pub tables_are : (link : KeptParts) → All (IsLinkTable link) (tables_of link)
 tables_are link =
     let count = length link.parts.modules in
     let sizes = import_sizes link.parts.modules (kept_imports link) in
-    let size = link.parts.exports.size in
-    All-append (IsLinkTable link) (table_pieces count sizes) (export_table_pieces count size ++ debug_pieces count link.parts.debug.size)
+    let exports = export_table_pieces count link.parts.exports.size in
+    let debug = debug_pieces count link.parts.debug.size in
+    let tree = resource_pieces count link.parts.resources.size in
+    All-append (IsLinkTable link) (table_pieces count sizes) (exports ++ (debug ++ tree))
     (all_imports (IsLinkTable link) count sizes (λ number name align few aligned some.
     record { of_linker = refl; few = omega (arith, few); init = refl; some = some; size = sym (import_size link number few) }))
-    (All-append (IsLinkTable link) (export_table_pieces count size) (debug_pieces count link.parts.debug.size)
-    (all_exports (IsLinkTable link) count size (λ some.
+    (All-append (IsLinkTable link) exports (debug ++ tree)
+    (all_exports (IsLinkTable link) count link.parts.exports.size (λ some.
     record { of_linker = refl; few = omega arith; init = refl; some = some; size = sym (export_size link) }))
+    (All-append (IsLinkTable link) debug tree
     (all_debug (IsLinkTable link) count link.parts.debug.size
     (λ some. record { of_linker = refl; few = omega arith; init = refl; some = some; size = sym (entry_size_is link) })
-    (λ some. record { of_linker = refl; few = omega arith; init = refl; some = some; size = sym (data_size_is link) })))
+    (λ some. record { of_linker = refl; few = omega arith; init = refl; some = some; size = sym (data_size_is link) }))
+    (all_resources (IsLinkTable link) count link.parts.resources.size
+    (λ some. record { of_linker = refl; few = omega arith; init = refl; some = some; size = sym (tree_size_is link) }))))
 
-pub tables_aligned : (modules : List ModuleView) (kept : List Bool) (size debug : ℕ) → All (λ (piece : Piece). IsAlignment piece.align) (tables_for modules kept size debug)
-tables_aligned modules kept size debug =
+pub tables_aligned : (modules : List ModuleView) (kept : List Bool) (size debug resources : ℕ) → All (λ (piece : Piece). IsAlignment piece.align) (tables_for modules kept size debug resources)
+tables_aligned modules kept size debug resources =
     let count = length modules in
-    All-append (λ (piece : Piece). IsAlignment piece.align) (table_pieces count (import_sizes modules kept)) (export_table_pieces count size ++ debug_pieces count debug)
-    (all_imports (λ (piece : Piece). IsAlignment piece.align) count (import_sizes modules kept) (λ number name align few aligned some. aligned))
-    (All-append (λ (piece : Piece). IsAlignment piece.align) (export_table_pieces count size) (debug_pieces count debug)
-    (all_exports (λ (piece : Piece). IsAlignment piece.align) count size (λ some. record { positive = omega arith; divides = refl }))
-    (all_debug (λ (piece : Piece). IsAlignment piece.align) count debug (λ some. record { positive = omega arith; divides = refl }) (λ some. record { positive = omega arith; divides = refl })))
+    let IsAligned = λ (piece : Piece). IsAlignment piece.align in
+    All-append IsAligned (table_pieces count (import_sizes modules kept)) (export_table_pieces count size ++ (debug_pieces count debug ++ resource_pieces count resources))
+    (all_imports IsAligned count (import_sizes modules kept) (λ number name align few aligned some. aligned))
+    (All-append IsAligned (export_table_pieces count size) (debug_pieces count debug ++ resource_pieces count resources)
+    (all_exports IsAligned count size (λ some. record { positive = omega arith; divides = refl }))
+    (All-append IsAligned (debug_pieces count debug) (resource_pieces count resources)
+    (all_debug IsAligned count debug (λ some. record { positive = omega arith; divides = refl }) (λ some. record { positive = omega arith; divides = refl }))
+    (all_resources IsAligned count resources (λ some. record { positive = omega arith; divides = refl }))))
 
 -- each is told by its number
-pub tables_told : (modules : List ModuleView) (kept : List Bool) (size debug : ℕ) → All (λ (piece : Piece). is_table (length modules) piece ≡ true) (tables_for modules kept size debug)
-tables_told modules kept size debug =
+pub tables_told : (modules : List ModuleView) (kept : List Bool) (size debug resources : ℕ) → All (λ (piece : Piece). is_table (length modules) piece ≡ true) (tables_for modules kept size debug resources)
+tables_told modules kept size debug resources =
     let count = length modules in
-    All-append (λ (piece : Piece). is_table count piece ≡ true) (table_pieces count (import_sizes modules kept)) (export_table_pieces count size ++ debug_pieces count debug)
-    (all_imports (λ (piece : Piece). is_table count piece ≡ true) count (import_sizes modules kept) (λ number name align few aligned some.
+    let IsTold = λ (piece : Piece). is_table count piece ≡ true in
+    All-append IsTold (table_pieces count (import_sizes modules kept)) (export_table_pieces count size ++ (debug_pieces count debug ++ resource_pieces count resources))
+    (all_imports IsTold count (import_sizes modules kept) (λ number name align few aligned some.
     rw (eq-eqb count count refl, lt-ltb number FIRST_THUNK (omega (arith, few))) refl))
-    (All-append (λ (piece : Piece). is_table count piece ≡ true) (export_table_pieces count size) (debug_pieces count debug)
-    (all_exports (λ (piece : Piece). is_table count piece ≡ true) count size (λ some. rw (eq-eqb count count refl) refl))
-    (all_debug (λ (piece : Piece). is_table count piece ≡ true) count debug (λ some. rw (eq-eqb count count refl) refl) (λ some. rw (eq-eqb count count refl) refl)))
+    (All-append IsTold (export_table_pieces count size) (debug_pieces count debug ++ resource_pieces count resources)
+    (all_exports IsTold count size (λ some. rw (eq-eqb count count refl) refl))
+    (All-append IsTold (debug_pieces count debug) (resource_pieces count resources)
+    (all_debug IsTold count debug (λ some. rw (eq-eqb count count refl) refl) (λ some. rw (eq-eqb count count refl) refl))
+    (all_resources IsTold count resources (λ some. rw (eq-eqb count count refl) refl))))
 
--- ---- there are at most eight
+-- ---- there are at most nine
 
 few_if : (none : Bool) (piece : Piece) → length (cond none [] (piece ∷ [])) ≤ 1
 few_if true piece = omega arith
@@ -152,10 +172,17 @@ few_debug count size =
     let rest = table_if count DEBUG_DATA (codes ".rdata") 4 size in
     omega (arith, length-append entry rest, few_if (eqb (entry_size size) 0) (table_piece count DEBUG_ENTRY (codes ".rdata") 4 (entry_size size)), few_if (eqb size 0) (table_piece count DEBUG_DATA (codes ".rdata") 4 size))
 
-pub tables_few : (modules : List ModuleView) (kept : List Bool) (size debug : ℕ) → length (tables_for modules kept size debug) ≤ 8
-tables_few modules kept size debug =
+few_resources : (count size : ℕ) → length (resource_pieces count size) ≤ 1
+unfolding resource_pieces
+few_resources count size = few_if (eqb size 0) (table_piece count RESOURCES (codes ".rsrc") 4 size)
+
+pub tables_few : (modules : List ModuleView) (kept : List Bool) (size debug resources : ℕ) → length (tables_for modules kept size debug resources) ≤ 9
+tables_few modules kept size debug resources =
     let count = length modules in
-    omega (arith, length-append (table_pieces count (import_sizes modules kept)) (export_table_pieces count size ++ debug_pieces count debug), length-append (export_table_pieces count size) (debug_pieces count debug), few_imports count (import_sizes modules kept), few_exports count size, few_debug count debug)
+    let exports = export_table_pieces count size in
+    let directory = debug_pieces count debug in
+    let tree = resource_pieces count resources in
+    omega (arith, length-append (table_pieces count (import_sizes modules kept)) (exports ++ (directory ++ tree)), length-append exports (directory ++ tree), length-append directory tree, few_imports count (import_sizes modules kept), few_exports count size, few_debug count debug, few_resources count resources)
 
 -- ---- one that has bytes is there
 
@@ -230,37 +257,55 @@ data_made count size some =
     later_any (is_numbered count DEBUG_DATA) (table_if count DEBUG_ENTRY (codes ".rdata") 4 (entry_size size)) _
     (found_in (is_numbered count DEBUG_DATA) (eqb size 0) (table_piece count DEBUG_DATA (codes ".rdata") 4 size) (none_false size some) (rw (eq-eqb count count refl) refl))
 
--- one of the last three, by its number
-later_made : (link : KeptParts) (number : ℕ) → 5 ≤ number → number < 8 → 0 < size_at (table_sizes link) number → list_any (is_numbered (length link.parts.modules) number) (export_table_pieces (length link.parts.modules) link.parts.exports.size ++ debug_pieces (length link.parts.modules) link.parts.debug.size) ≡ true
-later_made link number behind few sized =
-    elim (cases_lt number 6) [
-      | inl export ↦
-          let same : number ≡ EXPORTS = omega (arith, behind, export) in
-          subst (λ (n : ℕ). list_any (is_numbered count n) tables ≡ true) (sym same)
-          (either_any (is_numbered count EXPORTS) (export_table_pieces count link.parts.exports.size) _
-          (export_made count link.parts.exports.size (subst (λ (n : ℕ). 0 < n) (ap (size_at (table_sizes link)) same ∙ export_size link) sized)))
-      | inr above ↦
-          elim (cases_lt number 7) [
-            | inl entry ↦
-                let same : number ≡ DEBUG_ENTRY = omega (arith, above, entry) in
-                subst (λ (n : ℕ). list_any (is_numbered count n) tables ≡ true) (sym same)
-                (later_any (is_numbered count DEBUG_ENTRY) (export_table_pieces count link.parts.exports.size) _
-                (entry_made count link.parts.debug.size (subst (λ (n : ℕ). 0 < n) (ap (size_at (table_sizes link)) same ∙ entry_size_is link) sized)))
-            | inr last ↦
-                let same : number ≡ DEBUG_DATA = omega (arith, few, last) in
-                subst (λ (n : ℕ). list_any (is_numbered count n) tables ≡ true) (sym same)
-                (later_any (is_numbered count DEBUG_DATA) (export_table_pieces count link.parts.exports.size) _
-                (data_made count link.parts.debug.size (subst (λ (n : ℕ). 0 < n) (ap (size_at (table_sizes link)) same ∙ data_size_is link) sized)))
-          ]
-    ]
-  where
-    count : ℕ
-    count = length link.parts.modules
+tree_made : (count size : ℕ) → 0 < size → list_any (is_numbered count RESOURCES) (resource_pieces count size) ≡ true
+unfolding resource_pieces
+tree_made count size some =
+    found_in (is_numbered count RESOURCES) (eqb size 0) (table_piece count RESOURCES (codes ".rsrc") 4 size) (none_false size some) (rw (eq-eqb count count refl) refl)
 
-    tables : List Piece
-    tables = export_table_pieces count link.parts.exports.size ++ debug_pieces count link.parts.debug.size
+-- one of the last four, by its number
+module _ (link : KeptParts) (number : ℕ) (sized : 0 < size_at (table_sizes link) number) where
+  abbrev count : ℕ
+  count = length link.parts.modules
 
-pub table_made : (link : KeptParts) (number : ℕ) → number < 8 → 0 < size_at (table_sizes link) number → list_any (is_numbered (length link.parts.modules) number) (tables_of link) ≡ true
+  abbrev exports : List Piece
+  exports = export_table_pieces (length link.parts.modules) link.parts.exports.size
+
+  abbrev directory : List Piece
+  directory = debug_pieces (length link.parts.modules) link.parts.debug.size
+
+  abbrev tree : List Piece
+  tree = resource_pieces (length link.parts.modules) link.parts.resources.size
+
+  -- it has its size, and is made by this
+  by_number : (other size : ℕ) → number ≡ other → size_at (table_sizes link) other ≡ size → (0 < size → list_any (is_numbered (length link.parts.modules) other) (export_table_pieces (length link.parts.modules) link.parts.exports.size ++ (debug_pieces (length link.parts.modules) link.parts.debug.size ++ resource_pieces (length link.parts.modules) link.parts.resources.size)) ≡ true) → list_any (is_numbered (length link.parts.modules) number) (export_table_pieces (length link.parts.modules) link.parts.exports.size ++ (debug_pieces (length link.parts.modules) link.parts.debug.size ++ resource_pieces (length link.parts.modules) link.parts.resources.size)) ≡ true
+  by_number other size same is made =
+      subst (λ (n : ℕ). list_any (is_numbered count n) (exports ++ (directory ++ tree)) ≡ true) (sym same)
+      (made (subst (λ (n : ℕ). 0 < n) (ap (size_at (table_sizes link)) same ∙ is) sized))
+
+  later_made : 5 ≤ number → number < 9 → list_any (is_numbered (length link.parts.modules) number) (export_table_pieces (length link.parts.modules) link.parts.exports.size ++ (debug_pieces (length link.parts.modules) link.parts.debug.size ++ resource_pieces (length link.parts.modules) link.parts.resources.size)) ≡ true
+  later_made behind few =
+      elim (cases_lt number 6) [
+        | inl export ↦
+            by_number EXPORTS link.parts.exports.size (omega (arith, behind, export)) (export_size link)
+            (λ some. either_any (is_numbered count EXPORTS) exports (directory ++ tree) (export_made count link.parts.exports.size some))
+        | inr above ↦
+            elim (cases_lt number 7) [
+              | inl entry ↦
+                  by_number DEBUG_ENTRY (entry_size link.parts.debug.size) (omega (arith, above, entry)) (entry_size_is link)
+                  (λ some. later_any (is_numbered count DEBUG_ENTRY) exports (directory ++ tree) (either_any (is_numbered count DEBUG_ENTRY) directory tree (entry_made count link.parts.debug.size some)))
+              | inr higher ↦
+                  elim (cases_lt number 8) [
+                    | inl named ↦
+                        by_number DEBUG_DATA link.parts.debug.size (omega (arith, higher, named)) (data_size_is link)
+                        (λ some. later_any (is_numbered count DEBUG_DATA) exports (directory ++ tree) (either_any (is_numbered count DEBUG_DATA) directory tree (data_made count link.parts.debug.size some)))
+                    | inr last ↦
+                        by_number RESOURCES link.parts.resources.size (omega (arith, few, last)) (tree_size_is link)
+                        (λ some. later_any (is_numbered count RESOURCES) exports (directory ++ tree) (later_any (is_numbered count RESOURCES) directory tree (tree_made count link.parts.resources.size some)))
+                  ]
+            ]
+      ]
+
+pub table_made : (link : KeptParts) (number : ℕ) → number < 9 → 0 < size_at (table_sizes link) number → list_any (is_numbered (length link.parts.modules) number) (tables_of link) ≡ true
 table_made link number few sized =
     let count = length link.parts.modules in
     let sizes = import_sizes link.parts.modules (kept_imports link) in
@@ -268,5 +313,5 @@ table_made link number few sized =
       | inl below ↦
           either_any (is_numbered count number) (table_pieces count sizes) _
           (import_made count sizes number below (subst (λ (n : ℕ). 0 < n) (import_size link number below) sized))
-      | inr behind ↦ later_any (is_numbered count number) (table_pieces count sizes) _ (later_made link number behind few sized)
+      | inr behind ↦ later_any (is_numbered count number) (table_pieces count sizes) _ (later_made link number sized behind few)
     ]

@@ -1,12 +1,12 @@
 -- What is kept of a link, and the tables that the linker makes for it behind all other pieces: those of the imports that are
--- kept, that of the exports, and the debug directory. Own.
+-- kept, that of the exports, the debug directory, and the resource tree. Own.
 use Rattle.std.specs.Prelude.{◌≡◌, ◌<◌, ℕ, Bool, true, ◌&&◌, ◌==◌, nat_lt, List, [], ◌∷◌, ◌++◌, length, map, drop, slice_index_or, Option}
 use Rattle.link_base.specs.Bytes.{first_below}
 use Rattle.section_group.specs.declared.piece.Piece.{Piece}
 use Rattle.section_group.specs.SectionOrder.{no_piece}
 use Rattle.module_view.specs.Module.{ModuleView}
 use Rattle.import_tables.specs.declared.row.ImportRow.{ImportRow}
-use Rattle.synthetic_sections.specs.LinkerPieces.{FIRST_THUNK, size_at, table_pieces, export_table_pieces, entry_size, debug_pieces, no_bytes}
+use Rattle.synthetic_sections.specs.LinkerPieces.{FIRST_THUNK, size_at, table_pieces, export_table_pieces, entry_size, debug_pieces, resource_pieces, no_bytes}
 use Rattle.link_imports.specs.Imports.{import_rows, import_sizes}
 use Rattle.link_pieces.specs.LinkParts.{LinkParts}
 use Rattle.link_pieces.specs.PieceIndex.{is_numbered, holds}
@@ -30,18 +30,23 @@ kept_rows link = import_rows link.parts.modules (kept_imports link)
 
 -- ---- the tables
 
--- for imports of which these are kept, with an export table of this size, and a debug directory with data of this size
-abbrev pub tables_for : List ModuleView → List Bool → ℕ → ℕ → List Piece
-tables_for modules kept exports debug =
-    table_pieces (length modules) (import_sizes modules kept) ++ (export_table_pieces (length modules) exports ++ debug_pieces (length modules) debug)
+-- for imports of which these are kept, with an export table of this size, a debug directory with data of this size, and a
+-- resource tree of this size
+abbrev pub tables_for : List ModuleView → List Bool → ℕ → ℕ → ℕ → List Piece
+tables_for modules kept exports debug resources =
+    table_pieces (length modules) (import_sizes modules kept)
+    ++ (export_table_pieces (length modules) exports
+    ++ (debug_pieces (length modules) debug ++ resource_pieces (length modules) resources))
 
 abbrev pub tables_of : KeptParts → List Piece
-tables_of link = tables_for link.parts.modules (kept_imports link) link.parts.exports.size link.parts.debug.size
+tables_of link =
+    tables_for link.parts.modules (kept_imports link) link.parts.exports.size link.parts.debug.size link.parts.resources.size
 
 -- the sizes of the tables, by their numbers
 abbrev pub table_sizes : KeptParts → List ℕ
 table_sizes link =
-    import_sizes link.parts.modules (kept_imports link) ++ link.parts.exports.size ∷ entry_size link.parts.debug.size ∷ link.parts.debug.size ∷ []
+    import_sizes link.parts.modules (kept_imports link)
+    ++ link.parts.exports.size ∷ entry_size link.parts.debug.size ∷ link.parts.debug.size ∷ link.parts.resources.size ∷ []
 
 -- ---- all pieces
 
@@ -66,10 +71,10 @@ table_index link number =
 abbrev pub is_table : ℕ → Piece → Bool
 is_table count piece = (piece.«module» == count) && nat_lt piece.number FIRST_THUNK
 
--- one of the eight, initialised, with bytes, and as long as these will be
+-- one of the nine, initialised, with bytes, and as long as these will be
 pub record IsLinkTable (link : KeptParts) (piece : Piece) : Type 0 where
   pub of_linker : piece.«module» ≡ length link.parts.modules
-  pub few : piece.number < 8
+  pub few : piece.number < 9
   pub init : piece.init ≡ true
   pub some : 0 < piece.size
   pub size : piece.size ≡ size_at (table_sizes link) piece.number

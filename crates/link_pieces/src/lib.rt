@@ -1,10 +1,10 @@
 //! The units of layout of a link: the sections of its modules that come into the image, the commons that names mean, the jumps
-//! and local slots that the linker makes, and, once it is known which imports are kept, the tables of imports and exports and the debug
-//! directory. It //! takes modules from `module_view`, says by `comdat` and `symbol_table` what their names mean, and gives pieces to the crates
-//! that plan, group and place them. Its contracts promise that each section that is chosen and placed, each common that a name
-//! means, and each slot that a link refers to is one piece, in the order of the modules and of their section headers and
-//! symbols, and of the bytes of the slots' names, aligned and with its own bytes; and that the piece of a section, of a common
-//! or of a slot is found at once. What is kept of them is left to others.
+//! and local slots that the linker makes, and, once it is known which imports are kept, the tables of imports and exports, the
+//! debug directory and the resource tree. It takes modules from `module_view`, says by `comdat` and `symbol_table` what their
+//! names mean, and gives pieces to the crates that plan, group and place them. Its contracts promise that each section that is
+//! chosen and placed, each common that a name means, and each slot that a link refers to is one piece, in the order of the
+//! modules and of their section headers and symbols, and of the bytes of the slots' names, aligned and with its own bytes; and
+//! that the piece of a section, of a common or of a slot is found at once. What is kept of them is left to others.
 #![tactic(auto)]
 
 mod commons;

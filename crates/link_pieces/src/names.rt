@@ -16,18 +16,20 @@ use comdat::{ChooseError, choose_all};
 use link_base::{Fault, Name, Refusal};
 use link_debug::LinkDebug;
 use link_exports::LinkExports;
+use link_resources::LinkResources;
 use module_view::Module;
 use std::alloc::Global;
 use std::marker::Model;
 use symbol_table::{Chosen, Meaning, NoMeaning, ResolvedNames, SymbolTable};
 
-/// What names mean in the modules of a link, of each group of whose COMDAT sections one is chosen, what it exports, and
-/// what its image says of its PDB.
+/// What names mean in the modules of a link, of each group of whose COMDAT sections one is chosen, what it exports, what
+/// its image says of its PDB, and the resources of the image.
 #[derive(Drop)]
 pub struct LinkNames<'a> {
     names: ResolvedNames<'a>,
     exports: LinkExports<'a>,
     debug: LinkDebug,
+    resources: LinkResources<'a>,
 }
 
 impl<'a> Model for LinkNames<'a> {
@@ -37,7 +39,7 @@ impl<'a> Model for LinkNames<'a> {
 
     ghost Value = { LinkParts };
 
-    ghost view = { λ t. parts_of t.names.link t.exports t.debug };
+    ghost view = { λ t. parts_of t.names.link t.exports t.debug t.resources };
 
     ghost invariant = { λ t. t.names.chosen ≡ chosen_sections t.names.link.modules };
 }
@@ -55,6 +57,13 @@ impl<'a> LinkNames<'a> {
         ensures { result.now ≡ self.now.debug }
     {
         &self.debug
+    }
+
+    /// The resources of the image.
+    pub fn resources(&self) -> &LinkResources<'a>
+        ensures { result.now ≡ self.now.resources }
+    {
+        &self.resources
     }
 
     /// What a name means.
@@ -85,18 +94,19 @@ impl<'a> LinkNames<'a> {
     }
 }
 
-/// What the names of a table mean, whose modules these are, with what the link exports and what its image says of its PDB. COMDAT
-/// sections that conflict are refused (`ComdatConflict`).
+/// What the names of a table mean, whose modules these are, with what the link exports, what its image says of its PDB, and
+/// its resources. COMDAT sections that conflict are refused (`ComdatConflict`).
 pub fn link_names<'a>(
     alloc: Global,
     table: SymbolTable<'a>,
     modules: &[Module<'a>],
     exports: LinkExports<'a>,
     debug: LinkDebug,
+    resources: LinkResources<'a>,
 ) -> Result<LinkNames<'a>, Refusal<'a>>
     requires few { length modules.now ≤ MODULE_LIMIT }
     requires same { table.modules ≡ modules.now }
-    ensures names { IfOk result (λ names. names ≡ parts_of table.entry exports.entry debug) }
+    ensures names { IfOk result (λ names. names ≡ parts_of table.entry exports.entry debug resources.entry) }
     ensures accepted { OnOk result (conflict_fault modules.now ≡ None) }
     ensures refused { IfErr result (RefusesFor (conflict_fault modules.now)) }
 {
@@ -106,6 +116,7 @@ pub fn link_names<'a>(
         names,
         exports,
         debug,
+        resources,
     })
 }
 

@@ -69,29 +69,29 @@ contents_planned link old marks now after are is grown =
 -- ---- what holds of each
 
 -- the count of all
-pub whole_count : (modules : List ModuleView) (kept : List Bool) (size debug : ℕ) (now after : List Piece) → map bare after ≡ map bare now ++ tables_for modules kept size debug → length after ≡ length now + length (tables_for modules kept size debug)
-whole_count modules kept size debug now after grown =
-    omega (arith, length-map after bare, length-map now bare, ap length grown, length-append (map bare now) (tables_for modules kept size debug))
+pub whole_count : (modules : List ModuleView) (kept : List Bool) (size debug resources : ℕ) (now after : List Piece) → map bare after ≡ map bare now ++ tables_for modules kept size debug resources → length after ≡ length now + length (tables_for modules kept size debug resources)
+whole_count modules kept size debug resources now after grown =
+    omega (arith, length-map after bare, length-map now bare, ap length grown, length-append (map bare now) (tables_for modules kept size debug resources))
 
-pub few_planned : (modules : List ModuleView) (kept : List Bool) (size debug : ℕ) (now after : List Piece) → length now < 2 ^ 31 - 16 → map bare after ≡ map bare now ++ tables_for modules kept size debug → length after < 2 ^ 31
-few_planned modules kept size debug now after few grown =
-    omega (arith, few, whole_count modules kept size debug now after grown, tables_few modules kept size debug)
+pub few_planned : (modules : List ModuleView) (kept : List Bool) (size debug resources : ℕ) (now after : List Piece) → length now < 2 ^ 31 - 16 → map bare after ≡ map bare now ++ tables_for modules kept size debug resources → length after < 2 ^ 31
+few_planned modules kept size debug resources now after few grown =
+    omega (arith, few, whole_count modules kept size debug resources now after grown, tables_few modules kept size debug resources)
 
 abbrev HasAlignment : Piece → Type 0
 HasAlignment piece = IsAlignment piece.align
 
-pub aligned_planned : (modules : List ModuleView) (kept : List Bool) (size debug : ℕ) (now after : List Piece) → All (λ (piece : Piece). IsAlignment piece.align) now → map bare after ≡ map bare now ++ tables_for modules kept size debug → All (λ (piece : Piece). IsAlignment piece.align) after
-aligned_planned modules kept size debug now after aligned grown =
+pub aligned_planned : (modules : List ModuleView) (kept : List Bool) (size debug resources : ℕ) (now after : List Piece) → All (λ (piece : Piece). IsAlignment piece.align) now → map bare after ≡ map bare now ++ tables_for modules kept size debug resources → All (λ (piece : Piece). IsAlignment piece.align) after
+aligned_planned modules kept size debug resources now after aligned grown =
     over_bare HasAlignment after
     (subst (All HasAlignment) (sym grown)
-    (All-append HasAlignment (map bare now) (tables_for modules kept size debug) (All-map HasAlignment bare now aligned) (tables_aligned modules kept size debug)))
+    (All-append HasAlignment (map bare now) (tables_for modules kept size debug resources) (All-map HasAlignment bare now aligned) (tables_aligned modules kept size debug resources)))
 
 -- one of the first is as it was
-first_same : (modules : List ModuleView) (kept : List Bool) (size debug : ℕ) (now after : List Piece) (k : ℕ) → k < length now → map bare after ≡ map bare now ++ tables_for modules kept size debug → bare (get_or after k no_piece) ≡ bare (get_or now k no_piece)
-first_same modules kept size debug now after k lt grown =
+first_same : (modules : List ModuleView) (kept : List Bool) (size debug resources : ℕ) (now after : List Piece) (k : ℕ) → k < length now → map bare after ≡ map bare now ++ tables_for modules kept size debug resources → bare (get_or after k no_piece) ≡ bare (get_or now k no_piece)
+first_same modules kept size debug resources now after k lt grown =
     sym (get_or-map bare after k no_piece)
     ∙ ap (λ (ps : List Piece). get_or ps k no_piece) grown
-    ∙ get_or_append_left (map bare now) (tables_for modules kept size debug) no_piece k (omega (arith, lt, length-map now bare))
+    ∙ get_or_append_left (map bare now) (tables_for modules kept size debug resources) no_piece k (omega (arith, lt, length-map now bare))
     ∙ get_or-map bare now k no_piece
 
 first_holds : (tables : List Piece) (now after : List Piece) (k : ℕ) → k < length now → map piece_contents after ≡ map piece_contents now ++ map no_bytes tables → piece_contents (get_or after k no_piece) ≡ piece_contents (get_or now k no_piece)
@@ -102,26 +102,26 @@ first_holds tables now after k lt grown =
     ∙ get_or-map piece_contents now k no_piece
 
 -- one behind them is a table
-last_told : (modules : List ModuleView) (kept : List Bool) (size debug : ℕ) (now after : List Piece) (k : ℕ) → length now ≤ k → k < length after → map bare after ≡ map bare now ++ tables_for modules kept size debug → is_table (length modules) (get_or after k no_piece) ≡ true
-last_told modules kept size debug now after k behind lt grown =
-    let tables = tables_for modules kept size debug in
-    let whole = whole_count modules kept size debug now after grown in
+last_told : (modules : List ModuleView) (kept : List Bool) (size debug resources : ℕ) (now after : List Piece) (k : ℕ) → length now ≤ k → k < length after → map bare after ≡ map bare now ++ tables_for modules kept size debug resources → is_table (length modules) (get_or after k no_piece) ≡ true
+last_told modules kept size debug resources now after k behind lt grown =
+    let tables = tables_for modules kept size debug resources in
+    let whole = whole_count modules kept size debug resources now after grown in
     let long : length (map bare now) ≤ k = omega (arith, behind, length-map now bare) in
     ap (is_table (length modules))
     (sym (get_or-map bare after k no_piece)
     ∙ ap (λ (ps : List Piece). get_or ps k no_piece) grown)
     ∙ ap (is_table (length modules)) (get_or-append_right (map bare now) tables (length (map bare now)) k no_piece refl long)
-    ∙ tables_told modules kept size debug (k - length (map bare now)) no_piece (omega (arith, behind, lt, whole, length-map now bare))
+    ∙ tables_told modules kept size debug resources (k - length (map bare now)) no_piece (omega (arith, behind, lt, whole, length-map now bare))
 
-pub bodies_planned : (modules : List ModuleView) (kept : List Bool) (size debug : ℕ) (now after : List Piece) → ((k : ℕ) → k < length now → HasItsBytes now k) → map bare after ≡ map bare now ++ tables_for modules kept size debug → map piece_contents after ≡ map piece_contents now ++ map no_bytes (tables_for modules kept size debug) → (k : ℕ) → k < length after → is_table (length modules) (get_or after k no_piece) ≡ false → HasItsBytes after k
-bodies_planned modules kept size debug now after bodies grown holds k lt other =
+pub bodies_planned : (modules : List ModuleView) (kept : List Bool) (size debug resources : ℕ) (now after : List Piece) → ((k : ℕ) → k < length now → HasItsBytes now k) → map bare after ≡ map bare now ++ tables_for modules kept size debug resources → map piece_contents after ≡ map piece_contents now ++ map no_bytes (tables_for modules kept size debug resources) → (k : ℕ) → k < length after → is_table (length modules) (get_or after k no_piece) ≡ false → HasItsBytes after k
+bodies_planned modules kept size debug resources now after bodies grown holds k lt other =
     elim (cases_lt k (length now)) [
       | inl inside ↦ λ init.
-          let same = first_same modules kept size debug now after k inside grown in
-          ap length (first_holds (tables_for modules kept size debug) now after k inside holds)
+          let same = first_same modules kept size debug resources now after k inside grown in
+          ap length (first_holds (tables_for modules kept size debug resources) now after k inside holds)
           ∙ bodies k inside (sym (ap (λ (p : Piece). p.init) same) ∙ init)
           ∙ sym (ap (λ (p : Piece). p.size) same)
-      | inr behind ↦ absurd (false≢true (sym other ∙ last_told modules kept size debug now after k behind lt grown))
+      | inr behind ↦ absurd (false≢true (sym other ∙ last_told modules kept size debug resources now after k behind lt grown))
     ]
 
 -- ---- fields

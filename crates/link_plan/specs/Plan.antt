@@ -10,6 +10,10 @@ use Rattle.module_view.specs.Module.{ModuleView}
 use Rattle.lib_search.specs.LinkOf.{link_of}
 use Rattle.link_exports.specs.Exports.{exports_of, AreTold}
 use Rattle.link_debug.specs.LinkDebug.{debug_of}
+use Rattle.link_resources.specs.LinkResources.{resources_with}
+use Rattle.res_merge.specs.Entries.{Entry}
+use Rattle.res_merge.specs.Order.{AreMergeable}
+use Rattle.res_merge.specs.Found.{AreNumbered}
 use Rattle.link_pieces.specs.LinkParts.{LinkParts, parts_of}
 use Rattle.module_view.specs.Opening.{IsOpened}
 use Rattle.link_directives.specs.LinkDirectives.{link_merges}
@@ -25,28 +29,33 @@ use Rattle.link_plan.specs.PlanFaults.{plan_fault}
 use Rattle.link_plan.specs.Laid.{StandsNamed}
 use Rattle.link_plan.specs.LinkPublics.{lists_publics, link_publics}
 
--- what takes part in a link of these modules
-abbrev pub link_parts : LinkOptions → List ModuleView → LinkParts
-link_parts options modules = parts_of (link_of options modules) (exports_of options modules) (debug_of options)
+-- what takes part in a link of these modules and resources
+abbrev pub link_parts : LinkOptions → List ModuleView → List Entry → LinkParts
+link_parts options modules resources =
+    parts_of (link_of options modules) (exports_of options modules) (debug_of options) (resources_with options resources)
 
 -- with what is kept of it
-pub record IsLinkOf (options : LinkOptions) (modules : List ModuleView) (link : KeptParts) : Type 0 where
-  pub parts_are : link.parts ≡ link_parts options modules
+pub record IsLinkOf (options : LinkOptions) (modules : List ModuleView) (resources : List Entry) (link : KeptParts) : Type 0 where
+  pub parts_are : link.parts ≡ link_parts options modules resources
   pub kept_are : AreKept options link.parts link.kept
 
 -- the merges of a link: those of the options, then those of the directives
 abbrev pub merges_of : LinkOptions → LinkParts → List (List ℕ × List ℕ)
 merges_of options link = link_merges options.merges link.modules
 
+-- the resources of a plan
+abbrev pub plan_resources : LinkPlan → List Entry
+plan_resources plan = plan.names.resources.entries
+
 -- what a plan keeps
 abbrev pub kept_parts : LinkPlan → KeptParts
 kept_parts plan = record { parts = plan.names; kept = plan.kept.items }
 
--- a plan holds what the definitions give for its modules and the options, which have no fault up to it
+-- a plan holds what the definitions give for its modules, its resources and the options, which have no fault up to it
 pub record IsPlanOf (options : LinkOptions) (modules : List ModuleView) (plan : LinkPlan) : Type 0 where
   pub opened : All IsOpened modules
   pub modules_are : plan.modules.items ≡ modules
-  pub link_is : IsLinkOf options modules (kept_parts plan)
+  pub link_is : IsLinkOf options modules (plan_resources plan) (kept_parts plan)
   pub pieces_are : map bare plan.pieces.items ≡ plan_pieces options (kept_parts plan)
   pub contents_are : map piece_contents plan.pieces.items ≡ whole_contents (kept_parts plan)
   pub aligned : All (λ piece. IsAlignment piece.align) plan.pieces.items
@@ -55,6 +64,8 @@ pub record IsPlanOf (options : LinkOptions) (modules : List ModuleView) (plan : 
   pub fields : HaveFields (kept_parts plan) (length plan.pieces.items) plan.fixes.items
   pub imports : AreImports modules (kept_imports (kept_parts plan)) plan.imports
   pub told : AreTold plan.names.exports
+  pub mergeable : AreMergeable (plan_resources plan)
+  pub numbered : AreNumbered (plan_resources plan)
   pub merges_are : plan.merges.items ≡ merges_of options plan.names
   pub entry_is : plan.entry ≡ entry_place plan.names options.entry_name
   pub stands : ForSome plan.entry (StandsNamed plan.pieces.items)

@@ -8,29 +8,32 @@ use Rattle.link_files.specs.Store.{Store}
 use Rattle.link_files.specs.Outside.{FilesView, AreUntouched}
 use Rattle.module_view.specs.Module.{ModuleView}
 use Rattle.link_words.specs.Outcome.{LinkOptions}
+use Rattle.res_merge.specs.Entries.{Entry}
 use Rattle.file_search.specs.Reading.{LeavesFiles}
 use Rattle.lib_search.specs.Loading.{HasLoadingFault, Loads}
+use Rattle.lib_search.specs.SaidFaults.{fault_said}
 use Rattle.lib_search.specs.Completion.{FailsLoading}
 use Rattle.link_plan.specs.declared.planning.LinkPlan.{LinkPlan}
 use Rattle.link_plan.specs.PlanFaults.{plan_fault}
-use Rattle.link_plan.specs.Plan.{link_parts, IsPlanOf}
+use Rattle.link_plan.specs.Plan.{link_parts, plan_resources, IsPlanOf}
 
--- the plan of its modules; where the store is told, these join
+-- the plan of its modules and resources; where the store is told, these are what loads
 pub record GivesPlan (options : LinkOptions) (before after : FilesView) (plan : LinkPlan) : Type 0 where
   pub files : AreUntouched before after
   pub planned : IsPlanOf options plan.modules.items plan
-  pub told : ForSome before.store (λ store. Loads store options plan.modules.items)
+  pub told : ForSome before.store (λ store. Loads store options plan.modules.items (plan_resources plan))
 
 -- modules that join, and that have a fault of the stages from mismatch to fields
 pub record JoinsBadly (store : Store) (options : LinkOptions) (fault : Fault) : Type 0 where
   pub modules : List ModuleView
-  pub joined : Loads store options modules
-  pub is : plan_fault options (link_parts options modules) ≡ Some fault
+  pub resources : List Entry
+  pub joined : Loads store options modules resources
+  pub is : plan_fault options (link_parts options modules resources) ≡ Some fault
 
--- the loading has a fault, or the modules have that join
+-- the loading has the fault, by what it says, or the modules have that join
 pub record FaultsPlan (options : LinkOptions) (before after : FilesView) (fault : Fault) : Type 0 where
   pub files : AreUntouched before after
-  pub told : ForSome before.store (λ store. HasLoadingFault store options fault ⊎ JoinsBadly store options fault)
+  pub told : ForSome before.store (λ store. HasLoadingFault store options (fault_said fault) ⊎ JoinsBadly store options fault)
 
 abbrev pub Plans : LinkOptions → FilesView → FilesView → Result LinkPlan Stop → Type 0
 Plans options before after (Ok plan) = GivesPlan options before after plan

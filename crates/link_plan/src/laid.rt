@@ -136,6 +136,7 @@ fn keep_pieces<'a>(
         &imports.shape.lengths,
         names.exports().size(),
         names.debug().size(),
+        names.resources().size(),
     )?;
     let slots = SlotPlaces {
         first: count as u32,

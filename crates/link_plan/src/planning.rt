@@ -1,13 +1,16 @@
 //! The plan of a link.
 
-ghost use Rattle.std.specs.Prelude.{◌≡◌, ◌≤◌, ◌<◌, ◌-◌, ◌^◌, length, IfOk, IfErr};
+ghost use Rattle.std.specs.Prelude.{◌≡◌, ◌≤◌, ◌<◌, ◌-◌, ◌^◌, length, map, IfOk, IfErr};
 ghost use Rattle.link_base.specs.Limits.{MODULE_LIMIT};
 ghost use Rattle.link_base.specs.Refusals.{RefusesFor};
 ghost use Rattle.link_words.specs.Outcome.{options_said};
 ghost use Rattle.link_files.specs.Outside.{files_of};
 ghost use Rattle.lib_search.specs.LinkOf.{link_of};
+ghost use Rattle.res_merge.specs.Entries.{entry_of};
+ghost use Rattle.res_merge.specs.Order.{AreMergeable};
+ghost use Rattle.res_merge.specs.Found.{AreNumbered};
 ghost use Rattle.link_plan.specs.PlanFaults.{plan_fault};
-ghost use Rattle.link_plan.specs.Plan.{link_parts, IsPlanOf};
+ghost use Rattle.link_plan.specs.Plan.{link_parts, plan_resources, IsPlanOf};
 ghost use Rattle.link_plan.specs.Planning.{Plans};
 
 use crate::laid::{LaidLink, LaidPieces, lay_pieces};
@@ -24,6 +27,7 @@ use link_fields::{EntryPlace, LoaderPlaces};
 use link_files::Files;
 use link_imports::LinkImports;
 use link_pieces::{LinkNames, check_clash, link_names};
+use link_resources::LinkResources;
 use link_words::Options;
 use module_view::Module;
 use relocate::{Fixups, Target};
@@ -94,15 +98,23 @@ fn plan_of<'a>(
 ) -> Result<LinkPlan<'a>, Refusal<'a>>
     requires few { length list.modules.items ≤ MODULE_LIMIT }
     requires names { list.table ≡ link_of (options_said options.now) list.modules.items }
+    requires mergeable { AreMergeable (map entry_of list.resources.items) }
+    requires numbered { AreNumbered (map entry_of list.resources.items) }
     ensures planned { IfOk result (IsPlanOf (options_said options.now) list.entry.modules.items) }
     ensures modules { IfOk result (λ plan. plan.modules.items ≡ list.entry.modules.items) }
-    ensures refused { IfErr result (RefusesFor (plan_fault (options_said options.now) (link_parts (options_said options.now) list.entry.modules.items))) }
+    ensures resources { IfOk result (λ plan. plan_resources plan ≡ map entry_of list.entry.resources.items) }
+    ensures refused { IfErr result (RefusesFor (plan_fault (options_said options.now) (link_parts (options_said options.now) list.entry.modules.items (map entry_of list.entry.resources.items)))) }
 {
-    let LinkList { modules, table } = list;
+    let LinkList {
+        modules,
+        table,
+        resources,
+    } = list;
     check_mismatch(alloc, &modules)?;
     let exports = link_exports(alloc, options, &modules)?;
     let debug = LinkDebug::of(alloc, options)?;
-    let names = link_names(alloc, table, &modules, exports, debug)?;
+    let resources = LinkResources::of(alloc, options, resources)?;
+    let names = link_names(alloc, table, &modules, exports, debug, resources)?;
     check_clash(&names)?;
     let meant = meanings_of(alloc, &names, &modules, options)?;
     let link = lay_pieces(alloc, &names, &modules, meant, options)?;

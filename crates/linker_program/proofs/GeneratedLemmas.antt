@@ -8,6 +8,7 @@ use Rattle.link_files.specs.Store.{Store}
 use Rattle.link_files.specs.Outside.{FilesView}
 use Rattle.address_layout.specs.PermittedBase.{is_permitted}
 use Rattle.module_view.specs.Module.{ModuleView}
+use Rattle.res_merge.specs.Entries.{Entry}
 use Rattle.link_words.specs.Outcome.{LinkOptions, CommandSaid, Link, Gen, Refused as RefusedWord, refuse}
 use Rattle.link_words.specs.declared.errors.UsageKind.{UsageKind}
 use Rattle.link_words.specs.UsageWord.{usage_word}
@@ -63,21 +64,21 @@ refusal_tells (Ok answer) has count fault is refuses = record { link = Refused f
 refusal_tells (Err error) has count fault is refuses = tt
 
 -- its image is told
-pub image_tells : (r : Result Answer Memory) (options : LinkOptions) (modules : List ModuleView) (link : KeptParts) (built : Built) (count : ℕ)
-    → IsLinkOf options modules link → plan_fault options (link_parts options modules) ≡ None → IsBuilt options link built
-    → IfOk r (λ answer. Says answer (image_told count built.image.items)) → IfOk r (TellsLink (ModulesOutcome options modules) count)
-image_tells (Ok answer) options modules link built count link_is planned is says =
-    let plan : Plan = record { options = options; modules = modules; image = is.image; map = link_map options link is.is_image.rows is.is_image.layout; pdb = msf_of (link_streams options link is.is_image.rows is.is_image.layout is.is_image.tables (image_file is.image)) } in
-    let made : IsPlan options modules link plan = record { options_are = refl; modules_are = refl; image_is = is.is_image; map_is = refl; pdb_is = refl; pdb_fits = is.pdb_fits } in
-    let outcome : BuildOutcome options modules (Linked plan) = record { link = link; link_is = link_is; is = made } in
+pub image_tells : (r : Result Answer Memory) (options : LinkOptions) (modules : List ModuleView) (resources : List Entry) (link : KeptParts) (built : Built) (count : ℕ)
+    → IsLinkOf options modules resources link → plan_fault options (link_parts options modules resources) ≡ None → IsBuilt options link built
+    → IfOk r (λ answer. Says answer (image_told count built.image.items)) → IfOk r (TellsLink (ModulesOutcome options modules resources) count)
+image_tells (Ok answer) options modules resources link built count link_is planned is says =
+    let plan : Plan = record { options = options; modules = modules; resources = resources; image = is.image; map = link_map options link is.is_image.rows is.is_image.layout; pdb = msf_of (link_streams options link is.is_image.rows is.is_image.layout is.is_image.tables (image_file is.image)) } in
+    let made : IsPlan options modules resources link plan = record { options_are = refl; modules_are = refl; resources_are = refl; image_is = is.is_image; map_is = refl; pdb_is = refl; pdb_fits = is.pdb_fits } in
+    let outcome : BuildOutcome options modules resources (Linked plan) = record { link = link; link_is = link_is; is = made } in
     record { link = Linked plan; linked = rw planned outcome; says = subst (λ (file : List ℕ). Says answer (image_told count file)) is.file says }
-image_tells (Err error) options modules link built count link_is planned is says = tt
+image_tells (Err error) options modules resources link built count link_is planned is says = tt
 
 -- the outcome of modules that join is that of the link
-pub planned_tells : (r : Result Answer Memory) (options : LinkOptions) (store : Store) (modules : List ModuleView) (count : ℕ) → Loads store options modules
-    → IfOk r (TellsLink (ModulesOutcome options modules) count) → IfOk r (TellsLink (LinkOutcome options store) count)
-planned_tells (Ok answer) options store modules count loads tells = record { link = tells.link; linked = AtModules modules loads tells.linked; says = tells.says }
-planned_tells (Err error) options store modules count loads tells = tt
+pub planned_tells : (r : Result Answer Memory) (options : LinkOptions) (store : Store) (modules : List ModuleView) (resources : List Entry) (count : ℕ) → Loads store options modules resources
+    → IfOk r (TellsLink (ModulesOutcome options modules resources) count) → IfOk r (TellsLink (LinkOutcome options store) count)
+planned_tells (Ok answer) options store modules resources count loads tells = record { link = tells.link; linked = AtModules modules resources loads tells.linked; says = tells.says }
+planned_tells (Err error) options store modules resources count loads tells = tt
 
 -- ---- a generated program
 

@@ -39,6 +39,7 @@ use Rattle.link_plan.specs.Planned.{plan_pieces}
 use Rattle.link_plan.specs.LinkPublics.{link_publics}
 use Rattle.debug_rows.specs.ImageMap.{image_map}
 use Rattle.link_image.specs.LinkMap.{link_map}
+use Rattle.res_merge.specs.Entries.{Entry}
 use Rattle.link_words.specs.Outcome.{LinkOptions, CommandSaid, Link, At, Show, Gen, Refused as RefusedWord}
 use Rattle.link_words.specs.Commands.{words_say}
 use Rattle.link_fields.specs.Entry.{entry_place}
@@ -355,9 +356,9 @@ same_fault options link f g (inr x) (inr y) =
     ∙ sym y.is.is
 
 -- modules have a fault, or a plan
-fault_or_plan : (options : LinkOptions) (modules : List ModuleView) (link : KeptParts) (f : Fault) (plan : Plan) → IsBuildFault options link f → IsPlan options modules link plan → ⊥
-fault_or_plan options modules link f plan (inl x) y = fault_or_image options link f plan.image x y.image_is
-fault_or_plan options modules link f plan (inr x) y = large_or_fits options link f plan.image y.image_is x y.pdb_fits
+fault_or_plan : (options : LinkOptions) (modules : List ModuleView) (resources : List Entry) (link : KeptParts) (f : Fault) (plan : Plan) → IsBuildFault options link f → IsPlan options modules resources link plan → ⊥
+fault_or_plan options modules resources link f plan (inl x) y = fault_or_image options link f plan.image x y.image_is
+fault_or_plan options modules resources link f plan (inr x) y = large_or_fits options link f plan.image y.image_is x y.pdb_fits
 
 -- the map of a layout, by its lists
 abbrev map_at : LinkOptions → KeptParts → List SectionRow → List Placed → List ℕ → ℕ → List ℕ
@@ -377,25 +378,26 @@ one_map options link a b x y =
     let same = one_placement options link x.rows y.rows x.layout y.layout x.tables y.tables x.placement y.placement in
     same_map options link x.rows y.rows x.layout y.layout same.rows_same same.layouts
 
-plan_from : LinkOptions → List ModuleView → ImagePlan → List ℕ → List ℕ → Plan
-plan_from options modules image text pdb = record { options = options; modules = modules; image = image; map = text; pdb = pdb }
+plan_from : LinkOptions → List ModuleView → List Entry → ImagePlan → List ℕ → List ℕ → Plan
+plan_from options modules resources image text pdb = record { options = options; modules = modules; resources = resources; image = image; map = text; pdb = pdb }
 
-same_parts : (p q : Plan) → p.options ≡ q.options → p.modules ≡ q.modules → p.image ≡ q.image → p.map ≡ q.map → p.pdb ≡ q.pdb → p ≡ q
+same_parts : (p q : Plan) → p.options ≡ q.options → p.modules ≡ q.modules → p.resources ≡ q.resources → p.image ≡ q.image → p.map ≡ q.map → p.pdb ≡ q.pdb → p ≡ q
 unfolding plan_from
-same_parts p q options modules image text pdb =
-    let start : p ≡ plan_from p.options p.modules p.image p.map p.pdb = refl in
-    let end : q ≡ plan_from q.options q.modules q.image q.map q.pdb = refl in
+same_parts p q options modules resources image text pdb =
+    let start : p ≡ plan_from p.options p.modules p.resources p.image p.map p.pdb = refl in
+    let end : q ≡ plan_from q.options q.modules q.resources q.image q.map q.pdb = refl in
     start
-    ∙ ap (λ (o : LinkOptions). plan_from o p.modules p.image p.map p.pdb) options
-    ∙ ap (λ (m : List ModuleView). plan_from q.options m p.image p.map p.pdb) modules
-    ∙ ap (λ (i : ImagePlan). plan_from q.options q.modules i p.map p.pdb) image
-    ∙ ap (λ (t : List ℕ). plan_from q.options q.modules q.image t p.pdb) text
-    ∙ ap (plan_from q.options q.modules q.image q.map) pdb
+    ∙ ap (λ (o : LinkOptions). plan_from o p.modules p.resources p.image p.map p.pdb) options
+    ∙ ap (λ (m : List ModuleView). plan_from q.options m p.resources p.image p.map p.pdb) modules
+    ∙ ap (λ (r : List Entry). plan_from q.options q.modules r p.image p.map p.pdb) resources
+    ∙ ap (λ (i : ImagePlan). plan_from q.options q.modules q.resources i p.map p.pdb) image
+    ∙ ap (λ (t : List ℕ). plan_from q.options q.modules q.resources q.image t p.pdb) text
+    ∙ ap (plan_from q.options q.modules q.resources q.image q.map) pdb
     ∙ sym end
 
-same_plan : (options : LinkOptions) (modules : List ModuleView) (link : KeptParts) (p q : Plan) → IsPlan options modules link p → IsPlan options modules link q → p ≡ q
-same_plan options modules link p q x y =
-    same_parts p q (x.options_are ∙ sym y.options_are) (x.modules_are ∙ sym y.modules_are) (same_image options link p.image q.image x.image_is y.image_is) (x.map_is ∙ one_map options link p.image q.image x.image_is y.image_is ∙ sym y.map_is)
+same_plan : (options : LinkOptions) (modules : List ModuleView) (resources : List Entry) (link : KeptParts) (p q : Plan) → IsPlan options modules resources link p → IsPlan options modules resources link q → p ≡ q
+same_plan options modules resources link p q x y =
+    same_parts p q (x.options_are ∙ sym y.options_are) (x.modules_are ∙ sym y.modules_are) (x.resources_are ∙ sym y.resources_are) (same_image options link p.image q.image x.image_is y.image_is) (x.map_is ∙ one_map options link p.image q.image x.image_is y.image_is ∙ sym y.map_is)
     (x.pdb_is ∙ ap msf_of (same_streams options link p.image q.image x.image_is y.image_is) ∙ sym y.pdb_is)
 
 -- ---- what is kept
@@ -403,9 +405,9 @@ same_plan options modules link p q x y =
 kept_of : LinkParts → List Bool → KeptParts
 kept_of parts kept = record { parts = parts; kept = kept }
 
-pub one_link : (options : LinkOptions) (modules : List ModuleView) (a b : KeptParts) → IsLinkOf options modules a → IsLinkOf options modules b → a ≡ b
+pub one_link : (options : LinkOptions) (modules : List ModuleView) (resources : List Entry) (a b : KeptParts) → IsLinkOf options modules resources a → IsLinkOf options modules resources b → a ≡ b
 unfolding kept_of
-one_link options modules a b x y =
+one_link options modules resources a b x y =
     let parts : a.parts ≡ b.parts = x.parts_are ∙ sym y.parts_are in
     let kept : a.kept ≡ b.kept = one_kept options b.parts a.kept b.kept (subst (λ (link : LinkParts). AreKept options link a.kept) parts x.kept_are) y.kept_are in
     let start : a ≡ kept_of a.parts a.kept = refl in
@@ -414,39 +416,43 @@ one_link options modules a b x y =
 
 -- ---- the outcome
 
-same_later : (options : LinkOptions) (modules : List ModuleView) (link : KeptParts) (a b : Outcome) → KeptOutcome options modules link a → KeptOutcome options modules link b → a ≡ b
-same_later options modules link (Usage index kind) b x y = absurd x
-same_later options modules link (Refused f) (Usage index kind) x y = absurd y
-same_later options modules link (Refused f) (Refused g) x y = ap (λ (h : Fault). Refused h) (same_fault options link f g x y)
-same_later options modules link (Refused f) (Linked q) x y = absurd (fault_or_plan options modules link f q x y)
-same_later options modules link (Refused f) (Shown line) x y = absurd y
-same_later options modules link (Shown line) b x y = absurd x
-same_later options modules link (Linked p) (Shown line) x y = absurd y
-same_later options modules link (Linked p) (Usage index kind) x y = absurd y
-same_later options modules link (Linked p) (Refused g) x y = absurd (fault_or_plan options modules link g p y x)
-same_later options modules link (Linked p) (Linked q) x y = ap (λ (r : Plan). Linked r) (same_plan options modules link p q x y)
+same_later : (options : LinkOptions) (modules : List ModuleView) (resources : List Entry) (link : KeptParts) (a b : Outcome) → KeptOutcome options modules resources link a → KeptOutcome options modules resources link b → a ≡ b
+same_later options modules resources link (Usage index kind) b x y = absurd x
+same_later options modules resources link (Refused f) (Usage index kind) x y = absurd y
+same_later options modules resources link (Refused f) (Refused g) x y = ap (λ (h : Fault). Refused h) (same_fault options link f g x y)
+same_later options modules resources link (Refused f) (Linked q) x y = absurd (fault_or_plan options modules resources link f q x y)
+same_later options modules resources link (Refused f) (Shown line) x y = absurd y
+same_later options modules resources link (Shown line) b x y = absurd x
+same_later options modules resources link (Linked p) (Shown line) x y = absurd y
+same_later options modules resources link (Linked p) (Usage index kind) x y = absurd y
+same_later options modules resources link (Linked p) (Refused g) x y = absurd (fault_or_plan options modules resources link g p y x)
+same_later options modules resources link (Linked p) (Linked q) x y = ap (λ (r : Plan). Linked r) (same_plan options modules resources link p q x y)
 
-same_built : (options : LinkOptions) (modules : List ModuleView) (a b : Outcome) → BuildOutcome options modules a → BuildOutcome options modules b → a ≡ b
-same_built options modules a b x y =
-    same_later options modules y.link a b (subst (λ (link : KeptParts). KeptOutcome options modules link a) (one_link options modules x.link y.link x.link_is y.link_is) x.is) y.is
+same_built : (options : LinkOptions) (modules : List ModuleView) (resources : List Entry) (a b : Outcome) → BuildOutcome options modules resources a → BuildOutcome options modules resources b → a ≡ b
+same_built options modules resources a b x y =
+    same_later options modules resources y.link a b (subst (λ (link : KeptParts). KeptOutcome options modules resources link a) (one_link options modules resources x.link y.link x.link_is y.link_is) x.is) y.is
 
 -- a stage before a later one that has one outcome
 same_after : (fault : Option Fault) (later : Outcome → Type 0) (a b : Outcome) → ((c d : Outcome) → later c → later d → c ≡ d) → OutcomeAfter fault later a → OutcomeAfter fault later b → a ≡ b
 same_after None later a b one x y = one a b x y
 same_after (Some f) later a b one x y = x ∙ sym y
 
-same_modules : (options : LinkOptions) (modules : List ModuleView) (a b : Outcome) → ModulesOutcome options modules a → ModulesOutcome options modules b → a ≡ b
-same_modules options modules a b x y =
-    same_after (plan_fault options (link_parts options modules)) (BuildOutcome options modules) a b (same_built options modules) x y
+same_modules : (options : LinkOptions) (modules : List ModuleView) (resources : List Entry) (a b : Outcome) → ModulesOutcome options modules resources a → ModulesOutcome options modules resources b → a ≡ b
+same_modules options modules resources a b x y =
+    same_after (plan_fault options (link_parts options modules resources)) (BuildOutcome options modules resources) a b (same_built options modules resources) x y
 
 same_link : (options : LinkOptions) (store : Store) (a b : Outcome) → LinkOutcome options store a → LinkOutcome options store b → a ≡ b
 same_link options store a b (AtLoading f x is) (AtLoading g y same) =
     is ∙ ap (λ (h : Fault). Refused h) (one_fault store options f g x y) ∙ sym same
-same_link options store a b (AtLoading f x is) (AtModules modules loads has) = absurd (fault_or_loads store options f modules x loads)
-same_link options store a b (AtModules modules loads has) (AtLoading f x is) = absurd (fault_or_loads store options f modules x loads)
-same_link options store a b (AtModules modules loads has) (AtModules others loads_too has_too) =
-    same_modules options modules a b has
-    (subst (λ (ms : List ModuleView). ModulesOutcome options ms b) (sym (one_loading store options modules others loads loads_too)) has_too)
+same_link options store a b (AtLoading f x is) (AtModules modules resources loads has) =
+    absurd (fault_or_loads store options f modules resources x loads)
+same_link options store a b (AtModules modules resources loads has) (AtLoading f x is) =
+    absurd (fault_or_loads store options f modules resources x loads)
+same_link options store a b (AtModules modules resources loads has) (AtModules others other_resources loads_too has_too) =
+    let same = one_loading store options modules others resources other_resources loads loads_too in
+    same_modules options modules resources a b has
+    (subst (λ (entries : List Entry). ModulesOutcome options modules entries b) (sym same.1)
+    (subst (λ (ms : List ModuleView). ModulesOutcome options ms other_resources b) (sym same.0) has_too))
 
 -- a generated program
 same_shown : (options : LinkOptions) (count : ℕ) (a b : Outcome) → LinkShown options count a → LinkShown options count b → a ≡ b

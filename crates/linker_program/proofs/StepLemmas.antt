@@ -1,5 +1,5 @@
 -- From what the steps of a run promise to what the run promises.
-use Rattle.std.proofs.Common.{◌≡◌, ℕ, Bool, true, cond, List, [], ◌∷◌, ◌++◌, length, Option, option_map, Result, Ok, Err, refl, sym, ap, ◌∙◌, ◌⊎◌, subst, inl, inr}
+use Rattle.std.proofs.Common.{◌≡◌, ◌<◌, ℕ, Bool, true, cond, List, [], ◌∷◌, ◌++◌, length, Option, option_map, Result, Ok, Err, refl, sym, ap, ◌∙◌, ◌⊎◌, subst, inl, inr}
 use Rattle.std.specs.Prelude.{IfOk, OnErr, Some, None, false}
 use Rattle.std.specs.declared.vec.Vec.{Vec}
 use Rattle.link_base.specs.declared.fault.Fault.{Fault}
@@ -10,6 +10,19 @@ use Rattle.link_files.specs.Store.{Store}
 use Rattle.link_files.specs.Outside.{FilesView, AreUntouched, ReadFailed}
 use Rattle.link_files.specs.Outputs.{NamedBytes, output_at, FirstWritten, NextTorn}
 use Rattle.module_view.specs.Module.{ModuleView}
+use Rattle.res_merge.specs.Entries.{Entry}
+use Rattle.link_pieces.specs.LinkParts.{LinkParts}
+use Rattle.link_resources.specs.LinkResources.{size_of}
+use Rattle.link_resources.proofs.TreeLemmas.{some_size}
+use Rattle.std.specs.Prelude.{codes}
+use Rattle.std.specs.Fmt.{decimal}
+use Rattle.link_base.specs.declared.fault.Fault.TheVariants.{NotFound, FileTooLarge, InputLimit, BadObject, BadLibrary, BadImport, BadDirective, Unsupported, Mismatch, Duplicate, ComdatConflict, Undefined, WeakCycle, BadTarget, BadReloc, BadPdata, BadExport, BadMerge, TooManySections, ImageTooLarge, BaseRange, RelocRange, PdbTooLarge, BadResource, DuplicateResource, TooManyResources, ImplibTooLarge, BadImage, BadPdb, BasePermit, NoSymbol, LengthRange}
+use Rattle.link_base.specs.declared.kinds.resource.ResName.{ResName}
+use Rattle.link_base.specs.declared.kinds.resource.ResName.TheVariants as kind_of
+use Rattle.diagnostics.specs.FaultLine.{fault_line_text}
+use Rattle.diagnostics.specs.LineText.{operand, file_text, resource_text}
+use Rattle.res_merge.specs.Entries.{key_of}
+use Rattle.lib_search.specs.SaidFaults.{name_of, fault_said}
 use Rattle.link_words.specs.Outcome.{LinkOptions, CommandSaid, Link, At, Show, Gen, Refused as RefusedWord, refuse}
 use Rattle.link_words.specs.declared.errors.UsageKind.{UsageKind}
 use Rattle.link_words.specs.UsageWord.{usage_word}
@@ -17,13 +30,13 @@ use Rattle.link_words.specs.Commands.{words_say}
 use Rattle.link_plan.specs.PlanFaults.{plan_fault}
 use Rattle.file_search.specs.Reading.{LeavesFiles}
 use Rattle.link_pieces.specs.TablePieces.{KeptParts}
-use Rattle.link_plan.specs.Plan.{link_parts, IsLinkOf}
+use Rattle.link_plan.specs.Plan.{link_parts, plan_resources, IsLinkOf}
 use Rattle.lib_search.specs.Loading.{HasLoadingFault}
 use Rattle.lib_search.specs.Completion.{FailsLoading}
 use Rattle.link_plan.specs.declared.planning.LinkPlan.{LinkPlan}
 use Rattle.link_plan.specs.Planning.{GivesPlan, JoinsBadly, FaultsPlan}
 use Rattle.link_image.specs.declared.make.Built.{Built}
-use Rattle.link_image.specs.LinkedImage.{IsImageOf, HoldsImports, HoldsExports}
+use Rattle.link_image.specs.LinkedImage.{IsImageOf, HoldsImports, HoldsExports, HoldsEntries}
 use Rattle.link_image.specs.BuiltImage.{IsBuilt}
 use Rattle.image_writer.specs.ExpectedImage.{image_file}
 use Rattle.pdb_msf.specs.WrittenFile.{msf_of}
@@ -76,6 +89,7 @@ made_later has later files plan image follows made = record {
   means = made.means;
   imports = made.imports;
   exports = made.exports;
+  resources = made.resources;
   map = made.map;
   pdb = made.pdb;
 }
@@ -120,56 +134,56 @@ if_refused (Err error) has tries before after fault kept expects refuses = tt
 
 -- ---- outputs that are written
 
-written_answers : (options : LinkOptions) (modules : List ModuleView) (tries : Option Store → List ℕ → Type 0) (before after : FilesView) (linked : LinkedBytes) (answer : Status) (line : List ℕ) → IsLinked options modules linked → AnswersWrite before after (linked_outputs options linked) (linked_summary options.out linked) answer line → LinkAnswers (ModulesHave options modules) tries before after answer line
-written_answers options modules tries before after linked status.Done line is wrote = (
+written_answers : (options : LinkOptions) (modules : List ModuleView) (resources : List Entry) (tries : Option Store → List ℕ → Type 0) (before after : FilesView) (linked : LinkedBytes) (answer : Status) (line : List ℕ) → IsLinked options modules resources linked → AnswersWrite before after (linked_outputs options linked) (linked_summary options.out linked) answer line → LinkAnswers (ModulesHave options modules resources) tries before after answer line
+written_answers options modules resources tries before after linked status.Done line is wrote = (
   is.plan,
   (
     linked.image.items,
     record {
-      made = record { outcome = record { told = λ store told. is.outcome }; means = is.means; imports = is.imports; exports = is.exports; map = is.map; pdb = is.pdb };
+      made = record { outcome = record { told = λ store told. is.outcome }; means = is.means; imports = is.imports; exports = is.exports; resources = is.tree; map = is.map; pdb = is.pdb };
       files = subst (λ (outputs : List NamedBytes). FirstWritten before after outputs (length outputs)) is.outputs wrote.files;
       says = rw (is.asked, ← is.modules_are, ← is.sections_are) wrote.says;
     },
   ),
 )
-written_answers options modules tries before after linked status.WriteFailed line is wrote = (
+written_answers options modules resources tries before after linked status.WriteFailed line is wrote = (
   is.plan,
   (
     linked.image.items,
     (
       wrote.0,
       record {
-        made = record { outcome = record { told = λ store told. is.outcome }; means = is.means; imports = is.imports; exports = is.exports; map = is.map; pdb = is.pdb };
+        made = record { outcome = record { told = λ store told. is.outcome }; means = is.means; imports = is.imports; exports = is.exports; resources = is.tree; map = is.map; pdb = is.pdb };
         files = subst (λ (outputs : List NamedBytes). NextTorn before after outputs wrote.0) is.outputs wrote.1.files;
         says = subst (λ (outputs : List NamedBytes). line ≡ write_failure_line (output_at outputs wrote.0).name) is.outputs wrote.1.says;
       },
     ),
   ),
 )
-written_answers options modules tries before after linked status.Refused line is none = absurd none
-written_answers options modules tries before after linked status.Usage line is none = absurd none
-written_answers options modules tries before after linked status.OutOfMemory line is none = absurd none
-written_answers options modules tries before after linked status.ReadFailed line is none = absurd none
-written_answers options modules tries before after linked status.PutFailed line is none = absurd none
+written_answers options modules resources tries before after linked status.Refused line is none = absurd none
+written_answers options modules resources tries before after linked status.Usage line is none = absurd none
+written_answers options modules resources tries before after linked status.OutOfMemory line is none = absurd none
+written_answers options modules resources tries before after linked status.ReadFailed line is none = absurd none
+written_answers options modules resources tries before after linked status.PutFailed line is none = absurd none
 
-pub if_written : (r : Result Answer Memory) (options : LinkOptions) (modules : List ModuleView) (tries : Option Store → List ℕ → Type 0) (before after : FilesView) (linked : LinkedBytes) → IsLinked options modules linked
+pub if_written : (r : Result Answer Memory) (options : LinkOptions) (modules : List ModuleView) (resources : List Entry) (tries : Option Store → List ℕ → Type 0) (before after : FilesView) (linked : LinkedBytes) → IsLinked options modules resources linked
     → IfOk r (λ answer. AnswersWrite before after (linked_outputs options linked) (linked_summary options.out linked) answer.status answer.line.items)
-    → IfOk r (λ answer. LinkAnswers (ModulesHave options modules) tries before after answer.status answer.line.items)
-if_written (Ok answer) options modules tries before after linked is wrote = written_answers options modules tries before after linked answer.status answer.line.items is wrote
-if_written (Err error) options modules tries before after linked is wrote = tt
+    → IfOk r (λ answer. LinkAnswers (ModulesHave options modules resources) tries before after answer.status answer.line.items)
+if_written (Ok answer) options modules resources tries before after linked is wrote = written_answers options modules resources tries before after linked answer.status answer.line.items is wrote
+if_written (Err error) options modules resources tries before after linked is wrote = tt
 
-pub on_left : (r : Result Answer Memory) (options : LinkOptions) (modules : List ModuleView) (before after : FilesView) (linked : LinkedBytes) → IsLinked options modules linked
+pub on_left : (r : Result Answer Memory) (options : LinkOptions) (modules : List ModuleView) (resources : List Entry) (before after : FilesView) (linked : LinkedBytes) → IsLinked options modules resources linked
     → OnErr r (LeftByWrites before after (linked_outputs options linked))
-    → OnErr r (LeftByMemory (ModulesHave options modules) before after)
-on_left (Ok answer) options modules before after linked is left = tt
-on_left (Err error) options modules before after linked is left = elim left [
+    → OnErr r (LeftByMemory (ModulesHave options modules resources) before after)
+on_left (Ok answer) options modules resources before after linked is left = tt
+on_left (Err error) options modules resources before after linked is left = elim left [
   | inl nothing ↦ inl nothing
   | inr some ↦ inr (
     is.plan,
     (
       linked.image.items,
       record {
-        made = record { outcome = record { told = λ store told. is.outcome }; means = is.means; imports = is.imports; exports = is.exports; map = is.map; pdb = is.pdb };
+        made = record { outcome = record { told = λ store told. is.outcome }; means = is.means; imports = is.imports; exports = is.exports; resources = is.tree; map = is.map; pdb = is.pdb };
         count = some.0;
         files = subst (λ (outputs : List NamedBytes). FirstWritten before after outputs some.0 ⊎ NextTorn before after outputs some.0) is.outputs some.1;
       },
@@ -180,34 +194,103 @@ on_left (Err error) options modules before after linked is left = elim left [
 -- ---- modules that join
 
 -- where these modules join, the outcome of a link is theirs
-plan_follows : (options : LinkOptions) (before later : FilesView) (plan : LinkPlan) → GivesPlan options before later plan → Follows (ModulesHave options plan.modules.items) (LinkOutcome options) before
-plan_follows options before later plan given = λ store told outcome has. AtModules plan.modules.items (given.told store told) has
+plan_follows : (options : LinkOptions) (before later : FilesView) (plan : LinkPlan) → GivesPlan options before later plan → Follows (ModulesHave options plan.modules.items (plan_resources plan)) (LinkOutcome options) before
+plan_follows options before later plan given = λ store told outcome has. AtModules plan.modules.items (plan_resources plan) (given.told store told) has
 
 pub if_planned : (r : Result Answer Memory) (options : LinkOptions) (before later after : FilesView) (plan : LinkPlan) → GivesPlan options before later plan
-    → IfOk r (λ answer. LinkAnswers (ModulesHave options plan.modules.items) (LinkTries options) later after answer.status answer.line.items)
+    → IfOk r (λ answer. LinkAnswers (ModulesHave options plan.modules.items (plan_resources plan)) (LinkTries options) later after answer.status answer.line.items)
     → IfOk r (λ answer. LinkAnswers (LinkOutcome options) (LinkTries options) before after answer.status answer.line.items)
 if_planned (Ok answer) options before later after plan given goes_on =
-    answers_later (ModulesHave options plan.modules.items) (LinkOutcome options) (LinkTries options) before after answer.status answer.line.items (plan_follows options before later plan given)
-    (subst (λ (view : FilesView). LinkAnswers (ModulesHave options plan.modules.items) (LinkTries options) view after answer.status answer.line.items) (same_files before later given.files) goes_on)
+    answers_later (ModulesHave options plan.modules.items (plan_resources plan)) (LinkOutcome options) (LinkTries options) before after answer.status answer.line.items (plan_follows options before later plan given)
+    (subst (λ (view : FilesView). LinkAnswers (ModulesHave options plan.modules.items (plan_resources plan)) (LinkTries options) view after answer.status answer.line.items) (same_files before later given.files) goes_on)
 if_planned (Err error) options before later after plan given goes_on = tt
 
 pub on_left_planned : (r : Result Answer Memory) (options : LinkOptions) (before later after : FilesView) (plan : LinkPlan) → GivesPlan options before later plan
-    → OnErr r (LeftByMemory (ModulesHave options plan.modules.items) later after)
+    → OnErr r (LeftByMemory (ModulesHave options plan.modules.items (plan_resources plan)) later after)
     → OnErr r (LeftByMemory (LinkOutcome options) before after)
 on_left_planned (Ok answer) options before later after plan given left = tt
 on_left_planned (Err error) options before later after plan given left =
-    left_later (ModulesHave options plan.modules.items) (LinkOutcome options) before after (plan_follows options before later plan given)
-    (subst (λ (view : FilesView). LeftByMemory (ModulesHave options plan.modules.items) view after) (same_files before later given.files) left)
+    left_later (ModulesHave options plan.modules.items (plan_resources plan)) (LinkOutcome options) before after (plan_follows options before later plan given)
+    (subst (λ (view : FilesView). LeftByMemory (ModulesHave options plan.modules.items (plan_resources plan)) view after) (same_files before later given.files) left)
 
--- modules that do not join, or that have a fault
-fault_follows : (options : LinkOptions) (store : Store) (fault : Fault) → HasLoadingFault store options fault ⊎ JoinsBadly store options fault → LinkOutcome options store (Refused fault)
-fault_follows options store fault faults = elim faults [
-  | inl loading ↦ AtLoading fault loading refl
-  | inr joins ↦ AtModules joins.modules joins.joined (rw joins.is refl)
+-- ---- a fault by what it says
+
+same_text : (name : ResName) → resource_text (name_of (key_of name)) ≡ resource_text name
+same_text (kind_of.Number number) = refl
+same_text (kind_of.Text units) = refl
+
+fault_line_of : List ℕ → List ℕ → List ℕ
+fault_line_of head operands = (head ++ operands) ++ (10 ∷ [])
+
+-- its line does not tell where the texts stand
+said_line : (fault : Fault) → fault_line_text (fault_said fault) ≡ fault_line_text fault
+unfolding fault_line_of
+said_line (NotFound file member) = refl
+said_line (FileTooLarge file member) = refl
+said_line (InputLimit total) = refl
+said_line (BadObject file member kind index) = refl
+said_line (BadLibrary file member kind offset) = refl
+said_line (BadImport file member fault) = refl
+said_line (BadDirective file member offset) = refl
+said_line (Unsupported file member kind) = refl
+said_line (Mismatch key first second) = refl
+said_line (Duplicate name first second) = refl
+said_line (ComdatConflict name first second) = refl
+said_line (Undefined name position) = refl
+said_line (WeakCycle name position) = refl
+said_line (BadTarget kind position section relocation) = refl
+said_line (BadReloc fault position section relocation) = refl
+said_line (BadPdata position section) = refl
+said_line (BadExport kind name) = refl
+said_line (BadMerge name) = refl
+said_line (TooManySections count) = refl
+said_line (ImageTooLarge size) = refl
+said_line (BaseRange base) = refl
+said_line (RelocRange position section relocation value) = refl
+said_line (PdbTooLarge size) = refl
+said_line (BadResource file member kind offset) = refl
+said_line (DuplicateResource file member kind name language) =
+    ap (λ (text : List ℕ). fault_line_of (codes "fault 26 DuplicateResource") (operand (file_text file member) ++ (operand text ++ (operand (resource_text (name_of (key_of name))) ++ operand (decimal language))))) (same_text kind)
+    ∙ ap (λ (text : List ℕ). fault_line_of (codes "fault 26 DuplicateResource") (operand (file_text file member) ++ (operand (resource_text kind) ++ (operand text ++ operand (decimal language))))) (same_text name)
+said_line (TooManyResources count) = refl
+said_line (ImplibTooLarge size) = refl
+said_line (BadImage kind) = refl
+said_line (BadPdb kind) = refl
+said_line (BasePermit base) = refl
+said_line (NoSymbol name) = refl
+said_line (LengthRange end) = refl
+
+refuses_as : (r : Result Answer Memory) (fault shown : Fault) → fault_line_text shown ≡ fault_line_text fault → IfOk r (λ answer. Refuses answer fault) → IfOk r (λ answer. Refuses answer shown)
+refuses_as (Ok answer) fault shown same refuses = record { status = refuses.status; line = refuses.line ∙ sym same }
+refuses_as (Err error) fault shown same refuses = tt
+
+-- what the outcome is where a fault is told: the fault, or what it says
+pub record ShownFault (options : LinkOptions) (store : Store) (fault : Fault) : Type 0 where
+  pub shown : Fault
+  pub outcome : LinkOutcome options store (Refused shown)
+  pub line : fault_line_text shown ≡ fault_line_text fault
+
+-- what does not load, or what loads and has a fault
+pub shown_fault : (options : LinkOptions) (store : Store) (fault : Fault) → HasLoadingFault store options (fault_said fault) ⊎ JoinsBadly store options fault → ShownFault options store fault
+shown_fault options store fault faults = elim faults [
+  | inl loading ↦ record { shown = fault_said fault; outcome = AtLoading (fault_said fault) loading refl; line = said_line fault }
+  | inr joins ↦ record { shown = fault; outcome = AtModules joins.modules joins.resources joins.joined (rw joins.is refl); line = refl }
 ]
 
-pub unplanned : (options : LinkOptions) (before after : FilesView) (fault : Fault) → FaultsPlan options before after fault → Expects (LinkOutcome options) before (Refused fault)
-unplanned options before after fault faults = record { told = λ store told. fault_follows options store fault (faults.told store told) }
+pub if_shown : (r : Result Answer Memory) (options : LinkOptions) (store : Store) (fault : Fault) (shown : ShownFault options store fault) → IfOk r (λ answer. Refuses answer fault) → IfOk r (λ answer. Refuses answer shown.shown)
+if_shown r options store fault shown refuses = refuses_as r fault shown.shown shown.line refuses
+
+pub if_unplanned : (r : Result Answer Memory) (options : LinkOptions) (before after : FilesView) (fault : Fault) → FaultsPlan options before after fault → IfOk r (λ answer. Refuses answer fault) → IfOk r (λ answer. LinkAnswers (LinkOutcome options) (LinkTries options) before after answer.status answer.line.items)
+if_unplanned r options before after fault faults refuses = by before.store refl
+  where
+    by : (told : Option Store) → before.store ≡ told → IfOk r (λ answer. LinkAnswers (LinkOutcome options) (LinkTries options) before after answer.status answer.line.items)
+    by None none =
+        if_refused r (LinkOutcome options) (LinkTries options) before after fault faults.files (record { told = λ store is. absurd (let both : None ≡ Some store = sym none ∙ is in cc) }) refuses
+    by (Some store) is =
+        let shown = shown_fault options store fault (faults.told store is) in
+        if_refused r (LinkOutcome options) (LinkTries options) before after shown.shown faults.files
+        (record { told = λ other told. subst (λ (s : Store). LinkOutcome options s (Refused shown.shown)) (let both : Some store ≡ Some other = sym is ∙ told in cc) shown.outcome })
+        (if_shown r options store fault shown refuses)
 
 -- the read of a file failed
 pub if_read_failed : (r : Result Answer Memory) (options : LinkOptions) (before after : FilesView) (name : List ℕ) → FailsLoading options before after name → IfOk r (λ answer. TellsReadFailure answer name) → IfOk r (λ answer. LinkAnswers (LinkOutcome options) (LinkTries options) before after answer.status answer.line.items)
@@ -234,11 +317,11 @@ left_alone has before after leaves = inl (record { store = leaves.store; writes 
 -- ---- the image of a plan
 
 -- pieces that make no image
-pub refused_build : (options : LinkOptions) (modules : List ModuleView) (link : KeptParts) (r : Refusal) → IsLinkOf options modules link → plan_fault options (link_parts options modules) ≡ None → RefusesBuild options link r → RefusesModules options modules r
-refused_build options modules link (refusal.Fault fault) link_is planned is =
-    let outcome : BuildOutcome options modules (Refused fault) = record { link = link; link_is = link_is; is = is } in
+pub refused_build : (options : LinkOptions) (modules : List ModuleView) (resources : List Entry) (link : KeptParts) (r : Refusal) → IsLinkOf options modules resources link → plan_fault options (link_parts options modules resources) ≡ None → RefusesBuild options link r → RefusesModules options modules resources r
+refused_build options modules resources link (refusal.Fault fault) link_is planned is =
+    let outcome : BuildOutcome options modules resources (Refused fault) = record { link = link; link_is = link_is; is = is } in
     rw planned outcome
-refused_build options modules link refusal.Memory link_is planned is = tt
+refused_build options modules resources link refusal.Memory link_is planned is = tt
 
 -- bytes that are there where they are asked for
 written_map : (file : Option (List ℕ)) (text : List ℕ) → asked_output file (option_map (λ name. text) file) ≡ asked_output file (Some text)
@@ -250,20 +333,21 @@ written_pdb true name bytes = refl
 written_pdb false name bytes = refl
 
 -- an image that is made
-pub linked : (options : LinkOptions) (modules : List ModuleView) (link : KeptParts) (built : Built) (made : LinkedBytes) → IsLinkOf options modules link → plan_fault options (link_parts options modules) ≡ None → IsBuilt options link built → made.image ≡ built.image → made.map ≡ built.map → made.pdb ≡ built.pdb → made.sections ≡ built.sections → made.modules ≡ length modules → IsLinked options modules made
-linked options modules link built made link_is planned is image map_same pdb_same sections count =
-    let plan : Plan = record { options = options; modules = modules; image = is.image; map = text; pdb = database } in
-    let made_plan : IsPlan options modules link plan = record { options_are = refl; modules_are = refl; image_is = is.is_image; map_is = refl; pdb_is = refl; pdb_fits = is.pdb_fits } in
-    let outcome : BuildOutcome options modules (Linked plan) = record { link = link; link_is = link_is; is = made_plan } in
+pub linked : (options : LinkOptions) (modules : List ModuleView) (resources : List Entry) (link : KeptParts) (built : Built) (made : LinkedBytes) → IsLinkOf options modules resources link → plan_fault options (link_parts options modules resources) ≡ None → IsBuilt options link built → made.image ≡ built.image → made.map ≡ built.map → made.pdb ≡ built.pdb → made.sections ≡ built.sections → made.modules ≡ length modules → IsLinked options modules resources made
+linked options modules resources link built made link_is planned is image map_same pdb_same sections count =
+    let plan : Plan = record { options = options; modules = modules; resources = resources; image = is.image; map = text; pdb = database } in
+    let made_plan : IsPlan options modules resources link plan = record { options_are = refl; modules_are = refl; resources_are = refl; image_is = is.is_image; map_is = refl; pdb_is = refl; pdb_fits = is.pdb_fits } in
+    let outcome : BuildOutcome options modules resources (Linked plan) = record { link = link; link_is = link_is; is = made_plan } in
     record {
       plan = plan;
       asked = refl;
       outcome = rw planned outcome;
       means = rw image is.means;
-      imports = λ other other_is. by_imports other (one_link options modules link other link_is other_is);
-      exports = λ other other_is. by_exports other (one_link options modules link other link_is other_is);
-      map = λ other other_is. by_map other (one_link options modules link other link_is other_is);
-      pdb = λ other other_is. by_pdb other (one_link options modules link other link_is other_is);
+      imports = λ other other_is. by_imports other (one_link options modules resources link other link_is other_is);
+      exports = λ other other_is. by_exports other (one_link options modules resources link other link_is other_is);
+      tree = own_resources;
+      map = λ other other_is. by_map other (one_link options modules resources link other link_is other_is);
+      pdb = λ other other_is. by_pdb other (one_link options modules resources link other link_is other_is);
       outputs =
           ap (λ (pdbs : List NamedBytes). pdbs ++ (asked_output options.map_file (option_map (λ t. t.items) made.map) ++ record { name = options.out; bytes = made.image.items } ∷ []))
           (ap (λ (it : Option (Vec ℕ _)). asked_output (pdb_name options) (option_map (λ t. t.items) it)) pdb_same
@@ -277,6 +361,19 @@ linked options modules link built made link_is planned is image map_same pdb_sam
       sections_are = sections ∙ is.count;
     }
   where
+    -- the tree has a size where there are resources
+    own_resources : 0 < length resources → HoldsEntries resources made.image.items
+    own_resources some =
+        rw image
+        (subst (λ (entries : List Entry). HoldsEntries entries built.image.items) entries
+        (is.resources (subst (λ (size : ℕ). 0 < size) (sym sized) (some_size resources some))))
+      where
+        entries : link.parts.resources.entries ≡ resources
+        entries = ap (λ (parts : LinkParts). parts.resources.entries) link_is.parts_are
+
+        sized : link.parts.resources.size ≡ size_of resources
+        sized = ap (λ (parts : LinkParts). parts.resources.size) link_is.parts_are
+
     text : List ℕ
     text = link_map options link is.is_image.rows is.is_image.layout
 

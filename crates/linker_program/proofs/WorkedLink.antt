@@ -94,21 +94,21 @@ modules : List ModuleView
 modules = record { file = codes "a.obj"; member = None; bytes = object; imported = None } ∷ []
 
 -- no stage before the tables has a fault
-accepted : plan_fault options (link_parts options modules) ≡ None
+accepted : plan_fault options (link_parts options modules []) ≡ None
 unfolding module_says mismatch_of settings options_of word_says known is_word is_text object file_header section_header code symbol_record string_row number_at first_below decimal_number first_refusal_below first_section first_of is_truncated is_other_machine body_leaves counted_leave relocations_leave first_torn_record symbol_range_fault table_leaves lacks_section_name lacks_symbol_name string_table_fault has_no_alignment has_no_section value_exceeds object_fault section_at record_offset record_at symbol_at starts_within big_object_class is_big_object header_size symbol_size machine_of section_total section_headers_offset symbols_offset record_total relocations_place relocation_count_in relocations_from short_name_in name_offset long_section_name section_name_in is_uninitialised_in has_overflow_count_in string_table_offset string_table_size string_table text_in long_name_offset_in name_in section_number_in class_in aux_count_in resource_start form_error is_linker_section content_error file_error opening_error comes_in is_definition definitions_of is_common is_undefined is_reference references_of stands_in section_symbols_of said_by_symbol leader_name comdat_of chain_end weaks_of commons_of linker_meaning step meaning_within meaning_of asks is_bad_weak comdat_record_of parent_in parents_of ancestor aux_place parent_place aux_fault has_resources is_named fixes_from plan_fault modules slot_names export_rows numbers_of numbers_fault size_if ordinal_fault export_table_pieces table_pieces sizes_of extent_of dlls_of entry_count hints_size names_size
 accepted = refl
 
 -- what is laid out
-pieces : link_pieces (link_parts options modules) ≡ record { «module» = 0; number = 1; name = codes ".text"; flags = 0x60500020; size = 3; align = 16; body = None; init = true; named = true } ∷ []
+pieces : link_pieces (link_parts options modules []) ≡ record { «module» = 0; number = 1; name = codes ".text"; flags = 0x60500020; size = 3; align = 16; body = None; init = true; named = true } ∷ []
 unfolding module_says mismatch_of settings options_of word_says known is_word is_text object file_header section_header code symbol_record string_row number_at first_below decimal_number first_refusal_below first_section first_of is_truncated is_other_machine body_leaves counted_leave relocations_leave first_torn_record symbol_range_fault table_leaves lacks_section_name lacks_symbol_name string_table_fault has_no_alignment has_no_section value_exceeds object_fault section_at record_offset record_at symbol_at starts_within big_object_class is_big_object header_size symbol_size machine_of section_total section_headers_offset symbols_offset record_total relocations_place relocation_count_in relocations_from short_name_in name_offset long_section_name section_name_in is_uninitialised_in has_overflow_count_in string_table_offset string_table_size string_table text_in long_name_offset_in name_in section_number_in class_in aux_count_in resource_start form_error is_linker_section content_error file_error opening_error comes_in is_definition definitions_of is_common is_undefined is_reference references_of is_bad_weak comdat_record_of parent_in parents_of ancestor aux_place parent_place aux_fault has_resources is_named plan_fault modules stands_in section_symbols_of said_by_symbol leader_name comdat_of chain_end weaks_of commons_of linker_meaning step meaning_within meaning_of asks slot_names export_rows numbers_of numbers_fault size_if ordinal_fault export_table_pieces table_pieces sizes_of extent_of dlls_of entry_count hints_size names_size
 pieces = refl
 
-contents : link_contents (link_parts options modules) ≡ code ∷ []
+contents : link_contents (link_parts options modules []) ≡ code ∷ []
 unfolding module_says mismatch_of settings options_of word_says known is_word is_text object file_header section_header code symbol_record string_row number_at first_below decimal_number first_refusal_below first_section first_of is_truncated is_other_machine body_leaves counted_leave relocations_leave first_torn_record symbol_range_fault table_leaves lacks_section_name lacks_symbol_name string_table_fault has_no_alignment has_no_section value_exceeds object_fault section_at record_offset record_at symbol_at starts_within big_object_class is_big_object header_size symbol_size machine_of section_total section_headers_offset symbols_offset record_total relocations_place relocation_count_in relocations_from short_name_in name_offset long_section_name section_name_in is_uninitialised_in has_overflow_count_in string_table_offset string_table_size string_table text_in long_name_offset_in name_in section_number_in class_in aux_count_in resource_start form_error is_linker_section content_error file_error opening_error comes_in is_definition definitions_of is_common is_undefined is_reference references_of is_bad_weak comdat_record_of parent_in parents_of ancestor aux_place parent_place aux_fault has_resources is_named plan_fault modules stands_in section_symbols_of said_by_symbol leader_name comdat_of chain_end weaks_of commons_of linker_meaning step meaning_within meaning_of asks slot_names export_rows numbers_of numbers_fault size_if ordinal_fault export_table_pieces table_pieces sizes_of extent_of dlls_of entry_count hints_size names_size
 contents = refl
 
 -- where the image begins
-entry : entry_place (link_parts options modules) options.entry_name ≡ Some (record { piece = 0; value = 0 })
+entry : entry_place (link_parts options modules []) options.entry_name ≡ Some (record { piece = 0; value = 0 })
 unfolding module_says mismatch_of settings options_of word_says known is_word is_text object file_header section_header code symbol_record string_row number_at first_below decimal_number first_refusal_below first_section first_of is_truncated is_other_machine body_leaves counted_leave relocations_leave first_torn_record symbol_range_fault table_leaves lacks_section_name lacks_symbol_name string_table_fault has_no_alignment has_no_section value_exceeds object_fault section_at record_offset record_at symbol_at starts_within big_object_class is_big_object header_size symbol_size machine_of section_total section_headers_offset symbols_offset record_total relocations_place relocation_count_in relocations_from short_name_in name_offset long_section_name section_name_in is_uninitialised_in has_overflow_count_in string_table_offset string_table_size string_table text_in long_name_offset_in name_in section_number_in class_in aux_count_in resource_start form_error is_linker_section content_error file_error opening_error comes_in is_definition definitions_of is_common is_undefined is_reference references_of stands_in section_symbols_of said_by_symbol leader_name comdat_of chain_end weaks_of commons_of linker_meaning step meaning_within meaning_of asks is_bad_weak comdat_record_of parent_in parents_of ancestor aux_place parent_place aux_fault has_resources is_named plan_fault modules slot_names export_rows numbers_of numbers_fault size_if ordinal_fault export_table_pieces table_pieces sizes_of extent_of dlls_of entry_count hints_size names_size
 entry = refl
 
@@ -118,7 +118,7 @@ input : FoundFile
 input = record { file = codes "a.obj"; bytes = object }
 
 joined : modules_among (input ∷ []) ≡ modules
-unfolding input modules object file_header section_header code symbol_record string_row
+unfolding input modules object file_header section_header code symbol_record string_row resource_start
 joined = refl
 
 opened : opening_fault (input ∷ []) ≡ None

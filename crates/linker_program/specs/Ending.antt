@@ -3,13 +3,15 @@ use Rattle.std.specs.Prelude.{ℕ, List}
 use Rattle.link_base.specs.declared.fault.Fault.{Fault}
 use Rattle.image_writer.specs.ExpectedImage.{ImagePlan}
 use Rattle.module_view.specs.Module.{ModuleView}
+use Rattle.res_merge.specs.Entries.{Entry}
 use Rattle.link_words.specs.Outcome.{LinkOptions}
 
--- what is linked, and of what it is made: the options, and the modules in the order of joining; and the text of its map and the
--- file of its PDB, whether they are asked for or not
+-- what is linked, and of what it is made: the options, the modules in the order of joining, and the resources in the order of
+-- their files; and the text of its map and the file of its PDB, whether they are asked for or not
 pub record Plan : Type 0 where
   pub options : LinkOptions
   pub modules : List ModuleView
+  pub resources : List Entry
   pub image : ImagePlan
   pub map : List ℕ
   pub pdb : List ℕ

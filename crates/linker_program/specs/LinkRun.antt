@@ -1,6 +1,6 @@
 -- What a run of the linker promises, by the status that it ends with: what is printed, what the files hold
 -- afterwards, and where each status comes from. Own.
-use Rattle.std.specs.Prelude.{◌≡◌, ℕ, if◌then◌else◌, List, [], ◌∷◌, ◌++◌, length, Option, Some, None, Result, Ok, Err, ◌⊎◌}
+use Rattle.std.specs.Prelude.{◌≡◌, ◌<◌, ℕ, if◌then◌else◌, List, [], ◌∷◌, ◌++◌, length, Option, Some, None, Result, Ok, Err, ◌⊎◌}
 use Rattle.std.specs.Option.{ForSome}
 use Rattle.link_base.specs.declared.fault.Fault.{Fault}
 use Rattle.diagnostics.specs.FaultLine.{fault_line_text}
@@ -15,7 +15,7 @@ use Rattle.file_search.specs.Reading.{TriesInput}
 use Rattle.lib_search.specs.Loading.{TriesDefault}
 use Rattle.link_pieces.specs.TablePieces.{KeptParts}
 use Rattle.link_plan.specs.Plan.{IsLinkOf}
-use Rattle.link_image.specs.LinkedImage.{IsImageOf, HoldsImports, HoldsExports}
+use Rattle.link_image.specs.LinkedImage.{IsImageOf, HoldsImports, HoldsExports, HoldsEntries}
 use Rattle.pdb_msf.specs.WrittenFile.{msf_of}
 use Rattle.link_image.specs.LinkMap.{link_map}
 use Rattle.link_image.specs.LinkPdb.{link_streams}
@@ -60,30 +60,35 @@ pub record Expects (has : Store → Outcome → Type 0) (files : FilesView) (out
 -- that the layout gives it, and no other
 abbrev pub HasImports : Plan → List ℕ → Type 0
 HasImports plan image =
-    (link : KeptParts) → IsLinkOf plan.options plan.modules link → (is : IsImageOf plan.options link plan.image) → HoldsImports link is.layout image
+    (link : KeptParts) → IsLinkOf plan.options plan.modules plan.resources link → (is : IsImageOf plan.options link plan.image) → HoldsImports link is.layout image
 
 -- and its export directory says of each name and of each number what the exports of the link say, and of no other
 abbrev pub HasExports : Plan → List ℕ → Type 0
 HasExports plan image =
-    (link : KeptParts) → IsLinkOf plan.options plan.modules link → (is : IsImageOf plan.options link plan.image) → HoldsExports link is.layout image
+    (link : KeptParts) → IsLinkOf plan.options plan.modules plan.resources link → (is : IsImageOf plan.options link plan.image) → HoldsExports link is.layout image
+
+-- and its resource directory leads to the data of each of these resources, and to no others, where there are any
+abbrev pub HasResources : Plan → List ℕ → Type 0
+HasResources plan image = 0 < length plan.resources → HoldsEntries plan.resources image
 
 -- the map lists what is kept of the link at the places that the image has
 abbrev pub HasMap : Plan → Type 0
 HasMap plan =
-    (link : KeptParts) → IsLinkOf plan.options plan.modules link → (is : IsImageOf plan.options link plan.image) → plan.map ≡ link_map plan.options link is.rows is.layout
+    (link : KeptParts) → IsLinkOf plan.options plan.modules plan.resources link → (is : IsImageOf plan.options link plan.image) → plan.map ≡ link_map plan.options link is.rows is.layout
 
 -- and the PDB does, with the identifier that the image has
 abbrev pub HasPdb : Plan → Type 0
 HasPdb plan =
-    (link : KeptParts) → IsLinkOf plan.options plan.modules link → (is : IsImageOf plan.options link plan.image)
+    (link : KeptParts) → IsLinkOf plan.options plan.modules plan.resources link → (is : IsImageOf plan.options link plan.image)
     → plan.pdb ≡ msf_of (link_streams plan.options link is.rows is.layout is.tables (image_file plan.image))
 
--- the plan is the outcome, the image means it and has the imports and exports, and the map and the PDB are those of the image
+-- the plan is the outcome, the image means it and has the imports, exports and resources, and the map and the PDB are those of the image
 pub record IsMade (has : Store → Outcome → Type 0) (files : FilesView) (plan : Plan) (image : List ℕ) : Type 0 where
   pub outcome : Expects has files (Linked plan)
   pub means : MeansPlan plan.image image
   pub imports : HasImports plan image
   pub exports : HasExports plan image
+  pub resources : HasResources plan image
   pub map : HasMap plan
   pub pdb : HasPdb plan
 

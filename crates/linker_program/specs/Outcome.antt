@@ -8,6 +8,7 @@ use Rattle.link_words.specs.Outcome.{Refused as RefusedWord}
 use Rattle.link_words.specs.Outcome.{LinkOptions, CommandSaid, Link, At, Show, Gen}
 use Rattle.link_words.specs.Commands.{words_say}
 use Rattle.link_words.specs.UsageWord.{usage_word}
+use Rattle.res_merge.specs.Entries.{Entry}
 use Rattle.link_pieces.specs.TablePieces.{KeptParts}
 use Rattle.link_plan.specs.Plan.{link_parts, IsLinkOf}
 use Rattle.lib_search.specs.Loading.{HasLoadingFault, Loads}
@@ -25,44 +26,45 @@ use Rattle.linker_program.specs.Generated.{generated_shown}
 
 -- ---- the modules of a link
 
--- the plan of modules, with what is kept of the link
-pub record IsPlan (options : LinkOptions) (modules : List ModuleView) (link : KeptParts) (plan : Plan) : Type 0 where
+-- the plan of modules and resources, with what is kept of the link
+pub record IsPlan (options : LinkOptions) (modules : List ModuleView) (resources : List Entry) (link : KeptParts) (plan : Plan) : Type 0 where
   pub options_are : plan.options ≡ options
   pub modules_are : plan.modules ≡ modules
+  pub resources_are : plan.resources ≡ resources
   pub image_is : IsImageOf options link plan.image
   pub map_is : plan.map ≡ link_map options link image_is.rows image_is.layout
   pub pdb_is : plan.pdb ≡ msf_of (link_streams options link image_is.rows image_is.layout image_is.tables (image_file plan.image))
   pub pdb_fits : Fits options (link_streams options link image_is.rows image_is.layout image_is.tables (image_file plan.image))
 
 -- modules that come to the tables have a fault there or later, or a plan
-abbrev pub KeptOutcome : LinkOptions → List ModuleView → KeptParts → Outcome → Type 0
-KeptOutcome options modules link (Usage index kind) = ⊥
-KeptOutcome options modules link (Refused fault) = IsBuildFault options link fault
-KeptOutcome options modules link (Linked plan) = IsPlan options modules link plan
-KeptOutcome options modules link (Shown line) = ⊥
+abbrev pub KeptOutcome : LinkOptions → List ModuleView → List Entry → KeptParts → Outcome → Type 0
+KeptOutcome options modules resources link (Usage index kind) = ⊥
+KeptOutcome options modules resources link (Refused fault) = IsBuildFault options link fault
+KeptOutcome options modules resources link (Linked plan) = IsPlan options modules resources link plan
+KeptOutcome options modules resources link (Shown line) = ⊥
 
 -- with what is kept of their link
-pub record BuildOutcome (options : LinkOptions) (modules : List ModuleView) (outcome : Outcome) : Type 0 where
+pub record BuildOutcome (options : LinkOptions) (modules : List ModuleView) (resources : List Entry) (outcome : Outcome) : Type 0 where
   pub link : KeptParts
-  pub link_is : IsLinkOf options modules link
-  pub is : KeptOutcome options modules link outcome
+  pub link_is : IsLinkOf options modules resources link
+  pub is : KeptOutcome options modules resources link outcome
 
 -- a fault that stands is the outcome
 abbrev pub OutcomeAfter : Option Fault → (Outcome → Type 0) → Outcome → Type 0
 OutcomeAfter (Some fault) later outcome = outcome ≡ Refused fault
 OutcomeAfter None later outcome = later outcome
 
--- the outcome of modules: the first fault of the stages from mismatch to fields, else what they come to
-abbrev pub ModulesOutcome : LinkOptions → List ModuleView → Outcome → Type 0
-ModulesOutcome options modules outcome =
-    OutcomeAfter (plan_fault options (link_parts options modules)) (BuildOutcome options modules) outcome
+-- the outcome of modules and resources: the first fault of the stages from mismatch to fields, else what they come to
+abbrev pub ModulesOutcome : LinkOptions → List ModuleView → List Entry → Outcome → Type 0
+ModulesOutcome options modules resources outcome =
+    OutcomeAfter (plan_fault options (link_parts options modules resources)) (BuildOutcome options modules resources) outcome
 
 -- ---- the whole
 
--- the outcome of a link with these options: the fault of its loading, or the outcome of the modules that join
+-- the outcome of a link with these options: the fault of its loading, or the outcome of what loads
 pub data LinkOutcome (options : LinkOptions) (store : Store) (outcome : Outcome) : Type 0 where
   AtLoading : (fault : Fault) → HasLoadingFault store options fault → outcome ≡ Refused fault → LinkOutcome options store outcome
-  AtModules : (modules : List ModuleView) → Loads store options modules → ModulesOutcome options modules outcome → LinkOutcome options store outcome
+  AtModules : (modules : List ModuleView) (resources : List Entry) → Loads store options modules resources → ModulesOutcome options modules resources outcome → LinkOutcome options store outcome
 
 -- what a link of the files of a generated program comes to, as it is shown
 pub record LinkShown (options : LinkOptions) (count : ℕ) (outcome : Outcome) : Type 0 where

@@ -8,6 +8,7 @@ use Rattle.link_files.specs.Store.{Store}
 use Rattle.link_files.specs.Outside.{FilesView}
 use Rattle.link_files.specs.Outputs.{NamedBytes, output_at, FirstWritten, NextTorn}
 use Rattle.image_writer.specs.ExpectedImage.{MeansPlan}
+use Rattle.res_merge.specs.Entries.{Entry}
 use Rattle.module_view.specs.Module.{ModuleView}
 use Rattle.link_words.specs.Outcome.{LinkOptions}
 use Rattle.linker_program.specs.declared.answer.Answer.{Answer}
@@ -17,7 +18,7 @@ use Rattle.linker_program.specs.declared.status.Status.TheVariants as status
 use Rattle.linker_program.specs.Ending.{Outcome, Refused, Linked, Plan}
 use Rattle.linker_program.specs.Outcome.{ModulesOutcome}
 use Rattle.linker_program.specs.RunLines.{usage_line, read_failure_line, write_failure_line}
-use Rattle.linker_program.specs.LinkRun.{NothingWritten, HasImports, HasExports, HasMap, HasPdb, outputs_of}
+use Rattle.linker_program.specs.LinkRun.{NothingWritten, HasImports, HasExports, HasResources, HasMap, HasPdb, outputs_of}
 use Rattle.linker_program.specs.WriteSteps.{linked_outputs}
 
 -- ---- answers
@@ -40,17 +41,18 @@ pub record TellsReadFailure (answer : Answer) (name : List ℕ) : Type 0 where
 -- ---- a link of modules that joined
 
 -- the outcome of any files, once the modules have joined
-abbrev pub ModulesHave : LinkOptions → List ModuleView → Store → Outcome → Type 0
-ModulesHave options modules store outcome = ModulesOutcome options modules outcome
+abbrev pub ModulesHave : LinkOptions → List ModuleView → List Entry → Store → Outcome → Type 0
+ModulesHave options modules resources store outcome = ModulesOutcome options modules resources outcome
 
 -- what was made is the outcome of the modules
-pub record IsLinked (options : LinkOptions) (modules : List ModuleView) (linked : LinkedBytes) : Type 0 where
+pub record IsLinked (options : LinkOptions) (modules : List ModuleView) (resources : List Entry) (linked : LinkedBytes) : Type 0 where
   pub plan : Plan
   pub asked : plan.options ≡ options
-  pub outcome : ModulesOutcome options modules (Linked plan)
+  pub outcome : ModulesOutcome options modules resources (Linked plan)
   pub means : MeansPlan plan.image linked.image.items
   pub imports : HasImports plan linked.image.items
   pub exports : HasExports plan linked.image.items
+  pub tree : HasResources plan linked.image.items
   pub map : HasMap plan
   pub pdb : HasPdb plan
   pub outputs : linked_outputs options linked ≡ outputs_of plan linked.image.items
@@ -58,9 +60,9 @@ pub record IsLinked (options : LinkOptions) (modules : List ModuleView) (linked 
   pub sections_are : linked.sections ≡ length plan.image.rows
 
 -- the fault is the outcome of the modules; of want of memory nothing is said
-abbrev pub RefusesModules : LinkOptions → List ModuleView → Refusal → Type 0
-RefusesModules options modules (refusal.Fault fault) = ModulesOutcome options modules (Refused fault)
-RefusesModules options modules refusal.Memory = Unit {0}
+abbrev pub RefusesModules : LinkOptions → List ModuleView → List Entry → Refusal → Type 0
+RefusesModules options modules resources (refusal.Fault fault) = ModulesOutcome options modules resources (Refused fault)
+RefusesModules options modules resources refusal.Memory = Unit {0}
 
 -- ---- the outputs
 

@@ -2,7 +2,7 @@
 
 ghost use Rattle.std.specs.Prelude.{◌≡◌, ◌≤◌, map, string_bytes, IfOk};
 ghost use Rattle.link_words.specs.Outcome.{options_said};
-ghost use Rattle.link_plan.specs.Plan.{IsPlanOf};
+ghost use Rattle.link_plan.specs.Plan.{plan_resources, IsPlanOf};
 ghost use Rattle.generated_world.specs.GeneratedWorld.{generated_files, generated_words};
 ghost use Rattle.linker_program.specs.Outcome.{LinkOutcome, ModulesOutcome};
 ghost use Rattle.linker_program.specs.Generated.{image_told};
@@ -86,7 +86,7 @@ fn make_image<'a>(
     count: u32,
 ) -> Result<Answer, Memory>
     requires { IsPlanOf (options_said options.now) plan.now.modules.items plan.now }
-    ensures { IfOk result (TellsLink (ModulesOutcome (options_said options.now) plan.now.modules.items) count) }
+    ensures { IfOk result (TellsLink (ModulesOutcome (options_said options.now) plan.now.modules.items (plan_resources plan.now)) count) }
 {
     match build(alloc, plan, options) {
         Ok(built) => show_sums(alloc, &built.image, count),

@@ -3,7 +3,7 @@
 ghost use Rattle.std.specs.Prelude.{◌≡◌, ◌<◌, ◌-◌, ◌^◌, IfOk, IfErr, OnErr};
 ghost use Rattle.link_files.specs.Outside.{files_of};
 ghost use Rattle.link_words.specs.Outcome.{options_said};
-ghost use Rattle.link_plan.specs.Plan.{IsPlanOf};
+ghost use Rattle.link_plan.specs.Plan.{plan_resources, IsPlanOf};
 ghost use Rattle.linker_program.specs.Outcome.{LinkOutcome};
 ghost use Rattle.linker_program.specs.LinkRun.{LinkAnswers, LinkTries, LeftByMemory};
 ghost use Rattle.linker_program.specs.Steps.{ModulesHave, IsLinked, RefusesModules};
@@ -55,10 +55,10 @@ fn link_planned<'a, F: Files>(
     requires reads_below { F.read_faults files.old < 2 ^ 64 - 1 }
     requires writes_below { F.write_faults files.old < 2 ^ 64 - 1 }
     requires planned { IsPlanOf (options_said options.now) plan.now.modules.items plan.now }
-    ensures answered { IfOk result (λ answer. LinkAnswers (ModulesHave (options_said options.now) plan.now.modules.items) (LinkTries (options_said options.now))
+    ensures answered { IfOk result (λ answer. LinkAnswers (ModulesHave (options_said options.now) plan.now.modules.items (plan_resources plan.now)) (LinkTries (options_said options.now))
         (files_of F.store F.read_faults F.write_faults files.old)
         (files_of F.store F.read_faults F.write_faults files.new) answer.status answer.line.items) }
-    ensures memory { OnErr result (LeftByMemory (ModulesHave (options_said options.now) plan.now.modules.items)
+    ensures memory { OnErr result (LeftByMemory (ModulesHave (options_said options.now) plan.now.modules.items (plan_resources plan.now))
         (files_of F.store F.read_faults F.write_faults files.old)
         (files_of F.store F.read_faults F.write_faults files.new)) }
 {
@@ -76,8 +76,8 @@ fn make<'a>(
     plan: &LinkPlan<'a>,
 ) -> Result<Linked, Refusal<'a>>
     requires { IsPlanOf (options_said options.now) plan.now.modules.items plan.now }
-    ensures linked { IfOk result (IsLinked (options_said options.now) plan.now.modules.items) }
-    ensures refused { IfErr result (RefusesModules (options_said options.now) plan.now.modules.items) }
+    ensures linked { IfOk result (IsLinked (options_said options.now) plan.now.modules.items (plan_resources plan.now)) }
+    ensures refused { IfErr result (RefusesModules (options_said options.now) plan.now.modules.items (plan_resources plan.now)) }
 {
     let built = build(alloc, plan, options)?;
     Ok(Linked {

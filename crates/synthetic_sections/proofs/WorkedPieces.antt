@@ -1,6 +1,6 @@
 -- The definitions on small values.
 use Rattle.std.proofs.Common.{◌≡◌, [], ◌∷◌, map, refl}
-use Rattle.synthetic_sections.specs.LinkerPieces.{table_pieces, debug_pieces, thunk_piece, slot_piece}
+use Rattle.synthetic_sections.specs.LinkerPieces.{table_pieces, debug_pieces, resource_pieces, thunk_piece, slot_piece}
 
 -- tables of one import by its ordinal, which has neither a hint nor a name
 by_ordinal : map (λ piece. piece.number) (table_pieces 3 (40 ∷ 16 ∷ 16 ∷ 0 ∷ 6 ∷ [])) ≡ 0 ∷ 1 ∷ 2 ∷ 4 ∷ []
@@ -24,3 +24,12 @@ directory = refl
 no_directory : debug_pieces 3 0 ≡ []
 unfolding debug_pieces
 no_directory = refl
+
+-- the resource tree of 90 bytes, and none
+tree : map (λ piece. piece.number ∷ piece.flags ∷ piece.align ∷ piece.size ∷ []) (resource_pieces 3 90) ≡ (8 ∷ 0x40000040 ∷ 4 ∷ 90 ∷ []) ∷ []
+unfolding resource_pieces
+tree = refl
+
+no_tree : resource_pieces 3 0 ≡ []
+unfolding resource_pieces
+no_tree = refl

@@ -1,5 +1,6 @@
--- The sections that the linker makes itself for imports, exports and debuggers, as pieces of a module behind all others (PE Format, "The .idata Section", "The .edata Section (Image Only)" and "Debug Directory (Image Only)";
--- the numbers of the pieces, and jumps and slots as pieces, are own).
+-- The sections that the linker makes itself for imports, exports, debuggers and resources, as pieces of a module behind all
+-- others (PE Format, "The .idata Section", "The .edata Section (Image Only)", "Debug Directory (Image Only)" and "The .rsrc
+-- Section"; the numbers of the pieces, and jumps and slots as pieces, are own).
 use Rattle.std.specs.Prelude.{ℕ, ◌+◌, Bool, true, false, ◌==◌, if◌then◌else◌, List, [], ◌∷◌, ◌++◌, replicate, slice_index_or, None, codes}
 use Rattle.link_base.specs.PeFormat.{SCN_CNT_CODE, SCN_CNT_INITIALIZED_DATA, SCN_MEM_EXECUTE, SCN_MEM_READ}
 use Rattle.section_group.specs.declared.piece.Piece.{Piece}
@@ -79,6 +80,16 @@ entry_size size = if size == 0 then 0 else 28
 unfoldable pub debug_pieces : ℕ → ℕ → List Piece
 debug_pieces position size =
     table_if position DEBUG_ENTRY (codes ".rdata") 4 (entry_size size) ++ table_if position DEBUG_DATA (codes ".rdata") 4 size
+
+-- ---- the resource tree
+
+-- its number
+abbrev pub RESOURCES : ℕ
+RESOURCES = 8
+
+-- without bytes it is not made
+unfoldable pub resource_pieces : ℕ → ℕ → List Piece
+resource_pieces position size = table_if position RESOURCES (codes ".rsrc") 4 size
 
 -- the bytes of a table are not known before it has a place: until then it holds nothing
 abbrev pub no_bytes : Piece → List ℕ

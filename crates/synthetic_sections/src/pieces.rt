@@ -1,10 +1,10 @@
-//! The pieces that the linker makes for imports, exports and debuggers.
+//! The pieces that the linker makes for imports, exports, debuggers and resources.
 
 ghost use Rattle.std.specs.Prelude.{◌≡◌, ◌<◌, ◌+◌, ◌^◌, ◌∷◌, ◌++◌, [], map, unwrap_or, OnOk};
 ghost use Rattle.std.specs.Option.{option_copied};
 ghost use Rattle.section_group.specs.BarePieces.{bare};
 ghost use Rattle.section_group.specs.PieceContents.{piece_contents};
-ghost use Rattle.synthetic_sections.specs.LinkerPieces.{made_piece, table_if, table_pieces, export_table_pieces, debug_pieces, no_bytes, thunk_piece, thunk_bytes, slot_piece, slot_bytes};
+ghost use Rattle.synthetic_sections.specs.LinkerPieces.{made_piece, table_if, table_pieces, export_table_pieces, debug_pieces, resource_pieces, no_bytes, thunk_piece, thunk_bytes, slot_piece, slot_bytes};
 
 use link_base::pe_format::{SCN_CNT_CODE, SCN_CNT_INITIALIZED_DATA, SCN_MEM_EXECUTE, SCN_MEM_READ};
 use link_base::{Memory, Name};
@@ -21,6 +21,9 @@ pub const DEBUG_ENTRY: u32 = 6;
 
 /// The number of the data that the entry names.
 pub const DEBUG_DATA: u32 = 7;
+
+/// The number of the resource tree.
+pub const RESOURCES: u32 = 8;
 
 /// The size of the entry.
 const ENTRY_SIZE: u32 = 28;
@@ -93,6 +96,20 @@ pub fn push_debug_directory(
     let entry = if size == 0 { 0 } else { ENTRY_SIZE };
     push_table(pieces, position, DEBUG_ENTRY, b".rdata", 4, entry)?;
     push_table(pieces, position, DEBUG_DATA, b".rdata", 4, size)
+}
+
+/// Appends the resource tree of this size, as a piece of the module at a position (PE Format, "The .rsrc Section"). Without
+/// bytes it is not made. It holds nothing until it has a place.
+#[tactic(auto, unfolding(crate::specs::LinkerPieces::resource_pieces))]
+pub fn push_resource_tree(
+    pieces: &mut Vec<Piece<'_>>,
+    position: u32,
+    size: u32,
+) -> Result<(), Memory>
+    ensures pieces { OnOk result (map bare pieces.new.items ≡ map bare pieces.old.items ++ resource_pieces position size) }
+    ensures contents { OnOk result (map piece_contents pieces.new.items ≡ map piece_contents pieces.old.items ++ map no_bytes (resource_pieces position size)) }
+{
+    push_table(pieces, position, RESOURCES, b".rsrc", 4, size)
 }
 
 /// Appends one of the tables, where it has bytes.

@@ -1,4 +1,4 @@
-use Rattle.std.proofs.Common.{ℕ, ◌<◌, ◌≤◌, length, Err, sym, ap, subst, ◌∙◌, arith}
+use Rattle.std.proofs.Common.{ℕ, ◌<◌, ◌≤◌, length, Err, refl, sym, ap, subst, ◌∙◌, arith}
 use Rattle.link_base.specs.declared.stop.Stop.{Stop}
 use Rattle.link_files.specs.Outside.{files_of}
 use Rattle.link_words.specs.Outcome.{options_said}
@@ -19,7 +19,7 @@ returns-in-Err g c =
     let later = files_of g.F.Files.store g.F.Files.read_faults g.F.Files.write_faults c.read_default.new.files in
     let loading = c.loop-loading.loading in
     let left : loading.read < length (wanted_by loading.defaults) = omega (arith, c.if-loading-count.true, c.count.ensures) in
-    gone_stops options (state_now c.args.loading c.args.inputs.now) before after later loading c.loop-loading.inputs c.read_default.new.inputs c.in-Err.stop
+    gone_stops options (state_now c.args.loading c.args.inputs.now) before after later loading c.loop-loading.inputs c.read_default.new.inputs c.args.resources.items c.in-Err.stop
     c.loop-loading.invariant (next_wanted options loading c.loop-loading.inputs c.loop-loading.invariant.kept left) c.in-Err.ensures
 
 pub loop-loading-preserved-then-loading-count : goal.loop-loading-preserved-then-loading-count
@@ -50,11 +50,12 @@ returns-in_default g c =
     let after = files_of g.F.Files.store g.F.Files.read_faults g.F.Files.write_faults c.loop-loading.files in
     let loading = c.loop-loading.loading in
     let all_read : length (wanted_by loading.defaults) ≤ loading.read = omega (arith, c.if-loading-count.false, c.count.ensures) in
-    gone_ends options (state_now c.args.loading c.args.inputs.now) before after loading c.loop-loading.inputs _ c.loop-loading.invariant
+    gone_ends options (state_now c.args.loading c.args.inputs.now) before after loading c.loop-loading.inputs c.args.resources.items _ c.loop-loading.invariant
     (none_wanted options loading c.loop-loading.inputs c.loop-loading.invariant.kept all_read)
     (sym c.next_member.ensures.place ∙ c.in_default.is)
     (c.finish-modules.ensures.modules ∙ ap (λ (s : Searched). s.link.modules) c.next_member.ensures.same)
     (c.finish-modules.ensures.names ∙ ap (λ (s : Searched). s.link) c.next_member.ensures.same)
+    refl
 
 pub returns-in-Err-join_member : goal.returns-in-Err-join_member
 returns-in-Err-join_member g c =
@@ -64,8 +65,8 @@ returns-in-Err-join_member g c =
     let after = files_of g.F.Files.store g.F.Files.read_faults g.F.Files.write_faults c.loop-loading.files in
     let loading = c.loop-loading.loading in
     let all_read : length (wanted_by loading.defaults) ≤ loading.read = omega (arith, c.if-loading-count.false, c.count.ensures) in
-    subst (λ (stop : Stop). CompletesFrom options state before after (Err stop)) (sym c.from.ensures)
-    (gone_refused options state before after loading c.next_member.new.self.searched c.loop-loading.inputs c.in-Some.place c.in-Err-join_member.refusal c.loop-loading.invariant
+    subst (λ (stop : Stop). CompletesFrom options state c.args.resources.items before after (Err stop)) (sym c.from.ensures)
+    (gone_refused options state before after loading c.next_member.new.self.searched c.loop-loading.inputs c.in-Some.place c.args.resources.items c.in-Err-join_member.refusal c.loop-loading.invariant
     (none_wanted options loading c.loop-loading.inputs c.loop-loading.invariant.kept all_read)
     (sym c.next_member.ensures.place ∙ c.in-Some.is) c.next_member.ensures.same c.in-Err-join_member.ensures.refused)
 

@@ -1,13 +1,18 @@
-use Rattle.std.proofs.Common.{List, [], ◌∷◌, ◌++◌, length, Option, refl, sym, ap, subst, ◌∙◌, arith}
+use Rattle.std.proofs.Common.{List, [], ◌∷◌, ◌++◌, length, map, Bool, ◌||◌, Option, refl, sym, ap, subst, ◌∙◌, arith}
+use Rattle.std.specs.List.{list_any}
 use Rattle.std.proofs.lemmas.Result.{err_from_is_err_and}
 use Rattle.link_base.specs.declared.fault.Fault.{Fault}
-use Rattle.link_base.specs.Refusals.{first_refusal_below, RefusesFor}
+use Rattle.link_base.specs.Refusals.{first_refusal_below}
 use Rattle.link_base.proofs.RefusalLemmas.{first_refusal_below-more}
 use Rattle.module_view.specs.Module.{ModuleView}
 use Rattle.file_search.specs.FoundFiles.{FoundFile}
 use Rattle.file_search.specs.Reading.{file_found, files_found}
+use Rattle.res_merge.specs.Entries.{Entry, entry_of}
+use Rattle.lib_search.specs.Joining.{brings_resources}
+use Rattle.lib_search.specs.SaidFaults.{RefusesSaid}
+use Rattle.lib_search.specs.ResourceFiles.{entries_among, merges_resources}
 use Rattle.lib_search.specs.Inputs.{modules_among, libraries_among, opening_fault_at}
-use Rattle.lib_search.proofs.InputLemmas.{modules_more, libraries_more, opens_here, opening_stops}
+use Rattle.lib_search.proofs.InputLemmas.{modules_more, libraries_more, entries_more, merges_more, opens_here, opening_stops}
 use Rattle.lib_search.proofs.open.open_inputs.Goals as goal
 
 pub loop-file-init : goal.loop-file-init
@@ -15,6 +20,10 @@ unfolding first_refusal_below
 loop-file-init c = record {
   modules = c.new.ensures.items;
   libraries = c.new-2.ensures.items;
+  resources = c.new-3.ensures.none;
+  merges = c.new-3.ensures.unopened;
+  kept = c.new-3.ensures.kept;
+  brings = sym (ap (list_any brings_resources) c.new.ensures.items);
   few = let none = ap (λ (ms : List ModuleView). length ms) c.new.ensures.items in omega (arith, none);
   accepted = refl;
 }
@@ -23,11 +32,11 @@ pub returns-in_err-open_one-clause-refused : goal.returns-in_err-open_one-clause
 returns-in_err-open_one-clause-refused c =
     let files = c.args.files.now in
     let i = c.loop-file.file-index in
-    let here = opens_here files i c.file-item.result c.loop-file.opened.modules.items (omega (arith, c.loop-file-test.true)) c.file-item.is c.loop-file.invariant.modules in
+    let here = opens_here files i c.file-item.result c.loop-file.opened.modules.items (map entry_of c.loop-file.opened.resource_files.resources.items) c.loop-file.opened.resource_files.opened (omega (arith, c.loop-file-test.true)) c.file-item.is c.loop-file.invariant.modules c.loop-file.invariant.resources c.loop-file.invariant.merges in
     let given = err_from_is_err_and c.from_residual.result c.from_residual.ensures.1 in
     rw (given.1, given.2)
     (opening_stops files i c.in_err-open_one.field-0.0 (omega (arith, c.loop-file-test.true)) c.loop-file.invariant.accepted
-    (subst (λ (fault : Option Fault). RefusesFor fault c.in_err-open_one.field-0.0) (sym here) c.in_err-open_one.ensures.refused))
+    (subst (λ (fault : Option Fault). RefusesSaid fault c.in_err-open_one.field-0.0) (sym here) c.in_err-open_one.ensures.refused))
 
 pub loop-file-preserved : goal.loop-file-preserved
 loop-file-preserved c =
@@ -44,9 +53,19 @@ loop-file-preserved c =
           c.in_ok-open_one.ensures.libraries
           ∙ ap (λ (ls : List FoundFile). ls ++ libraries_among one) c.loop-file.invariant.libraries
           ∙ sym (libraries_more files i file (omega (arith, c.loop-file-test.true)) c.file-item.is);
+      resources =
+          c.in_ok-open_one.ensures.resources
+          ∙ ap (λ (es : List Entry). es ++ entries_among one) c.loop-file.invariant.resources
+          ∙ sym (entries_more files i file (omega (arith, c.loop-file-test.true)) c.file-item.is);
+      merges =
+          c.in_ok-open_one.ensures.merges
+          ∙ ap (λ (b : Bool). b || merges_resources one) c.loop-file.invariant.merges
+          ∙ sym (merges_more files i file (omega (arith, c.loop-file-test.true)) c.file-item.is);
+      kept = c.in_ok-open_one.ensures.kept;
+      brings = c.in_ok-open_one.ensures.brings;
       few = c.in_ok-open_one.ensures.few c.loop-file.invariant.few;
       accepted =
           first_refusal_below-more i (opening_fault_at (files_found files)) c.loop-file.invariant.accepted
-          (opens_here files i file c.loop-file.opened.modules.items (omega (arith, c.loop-file-test.true)) c.file-item.is c.loop-file.invariant.modules
+          (opens_here files i file c.loop-file.opened.modules.items (map entry_of c.loop-file.opened.resource_files.resources.items) c.loop-file.opened.resource_files.opened (omega (arith, c.loop-file-test.true)) c.file-item.is c.loop-file.invariant.modules c.loop-file.invariant.resources c.loop-file.invariant.merges
           ∙ c.in_ok-open_one.ensures.accepted);
     }

@@ -8,7 +8,7 @@ use Rattle.section_group.specs.PieceContents.{piece_contents}
 use Rattle.section_group.specs.Uniqueness.{rows_of}
 use Rattle.link_fields.specs.declared.entry.EntryPlace.{EntryPlace}
 use Rattle.link_fields.specs.LoaderPlaces.{loader_place, TLS_NAME, LOAD_CONFIG_NAME}
-use Rattle.link_image.specs.LinkedImage.{extent_of, table_extent, section_extent, place_extent, config_size, table_directory, TLS_SIZE}
+use Rattle.link_image.specs.LinkedImage.{extent_of, table_extent, section_extent, resource_extent, place_extent, config_size, table_directory, TLS_SIZE}
 use Rattle.link_image.specs.Steps.{reloc_tables}
 use Rattle.link_image.proofs.SectionLemmas.{sections_each}
 use Rattle.link_image.proofs.UsedLemmas.{tls_used, load_config_used}
@@ -41,10 +41,6 @@ extent_of-requires-4-clause-piece c = place_within (options_said c.args.options.
 
 pub section_extent-requires : goal.section_extent-requires
 section_extent-requires c =
-    sections_each (options_said c.args.options.now) (kept_parts c.args.plan.now) c.args.placement.now.sections.items c.args.placement.now.layout (reloc_tables c.args.placement.now.table) c.requires.placed.means
-
-pub section_extent-requires-2 : goal.section_extent-requires-2
-section_extent-requires-2 c =
     sections_each (options_said c.args.options.now) (kept_parts c.args.plan.now) c.args.placement.now.sections.items c.args.placement.now.layout (reloc_tables c.args.placement.now.table) c.requires.placed.means
 
 pub place_extent-requires-clause-piece : goal.place_extent-requires-clause-piece
@@ -116,13 +112,13 @@ returns c =
     ∙ ap (λ (rs : List ℕ). extent_of plan.pieces.items rs (get_or c.args.places.now 6 None)) c.deref-11.ensures.value
     ∙ extent_is (options_said c.args.options.now) plan c.requires.plan rvas c.args.places.now 6 (omega arith) c.requires.places in
     let extent = table_extent (kept_parts plan) layout in
-    let resources = section_extent rows layout (codes ".rsrc") in
+    let resources = resource_extent (kept_parts plan) rows layout in
     let exceptions = section_extent rows layout (codes ".pdata") in
     let relocations = table_directory layout (reloc_tables c.args.placement.now.table) in
     let own_tls = place_extent rvas (loader_place plan.names TLS_NAME) TLS_SIZE in
-    ap (λ (e : ℕ × ℕ). directories e c.section_extent.result c.section_extent-2.result c.extent_of-2.result c.extent_of-3.result c.table_directory.result c.place_extent.result c.place_extent-2.result c.extent_of-4.result) exports
-    ∙ ap (λ (e : ℕ × ℕ). directories (extent 5) e c.section_extent-2.result c.extent_of-2.result c.extent_of-3.result c.table_directory.result c.place_extent.result c.place_extent-2.result c.extent_of-4.result) c.section_extent.ensures
-    ∙ ap (λ (e : ℕ × ℕ). directories (extent 5) resources e c.extent_of-2.result c.extent_of-3.result c.table_directory.result c.place_extent.result c.place_extent-2.result c.extent_of-4.result) c.section_extent-2.ensures
+    ap (λ (e : ℕ × ℕ). directories e c.resource_extent.result c.section_extent.result c.extent_of-2.result c.extent_of-3.result c.table_directory.result c.place_extent.result c.place_extent-2.result c.extent_of-4.result) exports
+    ∙ ap (λ (e : ℕ × ℕ). directories (extent 5) e c.section_extent.result c.extent_of-2.result c.extent_of-3.result c.table_directory.result c.place_extent.result c.place_extent-2.result c.extent_of-4.result) c.resource_extent.ensures
+    ∙ ap (λ (e : ℕ × ℕ). directories (extent 5) resources e c.extent_of-2.result c.extent_of-3.result c.table_directory.result c.place_extent.result c.place_extent-2.result c.extent_of-4.result) c.section_extent.ensures
     ∙ ap (λ (e : ℕ × ℕ). directories (extent 5) resources exceptions e c.extent_of-3.result c.table_directory.result c.place_extent.result c.place_extent-2.result c.extent_of-4.result) imports
     ∙ ap (λ (e : ℕ × ℕ). directories (extent 5) resources exceptions (extent 0) e c.table_directory.result c.place_extent.result c.place_extent-2.result c.extent_of-4.result) slots
     ∙ ap (λ (e : ℕ × ℕ). directories (extent 5) resources exceptions (extent 0) (extent 2) e c.place_extent.result c.place_extent-2.result c.extent_of-4.result) c.table_directory.ensures

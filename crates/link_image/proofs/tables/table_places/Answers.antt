@@ -7,9 +7,9 @@ use Rattle.link_image.proofs.tables.table_places.Goals as goal
 nowhere : Option ℕ
 nowhere = None
 
-no_place : (number : ℕ) → get_or (replicate 8 nowhere) number None ≡ None
+no_place : (number : ℕ) → get_or (replicate 9 nowhere) number None ≡ None
 unfolding nowhere
-no_place number = nothing 8 number
+no_place number = nothing 9 number
   where
     nothing : (count number : ℕ) → get_or (replicate count nowhere) number None ≡ None
     nothing zero number = refl

@@ -5,6 +5,6 @@ use Rattle.link_image.proofs.tables.table_places.Given as goal
 
 abbrev pub invariant-loop-k : goal.invariant-loop-k
 invariant-loop-k l = record {
-  all : length l.places ≡ 8;
-  noted : (number : ℕ) → number < 8 → get_or l.places number None ≡ first_below l.k (holds (is_numbered l.position number) l.pieces);
+  all : length l.places ≡ 9;
+  noted : (number : ℕ) → number < 9 → get_or l.places number None ≡ first_below l.k (holds (is_numbered l.position number) l.pieces);
 }

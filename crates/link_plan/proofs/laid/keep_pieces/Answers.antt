@@ -10,6 +10,7 @@ use Rattle.link_imports.specs.declared.imports.LinkImports.{LinkImports}
 use Rattle.synthetic_sections.specs.LinkerPieces.{no_bytes}
 use Rattle.link_exports.specs.Exports.{ExportsView}
 use Rattle.link_debug.specs.LinkDebug.{DebugView}
+use Rattle.link_resources.specs.LinkResources.{ResourcesView}
 use Rattle.link_words.specs.Outcome.{options_said}
 use Rattle.link_pieces.specs.Pieces.{link_pieces}
 use Rattle.link_pieces.specs.TablePieces.{KeptParts, kept_imports, tables_for, tables_of}
@@ -39,18 +40,19 @@ own_imports link modules flags count imports same flag counted are =
     (subst (λ (kept : List Bool). AreImports modules kept imports) (part_from count flags ∙ ap (λ (n : ℕ). drop n flags) counted ∙ ap (drop (length (link_pieces link.parts))) flag) are)
 
 -- what the tables are made of
-are_tables : (link : KeptParts) (size room : ℕ) (exports : ExportsView) (debug : DebugView) → size ≡ exports.size → exports ≡ link.parts.exports → room ≡ debug.size → debug ≡ link.parts.debug → tables_for link.parts.modules (kept_imports link) size room ≡ tables_of link
-are_tables link size room exports debug sized exported named debugged =
-    ap (λ (n : ℕ). tables_for link.parts.modules (kept_imports link) n room) (sized ∙ ap (λ (e : ExportsView). e.size) exported)
-    ∙ ap (tables_for link.parts.modules (kept_imports link) link.parts.exports.size) (named ∙ ap (λ (d : DebugView). d.size) debugged)
+are_tables : (link : KeptParts) (size room tree : ℕ) (exports : ExportsView) (debug : DebugView) (resources : ResourcesView) → size ≡ exports.size → exports ≡ link.parts.exports → room ≡ debug.size → debug ≡ link.parts.debug → tree ≡ resources.size → resources ≡ link.parts.resources → tables_for link.parts.modules (kept_imports link) size room tree ≡ tables_of link
+are_tables link size room tree exports debug resources sized exported named debugged merged same =
+    ap (λ (n : ℕ). tables_for link.parts.modules (kept_imports link) n room tree) (sized ∙ ap (λ (e : ExportsView). e.size) exported)
+    ∙ ap (λ (n : ℕ). tables_for link.parts.modules (kept_imports link) link.parts.exports.size n tree) (named ∙ ap (λ (d : DebugView). d.size) debugged)
+    ∙ ap (tables_for link.parts.modules (kept_imports link) link.parts.exports.size link.parts.debug.size) (merged ∙ ap (λ (r : ResourcesView). r.size) same)
 
-tables_so : (link : KeptParts) (modules : List ModuleView) (imports : LinkImports) (size room : ℕ) (sizes : List ℕ) (old after : List Piece) → link.parts.modules ≡ modules → AreImports link.parts.modules (kept_imports link) imports → sizes ≡ imports.shape.lengths → tables_for link.parts.modules (kept_imports link) size room ≡ tables_of link → ((ms : List ModuleView) (kept : List Bool) → length modules ≡ length ms → sizes ≡ import_sizes ms kept → map bare after ≡ map bare old ++ tables_for ms kept size room) → map bare after ≡ map bare old ++ tables_of link
-tables_so link modules imports size room sizes old after same are lengths tables pushed =
+tables_so : (link : KeptParts) (modules : List ModuleView) (imports : LinkImports) (size room tree : ℕ) (sizes : List ℕ) (old after : List Piece) → link.parts.modules ≡ modules → AreImports link.parts.modules (kept_imports link) imports → sizes ≡ imports.shape.lengths → tables_for link.parts.modules (kept_imports link) size room tree ≡ tables_of link → ((ms : List ModuleView) (kept : List Bool) → length modules ≡ length ms → sizes ≡ import_sizes ms kept → map bare after ≡ map bare old ++ tables_for ms kept size room tree) → map bare after ≡ map bare old ++ tables_of link
+tables_so link modules imports size room tree sizes old after same are lengths tables pushed =
     pushed link.parts.modules (kept_imports link) (ap length (sym same)) (lengths ∙ are.lengths)
     ∙ ap (λ (ps : List Piece). map bare old ++ ps) tables
 
-contents_so : (link : KeptParts) (modules : List ModuleView) (imports : LinkImports) (size room : ℕ) (sizes : List ℕ) (old after : List Piece) → link.parts.modules ≡ modules → AreImports link.parts.modules (kept_imports link) imports → sizes ≡ imports.shape.lengths → tables_for link.parts.modules (kept_imports link) size room ≡ tables_of link → ((ms : List ModuleView) (kept : List Bool) → length modules ≡ length ms → sizes ≡ import_sizes ms kept → map piece_contents after ≡ map piece_contents old ++ map no_bytes (tables_for ms kept size room)) → map piece_contents after ≡ map piece_contents old ++ map no_bytes (tables_of link)
-contents_so link modules imports size room sizes old after same are lengths tables pushed =
+contents_so : (link : KeptParts) (modules : List ModuleView) (imports : LinkImports) (size room tree : ℕ) (sizes : List ℕ) (old after : List Piece) → link.parts.modules ≡ modules → AreImports link.parts.modules (kept_imports link) imports → sizes ≡ imports.shape.lengths → tables_for link.parts.modules (kept_imports link) size room tree ≡ tables_of link → ((ms : List ModuleView) (kept : List Bool) → length modules ≡ length ms → sizes ≡ import_sizes ms kept → map piece_contents after ≡ map piece_contents old ++ map no_bytes (tables_for ms kept size room tree)) → map piece_contents after ≡ map piece_contents old ++ map no_bytes (tables_of link)
+contents_so link modules imports size room tree sizes old after same are lengths tables pushed =
     pushed link.parts.modules (kept_imports link) (ap length (sym same)) (lengths ∙ are.lengths)
     ∙ ap (λ (ps : List Piece). map piece_contents old ++ map no_bytes ps) tables
 
@@ -59,9 +61,9 @@ slot_table-requires-clause-few c =
     let link : KeptParts = record { parts = c.args.names.now; kept = c.in_ok-nodes.nodes.kept.items } in
     let count : c.len-count.result ≡ length (link_pieces link.parts) = omega (arith, c.len-count.ensures, c.name_meant.new.pieces.ok.0, count_named c.args.pieces.items c.deref-2.result.now c.name_meant.new.pieces.items c.name_meant.ensures, length-map c.args.pieces.items bare, ap length c.requires.pieces) in
     let imports = own_imports link c.args.modules.now c.deref-3.result.now c.len-count.result c.in_ok-imports.imports c.requires.same c.deref-3.ensures.value count c.in_ok-imports.ensures in
-    let grown = tables_so link c.args.modules.now c.in_ok-imports.imports c.size.result c.size-2.result c.in_ok-imports.imports.shape.lengths c.name_meant.new.pieces.items c.push_tables.new.pieces.items c.requires.same imports refl (are_tables link c.size.result c.size-2.result c.exports.result.now c.debug.result.now c.size.ensures c.exports.ensures c.size-2.ensures c.debug.ensures) c.in_ok-push_tables.ensures.pieces in
+    let grown = tables_so link c.args.modules.now c.in_ok-imports.imports c.size.result c.size-2.result c.size-3.result c.in_ok-imports.imports.shape.lengths c.name_meant.new.pieces.items c.push_tables.new.pieces.items c.requires.same imports refl (are_tables link c.size.result c.size-2.result c.size-3.result c.exports.result.now c.debug.result.now c.resources.result.now c.size.ensures c.exports.ensures c.size-2.ensures c.debug.ensures c.size-3.ensures c.resources.ensures) c.in_ok-push_tables.ensures.pieces in
     let few : length c.name_meant.new.pieces.items < 2 ^ 31 - 16 = omega (arith, c.requires.few, count_named c.args.pieces.items c.deref-2.result.now c.name_meant.new.pieces.items c.name_meant.ensures) in
-    omega (arith, few_planned link.parts.modules (kept_imports link) link.parts.exports.size link.parts.debug.size c.name_meant.new.pieces.items c.push_tables.new.pieces.items few grown, ap length c.deref-4.ensures.value)
+    omega (arith, few_planned link.parts.modules (kept_imports link) link.parts.exports.size link.parts.debug.size link.parts.resources.size c.name_meant.new.pieces.items c.push_tables.new.pieces.items few grown, ap length c.deref-4.ensures.value)
 
 pub slot_table-requires-clause-others : goal.slot_table-requires-clause-others
 slot_table-requires-clause-others c =
@@ -69,7 +71,7 @@ slot_table-requires-clause-others c =
     let link : KeptParts = record { parts = c.args.names.now; kept = c.in_ok-nodes.nodes.kept.items } in
     let count : c.len-count.result ≡ length (link_pieces link.parts) = omega (arith, c.len-count.ensures, c.name_meant.new.pieces.ok.0, count_named c.args.pieces.items c.deref-2.result.now c.name_meant.new.pieces.items c.name_meant.ensures, length-map c.args.pieces.items bare, ap length c.requires.pieces) in
     let imports = own_imports link c.args.modules.now c.deref-3.result.now c.len-count.result c.in_ok-imports.imports c.requires.same c.deref-3.ensures.value count c.in_ok-imports.ensures in
-    let grown = tables_so link c.args.modules.now c.in_ok-imports.imports c.size.result c.size-2.result c.in_ok-imports.imports.shape.lengths c.name_meant.new.pieces.items c.push_tables.new.pieces.items c.requires.same imports refl (are_tables link c.size.result c.size-2.result c.exports.result.now c.debug.result.now c.size.ensures c.exports.ensures c.size-2.ensures c.debug.ensures) c.in_ok-push_tables.ensures.pieces in
+    let grown = tables_so link c.args.modules.now c.in_ok-imports.imports c.size.result c.size-2.result c.size-3.result c.in_ok-imports.imports.shape.lengths c.name_meant.new.pieces.items c.push_tables.new.pieces.items c.requires.same imports refl (are_tables link c.size.result c.size-2.result c.size-3.result c.exports.result.now c.debug.result.now c.resources.result.now c.size.ensures c.exports.ensures c.size-2.ensures c.debug.ensures c.size-3.ensures c.resources.ensures) c.in_ok-push_tables.ensures.pieces in
     let marked = λ (k : ℕ) (lt : k < length c.args.pieces.items). ap (λ (ms : List Bool). get_or ms k false) c.deref-2.ensures.value ∙ c.in_ok-nodes.ensures.meant k (omega (arith, lt, ap length c.deref.ensures.value)) in
     let planned = pieces_planned options link c.args.pieces.items c.deref-2.result.now c.name_meant.new.pieces.items c.push_tables.new.pieces.items c.requires.pieces marked c.name_meant.ensures grown in
     others_fail options link (length c.args.modules.now) c.len-count.result c.deref-4.result.now (ap length (sym c.requires.same)) count (ap (map bare) c.deref-4.ensures.value ∙ planned)
@@ -79,8 +81,8 @@ overflow_sub-len c =
     let link : KeptParts = record { parts = c.args.names.now; kept = c.in_ok-nodes.nodes.kept.items } in
     let count : c.len-count.result ≡ length (link_pieces link.parts) = omega (arith, c.len-count.ensures, c.name_meant.new.pieces.ok.0, count_named c.args.pieces.items c.deref-2.result.now c.name_meant.new.pieces.items c.name_meant.ensures, length-map c.args.pieces.items bare, ap length c.requires.pieces) in
     let imports = own_imports link c.args.modules.now c.deref-3.result.now c.len-count.result c.in_ok-imports.imports c.requires.same c.deref-3.ensures.value count c.in_ok-imports.ensures in
-    let grown = tables_so link c.args.modules.now c.in_ok-imports.imports c.size.result c.size-2.result c.in_ok-imports.imports.shape.lengths c.name_meant.new.pieces.items c.push_tables.new.pieces.items c.requires.same imports refl (are_tables link c.size.result c.size-2.result c.exports.result.now c.debug.result.now c.size.ensures c.exports.ensures c.size-2.ensures c.debug.ensures) c.in_ok-push_tables.ensures.pieces in
-    omega (arith, c.len.ensures, c.push_tables.new.pieces.ok.0, c.len-count.ensures, c.name_meant.new.pieces.ok.0, whole_count link.parts.modules (kept_imports link) link.parts.exports.size link.parts.debug.size c.name_meant.new.pieces.items c.push_tables.new.pieces.items grown)
+    let grown = tables_so link c.args.modules.now c.in_ok-imports.imports c.size.result c.size-2.result c.size-3.result c.in_ok-imports.imports.shape.lengths c.name_meant.new.pieces.items c.push_tables.new.pieces.items c.requires.same imports refl (are_tables link c.size.result c.size-2.result c.size-3.result c.exports.result.now c.debug.result.now c.resources.result.now c.size.ensures c.exports.ensures c.size-2.ensures c.debug.ensures c.size-3.ensures c.resources.ensures) c.in_ok-push_tables.ensures.pieces in
+    omega (arith, c.len.ensures, c.push_tables.new.pieces.ok.0, c.len-count.ensures, c.name_meant.new.pieces.ok.0, whole_count link.parts.modules (kept_imports link) link.parts.exports.size link.parts.debug.size link.parts.resources.size c.name_meant.new.pieces.items c.push_tables.new.pieces.items grown)
 
 pub keep_fields-requires-clause-no_import : goal.keep_fields-requires-clause-no_import
 keep_fields-requires-clause-no_import c = λ none k lt is.
@@ -105,12 +107,12 @@ returns c =
     let named = c.name_meant.ensures in
     let count : c.len-count.result ≡ length (link_pieces link.parts) = omega (arith, c.len-count.ensures, c.name_meant.new.pieces.ok.0, count_named c.args.pieces.items c.deref-2.result.now c.name_meant.new.pieces.items c.name_meant.ensures, length-map c.args.pieces.items bare, ap length c.requires.pieces) in
     let imports = own_imports link c.args.modules.now c.deref-3.result.now c.len-count.result c.in_ok-imports.imports c.requires.same c.deref-3.ensures.value count c.in_ok-imports.ensures in
-    let grown = tables_so link c.args.modules.now c.in_ok-imports.imports c.size.result c.size-2.result c.in_ok-imports.imports.shape.lengths now after c.requires.same imports refl (are_tables link c.size.result c.size-2.result c.exports.result.now c.debug.result.now c.size.ensures c.exports.ensures c.size-2.ensures c.debug.ensures) c.in_ok-push_tables.ensures.pieces in
-    let holds = contents_so link c.args.modules.now c.in_ok-imports.imports c.size.result c.size-2.result c.in_ok-imports.imports.shape.lengths now after c.requires.same imports refl (are_tables link c.size.result c.size-2.result c.exports.result.now c.debug.result.now c.size.ensures c.exports.ensures c.size-2.ensures c.debug.ensures) c.in_ok-push_tables.ensures.contents in
+    let grown = tables_so link c.args.modules.now c.in_ok-imports.imports c.size.result c.size-2.result c.size-3.result c.in_ok-imports.imports.shape.lengths now after c.requires.same imports refl (are_tables link c.size.result c.size-2.result c.size-3.result c.exports.result.now c.debug.result.now c.resources.result.now c.size.ensures c.exports.ensures c.size-2.ensures c.debug.ensures c.size-3.ensures c.resources.ensures) c.in_ok-push_tables.ensures.pieces in
+    let holds = contents_so link c.args.modules.now c.in_ok-imports.imports c.size.result c.size-2.result c.size-3.result c.in_ok-imports.imports.shape.lengths now after c.requires.same imports refl (are_tables link c.size.result c.size-2.result c.size-3.result c.exports.result.now c.debug.result.now c.resources.result.now c.size.ensures c.exports.ensures c.size-2.ensures c.debug.ensures c.size-3.ensures c.resources.ensures) c.in_ok-push_tables.ensures.contents in
     let marked = λ (k : ℕ) (lt : k < length old). ap (λ (ms : List Bool). get_or ms k false) c.deref-2.ensures.value ∙ c.in_ok-nodes.ensures.meant k (omega (arith, lt, ap length c.deref.ensures.value)) in
     let planned = pieces_planned options link old marks now after c.requires.pieces marked named grown in
     let few : length now < 2 ^ 31 - 16 = omega (arith, c.requires.few, count_named old marks now named) in
-    let whole = whole_count link.parts.modules (kept_imports link) link.parts.exports.size link.parts.debug.size now after grown in
+    let whole = whole_count link.parts.modules (kept_imports link) link.parts.exports.size link.parts.debug.size link.parts.resources.size now after grown in
     let tables = length (tables_of link) in
     let places : ArePlaces link c.len-count.result c.slot_table.result c.deref-5.result.now = record {
       first_is = count;
@@ -121,9 +123,9 @@ returns c =
       kept_are = c.in_ok-nodes.ensures.kept;
       pieces_are = planned;
       contents_are = contents_planned link old marks now after c.requires.contents named holds;
-      aligned = aligned_planned link.parts.modules (kept_imports link) link.parts.exports.size link.parts.debug.size now after (aligned_named old marks now named c.requires.aligned) grown;
-      bodies = bodies_planned link.parts.modules (kept_imports link) link.parts.exports.size link.parts.debug.size now after (bodies_named old marks now named c.requires.bodies) grown holds;
-      few = few_planned link.parts.modules (kept_imports link) link.parts.exports.size link.parts.debug.size now after few grown;
+      aligned = aligned_planned link.parts.modules (kept_imports link) link.parts.exports.size link.parts.debug.size link.parts.resources.size now after (aligned_named old marks now named c.requires.aligned) grown;
+      bodies = bodies_planned link.parts.modules (kept_imports link) link.parts.exports.size link.parts.debug.size link.parts.resources.size now after (bodies_named old marks now named c.requires.bodies) grown holds;
+      few = few_planned link.parts.modules (kept_imports link) link.parts.exports.size link.parts.debug.size link.parts.resources.size now after few grown;
       fields = fields_planned link c.len-count.result c.slot_table.result c.deref-5.result.now c.args.fixes.fixups.items c.keep_fields.new.fixups.items c.push_none.new.fixups.items tables (length after) (sym (ap length c.requires.contents) ∙ omega (arith, length-map old piece_contents, length-map old bare, ap length c.requires.pieces)) places (subst (λ (n : ℕ). HaveFields link.parts n c.args.fixes.fixups.items) (sym (length-map old bare) ∙ ap length c.requires.pieces) c.requires.fields) (c.keep_fields.ensures ∙ ap (λ (flags : List Bool). map (λ (k : ℕ). fixes_if (get_or flags k false) (map (redirected_fix c.len-count.result c.slot_table.result c.deref-5.result.now) (get_or c.args.fixes.fixups.items k []))) (range_with_len 0 (length c.args.fixes.fixups.items))) c.deref-6.ensures.value) (c.in_ok-push_none.ensures ∙ ap (λ (n : ℕ). c.keep_fields.new.fixups.items ++ replicate n no_fix) (omega (arith, whole, c.len.ensures, c.push_tables.new.pieces.ok.0, c.len-count.ensures, c.name_meant.new.pieces.ok.0))) (omega (arith, whole, count, c.len-count.ensures, c.name_meant.new.pieces.ok.0));
       imports = imports;
       entry_is = c.requires.entry;

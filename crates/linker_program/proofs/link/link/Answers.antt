@@ -3,8 +3,7 @@ use Rattle.link_words.specs.Outcome.{options_said}
 use Rattle.lib_search.specs.Completion.{FailsLoading}
 use Rattle.link_plan.specs.Planning.{FaultsPlan}
 use Rattle.linker_program.specs.Outcome.{LinkOutcome}
-use Rattle.linker_program.specs.LinkRun.{LinkTries}
-use Rattle.linker_program.proofs.StepLemmas.{if_refused, unplanned, if_planned, on_left_planned, if_read_failed, on_nothing, on_unread}
+use Rattle.linker_program.proofs.StepLemmas.{if_unplanned, if_planned, on_left_planned, if_read_failed, on_nothing, on_unread}
 use Rattle.linker_program.proofs.link.link.Goals as goal
 
 pub link_planned-requires-clause-planned : goal.link_planned-requires-clause-planned
@@ -30,7 +29,7 @@ returns-in-Err-Fault-clause-answered g c =
     let later = files_of g.F.Files.store g.F.Files.read_faults g.F.Files.write_faults c.plan.new.files in
     let options = options_said c.args.options.now in
     let faults : FaultsPlan options before later c.in-Err-Fault.fault = rw c.in-Err-Fault.field-0-is at c.in-Err-Fault.ensures in
-    if_refused c.refused.result (LinkOutcome options) (LinkTries options) before later c.in-Err-Fault.fault faults.files (unplanned options before later c.in-Err-Fault.fault faults) c.refused.ensures
+    if_unplanned c.refused.result options before later c.in-Err-Fault.fault faults c.refused.ensures
 
 pub returns-in-Err-Fault-clause-memory : goal.returns-in-Err-Fault-clause-memory
 returns-in-Err-Fault-clause-memory g c =
