@@ -61,12 +61,16 @@ abbrev fits : Option ℕ → Bool → Bool → Bool → Bool → List (Option At
 fits o a b c p parts =
     list_all is_some parts && (free a is_noname parts && (free b is_data parts && (free c is_constant parts && (free p is_private parts && free (is_some o) is_ordinal parts))))
 
-abbrev joined : Option ℕ → Bool → List (Option Attribute) → rule.Attributes
-joined o a parts = record { ordinal = last_or o (filter_map ordinal_in parts); noname = list_any is_noname parts || a }
+abbrev says : Option ℕ → Bool → Bool → Bool → Bool → rule.Attributes
+says o a b c p = record { ordinal = o; noname = a; form = rule.form_by b c; private = p }
+
+abbrev joined : Option ℕ → Bool → Bool → Bool → Bool → List (Option Attribute) → rule.Attributes
+joined o a b c p parts =
+    says (last_or o (filter_map ordinal_in parts)) (list_any is_noname parts || a) (list_any is_data parts || b) (list_any is_constant parts || c) (list_any is_private parts || p)
 
 abbrev Joins : Option ℕ → Bool → Bool → Bool → Bool → List (Option Attribute) → Type 0
 Joins o a b c p parts =
-    option_map attributes_said (fold also (Some (made o a b c p)) parts) ≡ cond (fits o a b c p parts) (Some (joined o a parts)) None
+    option_map attributes_said (fold also (Some (made o a b c p)) parts) ≡ cond (fits o a b c p parts) (Some (joined o a b c p parts)) None
 
 refused : (parts : List (Option Attribute)) → fold also None parts ≡ None
 refused [] = refl
@@ -83,41 +87,54 @@ later a b e = ap (λ (t : Bool). a && t) e ∙ and_right a false refl
 
 -- a part that is refused, and a part that is taken
 module _ (x : Attribute) (parts : List (Option Attribute)) where
-  stops : (fit : Bool) (says : rule.Attributes) → fit ≡ false → option_map attributes_said (fold also None parts) ≡ cond fit (Some says) None
-  stops fit says e = ap (option_map attributes_said) (refused parts) ∙ sym (ap (λ (t : Bool). cond t (Some says) None) e)
+  stops : (fit : Bool) (said : rule.Attributes) → fit ≡ false → option_map attributes_said (fold also None parts) ≡ cond fit (Some said) None
+  stops fit said e = ap (option_map attributes_said) (refused parts) ∙ sym (ap (λ (t : Bool). cond t (Some said) None) e)
 
-goes_on : (left : Option rule.Attributes) (fit fit' : Bool) (says says' : rule.Attributes) → left ≡ cond fit (Some says) None → fit' ≡ fit → says' ≡ says → left ≡ cond fit' (Some says') None
+goes_on : (left : Option rule.Attributes) (fit fit' : Bool) (said said' : rule.Attributes) → left ≡ cond fit (Some said) None → fit' ≡ fit → said' ≡ said → left ≡ cond fit' (Some said') None
 goes_on left fit fit' says says' h e f = cc
 
 joins : (o : Option ℕ) (a b c p : Bool) (parts : List (Option Attribute)) → Joins o a b c p parts
 joins o a b c p [] = rw (free_none a is_noname, free_none b is_data, free_none c is_constant, free_none p is_private, free_none (is_some o) is_ordinal) refl
 joins o a b c p (None ∷ parts) = ap (option_map attributes_said) (refused parts)
 joins o true b c p (Some NoName ∷ parts) =
-    stops NoName parts (fits o true b c p (Some NoName ∷ parts)) (joined o true (Some NoName ∷ parts)) (later (list_all is_some parts) _ (first _ _ (free_second is_noname (Some NoName) parts refl)))
+    stops NoName parts (fits o true b c p (Some NoName ∷ parts)) (joined o true b c p (Some NoName ∷ parts)) (later (list_all is_some parts) _ (first _ _ (free_second is_noname (Some NoName) parts refl)))
 joins o false b c p (Some NoName ∷ parts) =
-    goes_on _ _ _ _ _ (joins o true b c p parts) (five (list_all is_some parts) _ _ _ _ _ _ _ _ _ _ (free_first is_noname (Some NoName) parts refl) (free_other b is_data (Some NoName) parts refl) (free_other c is_constant (Some NoName) parts refl) (free_other p is_private (Some NoName) parts refl) (free_other (is_some o) is_ordinal (Some NoName) parts refl)) (ap (λ (t : Bool). record { ordinal = last_or o (filter_map ordinal_in parts); noname = t }) (sym (or_true (list_any is_noname parts))))
+    goes_on _ _ _ _ _ (joins o true b c p parts) (five (list_all is_some parts) _ _ _ _ _ _ _ _ _ _ (free_first is_noname (Some NoName) parts refl) (free_other b is_data (Some NoName) parts refl) (free_other c is_constant (Some NoName) parts refl) (free_other p is_private (Some NoName) parts refl) (free_other (is_some o) is_ordinal (Some NoName) parts refl)) (ap (λ (t : Bool). says (last_or o (filter_map ordinal_in parts)) t (list_any is_data parts || b) (list_any is_constant parts || c) (list_any is_private parts || p)) (sym (or_true (list_any is_noname parts))))
 joins o a true c p (Some DataItem ∷ parts) =
-    stops DataItem parts (fits o a true c p (Some DataItem ∷ parts)) (joined o a (Some DataItem ∷ parts)) (later (list_all is_some parts) _ (later (free a is_noname (Some DataItem ∷ parts)) _ (first _ _ (free_second is_data (Some DataItem) parts refl))))
+    stops DataItem parts (fits o a true c p (Some DataItem ∷ parts)) (joined o a true c p (Some DataItem ∷ parts)) (later (list_all is_some parts) _ (later (free a is_noname (Some DataItem ∷ parts)) _ (first _ _ (free_second is_data (Some DataItem) parts refl))))
 joins o a false c p (Some DataItem ∷ parts) =
-    goes_on _ _ _ _ _ (joins o a true c p parts) (five (list_all is_some parts) _ _ _ _ _ _ _ _ _ _ (free_other a is_noname (Some DataItem) parts refl) (free_first is_data (Some DataItem) parts refl) (free_other c is_constant (Some DataItem) parts refl) (free_other p is_private (Some DataItem) parts refl) (free_other (is_some o) is_ordinal (Some DataItem) parts refl)) refl
+    goes_on _ _ _ _ _ (joins o a true c p parts) (five (list_all is_some parts) _ _ _ _ _ _ _ _ _ _ (free_other a is_noname (Some DataItem) parts refl) (free_first is_data (Some DataItem) parts refl) (free_other c is_constant (Some DataItem) parts refl) (free_other p is_private (Some DataItem) parts refl) (free_other (is_some o) is_ordinal (Some DataItem) parts refl)) (ap (λ (t : Bool). says (last_or o (filter_map ordinal_in parts)) (list_any is_noname parts || a) t (list_any is_constant parts || c) (list_any is_private parts || p)) (sym (or_true (list_any is_data parts))))
 joins o a b true p (Some Constant ∷ parts) =
-    stops Constant parts (fits o a b true p (Some Constant ∷ parts)) (joined o a (Some Constant ∷ parts)) (later (list_all is_some parts) _ (later (free a is_noname (Some Constant ∷ parts)) _ (later (free b is_data (Some Constant ∷ parts)) _ (first _ _ (free_second is_constant (Some Constant) parts refl)))))
+    stops Constant parts (fits o a b true p (Some Constant ∷ parts)) (joined o a b true p (Some Constant ∷ parts)) (later (list_all is_some parts) _ (later (free a is_noname (Some Constant ∷ parts)) _ (later (free b is_data (Some Constant ∷ parts)) _ (first _ _ (free_second is_constant (Some Constant) parts refl)))))
 joins o a b false p (Some Constant ∷ parts) =
-    goes_on _ _ _ _ _ (joins o a b true p parts) (five (list_all is_some parts) _ _ _ _ _ _ _ _ _ _ (free_other a is_noname (Some Constant) parts refl) (free_other b is_data (Some Constant) parts refl) (free_first is_constant (Some Constant) parts refl) (free_other p is_private (Some Constant) parts refl) (free_other (is_some o) is_ordinal (Some Constant) parts refl)) refl
+    goes_on _ _ _ _ _ (joins o a b true p parts) (five (list_all is_some parts) _ _ _ _ _ _ _ _ _ _ (free_other a is_noname (Some Constant) parts refl) (free_other b is_data (Some Constant) parts refl) (free_first is_constant (Some Constant) parts refl) (free_other p is_private (Some Constant) parts refl) (free_other (is_some o) is_ordinal (Some Constant) parts refl)) (ap (λ (t : Bool). says (last_or o (filter_map ordinal_in parts)) (list_any is_noname parts || a) (list_any is_data parts || b) t (list_any is_private parts || p)) (sym (or_true (list_any is_constant parts))))
 joins o a b c true (Some PrivateItem ∷ parts) =
-    stops PrivateItem parts (fits o a b c true (Some PrivateItem ∷ parts)) (joined o a (Some PrivateItem ∷ parts)) (later (list_all is_some parts) _ (later (free a is_noname (Some PrivateItem ∷ parts)) _ (later (free b is_data (Some PrivateItem ∷ parts)) _ (later (free c is_constant (Some PrivateItem ∷ parts)) _ (first _ _ (free_second is_private (Some PrivateItem) parts refl))))))
+    stops PrivateItem parts (fits o a b c true (Some PrivateItem ∷ parts)) (joined o a b c true (Some PrivateItem ∷ parts)) (later (list_all is_some parts) _ (later (free a is_noname (Some PrivateItem ∷ parts)) _ (later (free b is_data (Some PrivateItem ∷ parts)) _ (later (free c is_constant (Some PrivateItem ∷ parts)) _ (first _ _ (free_second is_private (Some PrivateItem) parts refl))))))
 joins o a b c false (Some PrivateItem ∷ parts) =
-    goes_on _ _ _ _ _ (joins o a b c true parts) (five (list_all is_some parts) _ _ _ _ _ _ _ _ _ _ (free_other a is_noname (Some PrivateItem) parts refl) (free_other b is_data (Some PrivateItem) parts refl) (free_other c is_constant (Some PrivateItem) parts refl) (free_first is_private (Some PrivateItem) parts refl) (free_other (is_some o) is_ordinal (Some PrivateItem) parts refl)) refl
+    goes_on _ _ _ _ _ (joins o a b c true parts) (five (list_all is_some parts) _ _ _ _ _ _ _ _ _ _ (free_other a is_noname (Some PrivateItem) parts refl) (free_other b is_data (Some PrivateItem) parts refl) (free_other c is_constant (Some PrivateItem) parts refl) (free_first is_private (Some PrivateItem) parts refl) (free_other (is_some o) is_ordinal (Some PrivateItem) parts refl)) (ap (λ (t : Bool). says (last_or o (filter_map ordinal_in parts)) (list_any is_noname parts || a) (list_any is_data parts || b) (list_any is_constant parts || c) t) (sym (or_true (list_any is_private parts))))
 joins (Some m) a b c p (Some (Ordinal n) ∷ parts) =
-    stops (Ordinal n) parts (fits (Some m) a b c p (Some (Ordinal n) ∷ parts)) (joined (Some m) a (Some (Ordinal n) ∷ parts)) (later (list_all is_some parts) _ (later (free a is_noname (Some (Ordinal n) ∷ parts)) _ (later (free b is_data (Some (Ordinal n) ∷ parts)) _ (later (free c is_constant (Some (Ordinal n) ∷ parts)) _ (later (free p is_private (Some (Ordinal n) ∷ parts)) _ (free_second is_ordinal (Some (Ordinal n)) parts refl))))))
+    stops (Ordinal n) parts (fits (Some m) a b c p (Some (Ordinal n) ∷ parts)) (joined (Some m) a b c p (Some (Ordinal n) ∷ parts)) (later (list_all is_some parts) _ (later (free a is_noname (Some (Ordinal n) ∷ parts)) _ (later (free b is_data (Some (Ordinal n) ∷ parts)) _ (later (free c is_constant (Some (Ordinal n) ∷ parts)) _ (later (free p is_private (Some (Ordinal n) ∷ parts)) _ (free_second is_ordinal (Some (Ordinal n)) parts refl))))))
 joins None a b c p (Some (Ordinal n) ∷ parts) =
     goes_on _ _ _ _ _ (joins (Some n) a b c p parts) (five (list_all is_some parts) _ _ _ _ _ _ _ _ _ _ (free_other a is_noname (Some (Ordinal n)) parts refl) (free_other b is_data (Some (Ordinal n)) parts refl) (free_other c is_constant (Some (Ordinal n)) parts refl) (free_other p is_private (Some (Ordinal n)) parts refl) (free_first is_ordinal (Some (Ordinal n)) parts refl)) refl
+
+none_more : (parts : List (Option Attribute)) → say_together parts ≡ joined None false false false false parts
+unfolding say_together
+none_more parts =
+    let ordinal = last_or None (filter_map ordinal_in parts) in
+    let a = list_any is_noname parts in
+    let b = list_any is_data parts in
+    let c = list_any is_constant parts in
+    let p = list_any is_private parts in
+    ap (λ (t : Bool). says ordinal t b c p) (sym (or_false a))
+    ∙ ap (λ (t : Bool). says ordinal (a || false) t c p) (sym (or_false b))
+    ∙ ap (λ (t : Bool). says ordinal (a || false) (b || false) t p) (sym (or_false c))
+    ∙ ap (λ (t : Bool). says ordinal (a || false) (b || false) (c || false) t) (sym (or_false p))
 
 -- parts that may stand together are taken, and others are not
 together : (parts : List (Option Attribute)) → option_map attributes_said (fold also (Some none_taken) parts) ≡ cond (stand_together parts) (Some (say_together parts)) None
 unfolding stand_together say_together
 together parts =
-    goes_on _ _ _ _ _ (joins None false false false false parts) (five (list_all is_some parts) _ _ _ _ _ _ _ _ _ _ (sym (free_of_none is_noname parts)) (sym (free_of_none is_data parts)) (sym (free_of_none is_constant parts)) (sym (free_of_none is_private parts)) (sym (free_of_none is_ordinal parts))) (ap (λ (t : Bool). record { ordinal = last_or None (filter_map ordinal_in parts); noname = t }) (sym (or_false (list_any is_noname parts))))
+    goes_on _ _ _ _ _ (joins None false false false false parts) (five (list_all is_some parts) _ _ _ _ _ _ _ _ _ _ (sym (free_of_none is_noname parts)) (sym (free_of_none is_data parts)) (sym (free_of_none is_constant parts)) (sym (free_of_none is_private parts)) (sym (free_of_none is_ordinal parts))) (none_more parts)
 
 -- ---- a text of parts, one after another
 

@@ -9,6 +9,7 @@ use Rattle.directives.specs.Form.{quoted_form, form, whole, pair}
 use Rattle.directives.specs.Names.{is_word, listed}
 use Rattle.directives.specs.Number.{digits_value, are_digits, digits_up_to, decimal_up_to, number_up_to}
 use Rattle.directives.specs.Attribute.{attribute_of, stand_together, say_together, attributes_of}
+use Rattle.directives.specs.declared.item.ExportForm.TheVariants.{Code, Data}
 use Rattle.directives.specs.ExportValue.{export_internal, export_of, export_value}
 use Rattle.directives.specs.Value.{name_of, names_of, value_said}
 use Rattle.directives.specs.Words.{leaves_open, ends_word, word_len, words, last_quote, open_quote, quoted_contents, contents, option_says, contents_say, word_says, words_say, text_says, directives_of}
@@ -30,15 +31,15 @@ ends_at_a_malformed_one = refl
 
 -- ---- values of exports
 
-forwarder : export_value (codes "a=k.f") ≡ Some (record { name = codes "a"; internal = Some (codes "k.f"); ordinal = None; noname = false })
+forwarder : export_value (codes "a=k.f") ≡ Some (record { name = codes "a"; internal = Some (codes "k.f"); ordinal = None; noname = false; form = Code; private = false })
 unfolding export_value export_of export_internal form is_name is_text
 forwarder = refl
 
-quoted_name : export_value (codes "\"a=b,c\"=d,@65535") ≡ Some (record { name = codes "a=b,c"; internal = Some (codes "d"); ordinal = Some 65535; noname = false })
+quoted_name : export_value (codes "\"a=b,c\"=d,@65535") ≡ Some (record { name = codes "a=b,c"; internal = Some (codes "d"); ordinal = Some 65535; noname = false; form = Code; private = false })
 unfolding export_value export_of export_internal form quoted_form is_name is_text attributes_of attribute_of stand_together say_together decimal_up_to digits_up_to are_digits digits_value
 quoted_name = refl
 
-by_ordinal : export_value (codes "main,@5,NoName,DATA") ≡ Some (record { name = codes "main"; internal = None; ordinal = Some 5; noname = true })
+by_ordinal : export_value (codes "main,@5,NoName,DATA") ≡ Some (record { name = codes "main"; internal = None; ordinal = Some 5; noname = true; form = Data; private = false })
 unfolding export_value export_of form is_name is_text attributes_of attribute_of stand_together say_together decimal_up_to digits_up_to are_digits digits_value is_word
 by_ordinal = refl
 

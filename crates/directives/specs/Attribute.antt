@@ -5,6 +5,8 @@ use Rattle.std.specs.Str.{byte}
 use Rattle.directives.specs.Text.{is_comma}
 use Rattle.directives.specs.Names.{lookup}
 use Rattle.directives.specs.Number.{decimal_up_to}
+use Rattle.directives.specs.declared.item.ExportForm.{ExportForm}
+use Rattle.directives.specs.declared.item.ExportForm.TheVariants.{Code, Data, Const}
 use Rattle.directives.specs.declared.attributes.Attribute.{Attribute}
 use Rattle.directives.specs.declared.attributes.Attribute.TheVariants.{NoName, DataItem, Constant, PrivateItem, Ordinal}
 
@@ -51,13 +53,25 @@ stand_together parts =
     list_all is_some parts
     && (once is_noname parts && (once is_data parts && (once is_constant parts && (once is_private parts && once is_ordinal parts))))
 
--- what the attributes say of an export: the ordinal, where one has one, and whether it has no name
+-- what the attributes say of an export: the ordinal, where one has one, whether it has no name, its form, and whether an
+-- import library leaves it out
 pub record Attributes : Type 0 where
   pub ordinal : Option ℕ
   pub noname : Bool
+  pub form : ExportForm
+  pub private : Bool
+
+-- data counts before a constant
+abbrev pub form_by : Bool → Bool → ExportForm
+form_by of_data of_constant = if of_data then Data else (if of_constant then Const else Code)
 
 unfoldable pub say_together : List (Option Attribute) → Attributes
-say_together parts = record { ordinal = last_or None (filter_map ordinal_in parts); noname = list_any is_noname parts }
+say_together parts = record {
+  ordinal = last_or None (filter_map ordinal_in parts);
+  noname = list_any is_noname parts;
+  form = form_by (list_any is_data parts) (list_any is_constant parts);
+  private = list_any is_private parts;
+}
 
 -- the attributes of a text with commas between
 unfoldable pub attributes_of : List ℕ → Option Attributes
@@ -67,5 +81,5 @@ attributes_of text =
 
 -- those after the first comma, or none
 abbrev pub attributes_after : List ℕ → Option Attributes
-attributes_after [] = Some (record { ordinal = None; noname = false })
+attributes_after [] = Some (record { ordinal = None; noname = false; form = Code; private = false })
 attributes_after (b ∷ text) = attributes_of text

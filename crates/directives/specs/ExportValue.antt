@@ -10,7 +10,7 @@ use Rattle.directives.specs.declared.item.Export.{Export}
 abbrev pub export_row : List ℕ → Option (List ℕ) → Attributes → Option Export
 export_row name internal said =
     if said.noname && is_none said.ordinal then None
-    else Some (record { name = name; internal = internal; ordinal = said.ordinal; noname = said.noname })
+    else Some (record { name = name; internal = internal; ordinal = said.ordinal; noname = said.noname; form = said.form; private = said.private })
 
 -- the name ends at the first comma or `=`, or with its quotes
 abbrev pub ends_name : ℕ → Bool

@@ -6,7 +6,12 @@ use Rattle.directives.specs.declared.attributes.Attribute.TheVariants.{NoName, D
 use Rattle.directives.specs.declared.attributes.Attributes.{Attributes}
 
 abbrev pub attributes_said : Attributes → rule.Attributes
-attributes_said taken = record { ordinal = taken.ordinal; noname = taken.noname }
+attributes_said taken = record {
+  ordinal = taken.ordinal;
+  noname = taken.noname;
+  form = rule.form_by taken.data_item taken.constant;
+  private = taken.private_item;
+}
 
 abbrev pub none_taken : Attributes
 none_taken = record { ordinal = None; noname = false; data_item = false; constant = false; private_item = false }

@@ -1,9 +1,10 @@
 //! What may stand after the name of an export, between commas.
 
 ghost use Rattle.std.specs.Prelude.{◌≡◌, option_map};
-ghost use Rattle.directives.specs.Attribute.{attribute_of, attributes_of, attributes_after};
+ghost use Rattle.directives.specs.Attribute.{form_by, attribute_of, attributes_of, attributes_after};
 ghost use Rattle.directives.specs.Taken.{attributes_said, none_taken, with_attribute};
 
+use crate::item::ExportForm;
 use crate::names::lookup;
 use crate::number::decimal_up_to;
 
@@ -31,7 +32,7 @@ pub(crate) struct Attributes {
     pub(crate) noname: bool,
     data_item: bool,
     constant: bool,
-    private_item: bool,
+    pub(crate) private_item: bool,
 }
 
 /// The attributes after the first comma, where something stands there.
@@ -93,6 +94,19 @@ fn with_attribute(taken: Attributes, one: Attribute) -> Option<Attributes>
             ..taken
         }),
     }
+}
+
+/// The form of an export with these: data counts before a constant.
+pub(crate) fn form_of(taken: Attributes) -> ExportForm
+    ensures { result ≡ form_by taken.data_item taken.constant }
+{
+    if taken.data_item {
+        return ExportForm::Data;
+    }
+    if taken.constant {
+        return ExportForm::Const;
+    }
+    ExportForm::Code
 }
 
 /// One attribute: a word of the table, or an ordinal after `@`.

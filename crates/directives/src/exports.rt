@@ -8,7 +8,7 @@ ghost use Rattle.directives.specs.FormView.{form_lists, two_lists};
 ghost use Rattle.directives.specs.Taken.{attributes_said};
 ghost use Rattle.directives.specs.ExportValue.{export_row, ends_name, from_first, export_parts, export_internal, export_of, export_value};
 
-use crate::attributes::{Attributes, attributes_after};
+use crate::attributes::{Attributes, attributes_after, form_of as form_of_attributes};
 use crate::form::{Form, form_of};
 use crate::item::Export;
 use crate::text::{is_name, place_of};
@@ -98,5 +98,7 @@ fn export_row<'a>(
         internal: internal.map(Name::of),
         ordinal: found.ordinal,
         noname: found.noname,
+        form: form_of_attributes(found),
+        private: found.private_item,
     })
 }

@@ -22,13 +22,24 @@ pub enum Directive<'a> {
 }
 
 /// A row of the export table. Without an internal name the name itself is looked up; an internal name with
-/// a dot in it is a forwarder. With `noname` it is exported by its ordinal alone.
+/// a dot in it is a forwarder. With `noname` it is exported by its ordinal alone. The form and `private` say how an import
+/// library has it, which leaves out what is private.
 #[derive(Drop)]
 pub struct Export<'a> {
     pub name: Name<'a>,
     pub internal: Option<Name<'a>>,
     pub ordinal: Option<u16>,
     pub noname: bool,
+    pub form: ExportForm,
+    pub private: bool,
+}
+
+/// What an export is: data where it is said to be data, else a constant where that is said, else code.
+#[derive(Clone, Copy, Debug, PartialEq, Eq)]
+pub enum ExportForm {
+    Code,
+    Data,
+    Const,
 }
 
 /// A malformed directive, by the offset where its word begins, or that of the quote that stays open.

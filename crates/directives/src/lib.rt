@@ -15,7 +15,7 @@ mod text;
 mod values;
 mod words;
 
-pub use item::{BadDirective, Directive, Export};
+pub use item::{BadDirective, Directive, Export, ExportForm};
 pub use names::{is_word, lookup};
 pub use number::{decimal_up_to, number_up_to};
 pub use reader::Directives;

@@ -54,7 +54,7 @@ faultless rows none =
 
 -- ---- names differ
 
-names_differ : (rows : List Export) (i j : ℕ) → Faultless rows → i < j → j < length rows → same_name (row_at rows j).name (row_at rows i).name ≡ false
+pub names_differ : (rows : List Export) (i j : ℕ) → Faultless rows → i < j → j < length rows → same_name (row_at rows j).name (row_at rows i).name ≡ false
 unfolding has_earlier_name
 names_differ rows i j ok lt within =
     elim (cases_Bool (same_name (row_at rows j).name (row_at rows i).name)) [

@@ -34,7 +34,7 @@ then_both Greater s e = absurd (true≢false (ap is_gt e))
 one_number : (x y : ℕ) → nat_cmp x y ≡ Equal → x ≡ y
 one_number x y e = subst (λ (r : Ordering). MatchOrdering r (x < y) (x ≡ y) (y < x)) e (ranks x y)
 
-one_text : (x y : List ℕ) → slice_cmp nat_cmp x y ≡ Equal → x ≡ y
+pub one_text : (x y : List ℕ) → slice_cmp nat_cmp x y ≡ Equal → x ≡ y
 one_text x y e = (bytes_eq-Decides x y).0 (texts_ties x y ∙ ap is_eq e)
 
 pub one_entry : (a b : NameEntry) → entry_cmp a b ≡ Equal → a ≡ b
@@ -46,7 +46,7 @@ one_entry a b e =
 
 -- ---- one row more
 
-range_more : (a n j : ℕ) → a + n ≡ j → range_with_len a (n + 1) ≡ range_with_len a n ++ j ∷ []
+pub range_more : (a n j : ℕ) → a + n ≡ j → range_with_len a (n + 1) ≡ range_with_len a n ++ j ∷ []
 range_more a zero j e = ap (λ (k : ℕ). k ∷ []) (omega (arith, e))
 range_more a (suc n) j e =
     let one : suc n + 1 ≡ suc (n + 1) = omega arith in

@@ -2,6 +2,8 @@ pub mod TextLemmas
 pub mod NameLemmas
 pub mod ClashLemmas
 pub mod OrdinalLemmas
+pub mod HintLemmas
+pub mod NameOrderLemmas
 pub mod AssignedLemmas
 pub mod WorkedDirectory
 pub mod WorkedOrdinals

@@ -1,12 +1,13 @@
 -- The ordinals of a few exports, and what is wrong with others.
 use Rattle.std.proofs.Common.{◌≡◌, ℕ, List, [], ◌∷◌, Option, Some, None, false, refl, codes}
 use Rattle.directives.specs.declared.item.Export.{Export}
+use Rattle.directives.specs.declared.item.ExportForm.TheVariants.{Code}
 use Rattle.link_base.specs.Bytes.{first_below}
 use Rattle.link_base.specs.declared.kinds.export.ExportFault.TheVariants.{TwoNames, TooMany}
 use Rattle.export_tables.specs.Ordinals.{ordinal_above, ordinal_of, ordinals_of, has_earlier_name, has_earlier_ordinal, has_great_ordinal, bad_row, ordinal_fault}
 
 row : List ℕ → Option ℕ → Export
-row name ordinal = record { name = name; internal = None; ordinal = ordinal; noname = false }
+row name ordinal = record { name = name; internal = None; ordinal = ordinal; noname = false; form = Code; private = false }
 
 -- b and a ask for none, x for 7 and y for 2
 four : List Export

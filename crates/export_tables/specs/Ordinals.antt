@@ -5,6 +5,7 @@ use Rattle.std.specs.List.{filter_map, list_any}
 use Rattle.std.specs.Ordering.{is_lt, nat_cmp}
 use Rattle.std.specs.Cmp.Lexicographic.{slice_cmp}
 use Rattle.directives.specs.declared.item.Export.{Export}
+use Rattle.directives.specs.declared.item.ExportForm.TheVariants.{Code}
 use Rattle.link_base.specs.Bytes.{first_below}
 use Rattle.link_base.specs.NameText.{same_name}
 use Rattle.link_base.specs.Refusals.{first_standing}
@@ -15,7 +16,7 @@ use Rattle.export_tables.specs.declared.error.ExportError.TheVariants as error
 
 -- an export of no name
 abbrev pub no_export : Export
-no_export = record { name = []; internal = None; ordinal = None; noname = false }
+no_export = record { name = []; internal = None; ordinal = None; noname = false; form = Code; private = false }
 
 abbrev pub row_at : List Export → ℕ → Export
 row_at rows index = slice_index_or rows index no_export

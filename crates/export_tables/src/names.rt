@@ -111,7 +111,7 @@ fn push_place<'a>(
 }
 
 /// Sorts names. Entries that tie are equal, so nobody sees that they may change places.
-fn sort(names: &mut Vec<NameEntry<'_>>)
+pub(crate) fn sort(names: &mut Vec<NameEntry<'_>>)
     ensures permutation { IsPermutation names.old.items names.new.items }
     ensures sorted { IsSorted entry_cmp names.new.items }
 {

@@ -93,7 +93,7 @@ fn free_names<'a>(alloc: Global, rows: &[Export<'a>]) -> Result<Vec<Name<'a>>, M
 }
 
 /// Sorts names by their bytes.
-fn sort(names: &mut Vec<Name<'_>>)
+pub(crate) fn sort(names: &mut Vec<Name<'_>>)
     ensures permutation { IsPermutation names.old.items names.new.items }
     ensures sorted { IsSorted (slice_cmp nat_cmp) names.new.items }
 {
@@ -113,7 +113,7 @@ fn ordinal_above(most: u16, names: &[Name<'_>], row: &Export<'_>) -> usize
 }
 
 /// How many of some names in order come before a name, by bisection.
-fn count_before(name: &Name<'_>, names: &[Name<'_>]) -> usize
+pub(crate) fn count_before(name: &Name<'_>, names: &[Name<'_>]) -> usize
     requires { IsSorted (slice_cmp nat_cmp) names.now }
     ensures count { result ≡ count_by (comes_before name.now) names.now }
     ensures most { result ≤ length names.now }

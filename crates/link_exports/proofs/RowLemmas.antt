@@ -1,73 +1,74 @@
 -- Exports that are noted one after the other.
 use Rattle.std.proofs.Common.{◌≡◌, ℕ, ◌+◌, ◌<◌, Bool, true, false, cond, List, [], ◌∷◌, ◌++◌, length, map, fold, take, get_or, refl, sym, ap, ◌∙◌, append_assoc}
-use Rattle.std.specs.Prelude.{filter_map}
+use Rattle.std.specs.Prelude.{◌&&◌, not, nat_eq, filter_map}
+use Rattle.std.specs.Bool.{beq}
+use Rattle.std.specs.Option.{option_eq}
 use Rattle.std.specs.List.{list_any}
+use Rattle.std.proofs.lemmas.Bool.{true≢false, false≢true}
 use Rattle.std.proofs.lemmas.List.{append-nil, map-append, take_more}
 use Rattle.std.proofs.lemmas.List.Elements.{filter_map-append}
 use Rattle.std.proofs.lemmas.List.Sums.{fold-append}
 use Rattle.std.proofs.lemmas.List.Concat.{flat_map-append}
+use Rattle.link_base.specs.NameText.{same_name}
 use Rattle.directives.specs.Said.{Said, said}
 use Rattle.directives.specs.declared.item.Directive.{Directive}
 use Rattle.directives.specs.declared.item.Export.{Export}
 use Rattle.module_view.specs.Module.{ModuleView}
-use Rattle.link_words.specs.Outcome.{LinkOptions}
 use Rattle.link_directives.specs.LinkDirectives.{directives_by, all_directives}
-use Rattle.link_exports.specs.Exports.{export_said, all_exports, agrees, with_row, export_rows}
-use Rattle.link_exports.specs.Steps.{SaidRow, said_row, row_of, says_same, with_said}
+use Rattle.link_exports.specs.Exports.{export_said, all_exports, agrees, with_row}
+use Rattle.link_exports.specs.Steps.{SaidRow, said_row}
 
--- ---- what is noted
+-- ---- whether another says the same
+
+abbrev pub says_same : SaidRow → SaidRow → Bool
+says_same told other =
+    ((same_name told.0 other.0 && option_eq same_name told.1 other.1) && option_eq nat_eq told.2 other.2) && beq told.3 other.3
 
 same_any : (row : Export) (rows : List Export) → list_any (says_same (said_row row)) (map said_row rows) ≡ list_any (agrees row) rows
 same_any row [] = refl
 same_any row (other ∷ rows) = rw (same_any row rows) refl
 
-noted_one : (rows : List Export) (row : Export) → with_said (map said_row rows) row ≡ map said_row (with_row rows row)
-noted_one rows row = go (list_any (agrees row) rows) (same_any row rows)
+-- whether one does, by what is known of the exports
+known_any : (row : Export) (rows : List Export) (keys : List SaidRow) (b : Bool) → keys ≡ map said_row rows → list_any (says_same (said_row row)) keys ≡ b → with_row rows row ≡ cond b rows (rows ++ row ∷ [])
+known_any row rows keys b known is =
+    ap (λ (b : Bool). cond b rows (rows ++ row ∷ [])) (sym (same_any row rows) ∙ ap (list_any (says_same (said_row row))) (sym known) ∙ is)
+
+-- one that is added
+pub noted_now : (rows : List Export) (keys : List SaidRow) (row : Export) (added : Bool) → keys ≡ map said_row rows → added ≡ not (list_any (says_same (said_row row)) keys) → added ≡ true → rows ++ row ∷ [] ≡ with_row rows row
+noted_now rows keys row added known is new = go (list_any (says_same (said_row row)) keys) refl (sym is ∙ new)
   where
-    go : (b : Bool) → list_any (says_same (said_row row)) (map said_row rows) ≡ b → cond (list_any (says_same (said_row row)) (map said_row rows)) (map said_row rows) (map said_row rows ++ said_row row ∷ []) ≡ map said_row (cond b rows (rows ++ row ∷ []))
-    go true e = rw e refl
-    go false e = rw e (sym (map-append said_row rows (row ∷ [])))
+    go : (b : Bool) → list_any (says_same (said_row row)) keys ≡ b → not b ≡ true → rows ++ row ∷ [] ≡ with_row rows row
+    go false e n = sym (known_any row rows keys false known e)
+    go true e n = absurd (false≢true n)
 
-noted_all : (more rows : List Export) → fold with_said (map said_row rows) more ≡ map said_row (fold with_row rows more)
-noted_all [] rows = refl
-noted_all (row ∷ more) rows =
-    ap (λ (told : List SaidRow). fold with_said told more) (noted_one rows row) ∙ noted_all more (with_row rows row)
+-- one that is not
+pub noted_before : (rows : List Export) (keys : List SaidRow) (row : Export) (added : Bool) → keys ≡ map said_row rows → added ≡ not (list_any (says_same (said_row row)) keys) → added ≡ false → rows ≡ with_row rows row
+noted_before rows keys row added known is old = go (list_any (says_same (said_row row)) keys) refl (sym is ∙ old)
+  where
+    go : (b : Bool) → list_any (says_same (said_row row)) keys ≡ b → not b ≡ false → rows ≡ with_row rows row
+    go true e n = sym (known_any row rows keys true known e)
+    go false e n = absurd (true≢false n)
 
-told_again : (rows : List Export) → map row_of (map said_row rows) ≡ rows
-told_again [] = refl
-told_again (row ∷ rows) = ap (λ (rest : List Export). row ∷ rest) (told_again rows)
+-- ---- one more of a list that is walked
 
--- the rows that are noted of all exports
-pub rows_noted : (options : LinkOptions) (modules : List ModuleView) (rows : List Export) (told : List SaidRow) → told ≡ fold with_said [] (all_exports options.exports modules) → rows ≡ map row_of told → rows ≡ export_rows options modules
-unfolding export_rows
-rows_noted options modules rows told noted is =
-    let all = all_exports options.exports modules in
-    is
-    ∙ ap (map row_of) noted
-    ∙ ap (map row_of) (noted_all all [])
-    ∙ told_again (fold with_row [] all)
-
--- ---- one more
-
--- of a list that is walked
-pub said_more : {A : Type 0} (names : List A → List Export) → ((xs ys : List A) → names (xs ++ ys) ≡ names xs ++ names ys) → (before now after : List SaidRow) (xs : List A) (k : ℕ) (x : A) → k < length xs → x ≡ get_or xs k x → now ≡ fold with_said before (names (take k xs)) → after ≡ fold with_said now (names (x ∷ [])) → after ≡ fold with_said before (names (take (k + 1) xs))
-said_more {A} names append before now after xs k x lt read is more =
+pub rows_more : {A : Type 0} (names : List A → List Export) → ((xs ys : List A) → names (xs ++ ys) ≡ names xs ++ names ys) → (before now after : List Export) (xs : List A) (k : ℕ) (x : A) → k < length xs → x ≡ get_or xs k x → now ≡ fold with_row before (names (take k xs)) → after ≡ fold with_row now (names (x ∷ [])) → after ≡ fold with_row before (names (take (k + 1) xs))
+rows_more {A} names append before now after xs k x lt read is more =
     more
-    ∙ ap (λ (told : List SaidRow). fold with_said told (names (x ∷ []))) is
-    ∙ sym (fold-append with_said before (names (take k xs)) (names (x ∷ [])))
-    ∙ sym (ap (fold with_said before) (ap names (take_more xs k x lt ∙ ap (λ (y : A). take k xs ++ y ∷ []) (sym read)) ∙ append (take k xs) (x ∷ [])))
+    ∙ ap (λ (rows : List Export). fold with_row rows (names (x ∷ []))) is
+    ∙ sym (fold-append with_row before (names (take k xs)) (names (x ∷ [])))
+    ∙ sym (ap (fold with_row before) (ap names (take_more xs k x lt ∙ ap (λ (y : A). take k xs ++ y ∷ []) (sym read)) ∙ append (take k xs) (x ∷ [])))
 
 -- the exports among directives
 pub among_append : (xs ys : List Directive) → filter_map export_said (map said (xs ++ ys)) ≡ filter_map export_said (map said xs) ++ filter_map export_said (map said ys)
 among_append xs ys = ap (filter_map export_said) (map-append said xs ys) ∙ filter_map-append export_said (map said xs) (map said ys)
 
 -- and among those of modules
-pub modules_more : (given : List Export) (before now after : List SaidRow) (modules : List ModuleView) (k : ℕ) (m : ModuleView) (directives : List Directive) → k < length modules → m ≡ get_or modules k m → map said directives ≡ directives_by m → now ≡ fold with_said before (all_exports given (take k modules)) → after ≡ fold with_said now (filter_map export_said (map said directives)) → after ≡ fold with_said before (all_exports given (take (k + 1) modules))
+pub modules_more : (given : List Export) (before now after : List Export) (modules : List ModuleView) (k : ℕ) (m : ModuleView) (directives : List Directive) → k < length modules → m ≡ get_or modules k m → map said directives ≡ directives_by m → now ≡ fold with_row before (all_exports given (take k modules)) → after ≡ fold with_row now (filter_map export_said (map said directives)) → after ≡ fold with_row before (all_exports given (take (k + 1) modules))
 modules_more given before now after modules k m directives lt read says is more =
     more
-    ∙ ap (λ (told : List SaidRow). fold with_said told (filter_map export_said (map said directives))) is
-    ∙ sym (fold-append with_said before (all_exports given (take k modules)) (filter_map export_said (map said directives)))
-    ∙ ap (fold with_said before) (step ∙ ap (λ (rows : List Export). given ++ rows) (sym grown))
+    ∙ ap (λ (rows : List Export). fold with_row rows (filter_map export_said (map said directives))) is
+    ∙ sym (fold-append with_row before (all_exports given (take k modules)) (filter_map export_said (map said directives)))
+    ∙ ap (fold with_row before) (step ∙ ap (λ (rows : List Export). given ++ rows) (sym grown))
   where
     own : List ModuleView → List Export
     own ms = filter_map export_said (all_directives ms)

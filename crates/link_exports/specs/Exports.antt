@@ -1,6 +1,6 @@
 -- The exports of a link, with their ordinals, and the size of the table that names them (MSVC linker reference, "/EXPORT"; which
 -- exports count once, and the DLL's name, are own).
-use Rattle.std.specs.Prelude.{◌≡◌, ◌≤◌, ℕ, Bool, ◌&&◌, nat_eq, if◌then◌else◌, List, [], ◌∷◌, ◌++◌, length, map, fold, filter_map, Option, Some, None, is_some}
+use Rattle.std.specs.Prelude.{◌≡◌, ◌≤◌, ◌<◌, ℕ, Bool, ◌&&◌, nat_eq, if◌then◌else◌, List, [], ◌∷◌, ◌++◌, length, map, fold, filter_map, Option, Some, None, is_some}
 use Rattle.std.specs.List.{All, after_last, list_any}
 use Rattle.std.specs.Bool.{beq}
 use Rattle.std.specs.Option.{option_eq}
@@ -129,6 +129,7 @@ text_of (Some text) = text
 
 -- a name and a forwarder that can stand in a table and be read there
 pub record CanBeTold (row : Export) : Type 0 where
+  pub some : 0 < length row.name
   pub short_name : length row.name ≤ NAME_LIMIT
   pub short_forwarder : length (text_of (forwarder row)) ≤ NAME_LIMIT
   pub plain_name : HasNoNul row.name

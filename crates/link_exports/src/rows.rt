@@ -4,8 +4,8 @@ ghost use Rattle.std.specs.Prelude.{◌≡◌, ◌<◌, ◌^◌, [], ◌∷◌, 
 ghost use Rattle.std.specs.List.{All};
 ghost use Rattle.directives.specs.Said.{said};
 ghost use Rattle.link_words.specs.Outcome.{options_said};
-ghost use Rattle.link_exports.specs.Exports.{export_said, export_rows, CanBeTold};
-ghost use Rattle.link_exports.specs.Steps.{SaidRow, row_of, with_said};
+ghost use Rattle.link_exports.specs.Exports.{export_said, with_row, export_rows, CanBeTold};
+ghost use Rattle.link_exports.specs.Steps.{SaidRow, said_row, AreNoted};
 
 use directives::{Directive, Export};
 use indexmap::IndexSet;
@@ -16,11 +16,19 @@ use std::alloc::Global;
 use symbol_names::forwarder;
 use synthetic_sections::can_stand;
 
-/// All that an export says: its name, what stands behind it, the ordinal that it asks for, and whether it is found by that
-/// alone.
+/// All by which exports differ: the name, what stands behind it, the ordinal that it asks for, and whether it is found by
+/// that alone.
 type SaidRow<'a> = (Name<'a>, Option<Name<'a>>, Option<u16>, bool);
 
-/// The exports of the command line and of the modules, in their order, each once. They are looked up by hash.
+/// The exports that are noted, in their order, and what they say, which is looked up by hash.
+#[derive(Drop)]
+struct NotedRows<'a> {
+    rows: Vec<Export<'a>>,
+    said: IndexSet<SaidRow<'a>>,
+}
+
+/// The exports of the command line and of the modules, in their order, each once: of those that say the same the first,
+/// whose form counts.
 #[tactic(auto, unfolding(crate::specs::Exports::export_rows))]
 pub(crate) fn export_rows<'a>(
     alloc: Global,
@@ -29,47 +37,52 @@ pub(crate) fn export_rows<'a>(
 ) -> Result<Vec<Export<'a>>, Memory>
     ensures { IfOk result (λ rows. rows.items ≡ export_rows (options_said options.now) modules.now) }
 {
-    let mut told = IndexSet::new(alloc);
-    note_rows(&mut told, &options.exports)?;
+    let mut noted = NotedRows {
+        rows: Vec::new(alloc),
+        said: IndexSet::new(alloc),
+    };
+    note_rows(&mut noted, &options.exports)?;
     for module in modules {
-        note_directives(&mut told, module.directives())?;
+        note_directives(&mut noted, module.directives())?;
     }
-    let rows = rows_of(alloc, &told)?;
-    Ok(rows)
+    Ok(noted.rows)
 }
 
 /// Notes exports, each that says what no other says.
-fn note_rows<'a>(told: &mut IndexSet<SaidRow<'a>>, rows: &[Export<'a>]) -> Result<(), Memory>
-    ensures { OnOk result (told.new.keys ≡ fold with_said told.old.keys rows.now) }
+fn note_rows<'a>(noted: &mut NotedRows<'a>, rows: &[Export<'a>]) -> Result<(), Memory>
+    requires known { AreNoted noted.old }
+    ensures known { OnOk result (AreNoted noted.new) }
+    ensures rows { OnOk result (noted.new.rows.items ≡ fold with_row noted.old.rows.items rows.now) }
 {
     for row in rows {
-        note_row(told, row)?;
+        note_row(noted, row)?;
     }
     Ok(())
 }
 
 /// Notes the exports among directives.
 fn note_directives<'a>(
-    told: &mut IndexSet<SaidRow<'a>>,
+    noted: &mut NotedRows<'a>,
     directives: &[Directive<'a>],
 ) -> Result<(), Memory>
-    ensures { OnOk result (told.new.keys ≡ fold with_said told.old.keys (filter_map export_said (map said directives.now))) }
+    requires known { AreNoted noted.old }
+    ensures known { OnOk result (AreNoted noted.new) }
+    ensures rows { OnOk result (noted.new.rows.items ≡ fold with_row noted.old.rows.items (filter_map export_said (map said directives.now))) }
 {
     for directive in directives {
-        note_directive(told, directive)?;
+        note_directive(noted, directive)?;
     }
     Ok(())
 }
 
 /// Notes a directive, where it is an export.
-fn note_directive<'a>(
-    told: &mut IndexSet<SaidRow<'a>>,
-    directive: &Directive<'a>,
-) -> Result<(), Memory>
-    ensures { OnOk result (told.new.keys ≡ fold with_said told.old.keys (filter_map export_said (said directive.now ∷ []))) }
+fn note_directive<'a>(noted: &mut NotedRows<'a>, directive: &Directive<'a>) -> Result<(), Memory>
+    requires known { AreNoted noted.old }
+    ensures known { OnOk result (AreNoted noted.new) }
+    ensures rows { OnOk result (noted.new.rows.items ≡ fold with_row noted.old.rows.items (filter_map export_said (said directive.now ∷ []))) }
 {
     match directive {
-        Directive::Export(row) => note_row(told, row),
+        Directive::Export(row) => note_row(noted, row),
         Directive::AlignComm { .. }
         | Directive::AlternateName { .. }
         | Directive::DefaultLib(_)
@@ -80,40 +93,39 @@ fn note_directive<'a>(
 }
 
 /// Notes an export, where no other says the same.
-fn note_row<'a>(told: &mut IndexSet<SaidRow<'a>>, row: &Export<'a>) -> Result<(), Memory>
-    ensures { OnOk result (told.new.keys ≡ with_said told.old.keys row.now) }
+fn note_row<'a>(noted: &mut NotedRows<'a>, row: &Export<'a>) -> Result<(), Memory>
+    requires known { AreNoted noted.old }
+    ensures known { OnOk result (AreNoted noted.new) }
+    ensures rows { OnOk result (noted.new.rows.items ≡ with_row noted.old.rows.items row.now) }
 {
-    let internal = match &row.internal {
-        Some(name) => Some(name.again()),
-        None => None,
-    };
-    told.insert((row.name.again(), internal, row.ordinal, row.noname))?;
+    if noted.said.insert(said_row(row))? {
+        noted.rows.push(again(row))?;
+    }
     Ok(())
 }
 
-/// The exports that say so.
-fn rows_of<'a>(alloc: Global, told: &IndexSet<SaidRow<'a>>) -> Result<Vec<Export<'a>>, Memory>
-    ensures { IfOk result (λ rows. rows.items ≡ map row_of told.now.keys) }
+/// What an export says.
+fn said_row<'a>(row: &Export<'a>) -> SaidRow<'a>
+    ensures { result ≡ said_row row.now }
 {
-    let mut rows = Vec::with_capacity(alloc, told.len())?;
-    for row in told {
-        rows.push(row_of(row))?;
-    }
-    Ok(rows)
+    let row = again(row);
+    (row.name, row.internal, row.ordinal, row.noname)
 }
 
-/// The export that says so.
-fn row_of<'a>(told: &SaidRow<'a>) -> Export<'a>
-    ensures { result ≡ row_of told.now }
+/// The same export.
+fn again<'a>(row: &Export<'a>) -> Export<'a>
+    ensures { result ≡ row.now }
 {
     Export {
-        name: told.0.again(),
-        internal: match &told.1 {
+        name: row.name.again(),
+        internal: match &row.internal {
             Some(name) => Some(name.again()),
             None => None,
         },
-        ordinal: told.2,
-        noname: told.3,
+        ordinal: row.ordinal,
+        noname: row.noname,
+        form: row.form,
+        private: row.private,
     }
 }
 
@@ -142,11 +154,11 @@ fn check_row(row: &Export<'_>) -> Result<(), Memory>
     }
 }
 
-/// Whether the name of an export and its forwarder can stand in a table.
+/// Whether an export has a name, and this and its forwarder can stand in a table.
 fn can_be_told(row: &Export<'_>) -> bool
     ensures { IsTrue result → CanBeTold row.now }
 {
-    if !can_stand(&row.name) {
+    if row.name.is_empty() || !can_stand(&row.name) {
         return false;
     }
     match forwarder(row) {

@@ -227,6 +227,14 @@ unfolding export_fault
 no_fault link none =
     (both_none link.parts.exports.fault (first_standing (map (absolute_fault link) link.parts.exports.rows)) none).0
 
+-- so nothing is wrong with their ordinals
+pub unrefused : (link : KeptParts) (rows : List Export) (dll : List ℕ) (time : ℕ) → link.parts.exports ≡ exports_from rows dll time → export_fault link ≡ None → (link.parts.exports.fault ≡ None) × (ordinal_fault link.parts.exports.rows ≡ None)
+unrefused link rows dll time is faultless =
+    let none = no_fault link faultless in (
+      none,
+      ap (λ (exports : ExportsView). ordinal_fault exports.rows) is ∙ nothing_wrong rows (sym (ap (λ (exports : ExportsView). exports.fault) is) ∙ none),
+    )
+
 pub no_rows : (link : KeptParts) (rows : List Export) (dll : List ℕ) (time : ℕ) → link.parts.exports ≡ exports_from rows dll time → export_fault link ≡ None → link.parts.exports.size ≡ 0 → link.parts.exports.rows ≡ []
 no_rows link rows dll time is faultless none =
     let right = nothing_wrong rows (sym (ap (λ (exports : ExportsView). exports.fault) is) ∙ no_fault link faultless) in

@@ -48,12 +48,13 @@ use Rattle.piece_bytes.specs.Owners.{section_of}
 use Rattle.link_image.specs.declared.placement.Placement.{Placement}
 use Rattle.image_headers.specs.ImageHeaders.{headers_of}
 use Rattle.link_image.specs.LinkedBytes.{owners_in, rva_of, table_rva, table_rvas, import_tables_at, exported_rows, export_table_at, resource_tree_at, tables_at, contents_at, image_contents}
+use Rattle.export_tables.specs.Ordinals.{ordinal_fault}
 use Rattle.link_image.specs.ExportFaults.{export_fault, in_table_fault}
 use Rattle.link_image.specs.LinkedImage.{extent_of, table_extent, section_extent, resource_extent, directories_of, identifier_of, final_contents, HoldsImports, HoldsExports, HoldsResources}
 use Rattle.link_image.specs.Steps.{reloc_tables, IsGiven, IsPlaced, IsReady}
 use Rattle.link_image.proofs.HeldLemmas.{piece_count, exports_are, tree_sized, both_sized, same_size, table_contents, table_fixes}
 use Rattle.link_image.proofs.ExportLemmas.{HasTable, has_table, length-tables, import_size, import_table, export_size, export_table_is, tree_size_is, tree_table_is}
-use Rattle.link_image.proofs.ExportReadLemmas.{readable, exports_read, exports_read_by_ordinal, none_read as none_read_name, none_read_by_ordinal as none_read_ordinal, no_rows}
+use Rattle.link_image.proofs.ExportReadLemmas.{readable, exports_read, exports_read_by_ordinal, none_read as none_read_name, none_read_by_ordinal as none_read_ordinal, no_rows, unrefused}
 use Rattle.link_image.proofs.MemoryLemmas.{directory_reads, directory_sized, above_headers, in_memory}
 use Rattle.link_image.proofs.MoveLemmas.{replaced_room}
 use Rattle.link_image.proofs.IdentityLemmas.{other_read, IsReplaced, data_replaced}
@@ -157,6 +158,12 @@ extent_rva pieces rvas None = refl
 extent_rva pieces rvas (Some k) = refl
 
 -- ---- the image of a plan
+
+-- nothing is wrong with the ordinals of exports that are placed
+pub exports_unrefused : (options : LinkOptions) (plan : LinkPlan) (placement : Placement) → IsPlanOf options plan.modules.items plan → IsPlaced options plan placement → (plan.names.exports.fault ≡ None) × (ordinal_fault plan.names.exports.rows ≡ None)
+exports_unrefused options plan placement planned placed =
+    unrefused (kept_parts plan) (export_rows options plan.modules.items) (dll_name options.out) options.time (exports_are options plan planned)
+    (or_none (pdata_fault (kept_parts plan)) (export_fault (kept_parts plan)) placed.means.grouped.tables).1
 
 module _ (options : LinkOptions) (plan : LinkPlan) (placement : Placement) (owner : List ℕ) (planned : IsPlanOf options plan.modules.items plan) (placed : IsPlaced options plan placement)
     (ready : IsReady (kept_parts plan) plan.pieces.items plan.fixes.items placement.sections.items placement.layout owner (reloc_tables placement.table))

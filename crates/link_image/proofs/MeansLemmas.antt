@@ -1,5 +1,5 @@
 -- The file of a plan that is placed and patched loads as planned at every permitted base.
-use Rattle.std.proofs.Common.{◌≡◌, ℕ, ◌+◌, ◌-◌, ◌*◌, ◌%◌, ◌^◌, ◌<◌, ◌≤◌, Bool, true, false, cond, ◌&&◌, ◌||◌, not, eqb, leb, List, [], ◌∷◌, ◌++◌, length, map, inr, get_or, slice_get, Option, Some, None, option_map, refl, sym, ap, ◌∙◌, subst, length-append, arith}
+use Rattle.std.proofs.Common.{inl, ◌≡◌, ℕ, ◌+◌, ◌-◌, ◌*◌, ◌%◌, ◌^◌, ◌<◌, ◌≤◌, Bool, true, false, cond, ◌&&◌, ◌||◌, not, eqb, leb, List, [], ◌∷◌, ◌++◌, length, map, inr, get_or, slice_get, Option, Some, None, option_map, refl, sym, ap, ◌∙◌, subst, length-append, arith}
 use Rattle.std.specs.List.{All, flat_map}
 use Rattle.std.proofs.Math.Seq.{get_or-append_seam}
 use Rattle.std.proofs.lemmas.Bool.{and_parts, leb-true, eqb-true}
@@ -49,11 +49,13 @@ use Rattle.link_image.specs.LinkedImage.{base_rule, entry_rva, table_row, direct
 use Rattle.link_image.specs.BuiltImage.{IsBuilt}
 use Rattle.link_image.specs.LinkMap.{link_map, asked_map}
 use Rattle.link_image.specs.LinkPdb.{streams_at, link_streams, asked_pdb, Fits, IsLarge, RefusesPdb}
+use Rattle.link_library.specs.LinkLibrary.{asked_library, library_fault}
 use Rattle.link_image.specs.BuildFaults.{RefusesBuild}
 use Rattle.pdb_msf.specs.WrittenFile.{MSF_LIMIT, file_size, msf_of}
 use Rattle.image_writer.specs.HeaderTable.{size_of_headers}
 use Rattle.image_writer.proofs.FileBytes.{headers_in_file}
 use Rattle.image_writer.proofs.LoadableLemmas.{written_writable}
+use Rattle.link_base.specs.Refusals.{RefusesFor}
 use Rattle.link_base.specs.declared.stop.Refusal.{Refusal}
 use Rattle.link_base.specs.declared.stop.Refusal.TheVariants as refusal
 use Rattle.link_fields.specs.Entry.{entry_place}
@@ -294,14 +296,26 @@ module _ (options : LinkOptions) (plan : LinkPlan) (placement : Placement) (owne
   pub large_pdb : (id file : List ℕ) (refused : Refusal) → is_permitted (base_rule options) placement.layout.image options.base ≡ true → in_table_fault (kept_parts plan) placement.layout.pieces.items ≡ None → fields_range_fault (kept_parts plan) (rows_of placement.sections.items) placement.layout options.base ≡ None → (options.debug ≡ true → id ≡ image_identifier (sorted_file headers plan placement)) → file ≡ identified_file headers plan placement → RefusesPdb options (streams_at options (kept_parts plan) (rows_of placement.sections.items) placement.layout id file) refused → RefusesBuild options (kept_parts plan) refused
   unfolding is_image
   large_pdb id file (refusal.Fault fault) permitted outside in_range told is large =
-      inr (record { image = image; is_image = is_image permitted outside in_range; is = subst (λ (streams : List (List ℕ)). IsLarge options streams fault) (streams_are id file (told large.asked) is) large })
+      inr (inl (record { image = image; is_image = is_image permitted outside in_range; is = subst (λ (streams : List (List ℕ)). IsLarge options streams fault) (streams_are id file (told large.asked) is) large }))
   large_pdb id file refusal.Memory permitted outside in_range told is large = tt
+
+  -- and an import library that is
+  pub large_library : (id file : List ℕ) (refused : Refusal) → is_permitted (base_rule options) placement.layout.image options.base ≡ true → in_table_fault (kept_parts plan) placement.layout.pieces.items ≡ None → fields_range_fault (kept_parts plan) (rows_of placement.sections.items) placement.layout options.base ≡ None → (options.debug ≡ true → id ≡ image_identifier (sorted_file headers plan placement)) → file ≡ identified_file headers plan placement → Fits options (streams_at options (kept_parts plan) (rows_of placement.sections.items) placement.layout id file) → RefusesFor (library_fault options plan.names.exports) refused → RefusesBuild options (kept_parts plan) refused
+  unfolding is_image
+  large_library id file (refusal.Fault fault) permitted outside in_range told is fits large =
+      inr (inr (record {
+        image = image;
+        is_image = is_image permitted outside in_range;
+        pdb_fits = λ asked. subst (λ (streams : List (List ℕ)). file_size (map length streams) ≤ MSF_LIMIT) (streams_are id file (told asked) is) (fits asked);
+        is = large;
+      }))
+  large_library id file refusal.Memory permitted outside in_range told is fits large = tt
 
   -- what is written of the plan means it
   pub built : (made : Built) → is_permitted (base_rule options) placement.layout.image options.base ≡ true → in_table_fault (kept_parts plan) placement.layout.pieces.items ≡ None → (0 < plan.names.exports.size → All (λ row. IsGiven row.what) (exported_rows (kept_parts plan) placement.layout.pieces.items)) → fields_range_fault (kept_parts plan) (rows_of placement.sections.items) placement.layout options.base ≡ None
-      → made.image.items ≡ identified_file headers plan placement → made.sections ≡ length placement.sections.items → option_map (λ map. map.items) made.map ≡ asked_map options (link_map options (kept_parts plan) (rows_of placement.sections.items) placement.layout) → (id : List ℕ) → (options.debug ≡ true → id ≡ image_identifier (sorted_file headers plan placement)) → option_map (λ bytes. bytes.items) made.pdb ≡ asked_pdb options (msf_of (streams_at options (kept_parts plan) (rows_of placement.sections.items) placement.layout id made.image.items)) → Fits options (streams_at options (kept_parts plan) (rows_of placement.sections.items) placement.layout id made.image.items) → IsBuilt options (kept_parts plan) made
+      → made.image.items ≡ identified_file headers plan placement → made.sections ≡ length placement.sections.items → option_map (λ map. map.items) made.map ≡ asked_map options (link_map options (kept_parts plan) (rows_of placement.sections.items) placement.layout) → (id : List ℕ) → (options.debug ≡ true → id ≡ image_identifier (sorted_file headers plan placement)) → option_map (λ bytes. bytes.items) made.pdb ≡ asked_pdb options (msf_of (streams_at options (kept_parts plan) (rows_of placement.sections.items) placement.layout id made.image.items)) → Fits options (streams_at options (kept_parts plan) (rows_of placement.sections.items) placement.layout id made.image.items) → option_map (λ library. library.items) made.library ≡ asked_library options plan.names.exports → library_fault options plan.names.exports ≡ None → IsBuilt options (kept_parts plan) made
   unfolding written_plan is_image
-  built made permitted outside given in_range is count map_is id told pdb_is pdb_fits =
+  built made permitted outside given in_range is count map_is id told pdb_is pdb_fits library_is library_fits =
       let file : made.image.items ≡ image_file image = is ∙ file_is in
       record {
         image = image;
@@ -318,4 +332,6 @@ module _ (options : LinkOptions) (plan : LinkPlan) (placement : Placement) (owne
         map_is = map_is;
         pdb_is = pdb_is ∙ asked_same options.debug (λ asked. streams_are id made.image.items (told asked) is);
         pdb_fits = λ asked. subst (λ (streams : List (List ℕ)). file_size (map length streams) ≤ MSF_LIMIT) (streams_are id made.image.items (told asked) is) (pdb_fits asked);
+        library_is = library_is;
+        library_fits = library_fits;
       }

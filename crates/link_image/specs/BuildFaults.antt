@@ -23,7 +23,8 @@ use Rattle.link_image.specs.LinkedBytes.{fields_range_fault}
 use Rattle.link_image.specs.ExportFaults.{in_table_fault}
 use Rattle.link_image.specs.TableFaults.{tables_fault}
 use Rattle.image_writer.specs.ExpectedImage.{ImagePlan, image_file}
-use Rattle.link_image.specs.LinkPdb.{link_streams, IsLarge}
+use Rattle.link_library.specs.LinkLibrary.{library_fault}
+use Rattle.link_image.specs.LinkPdb.{link_streams, Fits, IsLarge}
 use Rattle.link_image.specs.LinkedImage.{AreGrouped, ArePlaced, IsPlacement, IsImageOf, base_rule}
 
 -- a merge is bad, and no earlier one
@@ -96,6 +97,13 @@ pub record HasLargePdb (options : LinkOptions) (link : KeptParts) (fault : Fault
   pub is_image : IsImageOf options link image
   pub is : IsLarge options (link_streams options link is_image.rows is_image.layout is_image.tables (image_file image)) fault
 
+-- there is an image, and its PDB is not too large, but its import library would be
+pub record HasLargeLibrary (options : LinkOptions) (link : KeptParts) (fault : Fault) : Type 0 where
+  pub image : ImagePlan
+  pub is_image : IsImageOf options link image
+  pub pdb_fits : Fits options (link_streams options link is_image.rows is_image.layout is_image.tables (image_file image))
+  pub is : library_fault options link.parts.exports ≡ Some fault
+
 -- the fault is the one that stands, of those that leave no image
 abbrev pub IsImageFault : LinkOptions → KeptParts → Fault → Type 0
 IsImageFault options link fault =
@@ -107,7 +115,7 @@ IsImageFault options link fault =
 
 -- or of all
 abbrev pub IsBuildFault : LinkOptions → KeptParts → Fault → Type 0
-IsBuildFault options link fault = IsImageFault options link fault ⊎ HasLargePdb options link fault
+IsBuildFault options link fault = IsImageFault options link fault ⊎ (HasLargePdb options link fault ⊎ HasLargeLibrary options link fault)
 
 -- of want of memory nothing is said
 abbrev pub RefusesBuild : LinkOptions → KeptParts → Refusal → Type 0

@@ -26,24 +26,28 @@ use crate::tables::{directories_of, import_tables, other_tables, table_places};
 use image_headers::headers_of;
 use image_writer::Headers;
 use link_base::Refusal;
+use link_library::link_library;
 use link_plan::LinkPlan;
 use link_words::Options;
 use piece_bytes::owners_of;
 use std::alloc::Global;
 
-/// What a link makes: the file of the image, how many sections this has, and its map and its PDB, where they are asked for.
+/// What a link makes: the file of the image, how many sections this has, and its map, its PDB and its import library, where
+/// they are asked for. An image without exports has no import library.
 #[derive(Drop)]
 pub struct Built {
     pub image: Vec<u8>,
     pub sections: u32,
     pub map: Option<Vec<u8>>,
     pub pdb: Option<Vec<u8>>,
+    pub library: Option<Vec<u8>>,
 }
 
-/// The image of a plan, its map and its PDB. The input is refused for the first of: a bad merge (`BadMerge`), an exception table without
-/// whole rows (`BadPdata`), a bad export (`BadExport`), too many sections (`TooManySections`), an image that is too
-/// large (`ImageTooLarge`), a base at which it may not stand (`BaseRange`), an export that lies in the export table
-/// (`BadExport`), a field whose value does not fit (`RelocRange`), and a PDB that is too large (`PdbTooLarge`).
+/// The image of a plan, its map, its PDB and its import library. The input is refused for the first of: a bad merge
+/// (`BadMerge`), an exception table without whole rows (`BadPdata`), a bad export (`BadExport`), too many sections
+/// (`TooManySections`), an image that is too large (`ImageTooLarge`), a base at which it may not stand (`BaseRange`), an
+/// export that lies in the export table (`BadExport`), a field whose value does not fit (`RelocRange`), and a PDB
+/// (`PdbTooLarge`) or an import library (`ImplibTooLarge`) that is too large.
 pub fn build<'a>(
     alloc: Global,
     plan: &LinkPlan<'a>,
@@ -58,7 +62,7 @@ pub fn build<'a>(
     image_of(alloc, plan, options, &placement)
 }
 
-/// The image of a plan whose pieces stand at these places, its map and its PDB.
+/// The image of a plan whose pieces stand at these places, its map, its PDB and its import library.
 fn image_of<'a>(
     alloc: Global,
     plan: &LinkPlan<'a>,
@@ -85,17 +89,19 @@ fn image_of<'a>(
     )?;
     let map = map_of(alloc, plan, options, placement, &owner, entry)?;
     let pdb = pdb_of(alloc, plan, options, placement, &owner, &id, &image)?;
+    let library = link_library(alloc, options, plan.names.exports())?;
     let sections = placement.sections.len() as u32;
     Ok(Built {
         image,
         sections,
         map,
         pdb,
+        library,
     })
 }
 
-/// Patches the fields in the file of an image, puts the rows of its exception table in order, and gives it an identifier, which is zero
-/// where no PDB is asked for.
+/// Patches the fields in the file of an image, puts the rows of its exception table in order, and gives it an identifier,
+/// which is zero where no PDB is asked for.
 fn finish<'a>(
     alloc: Global,
     image: &mut Vec<u8>,

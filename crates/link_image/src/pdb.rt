@@ -2,6 +2,7 @@
 
 ghost use Rattle.std.specs.Prelude.{◌≡◌, ◌≤◌, ◌+◌, ◌*◌, length, option_map, IfOk, OnOk, IfErr};
 ghost use Rattle.link_base.specs.Limits.{SECTION_LIMIT};
+ghost use Rattle.link_base.specs.PeFormat.{SECTION_HEADERS_OFFSET, SIZEOF_SECTION_HEADER};
 ghost use Rattle.section_group.specs.Uniqueness.{rows_of};
 ghost use Rattle.pdb_msf.specs.WrittenFile.{msf_of};
 ghost use Rattle.link_words.specs.Outcome.{options_said};
@@ -13,14 +14,11 @@ use crate::map::listed_image;
 use crate::placement::Placement;
 use image_pdb::image_pdb;
 use link_base::pe_format::{SECTION_HEADERS_OFFSET, SIZEOF_SECTION_HEADER};
-use link_base::{Fault, Refusal};
+use link_base::{Fault, MODULE_LIMIT, Refusal};
 use link_plan::LinkPlan;
 use link_words::Options;
 use pdb_msf::MsfError;
 use std::alloc::Global;
-
-/// A PDB lists at most so many modules of a link.
-const MODULE_LIMIT: usize = 65_534;
 
 /// The PDB of an image with this identifier and this file, where one is asked for. One that would be too large is refused
 /// (`PdbTooLarge`). More modules than a link can have are want of memory.
@@ -37,7 +35,7 @@ pub(crate) fn pdb_of<'a>(
     requires few { length placement.now.sections.items ≤ SECTION_LIMIT }
     requires places { length placement.now.layout.sections.items ≡ length placement.now.sections.items }
     requires owner { owner.now ≡ owners_in (rows_of placement.now.sections.items) placement.now.layout }
-    requires headers { 328 + 40 * length placement.now.sections.items ≤ length image.now }
+    requires headers { SECTION_HEADERS_OFFSET + SIZEOF_SECTION_HEADER * length placement.now.sections.items ≤ length image.now }
     ensures pdb { IfOk result (λ pdb. option_map (λ bytes. bytes.items) pdb
         ≡ asked_pdb (options_said options.now) (msf_of (streams_at (options_said options.now) (kept_parts plan.now) (rows_of placement.now.sections.items) placement.now.layout id.now image.now))) }
     ensures fits { OnOk result (Fits (options_said options.now) (streams_at (options_said options.now) (kept_parts plan.now) (rows_of placement.now.sections.items) placement.now.layout id.now image.now)) }

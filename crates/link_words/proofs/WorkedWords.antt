@@ -8,13 +8,14 @@ use Rattle.directives.specs.Names.{is_word, listed}
 use Rattle.directives.specs.Number.{digits_value, are_digits, digits_up_to, decimal_up_to, number_up_to}
 use Rattle.directives.specs.ExportValue.{export_internal, export_of, export_value}
 use Rattle.directives.specs.Value.{name_of, names_of, value_said}
+use Rattle.directives.specs.declared.item.ExportForm.TheVariants.{Code}
 use Rattle.link_words.specs.declared.errors.UsageKind.TheVariants.{Command, Unknown, MissingValue, BadValue, NoInput, Conflict}
 use Rattle.link_words.specs.Known.{known}
 use Rattle.link_words.specs.Values.{negated, sizes, version, subsystem, opt_item, opts}
 use Rattle.link_words.specs.Setting.{Setting, word_says, refusal_in}
 use Rattle.link_words.specs.Setting as says
 use Rattle.link_words.specs.Extension.{stem, with_extension}
-use Rattle.link_words.specs.Options.{default_entry, options_of, outputs_clash}
+use Rattle.link_words.specs.Options.{lacks_image_name, default_entry, options_of, outputs_clash}
 use Rattle.link_words.specs.Outcome.{LinkOptions, Link, At, Show, refuse}
 use Rattle.link_words.specs.LinkWords.{word_refusal, settings, line_refusal, link_refusal, link_says}
 use Rattle.link_words.specs.Commands.{text_word, number_word, at_says, show_says, gen_says, words_say}
@@ -54,6 +55,7 @@ one_object : words_say (codes "link" ∷ codes "a.obj" ∷ []) ≡ Ok (Link (rec
   stack = (1048576, 4096);
   lib_paths = [];
   map_file = None;
+  implib = None;
   no_default = [];
   no_default_all = false;
   refs = None;
@@ -63,7 +65,7 @@ one_object : words_say (codes "link" ∷ codes "a.obj" ∷ []) ≡ Ok (Link (rec
   time = 0;
   version = (0, 0);
 }))
-unfolding words_say link_says link_refusal word_refusal first_refusal_below settings line_refusal options_of outputs_clash default_entry with_extension stem word_says known is_word is_text
+unfolding words_say link_says link_refusal word_refusal first_refusal_below settings line_refusal options_of outputs_clash lacks_image_name default_entry with_extension stem word_says known is_word is_text
 one_object = refl
 
 -- ---- words of a link by themselves
@@ -76,7 +78,7 @@ refused_values : map (λ word. refusal_in (word_says word)) (codes "/MERGE:.a" �
 unfolding word_says known is_word is_text is_name value_said listed names_of name_of whole pair form quoted_form negated sizes version subsystem opt_item opts number_up_to decimal_up_to digits_up_to are_digits digits_value
 refused_values = refl
 
-taken_words : map word_says (codes "-entry:\"a b\"" ∷ codes "/export:a=k.f" ∷ codes "/Heap:1" ∷ codes "/stack:0x10,2" ∷ codes "/opt:ref,NoRef,noicf" ∷ codes "/MANIFEST:no" ∷ []) ≡ Ok (says.Entry (codes "\"a b\"")) ∷ Ok (says.Exported (record { name = codes "a"; internal = Some (codes "k.f"); ordinal = None; noname = false })) ∷ Ok (says.Heap (1, 4096)) ∷ Ok (says.Stack (16, 2)) ∷ Ok (says.Refs (Some false)) ∷ Ok says.Nothing ∷ []
+taken_words : map word_says (codes "-entry:\"a b\"" ∷ codes "/export:a=k.f" ∷ codes "/Heap:1" ∷ codes "/stack:0x10,2" ∷ codes "/opt:ref,NoRef,noicf" ∷ codes "/MANIFEST:no" ∷ []) ≡ Ok (says.Entry (codes "\"a b\"")) ∷ Ok (says.Exported (record { name = codes "a"; internal = Some (codes "k.f"); ordinal = None; noname = false; form = Code; private = false })) ∷ Ok (says.Heap (1, 4096)) ∷ Ok (says.Stack (16, 2)) ∷ Ok (says.Refs (Some false)) ∷ Ok says.Nothing ∷ []
 unfolding word_says known is_word is_text is_name value_said listed form export_value export_of export_internal sizes opt_item opts number_up_to decimal_up_to digits_up_to are_digits digits_value
 taken_words = refl
 

@@ -2,7 +2,7 @@
 use Rattle.std.specs.Prelude.{ℕ, List, [], ◌∷◌, Option, codes}
 use Rattle.directives.specs.Names.{lookup}
 use Rattle.link_words.specs.declared.known.Known.{Known}
-use Rattle.link_words.specs.declared.known.Known.TheVariants.{Shared, LibPath, NoDefaultLib, Debug, Dll, NoEntry, DynamicBase, HighEntropyVa, NxCompat, LargeAddressAware, Fixed, Base, Entry, Heap, Stack, Map, Opt, Out, Pdb, Subsystem, TimeStamp, Version, Machine, NoLogo, Ignored}
+use Rattle.link_words.specs.declared.known.Known.TheVariants.{Shared, LibPath, NoDefaultLib, Debug, Dll, NoEntry, DynamicBase, HighEntropyVa, NxCompat, LargeAddressAware, Fixed, Base, Entry, Heap, Stack, Map, ImpLib, Opt, Out, Pdb, Subsystem, TimeStamp, Version, Machine, NoLogo, Ignored}
 
 abbrev pub option_names : List (List ℕ × Known)
 option_names =
@@ -12,7 +12,7 @@ option_names =
     ∷ (codes "NOENTRY", NoEntry) ∷ (codes "DYNAMICBASE", DynamicBase) ∷ (codes "HIGHENTROPYVA", HighEntropyVa)
     ∷ (codes "NXCOMPAT", NxCompat) ∷ (codes "LARGEADDRESSAWARE", LargeAddressAware) ∷ (codes "FIXED", Fixed)
     ∷ (codes "BASE", Base) ∷ (codes "ENTRY", Entry) ∷ (codes "HEAP", Heap) ∷ (codes "STACK", Stack)
-    ∷ (codes "MAP", Map) ∷ (codes "OPT", Opt) ∷ (codes "OUT", Out) ∷ (codes "PDB", Pdb)
+    ∷ (codes "MAP", Map) ∷ (codes "IMPLIB", ImpLib) ∷ (codes "OPT", Opt) ∷ (codes "OUT", Out) ∷ (codes "PDB", Pdb)
     ∷ (codes "SUBSYSTEM", Subsystem) ∷ (codes "TIMESTAMP", TimeStamp) ∷ (codes "VERSION", Version)
     ∷ (codes "MACHINE", Machine) ∷ (codes "NOLOGO", NoLogo) ∷ (codes "INCREMENTAL", Ignored)
     ∷ (codes "MANIFEST", Ignored) ∷ []

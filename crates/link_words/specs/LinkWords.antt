@@ -4,7 +4,7 @@ use Rattle.std.specs.Option.{option_or}
 use Rattle.std.specs.List.{filter_map}
 use Rattle.link_base.specs.Refusals.{shown, first_standing, first_refusal_below}
 use Rattle.link_words.specs.Setting.{Setting, word_says, said_in, refusal_in}
-use Rattle.link_words.specs.Options.{options_of, outputs_clash}
+use Rattle.link_words.specs.Options.{options_of, outputs_clash, lacks_image_name}
 use Rattle.link_words.specs.declared.errors.UsageKind.TheVariants.{NoInput, Conflict}
 use Rattle.link_words.specs.Outcome.{LinkOptions, CommandSaid, Link}
 pub use Rattle.link_words.specs.Outcome.{Refused, refuse}
@@ -21,12 +21,13 @@ word_refusal words =
 unfoldable pub settings : List (List ℕ) → List Setting
 settings words = filter_map (λ word. said_in (word_says word)) words
 
--- a link has an input; a link without an entry is a DLL, and the files that it writes have names of their own
+-- a link has an input; a link without an entry is a DLL, the files that it writes have names of their own, and an image with an
+-- import library has a name
 unfoldable pub line_refusal : LinkOptions → Option Refused
 line_refusal options =
     first_standing (
     shown (length options.inputs == 0) (refuse 0 NoInput)
-    ∷ shown ((options.noentry && not options.dll) || outputs_clash options) (refuse 0 Conflict) ∷ [])
+    ∷ shown ((options.noentry && not options.dll) || (outputs_clash options || lacks_image_name options)) (refuse 0 Conflict) ∷ [])
 
 -- the whole line is judged where no word is refused
 unfoldable pub link_refusal : List (List ℕ) → Option Refused

@@ -1,12 +1,12 @@
 -- The options of a link, from what its words say (MSVC linker reference, "Linker options"). Own where it says so.
-use Rattle.std.specs.Prelude.{ℕ, Bool, true, false, ◌&&◌, ◌||◌, ◌==◌, if◌then◌else◌, List, [], Option, Some, None, option_map, unwrap_or, slice_index_or, codes}
+use Rattle.std.specs.Prelude.{ℕ, ◌-◌, Bool, true, false, ◌&&◌, ◌||◌, ◌==◌, if◌then◌else◌, List, [], Option, Some, None, option_map, unwrap_or, is_some, slice_index, slice_index_or, length, codes}
 use Rattle.std.specs.List.{filter_map, last_or}
 use Rattle.std.specs.Str.{bytes_eq}
 use Rattle.link_base.specs.PeFormat.{PAGE_SIZE, SUBSYSTEM_WINDOWS_GUI, SUBSYSTEM_WINDOWS_CUI}
 use Rattle.directives.specs.declared.item.Export.{Export}
-use Rattle.link_words.specs.Extension.{with_extension}
+use Rattle.link_words.specs.Extension.{is_slash, with_extension}
 use Rattle.link_words.specs.Outcome as outcome
-use Rattle.link_words.specs.Setting.{Setting, Input, Alternate, Merged, DefaultLib, Exported, Included, LibPath, NoDefault, NoDefaultAll, Debug, Dll, NoEntry, Dynamic, Entropy, Nx, Large, Fixed, Base, Entry, Heap, Stack, MapFile, Refs, Out, Pdb, Subsystem, Time, Version}
+use Rattle.link_words.specs.Setting.{Setting, Input, Alternate, Merged, DefaultLib, Exported, Included, LibPath, NoDefault, NoDefaultAll, Debug, Dll, NoEntry, Dynamic, Entropy, Nx, Large, Fixed, Base, Entry, Heap, Stack, MapFile, ImpLib, Refs, Out, Pdb, Subsystem, Time, Version}
 
 -- ---- what a setting says of one field
 
@@ -97,6 +97,10 @@ stack_in _ = None
 abbrev pub map_in : Setting → Option (Option (List ℕ))
 map_in (MapFile file) = Some file
 map_in _ = None
+
+abbrev pub implib_in : Setting → Option (List ℕ)
+implib_in (ImpLib file) = Some file
+implib_in _ = None
 
 abbrev pub refs_in : Setting → Option Bool
 refs_in (Refs refs) = refs
@@ -206,6 +210,7 @@ options_of settings = record {
   stack = said_or (0x10_0000, PAGE_SIZE) stack_in settings;
   lib_paths = all_said lib_path_in settings;
   map_file = option_map (map_name (out_of settings)) (last_said map_in settings);
+  implib = last_said implib_in settings;
   no_default = all_said no_default_in settings;
   no_default_all = said_or false no_default_all_in settings;
   refs = last_said refs_in settings;
@@ -222,11 +227,25 @@ abbrev pub is_named : List ℕ → Option (List ℕ) → Bool
 is_named name None = false
 is_named name (Some file) = bytes_eq file name
 
+-- two files that are named have one name
+abbrev pub are_one : Option (List ℕ) → Option (List ℕ) → Bool
+are_one None file = false
+are_one (Some name) file = is_named name file
+
+-- the last byte is a slash
+abbrev pub ends_in_slash : List ℕ → Bool
+ends_in_slash text = is_slash (slice_index text (length text - 1))
+
 -- two of the files that are written have one name
 unfoldable pub outputs_clash : outcome.LinkOptions → Bool
 outputs_clash options =
     (options.debug && bytes_eq options.pdb options.out)
-    || (is_named options.out options.map_file || (options.debug && is_named options.pdb options.map_file))
+    || ((is_named options.out options.map_file || (options.debug && is_named options.pdb options.map_file))
+    || (is_named options.out options.implib || ((options.debug && is_named options.pdb options.implib) || are_one options.map_file options.implib)))
+
+-- an import library names the image by what stands after the last slash, which has to be there
+unfoldable pub lacks_image_name : outcome.LinkOptions → Bool
+lacks_image_name options = is_some options.implib && ends_in_slash options.out
 
 -- ---- the name of the program database
 

@@ -1,5 +1,6 @@
 -- A command as plain data: what a borrowed one says.
 use Rattle.std.specs.Prelude.{ℕ, Bool, List, Option, option_map}
+use Rattle.std.specs.Option.{option_copied}
 use Rattle.std.specs.String.{string_bytes}
 use Rattle.directives.specs.declared.item.Export.{Export}
 use Rattle.link_words.specs.SettingsView.{texts_of}
@@ -29,6 +30,7 @@ pub record LinkOptions : Type 0 where
   pub stack : ℕ × ℕ
   pub lib_paths : List (List ℕ)
   pub map_file : Option (List ℕ)
+  pub implib : Option (List ℕ)
   pub no_default : List (List ℕ)
   pub no_default_all : Bool
   pub refs : Option Bool
@@ -61,6 +63,7 @@ options_said options = record {
   stack = options.stack;
   lib_paths = texts_of options.lib_paths.items;
   map_file = option_map string_bytes options.map;
+  implib = option_copied options.implib;
   no_default = texts_of options.no_default.items;
   no_default_all = options.no_default_all;
   refs = options.refs;

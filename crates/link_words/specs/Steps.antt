@@ -61,6 +61,7 @@ nothing_said = record {
     stack = (0x10_0000, PAGE_SIZE);
     lib_paths = [];
     map_file = None;
+    implib = None;
     no_default = [];
     no_default_all = false;
     refs = None;
@@ -102,6 +103,7 @@ with_setting given (says.Entry name) = record given { entry_name = Some name }
 with_setting given (says.Heap two) = record given { options = record given.options { heap = two } }
 with_setting given (says.Stack two) = record given { options = record given.options { stack = two } }
 with_setting given (says.MapFile file) = record given { map_file = Some file }
+with_setting given (says.ImpLib file) = record given { options = record given.options { implib = Some file } }
 with_setting given (says.Refs refs) = record given { options = record given.options { refs = option_or refs given.options.refs } }
 with_setting given (says.Out text) = record given { out = Some text }
 with_setting given (says.Pdb text) = record given { pdb = Some text }

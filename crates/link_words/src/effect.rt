@@ -59,6 +59,7 @@ pub(crate) fn with_value<'w>(
         Known::Heap => set(&mut given.options.heap, sizes(text)),
         Known::Stack => set(&mut given.options.stack, sizes(text)),
         Known::Map => set(&mut given.map, Some(Some(Some(value)))),
+        Known::ImpLib => set(&mut given.options.implib, Some(Some(value))),
         Known::Opt => set_refs(given, opts(text)),
         Known::Out => set(&mut given.out, Some(Some(value))),
         Known::Pdb => set(&mut given.pdb, Some(Some(value))),

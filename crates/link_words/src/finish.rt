@@ -6,7 +6,7 @@ ghost use Rattle.std.specs.String.{string_bytes};
 ghost use Rattle.link_words.specs.Extension.{with_extension};
 ghost use Rattle.link_words.specs.Outcome.{options_said};
 ghost use Rattle.link_words.specs.SettingsView.{texts_of};
-ghost use Rattle.link_words.specs.Options.{default_base, default_subsystem, default_entry, image_extension, first_text, map_name, is_named, outputs_clash};
+ghost use Rattle.link_words.specs.Options.{default_base, default_subsystem, default_entry, image_extension, first_text, map_name, is_named, are_one, outputs_clash, lacks_image_name, ends_in_slash};
 ghost use Rattle.link_words.specs.Answers.{Answers};
 ghost use Rattle.link_words.specs.Steps.{so_far, final_options, finished};
 
@@ -18,8 +18,8 @@ use link_base::Name;
 use link_base::pe_format::{SUBSYSTEM_WINDOWS_CUI, SUBSYSTEM_WINDOWS_GUI};
 use std::alloc::{AllocError, Global};
 
-/// The options that the words give. A link has an input, a link without an entry is a DLL, and the files that it
-/// writes have names of their own.
+/// The options that the words give. A link has an input, a link without an entry is a DLL, the files that it writes have
+/// names of their own, and an image with an import library has a name.
 #[tactic(auto, unfolding(crate::specs::Steps::finished, crate::specs::LinkWords::line_refusal))]
 pub(crate) fn finish<'w>(alloc: Global, given: Given<'w>) -> Result<Options<'w>, WordsError>
     ensures { Answers options_said (finished (so_far given.entry)) result }
@@ -28,7 +28,9 @@ pub(crate) fn finish<'w>(alloc: Global, given: Given<'w>) -> Result<Options<'w>,
     if options.inputs.is_empty() {
         return Err(usage(0, UsageKind::NoInput));
     }
-    if (options.noentry && !options.dll) || outputs_clash(&options) {
+    if (options.noentry && !options.dll)
+        || (outputs_clash(&options) || lacks_image_name(&options))
+    {
         return Err(usage(0, UsageKind::Conflict));
     }
     Ok(options)
@@ -120,8 +122,50 @@ fn outputs_clash(options: &Options<'_>) -> bool
     ensures { result ≡ outputs_clash (options_said options.now) }
 {
     (options.debug && options.pdb == options.out)
-        || (is_named(options.out.as_str(), &options.map)
+        || ((is_named(options.out.as_str(), &options.map)
             || (options.debug && is_named(options.pdb.as_str(), &options.map)))
+            || (is_library(options.out.as_str(), options.implib)
+                || ((options.debug && is_library(options.pdb.as_str(), options.implib))
+                    || are_one(&options.map, options.implib))))
+}
+
+/// Whether the import library has this name.
+fn is_library(name: &str, library: Option<&str>) -> bool
+    ensures { result ≡ is_named name.now (option_copied library.entry) }
+{
+    match library {
+        Some(library) => library == name,
+        None => false,
+    }
+}
+
+/// Whether the map and the import library have one name.
+fn are_one(map: &Option<String>, library: Option<&str>) -> bool
+    ensures { result ≡ are_one (option_map string_bytes map.now) (option_copied library.entry) }
+{
+    match map {
+        Some(map) => is_library(map.as_str(), library),
+        None => false,
+    }
+}
+
+/// Whether an import library is asked for, but the image has no name after its last slash.
+#[tactic(auto, unfolding(crate::specs::Options::lacks_image_name))]
+fn lacks_image_name(options: &Options<'_>) -> bool
+    ensures { result ≡ lacks_image_name (options_said options.now) }
+{
+    options.implib.is_some() && ends_in_slash(options.out.as_bytes())
+}
+
+/// Whether the last byte of a text is a slash.
+fn ends_in_slash(text: &[u8]) -> bool
+    ensures { result ≡ ends_in_slash text.now }
+{
+    if text.is_empty() {
+        return false;
+    }
+    let last = text[text.len() - 1];
+    last == b'/' || last == b'\\'
 }
 
 fn is_named(name: &str, file: &Option<String>) -> bool

@@ -62,6 +62,7 @@ fn default_options<'w>(alloc: Global) -> Options<'w>
         stack: (0x10_0000, PAGE_SIZE as u64),
         lib_paths: Vec::new(alloc),
         map: None,
+        implib: None,
         no_default: Vec::new(alloc),
         no_default_all: false,
         refs: None,

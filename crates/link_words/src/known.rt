@@ -25,6 +25,7 @@ pub(crate) enum Known {
     Heap,
     Stack,
     Map,
+    ImpLib,
     Opt,
     Out,
     Pdb,
@@ -36,7 +37,7 @@ pub(crate) enum Known {
     Ignored,
 }
 
-const OPTIONS: [(&[u8], Known); 30] = [
+const OPTIONS: [(&[u8], Known); 31] = [
     (b"ALTERNATENAME", Known::Shared),
     (b"DEFAULTLIB", Known::Shared),
     (b"EXPORT", Known::Shared),
@@ -57,6 +58,7 @@ const OPTIONS: [(&[u8], Known); 30] = [
     (b"HEAP", Known::Heap),
     (b"STACK", Known::Stack),
     (b"MAP", Known::Map),
+    (b"IMPLIB", Known::ImpLib),
     (b"OPT", Known::Opt),
     (b"OUT", Known::Out),
     (b"PDB", Known::Pdb),

@@ -72,6 +72,8 @@ pub struct Options<'w> {
     pub lib_paths: Vec<&'w str>,
     /// The file that the map is written to, where one is asked for.
     pub map: Option<String>,
+    /// The file that the import library is written to, where one is asked for.
+    pub implib: Option<&'w str>,
     /// Default libraries that are not searched, by their file names.
     pub no_default: Vec<&'w str>,
     /// Whether no default library is searched.

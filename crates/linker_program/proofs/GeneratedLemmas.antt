@@ -1,6 +1,7 @@
 -- What `gen` shows, from what linking and loading promise.
 use Rattle.std.proofs.Common.{◌≡◌, ℕ, Bool, cond, ◌&&◌, List, Option, Some, None, option_map, Result, Ok, Err, refl, sym, ap, subst, ◌∙◌}
 use Rattle.std.specs.Prelude.{IfOk, is_none}
+use Rattle.link_library.specs.LinkLibrary.{library_with}
 use Rattle.link_base.specs.declared.fault.Fault.{Fault}
 use Rattle.link_base.specs.declared.kinds.image.ImageKind.{ImageKind}
 use Rattle.link_base.specs.declared.memory.Memory.{Memory}
@@ -68,8 +69,8 @@ pub image_tells : (r : Result Answer Memory) (options : LinkOptions) (modules : 
     → IsLinkOf options modules resources link → plan_fault options (link_parts options modules resources) ≡ None → IsBuilt options link built
     → IfOk r (λ answer. Says answer (image_told count built.image.items)) → IfOk r (TellsLink (ModulesOutcome options modules resources) count)
 image_tells (Ok answer) options modules resources link built count link_is planned is says =
-    let plan : Plan = record { options = options; modules = modules; resources = resources; image = is.image; map = link_map options link is.is_image.rows is.is_image.layout; pdb = msf_of (link_streams options link is.is_image.rows is.is_image.layout is.is_image.tables (image_file is.image)) } in
-    let made : IsPlan options modules resources link plan = record { options_are = refl; modules_are = refl; resources_are = refl; image_is = is.is_image; map_is = refl; pdb_is = refl; pdb_fits = is.pdb_fits } in
+    let plan : Plan = record { options = options; modules = modules; resources = resources; image = is.image; map = link_map options link is.is_image.rows is.is_image.layout; pdb = msf_of (link_streams options link is.is_image.rows is.is_image.layout is.is_image.tables (image_file is.image)); library = library_with link.parts.exports } in
+    let made : IsPlan options modules resources link plan = record { options_are = refl; modules_are = refl; resources_are = refl; image_is = is.is_image; map_is = refl; pdb_is = refl; pdb_fits = is.pdb_fits; library_is = refl; library_fits = is.library_fits } in
     let outcome : BuildOutcome options modules resources (Linked plan) = record { link = link; link_is = link_is; is = made } in
     record { link = Linked plan; linked = rw planned outcome; says = subst (λ (file : List ℕ). Says answer (image_told count file)) is.file says }
 image_tells (Err error) options modules resources link built count link_is planned is says = tt

@@ -1,5 +1,5 @@
 -- Words and files have one outcome.
-use Rattle.std.proofs.Common.{◌≡◌, ℕ, ◌+◌, ◌≤◌, ◌⊎◌, Bool, true, false, cond, List, ◌++◌, length, map, subst, Option, Some, None, Result, Ok, Err, refl, sym, ap, ◌∙◌, inl, inr, arith}
+use Rattle.std.proofs.Common.{◌≡◌, ℕ, ◌+◌, ◌≤◌, ◌⊎◌, Bool, true, false, cond, List, ◌++◌, length, map, subst, Option, Some, None, unwrap_or, Result, Ok, Err, refl, sym, ap, ◌∙◌, inl, inr, arith}
 use Rattle.std.proofs.lemmas.Bool.{cases_lt, false≢true}
 use Rattle.std.proofs.lemmas.List.{length-map}
 use Rattle.link_base.specs.declared.fault.Fault.{Fault}
@@ -348,17 +348,26 @@ large_or_fits options link f image is x fits =
 
 same_fault : (options : LinkOptions) (link : KeptParts) (f g : Fault) → IsBuildFault options link f → IsBuildFault options link g → f ≡ g
 same_fault options link f g (inl x) (inl y) = same_image_fault options link f g x y
-same_fault options link f g (inl x) (inr y) = absurd (fault_or_image options link f y.image x y.is_image)
-same_fault options link f g (inr x) (inl y) = absurd (fault_or_image options link g x.image y x.is_image)
-same_fault options link f g (inr x) (inr y) =
+same_fault options link f g (inl x) (inr (inl y)) = absurd (fault_or_image options link f y.image x y.is_image)
+same_fault options link f g (inl x) (inr (inr y)) = absurd (fault_or_image options link f y.image x y.is_image)
+same_fault options link f g (inr (inl x)) (inl y) = absurd (fault_or_image options link g x.image y x.is_image)
+same_fault options link f g (inr (inr x)) (inl y) = absurd (fault_or_image options link g x.image y x.is_image)
+same_fault options link f g (inr (inl x)) (inr (inr y)) = absurd (large_or_fits options link f y.image y.is_image x y.pdb_fits)
+same_fault options link f g (inr (inr x)) (inr (inl y)) = absurd (large_or_fits options link g x.image x.is_image y x.pdb_fits)
+same_fault options link f g (inr (inr x)) (inr (inr y)) = ap (λ (o : Option Fault). unwrap_or o f) (sym x.is ∙ y.is)
+same_fault options link f g (inr (inl x)) (inr (inl y)) =
     x.is.is
     ∙ ap (λ (ss : List (List ℕ)). faults.PdbTooLarge (file_size (map length ss))) (same_streams options link x.image y.image x.is_image y.is_image)
     ∙ sym y.is.is
 
+none_or_some : (f : Fault) → None ≡ Some f → ⊥
+none_or_some f e = absurd cc
+
 -- modules have a fault, or a plan
 fault_or_plan : (options : LinkOptions) (modules : List ModuleView) (resources : List Entry) (link : KeptParts) (f : Fault) (plan : Plan) → IsBuildFault options link f → IsPlan options modules resources link plan → ⊥
 fault_or_plan options modules resources link f plan (inl x) y = fault_or_image options link f plan.image x y.image_is
-fault_or_plan options modules resources link f plan (inr x) y = large_or_fits options link f plan.image y.image_is x y.pdb_fits
+fault_or_plan options modules resources link f plan (inr (inl x)) y = large_or_fits options link f plan.image y.image_is x y.pdb_fits
+fault_or_plan options modules resources link f plan (inr (inr x)) y = none_or_some f (sym y.library_fits ∙ x.is)
 
 -- the map of a layout, by its lists
 abbrev map_at : LinkOptions → KeptParts → List SectionRow → List Placed → List ℕ → ℕ → List ℕ
@@ -378,27 +387,28 @@ one_map options link a b x y =
     let same = one_placement options link x.rows y.rows x.layout y.layout x.tables y.tables x.placement y.placement in
     same_map options link x.rows y.rows x.layout y.layout same.rows_same same.layouts
 
-plan_from : LinkOptions → List ModuleView → List Entry → ImagePlan → List ℕ → List ℕ → Plan
-plan_from options modules resources image text pdb = record { options = options; modules = modules; resources = resources; image = image; map = text; pdb = pdb }
+plan_from : LinkOptions → List ModuleView → List Entry → ImagePlan → List ℕ → List ℕ → Option (List ℕ) → Plan
+plan_from options modules resources image text pdb library = record { options = options; modules = modules; resources = resources; image = image; map = text; pdb = pdb; library = library }
 
-same_parts : (p q : Plan) → p.options ≡ q.options → p.modules ≡ q.modules → p.resources ≡ q.resources → p.image ≡ q.image → p.map ≡ q.map → p.pdb ≡ q.pdb → p ≡ q
+same_parts : (p q : Plan) → p.options ≡ q.options → p.modules ≡ q.modules → p.resources ≡ q.resources → p.image ≡ q.image → p.map ≡ q.map → p.pdb ≡ q.pdb → p.library ≡ q.library → p ≡ q
 unfolding plan_from
-same_parts p q options modules resources image text pdb =
-    let start : p ≡ plan_from p.options p.modules p.resources p.image p.map p.pdb = refl in
-    let end : q ≡ plan_from q.options q.modules q.resources q.image q.map q.pdb = refl in
+same_parts p q options modules resources image text pdb library =
+    let start : p ≡ plan_from p.options p.modules p.resources p.image p.map p.pdb p.library = refl in
+    let end : q ≡ plan_from q.options q.modules q.resources q.image q.map q.pdb q.library = refl in
     start
-    ∙ ap (λ (o : LinkOptions). plan_from o p.modules p.resources p.image p.map p.pdb) options
-    ∙ ap (λ (m : List ModuleView). plan_from q.options m p.resources p.image p.map p.pdb) modules
-    ∙ ap (λ (r : List Entry). plan_from q.options q.modules r p.image p.map p.pdb) resources
-    ∙ ap (λ (i : ImagePlan). plan_from q.options q.modules q.resources i p.map p.pdb) image
-    ∙ ap (λ (t : List ℕ). plan_from q.options q.modules q.resources q.image t p.pdb) text
-    ∙ ap (plan_from q.options q.modules q.resources q.image q.map) pdb
+    ∙ ap (λ (o : LinkOptions). plan_from o p.modules p.resources p.image p.map p.pdb p.library) options
+    ∙ ap (λ (m : List ModuleView). plan_from q.options m p.resources p.image p.map p.pdb p.library) modules
+    ∙ ap (λ (r : List Entry). plan_from q.options q.modules r p.image p.map p.pdb p.library) resources
+    ∙ ap (λ (i : ImagePlan). plan_from q.options q.modules q.resources i p.map p.pdb p.library) image
+    ∙ ap (λ (t : List ℕ). plan_from q.options q.modules q.resources q.image t p.pdb p.library) text
+    ∙ ap (λ (d : List ℕ). plan_from q.options q.modules q.resources q.image q.map d p.library) pdb
+    ∙ ap (plan_from q.options q.modules q.resources q.image q.map q.pdb) library
     ∙ sym end
 
 same_plan : (options : LinkOptions) (modules : List ModuleView) (resources : List Entry) (link : KeptParts) (p q : Plan) → IsPlan options modules resources link p → IsPlan options modules resources link q → p ≡ q
 same_plan options modules resources link p q x y =
     same_parts p q (x.options_are ∙ sym y.options_are) (x.modules_are ∙ sym y.modules_are) (x.resources_are ∙ sym y.resources_are) (same_image options link p.image q.image x.image_is y.image_is) (x.map_is ∙ one_map options link p.image q.image x.image_is y.image_is ∙ sym y.map_is)
-    (x.pdb_is ∙ ap msf_of (same_streams options link p.image q.image x.image_is y.image_is) ∙ sym y.pdb_is)
+    (x.pdb_is ∙ ap msf_of (same_streams options link p.image q.image x.image_is y.image_is) ∙ sym y.pdb_is) (x.library_is ∙ sym y.library_is)
 
 -- ---- what is kept
 

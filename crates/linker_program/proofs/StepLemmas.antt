@@ -1,6 +1,8 @@
 -- From what the steps of a run promise to what the run promises.
 use Rattle.std.proofs.Common.{◌≡◌, ◌<◌, ℕ, Bool, true, cond, List, [], ◌∷◌, ◌++◌, length, Option, option_map, Result, Ok, Err, refl, sym, ap, ◌∙◌, ◌⊎◌, subst, inl, inr}
-use Rattle.std.specs.Prelude.{IfOk, OnErr, Some, None, false}
+use Rattle.std.specs.Prelude.{IfOk, OnErr, Some, None, false, is_some}
+use Rattle.link_exports.specs.Exports.{ExportsView}
+use Rattle.link_library.specs.LinkLibrary.{asked_library, library_with}
 use Rattle.std.specs.declared.vec.Vec.{Vec}
 use Rattle.link_base.specs.declared.fault.Fault.{Fault}
 use Rattle.link_base.specs.declared.memory.Memory.{Memory}
@@ -92,6 +94,7 @@ made_later has later files plan image follows made = record {
   resources = made.resources;
   map = made.map;
   pdb = made.pdb;
+  library = made.library;
 }
 
 answers_later : (has later : Store → Outcome → Type 0) (tries : Option Store → List ℕ → Type 0) (before after : FilesView) (answer : Status) (line : List ℕ) → Follows has later before → LinkAnswers has tries before after answer line → LinkAnswers later tries before after answer line
@@ -140,7 +143,7 @@ written_answers options modules resources tries before after linked status.Done 
   (
     linked.image.items,
     record {
-      made = record { outcome = record { told = λ store told. is.outcome }; means = is.means; imports = is.imports; exports = is.exports; resources = is.tree; map = is.map; pdb = is.pdb };
+      made = record { outcome = record { told = λ store told. is.outcome }; means = is.means; imports = is.imports; exports = is.exports; resources = is.tree; map = is.map; pdb = is.pdb; library = is.library };
       files = subst (λ (outputs : List NamedBytes). FirstWritten before after outputs (length outputs)) is.outputs wrote.files;
       says = rw (is.asked, ← is.modules_are, ← is.sections_are) wrote.says;
     },
@@ -153,7 +156,7 @@ written_answers options modules resources tries before after linked status.Write
     (
       wrote.0,
       record {
-        made = record { outcome = record { told = λ store told. is.outcome }; means = is.means; imports = is.imports; exports = is.exports; resources = is.tree; map = is.map; pdb = is.pdb };
+        made = record { outcome = record { told = λ store told. is.outcome }; means = is.means; imports = is.imports; exports = is.exports; resources = is.tree; map = is.map; pdb = is.pdb; library = is.library };
         files = subst (λ (outputs : List NamedBytes). NextTorn before after outputs wrote.0) is.outputs wrote.1.files;
         says = subst (λ (outputs : List NamedBytes). line ≡ write_failure_line (output_at outputs wrote.0).name) is.outputs wrote.1.says;
       },
@@ -183,7 +186,7 @@ on_left (Err error) options modules resources before after linked is left = elim
     (
       linked.image.items,
       record {
-        made = record { outcome = record { told = λ store told. is.outcome }; means = is.means; imports = is.imports; exports = is.exports; resources = is.tree; map = is.map; pdb = is.pdb };
+        made = record { outcome = record { told = λ store told. is.outcome }; means = is.means; imports = is.imports; exports = is.exports; resources = is.tree; map = is.map; pdb = is.pdb; library = is.library };
         count = some.0;
         files = subst (λ (outputs : List NamedBytes). FirstWritten before after outputs some.0 ⊎ NextTorn before after outputs some.0) is.outputs some.1;
       },
@@ -332,11 +335,19 @@ written_pdb : (asked : Bool) (name bytes : List ℕ) → asked_output (cond aske
 written_pdb true name bytes = refl
 written_pdb false name bytes = refl
 
+written_if : (name library : Option (List ℕ)) → asked_output name (cond (is_some name) library None) ≡ asked_output name library
+written_if None library = refl
+written_if (Some name) library = refl
+
+written_library : (options : LinkOptions) (exports : ExportsView) → asked_output options.implib (asked_library options exports) ≡ asked_output options.implib (library_with exports)
+unfolding asked_library
+written_library options exports = written_if options.implib (library_with exports)
+
 -- an image that is made
-pub linked : (options : LinkOptions) (modules : List ModuleView) (resources : List Entry) (link : KeptParts) (built : Built) (made : LinkedBytes) → IsLinkOf options modules resources link → plan_fault options (link_parts options modules resources) ≡ None → IsBuilt options link built → made.image ≡ built.image → made.map ≡ built.map → made.pdb ≡ built.pdb → made.sections ≡ built.sections → made.modules ≡ length modules → IsLinked options modules resources made
-linked options modules resources link built made link_is planned is image map_same pdb_same sections count =
-    let plan : Plan = record { options = options; modules = modules; resources = resources; image = is.image; map = text; pdb = database } in
-    let made_plan : IsPlan options modules resources link plan = record { options_are = refl; modules_are = refl; resources_are = refl; image_is = is.is_image; map_is = refl; pdb_is = refl; pdb_fits = is.pdb_fits } in
+pub linked : (options : LinkOptions) (modules : List ModuleView) (resources : List Entry) (link : KeptParts) (built : Built) (made : LinkedBytes) → IsLinkOf options modules resources link → plan_fault options (link_parts options modules resources) ≡ None → IsBuilt options link built → made.image ≡ built.image → made.map ≡ built.map → made.pdb ≡ built.pdb → made.library ≡ built.library → made.sections ≡ built.sections → made.modules ≡ length modules → IsLinked options modules resources made
+linked options modules resources link built made link_is planned is image map_same pdb_same library_same sections count =
+    let plan : Plan = record { options = options; modules = modules; resources = resources; image = is.image; map = text; pdb = database; library = library_with link.parts.exports } in
+    let made_plan : IsPlan options modules resources link plan = record { options_are = refl; modules_are = refl; resources_are = refl; image_is = is.is_image; map_is = refl; pdb_is = refl; pdb_fits = is.pdb_fits; library_is = refl; library_fits = is.library_fits } in
     let outcome : BuildOutcome options modules resources (Linked plan) = record { link = link; link_is = link_is; is = made_plan } in
     record {
       plan = plan;
@@ -348,15 +359,20 @@ linked options modules resources link built made link_is planned is image map_sa
       tree = own_resources;
       map = λ other other_is. by_map other (one_link options modules resources link other link_is other_is);
       pdb = λ other other_is. by_pdb other (one_link options modules resources link other link_is other_is);
+      library = λ other other_is. ap (λ (l : KeptParts). library_with l.parts.exports) (one_link options modules resources link other link_is other_is);
       outputs =
-          ap (λ (pdbs : List NamedBytes). pdbs ++ (asked_output options.map_file (option_map (λ t. t.items) made.map) ++ record { name = options.out; bytes = made.image.items } ∷ []))
+          ap (λ (pdbs : List NamedBytes). pdbs ++ (asked_output options.map_file (option_map (λ t. t.items) made.map) ++ (asked_output options.implib (option_map (λ t. t.items) made.library) ++ record { name = options.out; bytes = made.image.items } ∷ [])))
           (ap (λ (it : Option (Vec ℕ _)). asked_output (pdb_name options) (option_map (λ t. t.items) it)) pdb_same
           ∙ ap (asked_output (pdb_name options)) is.pdb_is
           ∙ written_pdb options.debug options.pdb database)
-          ∙ ap (λ (maps : List NamedBytes). asked_output (pdb_name options) (Some database) ++ (maps ++ record { name = options.out; bytes = made.image.items } ∷ []))
+          ∙ ap (λ (maps : List NamedBytes). asked_output (pdb_name options) (Some database) ++ (maps ++ (asked_output options.implib (option_map (λ t. t.items) made.library) ++ record { name = options.out; bytes = made.image.items } ∷ [])))
           (ap (λ (it : Option (Vec ℕ _)). asked_output options.map_file (option_map (λ t. t.items) it)) map_same
           ∙ ap (asked_output options.map_file) is.map_is
-          ∙ written_map options.map_file text);
+          ∙ written_map options.map_file text)
+          ∙ ap (λ (libraries : List NamedBytes). asked_output (pdb_name options) (Some database) ++ (asked_output options.map_file (Some text) ++ (libraries ++ record { name = options.out; bytes = made.image.items } ∷ [])))
+          (ap (λ (it : Option (Vec ℕ _)). asked_output options.implib (option_map (λ t. t.items) it)) library_same
+          ∙ ap (asked_output options.implib) is.library_is
+          ∙ written_library options link.parts.exports);
       modules_are = count;
       sections_are = sections ∙ is.count;
     }

@@ -8,7 +8,7 @@ use Rattle.directives.specs.Names.{is_word}
 use Rattle.link_words.specs.Known.{known}
 use Rattle.link_words.specs.Setting.{word_says}
 use Rattle.link_words.specs.Extension.{stem, with_extension}
-use Rattle.link_words.specs.Options.{default_entry, options_of, outputs_clash}
+use Rattle.link_words.specs.Options.{default_entry, options_of, outputs_clash, lacks_image_name}
 use Rattle.link_words.specs.Outcome.{LinkOptions, Link}
 use Rattle.link_words.specs.LinkWords.{word_refusal, settings, line_refusal, link_refusal, link_says}
 use Rattle.link_words.specs.Commands.{words_say}
@@ -82,7 +82,7 @@ abbrev options : LinkOptions
 options = options_of (settings words)
 
 asked : words_say (codes "link" ∷ words) ≡ Ok (Link options)
-unfolding words_say link_says link_refusal word_refusal first_refusal_below settings line_refusal options_of outputs_clash default_entry with_extension stem word_says known is_word is_text
+unfolding words_say link_says link_refusal word_refusal first_refusal_below settings line_refusal options_of outputs_clash lacks_image_name default_entry with_extension stem word_says known is_word is_text
 asked = refl
 
 entry_asked : options.entry_name ≡ Some (codes "main")

@@ -17,6 +17,7 @@ use Rattle.link_pieces.specs.TablePieces.{KeptParts}
 use Rattle.link_plan.specs.Plan.{IsLinkOf}
 use Rattle.link_image.specs.LinkedImage.{IsImageOf, HoldsImports, HoldsExports, HoldsEntries}
 use Rattle.pdb_msf.specs.WrittenFile.{msf_of}
+use Rattle.link_library.specs.LinkLibrary.{library_with}
 use Rattle.link_image.specs.LinkMap.{link_map}
 use Rattle.link_image.specs.LinkPdb.{link_streams}
 use Rattle.linker_program.specs.declared.status.Status.{Status}
@@ -46,11 +47,13 @@ asked_output (Some name) (Some bytes) = record { name = name; bytes = bytes } �
 abbrev pub pdb_name : LinkOptions → Option (List ℕ)
 pdb_name options = if options.debug then Some options.pdb else None
 
--- the outputs of a link that is done, in the order of their writes: the PDB and the map, where they are asked for, and the image
+-- the outputs of a link that is done, in the order of their writes: the PDB, the map and the import library, where they are
+-- asked for, and the image
 abbrev pub outputs_of : Plan → List ℕ → List NamedBytes
 outputs_of plan image =
     asked_output (pdb_name plan.options) (Some plan.pdb)
-    ++ (asked_output plan.options.map_file (Some plan.map) ++ record { name = plan.options.out; bytes = image } ∷ [])
+    ++ (asked_output plan.options.map_file (Some plan.map)
+    ++ (asked_output plan.options.implib plan.library ++ record { name = plan.options.out; bytes = image } ∷ []))
 
 -- where the files are known, the link has this outcome
 pub record Expects (has : Store → Outcome → Type 0) (files : FilesView) (outcome : Outcome) : Type 0 where
@@ -82,7 +85,12 @@ HasPdb plan =
     (link : KeptParts) → IsLinkOf plan.options plan.modules plan.resources link → (is : IsImageOf plan.options link plan.image)
     → plan.pdb ≡ msf_of (link_streams plan.options link is.rows is.layout is.tables (image_file plan.image))
 
--- the plan is the outcome, the image means it and has the imports, exports and resources, and the map and the PDB are those of the image
+-- and the import library lists the exports of the link
+abbrev pub HasLibrary : Plan → Type 0
+HasLibrary plan = (link : KeptParts) → IsLinkOf plan.options plan.modules plan.resources link → plan.library ≡ library_with link.parts.exports
+
+-- the plan is the outcome, the image means it and has the imports, exports and resources, and the map, the PDB and the import
+-- library are those of the image
 pub record IsMade (has : Store → Outcome → Type 0) (files : FilesView) (plan : Plan) (image : List ℕ) : Type 0 where
   pub outcome : Expects has files (Linked plan)
   pub means : MeansPlan plan.image image
@@ -91,6 +99,7 @@ pub record IsMade (has : Store → Outcome → Type 0) (files : FilesView) (plan
   pub resources : HasResources plan image
   pub map : HasMap plan
   pub pdb : HasPdb plan
+  pub library : HasLibrary plan
 
 -- every output is whole
 pub record LinkDone (has : Store → Outcome → Type 0) (before after : FilesView) (plan : Plan) (image line : List ℕ) : Type 0 where

@@ -16,6 +16,7 @@ use Rattle.link_plan.specs.PlanFaults.{plan_fault}
 use Rattle.link_image.specs.LinkedImage.{IsImageOf}
 use Rattle.image_writer.specs.ExpectedImage.{image_file}
 use Rattle.pdb_msf.specs.WrittenFile.{msf_of}
+use Rattle.link_library.specs.LinkLibrary.{library_with, library_fault}
 use Rattle.link_image.specs.LinkMap.{link_map}
 use Rattle.link_image.specs.LinkPdb.{link_streams, Fits}
 use Rattle.link_image.specs.BuildFaults.{IsBuildFault}
@@ -35,6 +36,8 @@ pub record IsPlan (options : LinkOptions) (modules : List ModuleView) (resources
   pub map_is : plan.map ≡ link_map options link image_is.rows image_is.layout
   pub pdb_is : plan.pdb ≡ msf_of (link_streams options link image_is.rows image_is.layout image_is.tables (image_file plan.image))
   pub pdb_fits : Fits options (link_streams options link image_is.rows image_is.layout image_is.tables (image_file plan.image))
+  pub library_is : plan.library ≡ library_with link.parts.exports
+  pub library_fits : library_fault options link.parts.exports ≡ None
 
 -- modules that come to the tables have a fault there or later, or a plan
 abbrev pub KeptOutcome : LinkOptions → List ModuleView → List Entry → KeptParts → Outcome → Type 0

@@ -18,7 +18,7 @@ use Rattle.linker_program.specs.declared.status.Status.TheVariants as status
 use Rattle.linker_program.specs.Ending.{Outcome, Refused, Linked, Plan}
 use Rattle.linker_program.specs.Outcome.{ModulesOutcome}
 use Rattle.linker_program.specs.RunLines.{usage_line, read_failure_line, write_failure_line}
-use Rattle.linker_program.specs.LinkRun.{NothingWritten, HasImports, HasExports, HasResources, HasMap, HasPdb, outputs_of}
+use Rattle.linker_program.specs.LinkRun.{NothingWritten, HasImports, HasExports, HasResources, HasMap, HasPdb, HasLibrary, outputs_of}
 use Rattle.linker_program.specs.WriteSteps.{linked_outputs}
 
 -- ---- answers
@@ -55,6 +55,7 @@ pub record IsLinked (options : LinkOptions) (modules : List ModuleView) (resourc
   pub tree : HasResources plan linked.image.items
   pub map : HasMap plan
   pub pdb : HasPdb plan
+  pub library : HasLibrary plan
   pub outputs : linked_outputs options linked ≡ outputs_of plan linked.image.items
   pub modules_are : linked.modules ≡ length plan.modules
   pub sections_are : linked.sections ≡ length plan.image.rows

@@ -10,7 +10,8 @@ abbrev pub linked_outputs : LinkOptions → Linked → List NamedBytes
 linked_outputs options linked =
     asked_output (pdb_name options) (option_map (λ pdb. pdb.items) linked.pdb)
     ++ (asked_output options.map_file (option_map (λ map. map.items) linked.map)
-    ++ record { name = options.out; bytes = linked.image.items } ∷ [])
+    ++ (asked_output options.implib (option_map (λ library. library.items) linked.library)
+    ++ record { name = options.out; bytes = linked.image.items } ∷ []))
 
 abbrev pub linked_summary : List ℕ → Linked → List ℕ
 linked_summary out linked = summary_line out linked.modules linked.sections (length linked.image.items)

@@ -1,4 +1,5 @@
-//! One link: its modules are read and joined, the image, its map and its PDB are made, and the outputs are written.
+//! One link: its modules are read and joined, the image, its map, its PDB and its import library are made, and the outputs
+//! are written.
 
 ghost use Rattle.std.specs.Prelude.{◌≡◌, ◌<◌, ◌-◌, ◌^◌, IfOk, IfErr, OnErr};
 ghost use Rattle.link_files.specs.Outside.{files_of};
@@ -45,7 +46,7 @@ pub(crate) fn link<'a, F: Files>(
     }
 }
 
-/// Makes the image of a plan with its map and its PDB, and writes what comes of it.
+/// Makes the image of a plan with its map, its PDB and its import library, and writes what comes of it.
 fn link_planned<'a, F: Files>(
     alloc: Global,
     files: &mut F,
@@ -69,7 +70,7 @@ fn link_planned<'a, F: Files>(
     }
 }
 
-/// Makes the image of a plan, with its map and its PDB.
+/// Makes the image of a plan, with its map, its PDB and its import library.
 fn make<'a>(
     alloc: Global,
     options: &Options<'a>,
@@ -86,5 +87,6 @@ fn make<'a>(
         image: built.image,
         map: built.map,
         pdb: built.pdb,
+        library: built.library,
     })
 }

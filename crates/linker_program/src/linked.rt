@@ -13,4 +13,6 @@ pub struct Linked {
     pub map: Option<Vec<u8>>,
     /// The file of its PDB, where one is asked for.
     pub pdb: Option<Vec<u8>>,
+    /// The file of its import library, where one is asked for and it has exports.
+    pub library: Option<Vec<u8>>,
 }

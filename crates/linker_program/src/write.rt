@@ -47,6 +47,7 @@ pub(crate) fn write_linked<F: Files>(
     let mut outputs = Vec::new(alloc);
     push_pdb(&mut outputs, options, linked.pdb)?;
     push_map(&mut outputs, options, linked.map)?;
+    push_asked(&mut outputs, options.implib, linked.library)?;
     outputs.push(Output {
         name: options.out.as_str(),
         bytes: linked.image,

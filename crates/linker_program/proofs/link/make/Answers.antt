@@ -19,7 +19,7 @@ returns-clause-linked c =
     let options = options_said c.args.options.now in
     let planned = c.requires in
     linked options c.args.plan.now.modules.items (plan_resources c.args.plan.now) (kept_parts c.args.plan.now) c.in_ok-built.built
-    (record { modules = c.len.result; sections = c.in_ok-built.built.sections; image = c.in_ok-built.built.image; map = c.in_ok-built.built.map; pdb = c.in_ok-built.built.pdb })
+    (record { modules = c.len.result; sections = c.in_ok-built.built.sections; image = c.in_ok-built.built.image; map = c.in_ok-built.built.map; pdb = c.in_ok-built.built.pdb; library = c.in_ok-built.built.library })
     planned.link_is (ap (plan_fault options) (sym planned.link_is.parts_are) ∙ planned.no_fault)
-    c.in_ok-built.ensures.built refl refl refl refl
+    c.in_ok-built.ensures.built refl refl refl refl refl
     (c.len.ensures ∙ c.args.plan.now.modules.ok.0)
