@@ -16,20 +16,9 @@ use Rattle.relocate.specs.FieldFaults.{overlaps_earlier}
 use Rattle.icf.specs.declared.candidate.FoldCandidate.{FoldCandidate}
 use Rattle.icf.specs.declared.field.Owner.{Owner}
 use Rattle.icf.specs.declared.field.Field.{Field}
-use Rattle.icf.specs.Sections.{fixes_at, fields_at}
+use Rattle.icf.specs.Sections.{fields_at}
 use Rattle.icf.specs.Fields.{field_in, IsBefore, IsAmong, AreFieldsBelow, AreFieldLists}
 use Rattle.icf.proofs.SectionLemmas.{one_section}
-
--- ---- a list of relocations
-
-pub fixes_read : (fixes : List (Vec Fix Global)) (piece : ℕ) (own : Vec Fix Global) → piece < length fixes → own ≡ get_or fixes piece own → fixes_at fixes piece ≡ own.items
-fixes_read fixes piece own lt is =
-    ap (λ (o : Option (Vec Fix Global)). unwrap_or (option_map (λ v. v.items) o) []) (slice_get-get_or fixes piece own lt ∙ ap Some (sym is))
-
-pub fixes_apart : (fixes : List (Vec Fix Global)) (piece : ℕ) (own : List Fix) → fixes_at fixes piece ≡ own
-    → ((k : ℕ) → k < length (fixes_at fixes piece) → overlaps_earlier (fixes_at fixes piece) k ≡ false) → (k : ℕ) → k < length own → overlaps_earlier own k ≡ false
-fixes_apart fixes piece own is apart =
-    subst (λ (xs : List Fix). (k : ℕ) → k < length xs → overlaps_earlier xs k ≡ false) is apart
 
 -- ---- items of a list that a function makes
 
@@ -51,7 +40,7 @@ map_contains f xs d y there =
 
 -- ---- one section more
 
-module _ (owners : List (Option Owner)) (fixes : List (Vec Fix Global)) (sections : List ℕ) where
+module _ (owners : List (Option Owner)) (fixes : List (List Fix)) (sections : List ℕ) where
   pub gathered_none : (fields : List Field) → fields ≡ [] → AreFieldsBelow owners fixes sections 0 fields
   gathered_none fields none = subst (AreFieldsBelow owners fixes sections 0) (sym none) (record {
     ascending = λ i j d lt within. absurd (omega arith);
@@ -59,7 +48,7 @@ module _ (owners : List (Option Owner)) (fixes : List (Vec Fix Global)) (section
     every = λ rank piece fix lt is there. absurd (omega arith);
   })
 
-  module _ (rank piece : ℕ) (is : slice_get sections rank ≡ Some piece) (sorted : List Fix) (moved : IsPermutation (filter has_field (fixes_at fixes piece)) sorted)
+  module _ (rank piece : ℕ) (is : slice_get sections rank ≡ Some piece) (sorted : List Fix) (same : sorted ≡ fields_at fixes piece)
       (rises : AllPairs (λ left right. left.at < right.at) sorted) (fields : List Field) (old : AreFieldsBelow owners fixes sections rank fields) where
     added : List Field
     added = map (field_in owners rank) sorted
@@ -73,7 +62,7 @@ module _ (owners : List (Option Owner)) (fixes : List (Vec Fix Global)) (section
           (subst (IsBefore (get_or fields i d)) (sym second) (old.ascending i j d lt low))
       | inr high ↦
           let size = length-append fields (map (field_in owners rank) sorted) in
-          let same = length-map sorted (field_in owners rank) in
+          let count = length-map sorted (field_in owners rank) in
           let place : j - length fields < length sorted = omega arith in
           let second = get_or-append_right fields (map (field_in owners rank) sorted) j d high ∙ get_or-map (field_in owners rank) sorted (j - length fields) no_fix d place in
           elim (cases_lt i (length fields)) [
@@ -104,14 +93,14 @@ module _ (owners : List (Option Owner)) (fixes : List (Vec Fix Global)) (section
     among_new : (field : Field) → Contains (map (field_in owners rank) sorted) field → IsAmong owners fixes sections (rank + 1) field
     among_new field there =
         let from = map_contains (field_in owners rank) sorted no_fix field there in
-        let same : field.rank ≡ rank = ap (λ (f : Field). f.rank) from.1.1 in
+        let place : field.rank ≡ rank = ap (λ (f : Field). f.rank) from.1.1 in
         record {
           piece = piece;
           fix = from.0;
           below = omega arith;
-          section = ap (slice_get sections) same ∙ is;
-          there = Contains-permutation sorted (filter has_field (fixes_at fixes piece)) from.0 (IsPermutation-sym (filter has_field (fixes_at fixes piece)) sorted moved) from.1.0;
-          is = from.1.1 ∙ ap (λ (r : ℕ). field_in owners r from.0) (sym same);
+          section = ap (slice_get sections) place ∙ is;
+          there = subst (λ (own : List Fix). Contains own from.0) same from.1.0;
+          is = from.1.1 ∙ ap (λ (r : ℕ). field_in owners r from.0) (sym place);
         }
 
     pub gathered_more : (longer : List Field) → longer ≡ fields ++ map (field_in owners rank) sorted → AreFieldsBelow owners fixes sections (rank + 1) longer
@@ -124,17 +113,17 @@ module _ (owners : List (Option Owner)) (fixes : List (Vec Fix Global)) (section
       every = λ other other_piece fix lt has there. elim (cases_lt other rank) [
         | inl low ↦ Contains-append_left fields (map (field_in owners rank) sorted) (field_in owners other fix) (old.every other other_piece fix low has there)
         | inr high ↦
-            let same : other ≡ rank = omega arith in
-            let one = one_section sections rank other_piece piece (ap (slice_get sections) (sym same) ∙ has) is in
-            let here = Contains-permutation (filter has_field (fixes_at fixes piece)) sorted fix moved (subst (λ (p : ℕ). Contains (fields_at fixes p) fix) one there) in
-            subst (λ (r : ℕ). Contains (fields ++ map (field_in owners rank) sorted) (field_in owners r fix)) (sym same)
+            let place : other ≡ rank = omega arith in
+            let one = one_section sections rank other_piece piece (ap (slice_get sections) (sym place) ∙ has) is in
+            let here = subst (λ (own : List Fix). Contains own fix) (sym same) (subst (λ (p : ℕ). Contains (fields_at fixes p) fix) one there) in
+            subst (λ (r : ℕ). Contains (fields ++ map (field_in owners rank) sorted) (field_in owners r fix)) (sym place)
             (Contains-append_right fields (map (field_in owners rank) sorted) (field_in owners rank fix) (contains_map (field_in owners rank) sorted fix here))
       ];
     })
 
 -- ---- the fields of all candidates, where the lists are known by other names
 
-pub gathered_as : (owners given : List (Option Owner)) (fixes : List (Vec Fix Global)) (candidates : List FoldCandidate) (lists read : List (Vec Field Global)) → given ≡ owners → read ≡ lists
+pub gathered_as : (owners given : List (Option Owner)) (fixes : List (List Fix)) (candidates : List FoldCandidate) (lists read : List (Vec Field Global)) → given ≡ owners → read ≡ lists
     → AreFieldLists given fixes candidates (length candidates) lists → AreFieldLists owners fixes candidates (length candidates) read
 gathered_as owners given fixes candidates lists read same_owners same_lists are =
     subst (λ (l : List (Vec Field Global)). AreFieldLists owners fixes candidates (length candidates) l) (sym same_lists)

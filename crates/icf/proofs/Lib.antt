@@ -2,7 +2,6 @@ pub mod SectionLemmas
 pub mod ListLemmas
 pub mod FirstLemmas
 pub mod OwnerLemmas
-pub mod FieldLemmas
 pub mod GatherLemmas
 pub mod ContentLemmas
 pub mod EqualLemmas

@@ -2,16 +2,13 @@
 use Rattle.std.proofs.Common.{◌≡◌, ℕ, zero, suc, ◌<◌, ◌≤◌, inl, inr, lit<, true, false, List, [], ◌∷◌, length, get_or, Vec, Some, Ok, refl, sym, ap, ◌∙◌, subst, arith}
 use Rattle.std.specs.declared.alloc.Global.{Global}
 use Rattle.std.specs.Borrow.{Bor}
-use Rattle.std.specs.List.{Contains}
-use Rattle.link_base.specs.Bytes.{first_below}
+use Rattle.std.specs.List.{AllPairs, Contains}
 use Rattle.section_group.specs.declared.piece.Piece.{Piece}
 use Rattle.relocate.specs.declared.fix.Fix.{Fix}
 use Rattle.relocate.specs.declared.fix.Target.{Target}
 use Rattle.relocate.specs.declared.fix.Target.TheVariants as target
-use Rattle.relocate.specs.Field.{field_width}
-use Rattle.relocate.specs.FieldFaults.{overlaps_earlier}
 use Rattle.icf.specs.declared.candidate.FoldCandidate.{FoldCandidate}
-use Rattle.icf.specs.Sections.{Input, input_from, fixes_at, fields_at, HasSection, IsFoldable}
+use Rattle.icf.specs.Sections.{Input, input_from, fields_at, HasSection, IsFoldable}
 use Rattle.icf.specs.Alike.{Meant, Agree, AreAlikeFields, AreAlikeSections, AreAlike}
 use Rattle.icf.specs.Folding.{KeepsAlike, RelatedBy}
 
@@ -36,7 +33,7 @@ code bytes number = record {
   named = true;
 }
 
-module _ (numbers : Vec ℕ Global) (relocations : Vec Fix Global) (bytes other_bytes : Bor (List ℕ)) (same : bytes.now ≡ other_bytes.now) where
+module _ (numbers : Vec ℕ Global) (bytes other_bytes : Bor (List ℕ)) (same : bytes.now ≡ other_bytes.now) where
   abbrev function : ℕ → FoldCandidate
   function piece = record { piece = piece; children = of_items numbers [] (omega arith) }
 
@@ -45,7 +42,7 @@ module _ (numbers : Vec ℕ Global) (relocations : Vec Fix Global) (bytes other_
 
   -- two functions, each with a field that names a piece
   abbrev two : ℕ → ℕ → Input
-  two first second = input_from (code bytes 1 ∷ code other_bytes 2 ∷ []) (of_items relocations (call first ∷ []) (omega arith) ∷ of_items relocations (call second ∷ []) (omega arith) ∷ []) functions
+  two first second = input_from (code bytes 1 ∷ code other_bytes 2 ∷ []) ((call first ∷ []) ∷ (call second ∷ []) ∷ []) functions
 
   one_section_each : (number rank piece : ℕ) → HasSection functions number rank piece → (piece ≡ number) × ((rank ≡ 0) × (number < 2))
   one_section_each zero zero piece is = let e : 0 ≡ piece = cc in (sym e, (refl, lit< tt))
@@ -81,7 +78,6 @@ module _ (numbers : Vec ℕ Global) (relocations : Vec Fix Global) (bytes other_
   only_call callee fix (suc k, lt, is) = absurd (omega arith)
 
   f_like_g : AreAlikeSections (two 1 0) (RelatedBy pairs) 0 1
-  unfolding field_width
   f_like_g = record {
     names = refl;
     flags = refl;
@@ -92,7 +88,6 @@ module _ (numbers : Vec ℕ Global) (relocations : Vec Fix Global) (bytes other_
   }
 
   g_like_f : AreAlikeSections (two 1 0) (RelatedBy pairs) 1 0
-  unfolding field_width
   g_like_f = record {
     names = refl;
     flags = refl;
@@ -126,7 +121,6 @@ module _ (numbers : Vec ℕ Global) (relocations : Vec Fix Global) (bytes other_
   one_piece p q v w e = cc
 
   readers_apart : (E : ℕ → ℕ → Type 0) → AreAlike (two 2 3) E 0 1 → ⊥
-  unfolding field_width
   readers_apart E alike = by (only_call 3 partner.0 partner.1.0) partner.1.1.targets
     where
       sections : AreAlikeSections (two 2 3) E 0 1
@@ -147,18 +141,14 @@ module _ (numbers : Vec ℕ Global) (relocations : Vec Fix Global) (bytes other_
   -- ---- and both can be asked for
 
   fixes_known : (first second piece : ℕ) (fix : Fix) → Contains (fields_at (two first second).fixes piece) fix → (meant : Target) × (fix.target ≡ Some (Ok meant))
-  unfolding field_width
   fixes_known first second zero fix there = (target.Piece first 0, sym (ap (λ (f : Fix). f.target) (only_call first fix there)))
   fixes_known first second (suc zero) fix there = (target.Piece second 0, sym (ap (λ (f : Fix). f.target) (only_call second fix there)))
   fixes_known first second (suc (suc piece)) fix there = absurd (omega (arith, there.1))
 
-  fixes_apart : (first second piece k : ℕ) → k < length (fixes_at (two first second).fixes piece) → overlaps_earlier (fixes_at (two first second).fixes piece) k ≡ false
-  unfolding overlaps_earlier first_below
-  fixes_apart first second zero zero lt = refl
-  fixes_apart first second zero (suc k) lt = absurd (omega arith)
-  fixes_apart first second (suc zero) zero lt = refl
-  fixes_apart first second (suc zero) (suc k) lt = absurd (omega arith)
-  fixes_apart first second (suc (suc piece)) k lt = absurd (omega arith)
+  fields_ascend : (first second piece : ℕ) → AllPairs (λ left right. left.at < right.at) (fields_at (two first second).fixes piece)
+  fields_ascend first second zero i j d lt within = absurd (omega arith)
+  fields_ascend first second (suc zero) i j d lt within = absurd (omega arith)
+  fields_ascend first second (suc (suc piece)) i j d lt within = absurd (omega arith)
 
   ascending : (i j : ℕ) (d : FoldCandidate) → i < j → j < 2 → (get_or functions i d).piece < (get_or functions j d).piece
   ascending zero (suc zero) d lt within = lit< tt
@@ -178,6 +168,6 @@ module _ (numbers : Vec ℕ Global) (relocations : Vec Fix Global) (bytes other_
           (sym own.0 ∙ own'.0, own.1.0 ∙ sym own'.1.0);
       ascending = ascending;
     };
-    apart = fixes_apart first second;
+    ascending = fields_ascend first second;
     targets = fixes_known first second;
   }

@@ -42,7 +42,7 @@ abbrev pub IsBefore : Field → Field → Type 0
 IsBefore left right = (left.rank < right.rank) ⊎ ((left.rank ≡ right.rank) × (left.at < right.at))
 
 -- a field of one of the first sections
-pub record IsAmong (owners : List (Option Owner)) (fixes : List (Vec Fix Global)) (sections : List ℕ) (count : ℕ) (field : Field) : Type 0 where
+pub record IsAmong (owners : List (Option Owner)) (fixes : List (List Fix)) (sections : List ℕ) (count : ℕ) (field : Field) : Type 0 where
   pub piece : ℕ
   pub fix : Fix
   pub below : field.rank < count
@@ -51,17 +51,17 @@ pub record IsAmong (owners : List (Option Owner)) (fixes : List (Vec Fix Global)
   pub is : field ≡ field_in owners field.rank fix
 
 -- the fields of the first sections, in order
-pub record AreFieldsBelow (owners : List (Option Owner)) (fixes : List (Vec Fix Global)) (sections : List ℕ) (count : ℕ) (fields : List Field) : Type 0 where
+pub record AreFieldsBelow (owners : List (Option Owner)) (fixes : List (List Fix)) (sections : List ℕ) (count : ℕ) (fields : List Field) : Type 0 where
   pub ascending : AllPairs IsBefore fields
   pub only : (field : Field) → Contains fields field → IsAmong owners fixes sections count field
   pub every : (rank piece : ℕ) (fix : Fix) → rank < count → slice_get sections rank ≡ Some piece → Contains (fields_at fixes piece) fix
       → Contains fields (field_in owners rank fix)
 
 -- those of all sections
-abbrev pub AreFields : List (Option Owner) → List (Vec Fix Global) → List ℕ → List Field → Type 0
+abbrev pub AreFields : List (Option Owner) → List (List Fix) → List ℕ → List Field → Type 0
 AreFields owners fixes sections fields = AreFieldsBelow owners fixes sections (length sections) fields
 
 -- the fields of the first candidates
-pub record AreFieldLists (owners : List (Option Owner)) (fixes : List (Vec Fix Global)) (candidates : List FoldCandidate) (count : ℕ) (lists : List (Vec Field Global)) : Type 0 where
+pub record AreFieldLists (owners : List (Option Owner)) (fixes : List (List Fix)) (candidates : List FoldCandidate) (count : ℕ) (lists : List (Vec Field Global)) : Type 0 where
   pub same_length : length lists ≡ count
   pub each : (number : ℕ) (d : Vec Field Global) → number < count → AreFields owners fixes (sections_at candidates number) (slice_index_or lists number d).items

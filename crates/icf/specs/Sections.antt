@@ -1,23 +1,20 @@
 -- The candidates of folding with their sections, and the fields of these. Own.
-use Rattle.std.specs.Prelude.{◌≡◌, ℕ, ◌<◌, ◌≤◌, false, List, [], ◌∷◌, length, slice_get, slice_index_or, Option, option_map, option_copied, unwrap_or, Some, Ok, Vec}
-use Rattle.std.specs.declared.alloc.Global.{Global}
-use Rattle.std.specs.List.{AllPairs, Contains, filter}
+use Rattle.std.specs.Prelude.{◌≡◌, ℕ, ◌<◌, ◌≤◌, List, [], ◌∷◌, length, slice_get, slice_index_or, Option, option_map, option_copied, unwrap_or, Some, Ok}
+use Rattle.std.specs.List.{AllPairs, Contains}
 use Rattle.section_group.specs.declared.piece.Piece.{Piece}
 use Rattle.section_group.specs.SectionOrder.{no_piece}
 use Rattle.relocate.specs.declared.fix.Fix.{Fix}
 use Rattle.relocate.specs.declared.fix.Target.{Target}
-use Rattle.relocate.specs.Field.{has_field}
-use Rattle.relocate.specs.FieldFaults.{overlaps_earlier}
 use Rattle.icf.specs.declared.candidate.FoldCandidate.{FoldCandidate}
 
--- the pieces of a link, the relocations of each, and the candidates
+-- the pieces of a link, the fields of each, and the candidates
 pub record Input : Type 0 where
   pub pieces : List Piece
-  pub fixes : List (Vec Fix Global)
+  pub fixes : List (List Fix)
   pub candidates : List FoldCandidate
 
 -- what `fold` is given
-abbrev pub input_from : List Piece → List (Vec Fix Global) → List FoldCandidate → Input
+abbrev pub input_from : List Piece → List (List Fix) → List FoldCandidate → Input
 input_from pieces fixes candidates = record { pieces = pieces; fixes = fixes; candidates = candidates }
 
 abbrev pub piece_at : Input → ℕ → Piece
@@ -27,12 +24,9 @@ piece_at input piece = slice_index_or input.pieces piece no_piece
 abbrev pub data_at : Input → ℕ → Option (List ℕ)
 data_at input piece = option_copied (piece_at input piece).body
 
-abbrev pub fixes_at : List (Vec Fix Global) → ℕ → List Fix
-fixes_at fixes piece = unwrap_or (option_map (λ own. own.items) (slice_get fixes piece)) []
-
--- the relocations of a piece that have a field: those of type ABSOLUTE have none
-abbrev pub fields_at : List (Vec Fix Global) → ℕ → List Fix
-fields_at fixes piece = filter has_field (fixes_at fixes piece)
+-- the fields of a piece, in the order of their places
+abbrev pub fields_at : List (List Fix) → ℕ → List Fix
+fields_at fixes piece = slice_index_or fixes piece []
 
 -- the sections of a candidate: its own, and then its associative children, by section number. The place of a section in
 -- this list is its rank
@@ -54,10 +48,9 @@ pub record AreCandidates (pieces : ℕ) (candidates : List FoldCandidate) : Type
       → (number ≡ other) × (rank ≡ other_rank)
   pub ascending : AllPairs (λ left right. left.piece < right.piece) candidates
 
--- what `fold` asks of its input: each piece has its relocations, no two fields of a piece share a byte, and what the symbol
--- of a field means is known
+-- what `fold` asks of its input: each piece has its fields, these ascend, and what the symbol of a field means is known
 pub record IsFoldable (input : Input) : Type 0 where
   pub every_piece : length input.pieces ≤ length input.fixes
   pub candidates : AreCandidates (length input.pieces) input.candidates
-  pub apart : (piece k : ℕ) → k < length (fixes_at input.fixes piece) → overlaps_earlier (fixes_at input.fixes piece) k ≡ false
+  pub ascending : (piece : ℕ) → AllPairs (λ left right. left.at < right.at) (fields_at input.fixes piece)
   pub targets : (piece : ℕ) (fix : Fix) → Contains (fields_at input.fixes piece) fix → (target : Target) × (fix.target ≡ Some (Ok target))

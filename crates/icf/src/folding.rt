@@ -10,7 +10,7 @@ use crate::fields::all_fields;
 use crate::owners::owners_of;
 use crate::rounds::split_all;
 use link_base::Memory;
-use relocate::Fix;
+use relocate::Fixups;
 use section_group::Piece;
 use std::alloc::Global;
 
@@ -23,8 +23,8 @@ use std::alloc::Global;
 /// each itself, fold where they are otherwise equal; two that name different pieces of equal data do not. A relocation of
 /// type ABSOLUTE is no field, and the order of relocations does not matter. (Own; after MSVC linker reference, "/OPT".)
 ///
-/// `fixes` has the relocations of each piece, of which no fields share a byte, with what their symbols mean. Candidates
-/// ascend by their pieces, and no piece is there twice, as a candidate or as a child.
+/// `fixes` has the fields of each piece, with what their symbols mean. Candidates ascend by their pieces, and no piece is
+/// there twice, as a candidate or as a child.
 ///
 /// The bytes of candidates and children are hashed once. Then rounds of one pass each over all fields, which are hashed,
 /// split the classes of candidates until a round splits none. A link takes few rounds; where candidates call one another
@@ -36,7 +36,7 @@ use std::alloc::Global;
 pub fn fold(
     alloc: Global,
     pieces: &[Piece<'_>],
-    fixes: &[Vec<Fix>],
+    fixes: &[Fixups],
     candidates: &[FoldCandidate],
 ) -> Result<Vec<u32>, Memory>
     requires { IsFoldable (input_from pieces.now fixes.now candidates.now) }
