@@ -20,9 +20,9 @@ use Rattle.res_merge.specs.declared.resource.Resource.{Resource}
 use Rattle.res_merge.specs.Entries.{entry_of}
 use Rattle.res_merge.specs.Order.{AreMergeable}
 use Rattle.res_merge.specs.Found.{AreNumbered}
+use Rattle.resource_files.specs.SaidFaults.{fault_said, RefusesSaid}
+use Rattle.resource_files.specs.Held.{entries_among}
 use Rattle.lib_search.specs.declared.link_list.LinkList.{LinkList}
-use Rattle.lib_search.specs.SaidFaults.{fault_said, RefusesSaid}
-use Rattle.lib_search.specs.ResourceFiles.{entries_among}
 use Rattle.lib_search.specs.Inputs.{opening_fault}
 use Rattle.lib_search.specs.SearchSteps.{SearchState}
 use Rattle.lib_search.specs.Loading.{inputs_state, state_after, Reaches, HasLoadingFault, AtRead, AtOpening, Loads}

@@ -19,8 +19,8 @@ use Rattle.file_search.specs.declared.found.FoundFile.{FoundFile as Found}
 use Rattle.file_search.specs.FoundFiles.{FoundFile, no_file}
 use Rattle.file_search.specs.Reading.{file_found, files_found}
 use Rattle.res_merge.specs.Entries.{Entry}
-use Rattle.lib_search.specs.SaidFaults.{fault_said, RefusesSaid}
-use Rattle.lib_search.specs.ResourceFiles.{is_resource_file, entries_in, entries_among, merges_resources}
+use Rattle.resource_files.specs.SaidFaults.{fault_said, RefusesSaid}
+use Rattle.resource_files.specs.Held.{is_resource_file, entries_in, entries_among, merges_resources}
 use Rattle.lib_search.specs.Inputs.{is_library, is_module, file_module, modules_among, libraries_among, file_fault, fault_after, opening_fault_at, opening_fault}
 
 found_more : (files : List Found) (i : ℕ) (file : Found) → i < length files → file ≡ get_or files i file → files_found (take (i + 1) files) ≡ files_found (take i files) ++ file_found file ∷ []

@@ -1,9 +1,4 @@
-pub mod FileLemmas
-pub mod ResourceLemmas
 pub mod SaidLemmas
-pub mod MergeLemmas
-pub mod KeyLemmas
-pub mod KeptLemmas
 mod WorkedResources
 pub mod LibraryLemmas
 pub mod InputLemmas

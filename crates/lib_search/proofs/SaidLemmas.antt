@@ -1,16 +1,12 @@
--- The faults that the definitions give hold no place of a text, so that each is what it says.
-use Rattle.std.proofs.Common.{◌≡◌, ℕ, zero, suc, ◌+◌, Bool, true, false, cond, ltb, List, length, get_or, take, Option, Some, None, refl, sym, ap, ◌∙◌}
+-- The faults of a loading hold no place of a text, so that each is what it says.
+use Rattle.std.proofs.Common.{◌≡◌, ℕ, ◌+◌, Bool, true, false, cond, ltb, List, length, get_or, take, Option, Some, None, refl, ap}
 use Rattle.std.specs.Prelude.{option_map, unwrap_or}
 use Rattle.std.specs.List.{list_any}
 use Rattle.std.specs.Option.{option_or}
 use Rattle.link_base.specs.Limits.{FILE_LIMIT, INPUT_LIMIT}
-use Rattle.link_base.specs.Refusals.{first_refusal_below, RefusesFor}
 use Rattle.link_base.specs.declared.fault.Fault.{Fault}
 use Rattle.link_base.specs.declared.fault.Fault.TheVariants as faults
-use Rattle.link_base.specs.declared.kinds.resource.ResName.{ResName}
 use Rattle.link_base.specs.declared.kinds.form.Kind.TheVariants.{SecondResource}
-use Rattle.link_base.specs.declared.stop.Refusal.{Refusal}
-use Rattle.link_base.specs.declared.stop.Refusal.TheVariants as refusal
 use Rattle.link_files.specs.Store.{Store}
 use Rattle.link_words.specs.Outcome.{LinkOptions}
 use Rattle.lib_reader.specs.declared.error.LibError.{LibError}
@@ -21,45 +17,16 @@ use Rattle.module_view.specs.declared.error.ModuleError.{ModuleError}
 use Rattle.module_view.specs.declared.error.ModuleError.TheVariants as bad
 use Rattle.module_view.specs.Module.{ModuleView}
 use Rattle.module_view.specs.Opening.{file_error}
-use Rattle.res_merge.specs.declared.resource.ResError.{ResError}
-use Rattle.res_merge.specs.Entries.{Key, Number, Text, Entry, key_of}
+use Rattle.res_merge.specs.Entries.{Entry}
 use Rattle.file_search.specs.FoundFiles.{FoundFile, no_file, read_fault}
 use Rattle.file_search.specs.InputFiles.{text_at, input_file, input_files, total_before, reading_fault_at, reading_fault}
-use Rattle.lib_search.specs.SaidFaults.{name_of, fault_said, RefusesSaid}
+use Rattle.resource_files.specs.SaidFaults.{fault_said}
+use Rattle.resource_files.specs.Held.{is_resource_file, entries_among, merges_resources, resource_fault}
+use Rattle.resource_files.proofs.SaidLemmas.{IsPlain, plain_fault, plain_or, plain_if, plain_first, resource_plain}
 use Rattle.lib_search.specs.Joining.{module_fault, brings_resources, second_fault, count_fault, joining_fault, bad_library, no_library}
-use Rattle.lib_search.specs.ResourceFiles.{is_resource_file, error_in, entries_in, entries_among, merges_resources, bad_entry, first_again, duplicate, resource_fault}
 use Rattle.lib_search.specs.Inputs.{is_library, modules_among, file_fault, opening_fault_at, opening_fault}
 use Rattle.lib_search.specs.SearchSteps.{MemberPlace, SearchState, Ends, Faults, Goes, goes_unless, name_of_member, library_at, header_fault, member_fault_in, join_fault, with_member, join_step, after_default, default_fault, default_step_as, default_step, wants_library, next_default, next_member, next_step}
 use Rattle.lib_search.specs.Loading.{HasLoadingFault, AtRead, AtOpening, AtStep}
-
-same_some : {A : Type 0} → (x y : A) → Some x ≡ Some y → x ≡ y
-same_some x y is = cc
-
-abbrev pub IsPlain : Option Fault → Type 0
-IsPlain o = option_map fault_said o ≡ o
-
-plain_fault : (o : Option Fault) (fault : Fault) → IsPlain o → o ≡ Some fault → fault_said fault ≡ fault
-plain_fault o fault plain is = same_some (fault_said fault) fault (sym (ap (option_map fault_said) is) ∙ plain ∙ is)
-
--- a refusal of such a fault says it
-pub refuses_said : (o : Option Fault) (r : Refusal) → IsPlain o → RefusesFor o r → RefusesSaid o r
-refuses_said o (refusal.Fault fault) plain is = is ∙ ap Some (sym (plain_fault o fault plain is))
-refuses_said o refusal.Memory plain is = tt
-
--- ---- of several
-
-plain_or : (a b : Option Fault) → IsPlain a → IsPlain b → IsPlain (option_or a b)
-plain_or (Some fault) b p q = p
-plain_or None b p q = q
-
-plain_if : (b : Bool) (fault : Fault) → fault_said fault ≡ fault → IsPlain (cond b (Some fault) None)
-plain_if true fault e = ap Some e
-plain_if false fault e = refl
-
-plain_first : (n : ℕ) (f : ℕ → Option Fault) → ((k : ℕ) → IsPlain (f k)) → IsPlain (first_refusal_below n f)
-unfolding first_refusal_below
-plain_first zero f plain = refl
-plain_first (suc n) f plain = plain_or (first_refusal_below n f) (f n) (plain_first n f plain) (plain n)
 
 -- ---- reading
 
@@ -101,26 +68,6 @@ of_library file None = refl
 
 pub library_plain : (found : FoundFile) → IsPlain (no_library found)
 library_plain found = of_library found.file (library_fault found.bytes)
-
-name_plain : (key : Key) → name_of (key_of (name_of key)) ≡ name_of key
-name_plain (Number number) = refl
-name_plain (Text units) = refl
-
-resource_plain : (found : FoundFile) (brings : Bool) (entries : List Entry) → IsPlain (resource_fault found brings entries)
-resource_plain found brings entries =
-    plain_or _ _ (plain_if brings (faults.Unsupported found.file None SecondResource) refl)
-    (plain_or _ _ (of_entry (error_in found))
-    (plain_or _ _ (plain_if _ (faults.TooManyResources (length entries + length (entries_in found))) refl) (of_duplicate (first_again entries (entries_in found)))))
-  where
-    of_entry : (e : Option ResError) → IsPlain (option_map (bad_entry found.file) e)
-    of_entry (Some error) = refl
-    of_entry None = refl
-
-    of_duplicate : (o : Option Entry) → IsPlain (option_map (duplicate found.file) o)
-    of_duplicate (Some entry) =
-        ap (λ kind. Some (faults.DuplicateResource found.file None kind (name_of (key_of (name_of entry.name))) entry.language)) (name_plain entry.kind)
-        ∙ ap (λ name. Some (faults.DuplicateResource found.file None (name_of entry.kind) name entry.language)) (name_plain entry.name)
-    of_duplicate None = refl
 
 file_plain : (found : FoundFile) (modules : List ModuleView) (entries : List Entry) (merges : Bool) → IsPlain (file_fault found modules entries merges)
 file_plain found modules entries merges = go (is_library found) (is_resource_file found)
@@ -172,13 +119,6 @@ step_plain store options state fault is = go (wants_library options state) is
     go : (b : Bool) → cond b (default_step store options (next_default options state) state) (join_step state (next_member state.searched)) ≡ Faults fault → fault_said fault ≡ fault
     go true e = of_default (next_default options state) (input_file store options.lib_paths (next_default options state)) e
     go false e = of_member (next_member state.searched) e
-
--- ---- what is shown of a fault
-
--- it is that of what the fault says, where that of a resource's type and name is
-pub shown_said : {A : Type 0} (show : Fault → A) → ((file : List ℕ) (member : Option (List ℕ)) (kind name : ResName) (language : ℕ) → show (faults.DuplicateResource file member (name_of (key_of kind)) (name_of (key_of name)) language) ≡ show (faults.DuplicateResource file member kind name language)) → (fault : Fault) → show (fault_said fault) ≡ show fault
-shown_said show same (faults.DuplicateResource file member kind name language) = same file member kind name language
-shown_said show same fault = refl
 
 -- ---- the whole
 

@@ -1,48 +1,19 @@
--- The definitions on a resource file of one resource: the data AB of the type 10, the name 1 and the language 0x409.
-use Rattle.std.proofs.Common.{◌≡◌, ℕ, List, [], ◌∷◌, ◌++◌, take, Some, None, refl}
+-- The definitions on inputs that are resource files of one resource.
+use Rattle.std.proofs.Common.{◌≡◌, [], ◌∷◌, Some, None, refl}
 use Rattle.link_base.specs.Bytes.{number_at, first_below}
 use Rattle.link_base.specs.Refusals.{first_refusal_below}
 use Rattle.link_base.specs.declared.fault.Fault.TheVariants.{BadResource, DuplicateResource}
 use Rattle.link_base.specs.declared.kinds.resource.ResFault.TheVariants.{Data}
 use Rattle.link_base.specs.declared.kinds.resource.ResName.TheVariants as name
 use Rattle.module_view.specs.Opening.{resource_start}
-use Rattle.res_merge.specs.Entries.{Entry, Number}
 use Rattle.res_merge.specs.ResourceFile.{aligned, text_units, name_read, heading, size_is_bad, header_is_bad, entry_with, entry_read, entries_from, resources_of}
-use Rattle.file_search.specs.FoundFiles.{FoundFile}
-use Rattle.lib_search.specs.ResourceFiles.{entries_among, first_again}
+use Rattle.resource_files.specs.Held.{first_again}
+use Rattle.resource_files.proofs.WorkedResourceFiles.{zeros, heads, fields, bytes, first, second, cut}
 use Rattle.lib_search.specs.Inputs.{modules_among, opening_fault}
-
-zeros : List ℕ
-zeros = 0 ∷ 0 ∷ 0 ∷ 0 ∷ 0 ∷ 0 ∷ 0 ∷ 0 ∷ 0 ∷ 0 ∷ 0 ∷ 0 ∷ 0 ∷ 0 ∷ 0 ∷ 0 ∷ []
-
-heads : List ℕ
-heads = 2 ∷ 0 ∷ 0 ∷ 0 ∷ 32 ∷ 0 ∷ 0 ∷ 0 ∷ 255 ∷ 255 ∷ 10 ∷ 0 ∷ 255 ∷ 255 ∷ 1 ∷ 0 ∷ []
-
-fields : List ℕ
-fields = 0 ∷ 0 ∷ 0 ∷ 0 ∷ 48 ∷ 0 ∷ 9 ∷ 4 ∷ 0 ∷ 0 ∷ 0 ∷ 0 ∷ 0 ∷ 0 ∷ 0 ∷ 0 ∷ []
-
-bytes : List ℕ
-bytes = resource_start ++ (zeros ++ (heads ++ (fields ++ (65 ∷ 66 ∷ []))))
-
-first : FoundFile
-first = record { file = 97 ∷ []; bytes = bytes }
-
-second : FoundFile
-second = record { file = 98 ∷ []; bytes = bytes }
-
-cut : FoundFile
-cut = record { file = 99 ∷ []; bytes = take 65 bytes }
-
-entry : Entry
-entry = record { kind = Number 10; name = Number 1; language = 0x409; body = 65 ∷ 66 ∷ [] }
 
 it-opens : opening_fault (first ∷ []) ≡ None
 unfolding first bytes resource_start zeros heads fields number_at first_below first_refusal_below aligned text_units name_read heading size_is_bad header_is_bad entry_with entry_read entries_from resources_of first_again
 it-opens = refl
-
-its-entries : entries_among (first ∷ []) ≡ entry ∷ []
-unfolding first bytes resource_start zeros heads fields entry number_at first_below aligned text_units name_read heading size_is_bad header_is_bad entry_with entry_read entries_from resources_of
-its-entries = refl
 
 no-module : modules_among (first ∷ []) ≡ []
 unfolding first bytes resource_start

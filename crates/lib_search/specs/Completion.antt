@@ -11,9 +11,9 @@ use Rattle.file_search.specs.Reading.{LeavesFiles, TriesInput}
 use Rattle.res_merge.specs.Entries.{entry_of}
 use Rattle.res_merge.specs.Order.{AreMergeable}
 use Rattle.res_merge.specs.Found.{AreNumbered}
+use Rattle.resource_files.specs.SaidFaults.{fault_said}
 use Rattle.lib_search.specs.declared.link_list.LinkList.{LinkList}
 use Rattle.lib_search.specs.LinkOf.{link_of}
-use Rattle.lib_search.specs.SaidFaults.{fault_said}
 use Rattle.lib_search.specs.Loading.{HasLoadingFault, Loads, TriesDefault}
 
 -- the modules and their names, and resources that a tree can hold; where the store is told, these modules join, and these are

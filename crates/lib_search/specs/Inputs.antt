@@ -10,8 +10,8 @@ use Rattle.module_view.specs.Module.{ModuleView}
 use Rattle.module_view.specs.ImportModule.{file_view}
 use Rattle.res_merge.specs.Entries.{Entry}
 use Rattle.file_search.specs.FoundFiles.{FoundFile, no_file}
+use Rattle.resource_files.specs.Held.{is_resource_file, entries_among, merges_resources, resource_fault}
 use Rattle.lib_search.specs.Joining.{brings_resources, joining_fault, no_library}
-use Rattle.lib_search.specs.ResourceFiles.{is_resource_file, entries_among, merges_resources, resource_fault}
 
 abbrev pub is_library : FoundFile → Bool
 is_library found = has_magic found.bytes

@@ -1,8 +1,5 @@
 pub mod LinkOf
-pub mod SaidFaults
 pub mod Joining
-pub mod ResourceFiles
-pub mod ResourceParts
 pub mod Inputs
 pub mod SearchSteps
 pub mod Loading

@@ -10,8 +10,8 @@ use Rattle.file_search.specs.FileNames.{tried_names}
 use Rattle.file_search.specs.FoundFiles.{FoundFile}
 use Rattle.file_search.specs.InputFiles.{input_files, input_total, reading_fault}
 use Rattle.file_search.specs.Reading.{Tries}
+use Rattle.resource_files.specs.Held.{entries_among, merges_resources}
 use Rattle.lib_search.specs.LinkOf.{link_of}
-use Rattle.lib_search.specs.ResourceFiles.{entries_among, merges_resources}
 use Rattle.lib_search.specs.Inputs.{modules_among, libraries_among, opening_fault}
 use Rattle.lib_search.specs.SearchSteps.{SearchState, Step, Ends, Faults, Goes, next_step, wants_library, next_default}
 

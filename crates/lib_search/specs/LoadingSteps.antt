@@ -14,9 +14,9 @@ use Rattle.file_search.specs.InputFiles.{input_files}
 use Rattle.file_search.specs.DefaultLibraries.{default_names}
 use Rattle.file_search.specs.DefaultSteps.{KeepsDefaults}
 use Rattle.file_search.specs.Reading.{LeavesFiles, Tries}
+use Rattle.resource_files.specs.Held.{entries_among}
 use Rattle.lib_search.specs.declared.link_list.LinkList.{LinkList}
 use Rattle.lib_search.specs.declared.loading.Loading.{Loading}
-use Rattle.lib_search.specs.ResourceFiles.{entries_among}
 use Rattle.lib_search.specs.LinkOf.{link_of}
 use Rattle.lib_search.specs.SearchSteps.{SearchState, Faults, Goes, next_step, next_default}
 use Rattle.lib_search.specs.AlternateParts.{KeepsSearch}

@@ -5,19 +5,19 @@ ghost use Rattle.std.specs.List.{list_any};
 ghost use Rattle.link_base.specs.Limits.{FILE_LIMIT as most_bytes, MODULE_LIMIT as most_modules};
 ghost use Rattle.file_search.specs.Reading.{file_found, files_found};
 ghost use Rattle.res_merge.specs.Entries.{entry_of};
+ghost use Rattle.resource_files.specs.SaidFaults.{RefusesSaid};
+ghost use Rattle.resource_files.specs.Held.{entries_in, entries_among, merges_resources, resource_fault};
+ghost use Rattle.resource_files.specs.Parts.{KeepsResources};
 ghost use Rattle.lib_search.specs.Joining.{brings_resources};
-ghost use Rattle.lib_search.specs.SaidFaults.{RefusesSaid};
-ghost use Rattle.lib_search.specs.ResourceFiles.{entries_in, entries_among, merges_resources, resource_fault};
-ghost use Rattle.lib_search.specs.ResourceParts.{KeepsResources};
 ghost use Rattle.lib_search.specs.Inputs.{modules_among, libraries_among, file_fault, opening_fault};
 
 use crate::join::join;
 use crate::library::{OpenLibrary, push_library};
-use crate::resource_files::{ResourceFiles, begins_resources};
 use file_search::FoundFile;
 use lib_reader::begins_library;
 use link_base::{Fault, Kind, Memory, Refusal};
 use module_view::{Module, Origin};
+use resource_files::{ResourceFiles, begins_resources};
 use std::alloc::Global;
 
 /// The inputs of a link: modules, libraries that are searched, and resource files.

@@ -11,7 +11,7 @@ use Rattle.link_words.specs.Outcome.{LinkOptions}
 use Rattle.res_merge.specs.Entries.{Entry}
 use Rattle.file_search.specs.Reading.{LeavesFiles}
 use Rattle.lib_search.specs.Loading.{HasLoadingFault, Loads}
-use Rattle.lib_search.specs.SaidFaults.{fault_said}
+use Rattle.resource_files.specs.SaidFaults.{fault_said}
 use Rattle.lib_search.specs.Completion.{FailsLoading}
 use Rattle.link_plan.specs.declared.planning.LinkPlan.{LinkPlan}
 use Rattle.link_plan.specs.PlanFaults.{plan_fault}

@@ -24,7 +24,7 @@ use Rattle.link_base.specs.declared.kinds.resource.ResName.TheVariants as kind_o
 use Rattle.diagnostics.specs.FaultLine.{fault_line_text}
 use Rattle.diagnostics.specs.LineText.{operand, file_text, resource_text}
 use Rattle.res_merge.specs.Entries.{key_of}
-use Rattle.lib_search.specs.SaidFaults.{name_of, fault_said}
+use Rattle.resource_files.specs.SaidFaults.{name_of, fault_said}
 use Rattle.link_words.specs.Outcome.{LinkOptions, CommandSaid, Link, At, Show, Gen, Refused as RefusedWord, refuse}
 use Rattle.link_words.specs.declared.errors.UsageKind.{UsageKind}
 use Rattle.link_words.specs.UsageWord.{usage_word}

@@ -3,7 +3,7 @@ use Rattle.link_files.specs.Outside.{files_of}
 use Rattle.link_words.specs.Outcome.{options_said}
 use Rattle.file_search.specs.declared.found.FoundFile.{FoundFile as Found}
 use Rattle.file_search.specs.Reading.{files_found}
-use Rattle.lib_search.specs.ResourceFiles.{entries_among}
+use Rattle.resource_files.specs.Held.{entries_among}
 use Rattle.lib_search.specs.Inputs.{opening_fault}
 use Rattle.lib_search.specs.Loading.{inputs_state}
 use Rattle.lib_search.specs.LoadingSteps.{state_now}

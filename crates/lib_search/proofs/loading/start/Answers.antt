@@ -2,7 +2,7 @@ use Rattle.std.proofs.Common.{map, arith}
 use Rattle.std.proofs.lemmas.List.{length-map}
 use Rattle.res_merge.specs.Entries.{entry_of}
 use Rattle.file_search.specs.Reading.{files_found}
-use Rattle.lib_search.proofs.MergeLemmas.{mergeable}
+use Rattle.resource_files.proofs.MergeLemmas.{mergeable}
 use Rattle.lib_search.proofs.loading.start.Goals as goal
 
 pub returns-clause-mergeable : goal.returns-clause-mergeable

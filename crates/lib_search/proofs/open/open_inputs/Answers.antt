@@ -8,9 +8,9 @@ use Rattle.module_view.specs.Module.{ModuleView}
 use Rattle.file_search.specs.FoundFiles.{FoundFile}
 use Rattle.file_search.specs.Reading.{file_found, files_found}
 use Rattle.res_merge.specs.Entries.{Entry, entry_of}
+use Rattle.resource_files.specs.SaidFaults.{RefusesSaid}
+use Rattle.resource_files.specs.Held.{entries_among, merges_resources}
 use Rattle.lib_search.specs.Joining.{brings_resources}
-use Rattle.lib_search.specs.SaidFaults.{RefusesSaid}
-use Rattle.lib_search.specs.ResourceFiles.{entries_among, merges_resources}
 use Rattle.lib_search.specs.Inputs.{modules_among, libraries_among, opening_fault_at}
 use Rattle.lib_search.proofs.InputLemmas.{modules_more, libraries_more, entries_more, merges_more, opens_here, opening_stops}
 use Rattle.lib_search.proofs.open.open_inputs.Goals as goal

@@ -5,9 +5,9 @@ use Rattle.res_merge.specs.declared.resource.ResError.{ResError}
 use Rattle.res_merge.specs.Entries.{entry_of, item_said}
 use Rattle.res_merge.specs.Left.{items_left}
 use Rattle.file_search.specs.Reading.{file_found}
-use Rattle.lib_search.specs.ResourceFiles.{entries_in}
-use Rattle.lib_search.proofs.ResourceLemmas.{adds_one, adds_all, refuses_again}
-use Rattle.lib_search.proofs.resource_files.ResourceFiles.add_all.Goals as goal
+use Rattle.resource_files.specs.Held.{entries_in}
+use Rattle.resource_files.proofs.ResourceLemmas.{adds_one, adds_all, refuses_again}
+use Rattle.resource_files.proofs.files.ResourceFiles.add_all.Goals as goal
 
 pub loop-item-preserved : goal.loop-item-preserved
 loop-item-preserved c =

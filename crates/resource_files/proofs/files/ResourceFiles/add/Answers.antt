@@ -2,9 +2,9 @@ use Rattle.std.proofs.Common.{Bool, cond, List, [], ◌∷◌, length, map, Some
 use Rattle.std.proofs.lemmas.List.{map-append, length-append}
 use Rattle.res_merge.specs.Entries.{entry_of}
 use Rattle.res_merge.specs.declared.resource.Resource.{Resource}
-use Rattle.lib_search.specs.ResourceFiles.{duplicate}
-use Rattle.lib_search.proofs.KeptLemmas.{is_new, is_old, kept_more}
-use Rattle.lib_search.proofs.resource_files.ResourceFiles.add.Goals as goal
+use Rattle.resource_files.specs.Held.{duplicate}
+use Rattle.resource_files.proofs.KeptLemmas.{is_new, is_old, kept_more}
+use Rattle.resource_files.proofs.files.ResourceFiles.add.Goals as goal
 
 pub returns-then-not-is_new-clause-refused : goal.returns-then-not-is_new-clause-refused
 returns-then-not-is_new-clause-refused c =

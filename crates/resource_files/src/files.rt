@@ -1,4 +1,4 @@
-//! The resource files among the inputs.
+//! The resource files of a link, opened one after another.
 
 ghost use Rattle.std.specs.Prelude.{◌≡◌, ◌≤◌, ◌<◌, ◌+◌, ◌++◌, ◌∷◌, [], None, Some, true, false, length, map, filter_map, option_map, if◌then◌else◌, IfOk, OnOk, IfErr};
 ghost use Rattle.link_base.specs.Limits.{FILE_LIMIT as most_bytes};
@@ -9,11 +9,11 @@ ghost use Rattle.res_merge.specs.Entries.{entry_of};
 ghost use Rattle.res_merge.specs.Order.{RESOURCE_LIMIT as most_resources};
 ghost use Rattle.res_merge.specs.ResourceFile.{resources_of};
 ghost use Rattle.file_search.specs.Reading.{file_found};
-ghost use Rattle.lib_search.specs.ResourceFiles.{item_entry, item_error, entries_in, error_in, bad_entry, duplicate, is_again, first_again, entries_fault};
-ghost use Rattle.lib_search.specs.ResourceParts.{KeepsResources};
-ghost use Rattle.lib_search.specs.SaidFaults.{RefusesSaid};
+ghost use Rattle.resource_files.specs.Held.{item_entry, item_error, entries_in, error_in, bad_entry, duplicate, is_again, first_again, entries_fault};
+ghost use Rattle.resource_files.specs.Parts.{KeepsResources};
+ghost use Rattle.resource_files.specs.SaidFaults.{RefusesSaid};
 
-use crate::resource_key::ResourceKey;
+use crate::key::ResourceKey;
 use file_search::FoundFile;
 use indexmap::IndexSet;
 use link_base::{Fault, Name, Refusal};
@@ -25,16 +25,17 @@ const RESOURCE_LIMIT: usize = 65_535;
 
 /// The resources of the files that were opened, by the order of the files, and in each file in its order.
 #[derive(Drop)]
-pub(crate) struct ResourceFiles<'a> {
-    pub(crate) resources: Vec<Resource<'a>>,
+pub struct ResourceFiles<'a> {
+    /// At most 65,535, of which no two have one type, name and language.
+    pub resources: Vec<Resource<'a>>,
     keys: IndexSet<ResourceKey<'a>>,
     /// A file was opened, be it one that holds nothing.
-    pub(crate) opened: bool,
+    pub opened: bool,
 }
 
 impl<'a> ResourceFiles<'a> {
     /// No file was opened.
-    pub(crate) fn new(alloc: Global) -> ResourceFiles<'a>
+    pub fn new(alloc: Global) -> ResourceFiles<'a>
         ensures kept { KeepsResources result }
         ensures none { map entry_of result.resources.items ≡ [] }
         ensures unopened { result.opened ≡ false }
@@ -46,9 +47,14 @@ impl<'a> ResourceFiles<'a> {
         }
     }
 
-    /// Opens a file after those before it. The first malformed entry is refused, then too many entries, then the first whose
-    /// type, name and language an entry before it has.
-    pub(crate) fn open(&mut self, file: &FoundFile<'a>) -> Result<(), Refusal<'a>>
+    /// Opens a file after those before it: its resources come behind theirs. The first malformed entry is refused
+    /// (`BadResource`, with the offset at which it begins), then more than 65,535 entries of this file and those before it
+    /// (`TooManyResources`, with how many they are), then the first entry whose type, name and language an entry before it has,
+    /// in this file or in an earlier one (`DuplicateResource`).
+    ///
+    /// That the file begins as a resource file is left to the caller: its first 32 bytes are passed over. Behind a refusal
+    /// nothing is said of what is kept.
+    pub fn open(&mut self, file: &FoundFile<'a>) -> Result<(), Refusal<'a>>
         requires short { length file.now.bytes.now ≤ most_bytes }
         requires kept { KeepsResources self.old }
         ensures kept { OnOk result (KeepsResources self.new) }
@@ -152,9 +158,10 @@ fn bad_entry<'a>(file: &Name<'a>, error: ResError) -> Fault<'a>
     }
 }
 
-/// Whether a file begins with the empty entry of a resource file.
+/// Whether a file begins with the empty entry of a resource file: with 16 bytes that say that it has no data and a header of 32
+/// bytes, and that its type and its name are the number 0.
 #[tactic(auto, unfolding(module_view::specs::Opening::resource_start))]
-pub(crate) fn begins_resources(bytes: &[u8]) -> bool
+pub fn begins_resources(bytes: &[u8]) -> bool
     ensures { result ≡ begins bytes.now resource_start }
 {
     bytes.starts_with(b"\x00\x00\x00\x00\x20\x00\x00\x00\xff\xff\x00\x00\xff\xff\x00\x00")

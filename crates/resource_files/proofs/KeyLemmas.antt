@@ -3,9 +3,9 @@ use Rattle.std.proofs.Common.{◌≡◌, ℕ, Bool, List, [], ◌∷◌, map, re
 use Rattle.std.specs.Prelude.{◌||◌}
 use Rattle.std.specs.List.{list_any}
 use Rattle.res_merge.specs.Entries.{Key, Number, Text, Entry}
-use Rattle.lib_search.specs.contracts.resource_key.ResourceKeyPartialEq.TheImpl.{eq-value}
-use Rattle.lib_search.specs.ResourceFiles.{same_entry, is_again}
-use Rattle.lib_search.specs.ResourceParts.{known_by}
+use Rattle.resource_files.specs.contracts.key.ResourceKeyPartialEq.TheImpl.{eq-value}
+use Rattle.resource_files.specs.Held.{same_entry, is_again}
+use Rattle.resource_files.specs.Parts.{known_by}
 
 entry_with : Key → Key → ℕ → List ℕ → Entry
 entry_with kind name language body = record { kind = kind; name = name; language = language; body = body }

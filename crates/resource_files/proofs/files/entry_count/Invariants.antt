@@ -1,7 +1,7 @@
 use Rattle.res_merge.specs.Left.{items_left}
 use Rattle.res_merge.specs.ResourceFile.{resources_of}
-use Rattle.lib_search.proofs.ResourceLemmas.{CountsOn}
-use Rattle.lib_search.proofs.resource_files.entry_count.Given as goal
+use Rattle.resource_files.proofs.ResourceLemmas.{CountsOn}
+use Rattle.resource_files.proofs.files.entry_count.Given as goal
 
 abbrev pub invariant-loop-item : goal.invariant-loop-item
 invariant-loop-item l = record {

@@ -18,8 +18,8 @@ use Rattle.res_merge.specs.Order.{RESOURCE_LIMIT, IsShort, entry_size, key_cmp, 
 use Rattle.res_merge.specs.Found.{equal_key}
 use Rattle.res_merge.proofs.GroupLemmas.{keys_one}
 use Rattle.file_search.specs.FoundFiles.{FoundFile}
-use Rattle.lib_search.specs.ResourceFiles.{is_resource_file, entries_in, entries_among, same_entry}
-use Rattle.lib_search.proofs.FileLemmas.{file_fits}
+use Rattle.resource_files.specs.Held.{is_resource_file, entries_in, entries_among, same_entry}
+use Rattle.resource_files.proofs.FileLemmas.{file_fits}
 
 abbrev pub HasShortTexts : Entry → Type 0
 HasShortTexts entry = IsShort entry.kind × IsShort entry.name

@@ -14,7 +14,7 @@ use Rattle.res_merge.specs.Entries.{Key, Number, Entry}
 use Rattle.res_merge.specs.Order.{IsShort, key_size, entry_size}
 use Rattle.res_merge.specs.ResourceFile.{UNIT_END, NUMBER_MARK, is_text_end, text_units, NameRead, text_read, name_read, data_size, data_place, Heading, with_name, with_kind, heading, header_is_bad, EntryRead, entry_with, with_heading, entry_read, item_then, entries_from, resources_of}
 use Rattle.res_merge.proofs.HeaderLemmas.{header_long, aligned-above, EntryEnds, entry_ends}
-use Rattle.lib_search.specs.ResourceFiles.{item_entry}
+use Rattle.resource_files.specs.Held.{item_entry}
 
 found_within : (n : ℕ) (test : ℕ → Bool) (k : ℕ) → first_below n test ≡ Some k → k < n
 unfolding first_below

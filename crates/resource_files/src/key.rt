@@ -3,7 +3,7 @@
 ghost use Rattle.std.specs.Prelude.{◌≡◌};
 ghost use Rattle.res_merge.specs.Entries.{key_of, entry_of};
 ghost use Rattle.res_merge.specs.Found.{IsSmallKey};
-ghost use Rattle.lib_search.specs.ResourceParts.{part_of, known_by, IsSmall};
+ghost use Rattle.resource_files.specs.Parts.{part_of, known_by, IsSmall};
 
 use link_base::{Name, ResName};
 use res_merge::Resource;

@@ -8,13 +8,13 @@ use Rattle.res_merge.specs.declared.resource.Resource.{Resource}
 use Rattle.res_merge.specs.Entries.{Entry, entry_of}
 use Rattle.res_merge.specs.Order.{RESOURCE_LIMIT}
 use Rattle.res_merge.specs.Found.{IsSmallKey, AreNumbered}
-use Rattle.lib_search.specs.contracts.resource_key.ResourceKeyPartialEq.TheImpl.{eq-value}
-use Rattle.lib_search.specs.declared.resource_key.ResourceKey.{ResourceKey}
-use Rattle.lib_search.specs.declared.resource_files.ResourceFiles.{ResourceFiles}
-use Rattle.lib_search.specs.ResourceFiles.{same_entry, is_again}
-use Rattle.lib_search.specs.ResourceParts.{known_by, IsSmall, KeepsResources}
-use Rattle.lib_search.proofs.KeyLemmas.{known_again}
-use Rattle.lib_search.proofs.MergeLemmas.{distinct_push}
+use Rattle.resource_files.specs.contracts.key.ResourceKeyPartialEq.TheImpl.{eq-value}
+use Rattle.resource_files.specs.declared.key.ResourceKey.{ResourceKey}
+use Rattle.resource_files.specs.declared.files.ResourceFiles.{ResourceFiles}
+use Rattle.resource_files.specs.Held.{same_entry, is_again}
+use Rattle.resource_files.specs.Parts.{known_by, IsSmall, KeepsResources}
+use Rattle.resource_files.proofs.KeyLemmas.{known_again}
+use Rattle.resource_files.proofs.MergeLemmas.{distinct_push}
 
 turned : (b c : Bool) → b ≡ not c → c ≡ not b
 turned b true e = sym (ap not e)

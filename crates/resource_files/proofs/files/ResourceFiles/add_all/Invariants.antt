@@ -2,10 +2,10 @@ use Rattle.std.proofs.Common.{◌≡◌, map}
 use Rattle.res_merge.specs.Entries.{entry_of}
 use Rattle.res_merge.specs.Left.{items_left}
 use Rattle.file_search.specs.Reading.{file_found}
-use Rattle.lib_search.specs.ResourceFiles.{entries_in}
-use Rattle.lib_search.specs.ResourceParts.{KeepsResources}
-use Rattle.lib_search.proofs.ResourceLemmas.{AddsOn}
-use Rattle.lib_search.proofs.resource_files.ResourceFiles.add_all.Given as goal
+use Rattle.resource_files.specs.Held.{entries_in}
+use Rattle.resource_files.specs.Parts.{KeepsResources}
+use Rattle.resource_files.proofs.ResourceLemmas.{AddsOn}
+use Rattle.resource_files.proofs.files.ResourceFiles.add_all.Given as goal
 
 abbrev pub invariant-loop-item : goal.invariant-loop-item
 invariant-loop-item l = record {

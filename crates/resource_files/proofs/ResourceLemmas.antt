@@ -8,8 +8,8 @@ use Rattle.link_base.specs.declared.stop.Refusal.{Refusal}
 use Rattle.link_base.specs.declared.stop.Refusal.TheVariants as refusal
 use Rattle.res_merge.specs.declared.resource.ResError.{ResError}
 use Rattle.res_merge.specs.Entries.{Entry}
-use Rattle.lib_search.specs.ResourceFiles.{item_entry, item_error, is_again, first_again, duplicate}
-use Rattle.lib_search.specs.SaidFaults.{fault_said, RefusesSaid}
+use Rattle.resource_files.specs.Held.{item_entry, item_error, is_again, first_again, duplicate}
+use Rattle.resource_files.specs.SaidFaults.{fault_said, RefusesSaid}
 
 abbrev pub Items : Type 0
 Items = List (Result Entry ResError)

@@ -4,11 +4,11 @@ use Rattle.std.specs.List.{IsDistinct}
 use Rattle.res_merge.specs.Entries.{Key, Number, Text, Entry, entry_of}
 use Rattle.res_merge.specs.Order.{RESOURCE_LIMIT}
 use Rattle.res_merge.specs.Found.{IsSmallKey, AreNumbered}
-use Rattle.lib_search.specs.declared.resource_key.KeyPart.{KeyPart}
-use Rattle.lib_search.specs.declared.resource_key.KeyPart.TheVariants as part
-use Rattle.lib_search.specs.declared.resource_key.ResourceKey.{ResourceKey}
-use Rattle.lib_search.specs.declared.resource_files.ResourceFiles.{ResourceFiles}
-use Rattle.lib_search.specs.ResourceFiles.{same_entry}
+use Rattle.resource_files.specs.declared.key.KeyPart.{KeyPart}
+use Rattle.resource_files.specs.declared.key.KeyPart.TheVariants as part
+use Rattle.resource_files.specs.declared.key.ResourceKey.{ResourceKey}
+use Rattle.resource_files.specs.declared.files.ResourceFiles.{ResourceFiles}
+use Rattle.resource_files.specs.Held.{same_entry}
 
 abbrev pub part_of : Key → KeyPart
 part_of (Number number) = part.Number number

@@ -14,7 +14,7 @@ use Rattle.res_merge.specs.Order.{RESOURCE_LIMIT}
 use Rattle.res_merge.specs.ResourceFile.{resources_of}
 use Rattle.res_merge.specs.Found.{is_resource}
 use Rattle.file_search.specs.FoundFiles.{FoundFile}
-use Rattle.lib_search.specs.SaidFaults.{name_of}
+use Rattle.resource_files.specs.SaidFaults.{name_of}
 
 -- ---- what files hold
 

@@ -1,0 +1,3 @@
+pub mod SaidFaults
+pub mod Held
+pub mod Parts
