@@ -1,0 +1,4 @@
+pub mod PatchedJobs
+pub mod LeastRange
+pub mod Parts
+pub mod Slices
