@@ -2,6 +2,7 @@ pub mod SaidLemmas
 mod WorkedResources
 pub mod LibraryLemmas
 pub mod InputLemmas
+pub mod OpenedFileLemmas
 pub mod ModuleLemmas
 pub mod ListingLemmas
 pub mod AlternateLemmas

@@ -1,6 +1,7 @@
 pub mod LinkOf
 pub mod Joining
 pub mod Inputs
+pub mod OpenedFiles
 pub mod SearchSteps
 pub mod Loading
 pub mod OpenLibraries

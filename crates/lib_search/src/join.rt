@@ -1,34 +1,34 @@
-//! A file or a member joins as a module.
+//! A file or a member that was opened joins as a module.
 
-ghost use Rattle.std.specs.Prelude.{◌≡◌, ◌≤◌, ◌<◌, length, None, Some, IfOk, OnOk, IfErr};
+ghost use Rattle.std.specs.Prelude.{◌≡◌, ◌<◌, length, None, Some, IfOk, OnOk, IfErr};
 ghost use Rattle.std.specs.List.{list_any};
-ghost use Rattle.link_base.specs.Limits.{FILE_LIMIT as most_bytes, MODULE_LIMIT as most_modules};
+ghost use Rattle.link_base.specs.Limits.{MODULE_LIMIT as most_modules};
 ghost use Rattle.link_base.specs.Refusals.{RefusesFor};
 ghost use Rattle.module_view.specs.ModuleParts.{view_of};
+ghost use Rattle.par_read.specs.Opened.{IsOpenedAs};
 ghost use Rattle.lib_search.specs.Joining.{module_fault, brings_resources, joining_fault};
 
 use link_base::{Fault, Kind, MODULE_LIMIT, Name, Refusal};
-use module_view::{Module, ModuleError, Origin, open_module};
-use std::alloc::Global;
+use module_view::{Module, ModuleError};
+use par_read::{Answer, Job};
 
-/// Opens a file or a member as a module after these. One that does not open is refused, one that brings resources where one of
-/// these does or a resource file was opened, and one too many.
-pub(crate) fn join<'a>(
-    alloc: Global,
-    origin: Origin<'a>,
-    bytes: &'a [u8],
+/// What the opening of a file or a member gave joins as a module after these. One that did not open is refused, one that brings
+/// resources where one of these does or a resource file was opened, and one too many.
+pub(crate) fn join_opened<'a>(
+    answer: Answer<'a>,
+    job: &Job<'a>,
     merges: bool,
     modules: &[Module<'a>],
 ) -> Result<Module<'a>, Refusal<'a>>
-    requires { length bytes.now ≤ most_bytes }
-    ensures opened { IfOk result (λ opened. opened ≡ view_of origin.entry bytes.now) }
-    ensures accepted { OnOk result (joining_fault origin.entry.file origin.entry.member bytes.now merges modules.now ≡ None) }
+    requires { IsOpenedAs job.now answer }
+    ensures opened { IfOk result (λ opened. opened ≡ view_of job.now.origin job.now.bytes.now) }
+    ensures accepted { OnOk result (joining_fault job.now.origin.file job.now.origin.member job.now.bytes.now merges modules.now ≡ None) }
     ensures few { OnOk result (length modules.now < most_modules) }
-    ensures refused { IfErr result (RefusesFor (joining_fault origin.entry.file origin.entry.member bytes.now merges modules.now)) }
+    ensures refused { IfErr result (RefusesFor (joining_fault job.now.origin.file job.now.origin.member job.now.bytes.now merges modules.now)) }
 {
-    let file = origin.file.again();
-    let member = again(&origin.member);
-    match open_module(alloc, origin, bytes) {
+    let file = job.origin.file.again();
+    let member = again(&job.origin.member);
+    match answer {
         Ok(module) => {
             if module.has_resources() && (merges || bring_resources(modules)) {
                 return Err(Refusal::Fault(Fault::Unsupported {

@@ -12,6 +12,7 @@ mod library;
 mod link_list;
 mod loading;
 mod open;
+mod opened_files;
 mod search;
 mod searched;
 

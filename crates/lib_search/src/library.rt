@@ -11,11 +11,12 @@ ghost use Rattle.lib_search.specs.Joining.{bad_library, no_library};
 ghost use Rattle.lib_search.specs.OpenLibraries.{ListsBelow};
 ghost use Rattle.lib_search.specs.SearchSteps.{library_at, first_listing, member_view, member_fault_in};
 
-use crate::join::join;
+use crate::join::join_opened;
 use indexmap::IndexMap;
 use lib_reader::{LibError, Library};
 use link_base::{Fault, Memory, Name, Refusal};
 use module_view::{Module, Origin};
+use par_read::{Job, open_job};
 use std::alloc::Global;
 use std::marker::Model;
 
@@ -69,11 +70,14 @@ impl<'a> OpenLibrary<'a> {
             Ok(member) => member,
             Err(error) => return Err(Refusal::Fault(bad_library(self.file.again(), error))),
         };
-        let origin = Origin {
-            file: self.file.again(),
-            member: Some(member.name),
+        let job = Job {
+            origin: Origin {
+                file: self.file.again(),
+                member: Some(member.name),
+            },
+            bytes: member.bytes,
         };
-        join(alloc, origin, member.bytes, merges, modules)
+        join_opened(open_job(alloc, &job), &job, merges, modules)
     }
 }
 

@@ -10,11 +10,12 @@ use crate::loading::{Loading, join_member, read_default, start};
 use file_search::read_inputs;
 use input_arena::Inputs;
 use link_base::Stop;
-use link_files::Files;
+use link_files::{Files, Gate};
 use link_words::Options;
 use module_view::Module;
 use res_merge::Resource;
 use std::alloc::Global;
+use std::thread::Threads;
 use symbol_table::SymbolTable;
 
 /// What takes part in a link: the modules, in the order of joining, the table of their names, and the resources of the resource
@@ -34,11 +35,13 @@ pub struct LinkList<'a> {
 /// (`Unsupported`), and so is such a module behind it, also one of a library. Then the first malformed entry is refused
 /// (`BadResource`), more than 65,535 entries of this file and those before it (`TooManyResources`), and the first entry whose
 /// type, name and language an earlier one of these files has (`DuplicateResource`).
-pub fn complete<'a, F: Files>(
+pub fn complete<'a, R: Threads + Sync, F: Files, G: Gate>(
+    rt: &R,
     alloc: Global,
     files: &mut F,
     inputs: &mut Inputs<'a>,
     options: &Options<'a>,
+    gate: &G,
 ) -> Result<LinkList<'a>, Stop<'a>>
     requires reads_below { F.read_faults files.old < 2 ^ 64 - 1 }
     requires writes_below { F.write_faults files.old < 2 ^ 64 - 1 }
@@ -51,7 +54,7 @@ pub fn complete<'a, F: Files>(
         Ok(read) => read,
         Err(stop) => return Err(stop),
     };
-    match start(alloc, inputs, options, &read) {
+    match start(rt, alloc, inputs, options, &read, gate) {
         Ok(begun) => search(
             alloc,
             files,

@@ -29,11 +29,12 @@ use crate::search::Search;
 use file_search::{DefaultLibraries, FoundFile, find_file};
 use input_arena::Inputs;
 use link_base::{Memory, Refusal, Stop};
-use link_files::Files;
+use link_files::{Files, Gate};
 use link_words::Options;
 use module_view::Module;
 use res_merge::Resource;
 use std::alloc::Global;
+use std::thread::Threads;
 
 /// What has joined so far, the default libraries that are searched, and how many of these were read.
 #[derive(Drop)]
@@ -51,11 +52,13 @@ pub(crate) struct Begun<'a> {
 }
 
 /// Opens the inputs, with which a loading begins. The first that does not open is refused.
-pub(crate) fn start<'a>(
+pub(crate) fn start<'a, R: Threads + Sync, G: Gate>(
+    rt: &R,
     alloc: Global,
     inputs: &mut Inputs<'a>,
     options: &Options<'a>,
     files: &[FoundFile<'a>],
+    gate: &G,
 ) -> Result<Begun<'a>, Refusal<'a>>
     requires short { All (λ file. length file.bytes.now ≤ most_bytes) files.now }
     requires together { sum_by (λ file. length file.bytes) (files_found files.now) ≤ most_together }
@@ -67,7 +70,7 @@ pub(crate) fn start<'a>(
     ensures accepted { OnOk result (opening_fault (files_found files.now) ≡ None) }
     ensures refused { IfErr result (RefusesSaid (opening_fault (files_found files.now))) }
 {
-    let opened = open_inputs(alloc, files)?;
+    let opened = open_inputs(rt, alloc, files, gate)?;
     let OpenInputs {
         modules,
         libraries,

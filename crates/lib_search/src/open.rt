@@ -10,15 +10,20 @@ ghost use Rattle.resource_files.specs.Held.{entries_in, entries_among, merges_re
 ghost use Rattle.resource_files.specs.Parts.{KeepsResources};
 ghost use Rattle.lib_search.specs.Joining.{brings_resources};
 ghost use Rattle.lib_search.specs.Inputs.{modules_among, libraries_among, file_fault, opening_fault};
+ghost use Rattle.lib_search.specs.OpenedFiles.{AnswersFile};
 
-use crate::join::join;
+use crate::join::join_opened;
 use crate::library::{OpenLibrary, push_library};
+use crate::opened_files::{job_of, next_answer, open_modules};
 use file_search::FoundFile;
 use lib_reader::begins_library;
 use link_base::{Fault, Kind, Memory, Refusal};
-use module_view::{Module, Origin};
+use link_files::Gate;
+use module_view::Module;
+use par_read::Answer;
 use resource_files::{ResourceFiles, begins_resources};
 use std::alloc::Global;
+use std::thread::Threads;
 
 /// The inputs of a link: modules, libraries that are searched, and resource files.
 #[derive(Drop)]
@@ -30,10 +35,12 @@ pub(crate) struct OpenInputs<'a> {
     pub(crate) resource_files: ResourceFiles<'a>,
 }
 
-/// Opens the inputs in their order. The first that does not open is refused.
-pub(crate) fn open_inputs<'a>(
+/// Opens the inputs: the modules among them at once, and then all in their order. The first that does not open is refused.
+pub(crate) fn open_inputs<'a, R: Threads + Sync, G: Gate>(
+    rt: &R,
     alloc: Global,
     files: &[FoundFile<'a>],
+    gate: &G,
 ) -> Result<OpenInputs<'a>, Refusal<'a>>
     requires { All (λ file. length file.bytes.now ≤ most_bytes) files.now }
     ensures modules { IfOk result (λ opened. opened.modules.items ≡ modules_among (files_found files.now)) }
@@ -51,21 +58,24 @@ pub(crate) fn open_inputs<'a>(
         libraries: Vec::new(alloc),
         resource_files: ResourceFiles::new(alloc),
     };
+    let mut answers = open_modules(rt, alloc, files, gate)?;
     for file in files {
-        open_one(alloc, &mut opened, file)?;
+        let answer = next_answer(file, &mut answers);
+        open_one(&mut opened, file, answer)?;
     }
     Ok(opened)
 }
 
-/// Opens an input after those before it.
+/// Opens an input after those before it. A module was opened, with this answer.
 fn open_one<'a>(
-    alloc: Global,
     opened: &mut OpenInputs<'a>,
     file: &FoundFile<'a>,
+    answer: Option<Answer<'a>>,
 ) -> Result<(), Refusal<'a>>
     requires short { length file.now.bytes.now ≤ most_bytes }
     requires brings { opened.old.brings ≡ list_any brings_resources opened.old.modules.items }
     requires kept { KeepsResources opened.old.resource_files }
+    requires answer { AnswersFile file.now answer }
     ensures brings { OnOk result (opened.new.brings ≡ list_any brings_resources opened.new.modules.items) }
     ensures modules { OnOk result (opened.new.modules.items ≡ opened.old.modules.items ++ modules_among (file_found file.now ∷ [])) }
     ensures libraries { OnOk result (opened.new.libraries.items ≡ opened.old.libraries.items ++ libraries_among (file_found file.now ∷ [])) }
@@ -84,12 +94,10 @@ fn open_one<'a>(
     if begins_resources(file.bytes) {
         return open_resources(opened.brings, &mut opened.resource_files, file);
     }
-    let origin = Origin {
-        file: file.file.again(),
-        member: None,
-    };
+    let Some(answer) = answer else { unreachable!() };
+    let job = job_of(file);
     let merges = opened.resource_files.opened;
-    let module = join(alloc, origin, file.bytes, merges, &opened.modules)?;
+    let module = join_opened(answer, &job, merges, &opened.modules)?;
     let brings = opened.brings || module.has_resources();
     push_module(&mut opened.modules, module)?;
     opened.brings = brings;

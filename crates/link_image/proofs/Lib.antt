@@ -4,10 +4,12 @@ pub mod TargetLemmas
 pub mod PdataLemmas
 pub mod RowLemmas
 pub mod SectionLemmas
-pub mod MixedLemmas
 pub mod StandsLemmas
 pub mod FieldLemmas
 pub mod SortLemmas
+pub mod OrderLemmas
+pub mod JobPlaceLemmas
+pub mod JobLemmas
 pub mod PlaceLemmas
 pub mod AddressLemmas
 pub mod AscendLemmas
@@ -19,6 +21,7 @@ pub mod IdentityFile
 pub mod SortedFile
 pub mod TableLemmas
 pub mod FileLemmas
+pub mod ImportTableLemmas
 pub mod ImportLemmas
 pub mod MapLemmas
 pub mod MeansLemmas

@@ -40,6 +40,10 @@ use Rattle.base_reloc.specs.declared.field.BaseField.{BaseField}
 use Rattle.base_reloc.specs.PageBlocks.{blocks_of}
 use Rattle.address_layout.specs.Growth.{Appends, IsGrowRefusal}
 use Rattle.link_base.specs.Limits.{IMAGE_LIMIT}
+use Rattle.link_base.specs.Refusals.{RefusesFor}
+use Rattle.link_base.specs.declared.stop.Refusal.{Refusal}
+use Rattle.link_base.specs.declared.stop.Refusal.TheVariants as refusal
+use Rattle.link_pieces.specs.LinkParts.{LinkParts}
 use Rattle.piece_bytes.specs.Owners.{owners, no_row}
 use Rattle.link_image.specs.declared.placement.Placement.{Placement}
 use Rattle.link_image.specs.BaseFields.{is_relocated, AreBaseFields}
@@ -48,7 +52,7 @@ use Rattle.link_image.specs.ExportFaults.{in_table_fault}
 use Rattle.link_image.specs.TableFaults.{tables_fault}
 use Rattle.link_image.specs.Steps.{reloc_tables, EndsWithTable, IsPlaced, IsReady, IsWritten}
 use Rattle.link_image.specs.LinkedImage.{link_input, base_rule, table_row, AreGrouped, ArePlaced, IsWhole, IsPlacement}
-use Rattle.link_image.specs.BuildFaults.{IsBuildFault}
+use Rattle.link_image.specs.BuildFaults.{IsBuildFault, RefusesBuild}
 use Rattle.link_base.specs.NameText.{same_name}
 use Rattle.section_group.specs.Placement.{IsSection}
 use Rattle.pdata_table.specs.SortedContents.{is_among}
@@ -131,9 +135,14 @@ bad_base options link rows layout tables placement refused =
     inl (inr (inr (inr (inr (inl (record { rows = rows; layout = layout; tables = tables; placement = placement; refused = refused; is = refl }))))))
 
 -- a value that does not fit
-pub bad_range : (options : LinkOptions) (link : KeptParts) (rows : List OutRow) (layout : Layout) (tables : List (List ℕ)) (fault : Fault) → IsPlacement options link rows layout tables → is_permitted (base_rule options) layout.image options.base ≡ true → in_table_fault link layout.pieces.items ≡ None → fields_range_fault link rows layout options.base ≡ Some fault → IsBuildFault options link fault
+bad_range : (options : LinkOptions) (link : KeptParts) (rows : List OutRow) (layout : Layout) (tables : List (List ℕ)) (fault : Fault) → IsPlacement options link rows layout tables → is_permitted (base_rule options) layout.image options.base ≡ true → in_table_fault link layout.pieces.items ≡ None → fields_range_fault link rows layout options.base ≡ Some fault → IsBuildFault options link fault
 bad_range options link rows layout tables fault placement permitted outside is =
     inl (inr (inr (inr (inr (inr (inr (record { rows = rows; layout = layout; tables = tables; placement = placement; permitted = permitted; outside = outside; is = is })))))))
+
+pub range_refusal : (options : LinkOptions) (link : KeptParts) (rows : List OutRow) (layout : Layout) (tables : List (List ℕ)) (r : Refusal) → IsPlacement options link rows layout tables → is_permitted (base_rule options) layout.image options.base ≡ true → in_table_fault link layout.pieces.items ≡ None → RefusesFor (fields_range_fault link rows layout options.base) r → RefusesBuild options link r
+range_refusal options link rows layout tables (refusal.Fault fault) placement permitted outside is =
+    bad_range options link rows layout tables fault placement permitted outside is
+range_refusal options link rows layout tables refusal.Memory placement permitted outside is = tt
 
 -- a bad table: the exception table, or else that of the exports
 pub bad_table : (options : LinkOptions) (link : KeptParts) (fault : Fault) → HasNoBadMerge (merges_of options link.parts) → tables_fault link ≡ Some fault → IsBuildFault options link fault
@@ -337,6 +346,7 @@ owner_there placement sections count owner is same long =
 pub ready : (options : LinkOptions) (plan : LinkPlan) (placement : Placement) (headers : Headers) (image owner : List ℕ) → IsPlanOf options plan.modules.items plan → IsPlaced options plan placement → IsWritten headers placement (kept_parts plan) image → owner ≡ owners_in (rows_of placement.sections.items) placement.layout → IsReady (kept_parts plan) plan.pieces.items plan.fixes.items placement.sections.items placement.layout owner (reloc_tables placement.table)
 ready options plan placement headers image owner planned placed written is = record {
   options = options;
+  few_modules = let parts = ap (λ (l : LinkParts). length l.modules) planned.link_is.parts_are in omega (arith, planned.few_modules, parts);
   kept_are = planned.link_is.kept_are;
   pieces_are = planned.pieces_are;
   held = held_at options plan planned placement.layout;

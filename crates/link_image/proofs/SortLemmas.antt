@@ -99,7 +99,7 @@ module _ (link : KeptParts) (pieces : List Piece) (fixups : List (List Fix)) (se
     row = (row_at sections i).1
 
     -- what a piece of the section holds in the file
-    read_at : (contents : List (List ℕ)) (j k : ℕ) → AreLike contents → j < length row → get_or row j 0 ≡ k → IsSized k → bytes_of_piece layout pieces i (file contents) k ≡ get_or contents k []
+    pub read_at : (contents : List (List ℕ)) (j k : ℕ) → AreLike contents → j < length row → get_or row j 0 ≡ k → IsSized k → bytes_of_piece layout pieces i (file contents) k ≡ get_or contents k []
     read_at contents j k like within is sized =
         let lt : k < length contents = omega (arith, sized.0, count_is, like.count) in
         let at : piece_at sections i j ≡ k = is in
@@ -153,7 +153,7 @@ module _ (link : KeptParts) (pieces : List Piece) (fixups : List (List Fix)) (se
         subst (λ (bytes : List ℕ). patched (piece_place layout i k) bytes (file contents) ≡ file new)
         (get_or_append_left new tables [] k (omega (arith, inside, length-set contents k part)) ∙ get_or-set_same contents k part [] inside) here
 
-    like_after : (contents : List (List ℕ)) (k : ℕ) (part : List ℕ) → AreLike contents → length part ≡ length (get_or contents k []) → k < length contents → AreLike (set contents k part)
+    pub like_after : (contents : List (List ℕ)) (k : ℕ) (part : List ℕ) → AreLike contents → length part ≡ length (get_or contents k []) → k < length contents → AreLike (set contents k part)
     like_after contents k part like len lt = record {
       count = length-set contents k part ∙ like.count;
       long = λ other within.

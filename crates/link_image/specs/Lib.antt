@@ -8,4 +8,5 @@ pub mod LinkMap
 pub mod LinkPdb
 pub mod BuiltImage
 pub mod BuildFaults
+pub mod PatchJobs
 pub mod Steps

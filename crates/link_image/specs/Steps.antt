@@ -1,5 +1,5 @@
 -- What the steps of the code promise one another. It decides nothing.
-use Rattle.std.specs.Prelude.{◌≡◌, ◌≢◌, ◌<◌, ◌≤◌, ◌⊎◌, ℕ, ◌+◌, ◌^◌, ◌%◌, ◌==◌, true, false, nat_lt, if◌then◌else◌, List, [], ◌∷◌, ◌++◌, length, map, slice_index, slice_index_or, Option, Some, None}
+use Rattle.std.specs.Prelude.{◌≡◌, ◌≢◌, ◌<◌, ◌≤◌, ◌⊎◌, ℕ, ◌+◌, ◌^◌, ◌%◌, ◌==◌, true, false, if◌then◌else◌, List, [], ◌∷◌, ◌++◌, length, map, slice_index, slice_index_or, Option, Some, None}
 use Rattle.std.specs.List.{All, Contains, IsDistinct, range_with_len}
 use Rattle.std.specs.declared.vec.Vec.{Vec}
 use Rattle.link_base.specs.Bytes.{first_below}
@@ -9,7 +9,7 @@ use Rattle.section_group.specs.declared.piece.OutSection.{OutSection}
 use Rattle.section_group.specs.SectionOrder.{no_piece}
 use Rattle.section_group.specs.BarePieces.{bare}
 use Rattle.section_group.specs.PieceContents.{piece_contents}
-use Rattle.section_group.specs.Uniqueness.{SectionRow, row_of, rows_of}
+use Rattle.section_group.specs.Uniqueness.{row_of, rows_of}
 use Rattle.address_layout.specs.declared.layout.Layout.{Layout}
 use Rattle.address_layout.specs.Layout.{all_pieces}
 use Rattle.relocate.specs.declared.fix.Fix.{Fix}
@@ -25,11 +25,11 @@ use Rattle.relocate.specs.Value.{IsLeastOutside}
 use Rattle.image_writer.specs.declared.headers.Headers.{Headers}
 use Rattle.image_writer.specs.ExpectedImage.{image_file}
 use Rattle.image_writer.specs.WrittenImage.{layout_plan, at_each_base, IsLaidOut}
-use Rattle.link_pieces.specs.TablePieces.{KeptParts, whole_pieces, whole_piece, is_table}
+use Rattle.link_pieces.specs.TablePieces.{KeptParts, whole_piece, is_table}
 use Rattle.link_pieces.specs.PieceIndex.{is_numbered, holds}
 use Rattle.link_plan.specs.Reach.{AreKept}
 use Rattle.link_plan.specs.Planned.{HaveFields, used_pieces, plan_pieces, planned_fixes, planned_target}
-use Rattle.link_base.specs.Limits.{SECTION_LIMIT, IMAGE_LIMIT}
+use Rattle.link_base.specs.Limits.{MODULE_LIMIT, SECTION_LIMIT, IMAGE_LIMIT}
 use Rattle.link_words.specs.Outcome.{LinkOptions}
 use Rattle.link_plan.specs.declared.planning.LinkPlan.{LinkPlan}
 use Rattle.link_fields.specs.declared.entry.EntryPlace.{EntryPlace}
@@ -39,7 +39,7 @@ use Rattle.link_plan.specs.Laid.{StandsNamed}
 use Rattle.link_image.specs.declared.placement.Placement.{Placement}
 use Rattle.link_image.specs.NamedSections.{pdata_pieces}
 use Rattle.link_image.specs.BaseFields.{AreBaseFields}
-use Rattle.link_image.specs.LinkedBytes.{owners_in, contents_at, placed_contents, linked_bytes, linked_contents, identified, out_of_range}
+use Rattle.link_image.specs.LinkedBytes.{owners_in, contents_at, placed_contents, linked_contents, identified, out_of_range}
 use Rattle.debug_entry.specs.Identifier.{image_identifier}
 use Rattle.debug_rows.specs.ImageMap.{Mapped}
 use Rattle.link_image.specs.LinkedImage.{link_input, table_row, IsPlacement}
@@ -155,6 +155,7 @@ pub record IsRowPiece (link : KeptParts) (pieces : List Piece) (layout : Layout)
 -- the pieces with their fields, the tables after them, and where all of these stand
 pub record IsReady (link : KeptParts) (pieces : List Piece) (fixups : List (List Fix)) (sections : List OutSection) (layout : Layout) (owner : List ℕ) (tables : List (List ℕ)) : Type 0 where
   pub options : LinkOptions
+  pub few_modules : length link.parts.modules ≤ MODULE_LIMIT
   pub kept_are : AreKept options link.parts link.kept
   pub pieces_are : map bare pieces ≡ plan_pieces options link
   pub held : (k : ℕ) → k < length pieces → IsHeld (slice_index_or pieces k no_piece) (contents_at link layout k)
@@ -167,22 +168,9 @@ pub record IsReady (link : KeptParts) (pieces : List Piece) (fixups : List (List
   pub rows_are : (k : ℕ) → is_among k (pdata_pieces (rows_of sections)) ≡ true → IsRowPiece link pieces layout k
   pub rows_apart : IsDistinct (λ j i. j == i) (pdata_pieces (rows_of sections))
 
--- the contents of an image whose first pieces are patched
-abbrev pub mixed_at : KeptParts → List SectionRow → Layout → ℕ → ℕ → ℕ → List ℕ
-mixed_at link rows layout base count k =
-    if nat_lt k count then linked_bytes link rows layout base k else contents_at link layout k
-
-unfoldable pub mixed_contents : KeptParts → List SectionRow → Layout → ℕ → ℕ → List (List ℕ)
-mixed_contents link rows layout base count =
-    map (mixed_at link rows layout base count) (range_with_len 0 (length (whole_pieces link)))
-
 -- the file of an image with these headers and contents, and the tables after them
 abbrev pub file_of : Headers → List OutSection → Layout → List (List ℕ) → List (List ℕ) → List ℕ
 file_of headers sections layout contents tables = image_file (layout_plan headers sections layout (at_each_base (contents ++ tables)))
-
-abbrev pub mixed_file : KeptParts → Headers → List OutSection → Layout → List (List ℕ) → ℕ → List ℕ
-mixed_file link headers sections layout tables count =
-    file_of headers sections layout (mixed_contents link (rows_of sections) layout headers.base count) tables
 
 -- what was written of pieces and tables
 pub record IsWritten (headers : Headers) (placement : Placement) (link : KeptParts) (image : List ℕ) : Type 0 where

@@ -26,11 +26,13 @@ use crate::tables::{directories_of, import_tables, other_tables, table_places};
 use image_headers::headers_of;
 use image_writer::Headers;
 use link_base::Refusal;
+use link_files::Gate;
 use link_library::link_library;
 use link_plan::LinkPlan;
 use link_words::Options;
 use piece_bytes::owners_of;
 use std::alloc::Global;
+use std::thread::Threads;
 
 /// What a link makes: the file of the image, how many sections this has, and its map, its PDB and its import library, where
 /// they are asked for. An image without exports has no import library.
@@ -43,15 +45,18 @@ pub struct Built {
     pub library: Option<Vec<u8>>,
 }
 
-/// The image of a plan, its map, its PDB and its import library. The input is refused for the first of: a bad merge
+/// The image of a plan, its map, its PDB and its import library. Its fields are patched by several parts, each of which passes
+/// the gate first. The input is refused for the first of: a bad merge
 /// (`BadMerge`), an exception table without whole rows (`BadPdata`), a bad export (`BadExport`), too many sections
 /// (`TooManySections`), an image that is too large (`ImageTooLarge`), a base at which it may not stand (`BaseRange`), an
 /// export that lies in the export table (`BadExport`), a field whose value does not fit (`RelocRange`), and a PDB
 /// (`PdbTooLarge`) or an import library (`ImplibTooLarge`) that is too large.
-pub fn build<'a>(
+pub fn build<'a, R: Threads + Sync, G: Gate>(
+    rt: &R,
     alloc: Global,
     plan: &LinkPlan<'a>,
     options: &Options<'a>,
+    gate: &G,
 ) -> Result<Built, Refusal<'a>>
     requires { IsPlanOf (options_said options.now) plan.now.modules.items plan.now }
     ensures built { IfOk result (IsBuilt (options_said options.now) (kept_parts plan.now)) }
@@ -59,15 +64,17 @@ pub fn build<'a>(
 {
     let placement = place_all(alloc, plan, options)?;
     check_own_base(plan, options, &placement)?;
-    image_of(alloc, plan, options, &placement)
+    image_of(rt, alloc, plan, options, &placement, gate)
 }
 
 /// The image of a plan whose pieces stand at these places, its map, its PDB and its import library.
-fn image_of<'a>(
+fn image_of<'a, R: Threads + Sync, G: Gate>(
+    rt: &R,
     alloc: Global,
     plan: &LinkPlan<'a>,
     options: &Options<'a>,
     placement: &Placement<'a>,
+    gate: &G,
 ) -> Result<Built, Refusal<'a>>
     requires plan { IsPlanOf (options_said options.now) plan.now.modules.items plan.now }
     requires placed { IsPlaced (options_said options.now) plan.now placement.now }
@@ -85,7 +92,7 @@ fn image_of<'a>(
     let mut image = write_file(alloc, plan, options, &headers, placement, &imports, &others)?;
     let owner = owners_of(alloc, &placement.sections, placement.layout.pieces.len())?;
     let id = finish(
-        alloc, &mut image, plan, options, &headers, placement, &places, &owner,
+        rt, alloc, &mut image, plan, options, &headers, placement, &places, &owner, gate,
     )?;
     let map = map_of(alloc, plan, options, placement, &owner, entry)?;
     let pdb = pdb_of(alloc, plan, options, placement, &owner, &id, &image)?;
@@ -102,7 +109,8 @@ fn image_of<'a>(
 
 /// Patches the fields in the file of an image, puts the rows of its exception table in order, and gives it an identifier,
 /// which is zero where no PDB is asked for.
-fn finish<'a>(
+fn finish<'a, R: Threads + Sync, G: Gate>(
+    rt: &R,
     alloc: Global,
     image: &mut Vec<u8>,
     plan: &LinkPlan<'a>,
@@ -111,6 +119,7 @@ fn finish<'a>(
     placement: &Placement<'a>,
     places: &[Option<usize>; 9],
     owner: &[u32],
+    gate: &G,
 ) -> Result<[u8; 16], Refusal<'a>>
     requires plan { IsPlanOf (options_said options.now) plan.now.modules.items plan.now }
     requires placed { IsPlaced (options_said options.now) plan.now placement.now }
@@ -126,7 +135,7 @@ fn finish<'a>(
     ensures identified { OnOk result (image.new.items ≡ identified_file headers.now plan.now placement.now) }
     ensures refused { IfErr result (RefusesBuild (options_said options.now) (kept_parts plan.now)) }
 {
-    patch_pieces(image, plan, headers, placement, owner)?;
+    patch_pieces(rt, alloc, image, plan, headers, placement, owner, gate)?;
     sort_pdata(alloc, image, plan, headers, placement, owner)?;
     Ok(identify(
         alloc, image, plan, options, headers, placement, places, owner,

@@ -1,127 +1,124 @@
-//! The fields of the pieces, patched in the file of the image.
+//! The fields of the pieces, patched in the file of the image by several parts.
 
-ghost use Rattle.std.specs.Prelude.{◌≡◌, ◌<◌, ◌≤◌, ◌+◌, true, Some, None, length, slice_index, OnOk, IfErr};
+ghost use Rattle.std.specs.Prelude.{◌≡◌, ◌++◌, true, None, IfOk, IfErr, OnOk, length, map};
 ghost use Rattle.std.specs.List.{All};
-ghost use Rattle.link_base.specs.Bytes.{bytes_at};
 ghost use Rattle.link_base.specs.PeFormat.{NUMBEROF_DIRECTORY_ENTRIES};
+ghost use Rattle.link_base.specs.Refusals.{RefusesFor};
 ghost use Rattle.section_group.specs.Uniqueness.{rows_of};
-ghost use Rattle.address_layout.specs.Layout.{placed_at};
-ghost use Rattle.image_writer.specs.PieceInFile.{piece_place, patched};
-ghost use Rattle.relocate.specs.Judged.{ArePatchable};
-ghost use Rattle.relocate.specs.PatchedBytes.{patched_bytes};
-ghost use Rattle.relocate.specs.Value.{HaveEntries, fits};
 ghost use Rattle.link_plan.specs.Plan.{kept_parts};
-ghost use Rattle.link_image.specs.LinkedBytes.{placed_contents, linked_contents, piece_range_fault, fields_range_fault};
-ghost use Rattle.link_image.specs.Steps.{IsReady, RefusesRange, file_of, mixed_file, reloc_tables};
+ghost use Rattle.link_image.specs.LinkedBytes.{placed_contents, linked_contents, fields_range_fault};
+ghost use Rattle.link_image.specs.PatchJobs.{CanHaveJob, CanHaveJobs, IsJob, AreJobs, has_fields, job_place, piece_and_place, places_at};
+ghost use Rattle.link_image.specs.Steps.{IsReady, file_of, reloc_tables};
 
 use crate::placement::Placement;
 use address_layout::Layout;
 use image_writer::Headers;
-use link_base::Fault;
+use link_base::{Fault, Memory, Refusal};
+use link_files::Gate;
 use link_plan::LinkPlan;
+use par_patch::{Job, patch_all};
 use piece_bytes::place_in_section;
-use relocate::{Fixups, patch};
-use section_group::Piece;
+use std::alloc::Global;
+use std::thread::Threads;
 
-/// Patches the fields of all pieces in the file of an image, in the order of the pieces. `owner` has the section of each
-/// piece. The first field whose value does not fit is refused (`RelocRange`), and the file is then of no use.
-pub(crate) fn patch_pieces<'a>(
+/// By how many parts the fields are patched.
+const PATCHING_PARTS: usize = 8;
+
+/// Patches the fields of all pieces in the file of an image, by several parts. `owner` has the section of each piece. The
+/// first field whose value does not fit is refused (`RelocRange`), and the file is then of no use.
+pub(crate) fn patch_pieces<'a, R: Threads + Sync, G: Gate>(
+    rt: &R,
+    alloc: Global,
     image: &mut Vec<u8>,
     plan: &LinkPlan<'a>,
     headers: &Headers,
     placement: &Placement<'a>,
     owner: &[u32],
-) -> Result<(), Fault<'a>>
+    gate: &G,
+) -> Result<(), Refusal<'a>>
     requires ready { IsReady (kept_parts plan.now) plan.now.pieces.items plan.now.fixes.items placement.now.sections.items placement.now.layout owner.now (reloc_tables placement.now.table) }
     requires directories { length headers.now.directories ≡ NUMBEROF_DIRECTORY_ENTRIES }
     requires file { image.old.items ≡ file_of headers.now placement.now.sections.items placement.now.layout (placed_contents (kept_parts plan.now) placement.now.layout) (reloc_tables placement.now.table) }
     ensures patched { OnOk result (image.new.items ≡ file_of headers.now placement.now.sections.items placement.now.layout
         (linked_contents (kept_parts plan.now) (rows_of placement.now.sections.items) placement.now.layout headers.now.base) (reloc_tables placement.now.table)) }
     ensures in_range { OnOk result (fields_range_fault (kept_parts plan.now) (rows_of placement.now.sections.items) placement.now.layout headers.now.base ≡ None) }
-    ensures refused { IfErr result (λ fault. fields_range_fault (kept_parts plan.now) (rows_of placement.now.sections.items) placement.now.layout headers.now.base ≡ Some fault) }
+    ensures refused { IfErr result (RefusesFor (fields_range_fault (kept_parts plan.now) (rows_of placement.now.sections.items) placement.now.layout headers.now.base)) }
 {
-    for k in 0..plan.pieces.len() {
-        patch_at(image, plan, headers, placement, owner, k)?;
-    }
-    Ok(())
-}
-
-/// Patches the fields of a piece in a file in which those of the pieces before it are patched.
-fn patch_at<'a>(
-    image: &mut Vec<u8>,
-    plan: &LinkPlan<'a>,
-    headers: &Headers,
-    placement: &Placement<'a>,
-    owner: &[u32],
-    k: usize,
-) -> Result<(), Fault<'a>>
-    requires ready { IsReady (kept_parts plan.now) plan.now.pieces.items plan.now.fixes.items placement.now.sections.items placement.now.layout owner.now (reloc_tables placement.now.table) }
-    requires directories { length headers.now.directories ≡ NUMBEROF_DIRECTORY_ENTRIES }
-    requires piece { k < length plan.now.pieces.items }
-    requires file { image.old.items ≡ mixed_file (kept_parts plan.now) headers.now placement.now.sections.items placement.now.layout (reloc_tables placement.now.table) k }
-    ensures file { OnOk result (image.new.items ≡ mixed_file (kept_parts plan.now) headers.now placement.now.sections.items placement.now.layout (reloc_tables placement.now.table) (k + 1)) }
-    ensures in_range { OnOk result (piece_range_fault (kept_parts plan.now) (rows_of placement.now.sections.items) placement.now.layout headers.now.base k ≡ None) }
-    ensures refused { IfErr result (λ fault. piece_range_fault (kept_parts plan.now) (rows_of placement.now.sections.items) placement.now.layout headers.now.base k ≡ Some fault) }
-{
-    let fixups = &plan.fixes[k];
-    if fixups.is_empty() {
-        return Ok(());
-    }
-    let piece = &plan.pieces[k];
+    let jobs = patch_jobs(alloc, plan, placement)?;
+    let base = headers.base;
     let layout = &placement.layout;
-    let place = file_place(layout, owner, k);
-    let rva = layout.pieces[k];
-    patch_piece(
-        image,
-        place,
-        rva,
-        headers.base,
-        piece,
-        fixups,
-        layout,
-        owner,
-    )?;
-    Ok(())
-}
-
-/// Where the first byte of a piece stands in the file.
-fn file_place(layout: &Layout, owner: &[u32], k: usize) -> usize
-    requires piece { k < length layout.now.pieces.items }
-    requires owner { k < length owner.now }
-    requires section { slice_index owner.now k < length layout.now.sections.items }
-    requires above { (placed_at layout.now.sections.items (slice_index owner.now k)).rva ≤ slice_index layout.now.pieces.items k }
-    ensures { result ≡ piece_place layout.now (slice_index owner.now k) k }
-{
-    place_in_section(layout, owner[k] as usize, k)
-}
-
-/// Patches the fields of a piece that has its first byte at a place of the file.
-fn patch_piece<'a>(
-    image: &mut Vec<u8>,
-    place: usize,
-    rva: u32,
-    base: u64,
-    piece: &Piece<'a>,
-    fixups: &Fixups,
-    layout: &Layout,
-    owner: &[u32],
-) -> Result<(), Fault<'a>>
-    requires within { place + piece.now.size ≤ length image.old.items }
-    requires patchable { ArePatchable piece.now.size fixups.now }
-    requires entries { HaveEntries layout.now owner.now fixups.now }
-    ensures written { OnOk result (image.new.items
-        ≡ patched place (patched_bytes base rva layout.now owner.now fixups.now (bytes_at image.old.items place piece.now.size)) image.old.items) }
-    ensures in_range { OnOk result (All (λ fix. fits base rva layout.now owner.now (bytes_at image.old.items place piece.now.size) fix ≡ true) fixups.now) }
-    ensures refused { IfErr result (RefusesRange base rva layout.now owner.now fixups.now (bytes_at image.old.items place piece.now.size) piece.now) }
-{
-    let part = &mut image[place..place + piece.size as usize];
-    match patch(part, rva, base, fixups, layout, owner) {
+    match patch_all(rt, image, &jobs, base, layout, owner, PATCHING_PARTS, gate) {
         Ok(()) => Ok(()),
-        Err(range) => Err(Fault::RelocRange {
-            module: Some(piece.module),
-            section: piece.number,
+        Err(range) => Err(Refusal::Fault(Fault::RelocRange {
+            module: Some(range.module),
+            section: range.section,
             relocation: range.index,
             value: range.value,
-        }),
+        })),
+    }
+}
+
+/// A job for each piece with fields, in the order in which the pieces stand in the file.
+fn patch_jobs<'b, 'a>(
+    alloc: Global,
+    plan: &'b LinkPlan<'a>,
+    placement: &Placement<'a>,
+) -> Result<Vec<Job<'b>>, Memory>
+    requires { CanHaveJobs plan.now.pieces.items plan.now.fixes.items placement.now.sections.items placement.now.layout }
+    ensures { IfOk result (λ jobs. AreJobs plan.now.pieces.items plan.now.fixes.items placement.now.sections.items placement.now.layout jobs.items) }
+{
+    let mut jobs = Vec::new(alloc);
+    for section in 0..placement.sections.len() {
+        let members = &placement.sections[section].pieces;
+        push_jobs(&mut jobs, plan, &placement.layout, section, members)?;
+    }
+    Ok(jobs)
+}
+
+/// Appends a job for each piece of a section that has fields.
+fn push_jobs<'b, 'a>(
+    jobs: &mut Vec<Job<'b>>,
+    plan: &'b LinkPlan<'a>,
+    layout: &Layout,
+    section: usize,
+    members: &[u32],
+) -> Result<(), Memory>
+    requires place { All (CanHaveJob plan.now.pieces.items plan.now.fixes.items layout.now section) members.now }
+    requires each { All (IsJob plan.now.pieces.items plan.now.fixes.items) jobs.old.items }
+    ensures places { OnOk result (map job_place jobs.new.items ≡ map job_place jobs.old.items ++ places_at plan.now.fixes.items layout.now section members.now) }
+    ensures each { OnOk result (All (IsJob plan.now.pieces.items plan.now.fixes.items) jobs.new.items) }
+{
+    for member in members {
+        if has_fields(plan, *member) {
+            jobs.push(job_of(plan, layout, section, *member))?;
+        }
+    }
+    Ok(())
+}
+
+/// Whether a piece has fields. The table of base relocations, which is no piece of the plan, has none.
+fn has_fields<'a>(plan: &LinkPlan<'a>, piece: u32) -> bool
+    ensures { result ≡ has_fields plan.now.fixes.items piece }
+{
+    let k = piece as usize;
+    k < plan.fixes.len() && !plan.fixes[k].is_empty()
+}
+
+/// The job of a piece of a section.
+fn job_of<'b, 'a>(plan: &'b LinkPlan<'a>, layout: &Layout, section: usize, piece: u32) -> Job<'b>
+    requires place { CanHaveJob plan.now.pieces.items plan.now.fixes.items layout.now section piece }
+    requires fields { has_fields plan.now.fixes.items piece ≡ true }
+    ensures place { job_place result ≡ piece_and_place layout.now section piece }
+    ensures is { IsJob plan.now.pieces.items plan.now.fixes.items result }
+{
+    let k = piece as usize;
+    let of = &plan.pieces[k];
+    Job {
+        piece,
+        module: of.module,
+        section: of.number,
+        start: place_in_section(layout, section, k),
+        len: of.size as usize,
+        fixups: &plan.fixes[k],
     }
 }

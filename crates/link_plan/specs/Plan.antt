@@ -1,7 +1,8 @@
 -- What a plan says of the modules that it was made for.
-use Rattle.std.specs.Prelude.{◌≡◌, ◌<◌, ℕ, ◌^◌, true, false, List, length, map, slice_index_or, None}
+use Rattle.std.specs.Prelude.{◌≡◌, ◌<◌, ◌≤◌, ℕ, ◌^◌, true, false, List, length, map, slice_index_or, None}
 use Rattle.std.specs.List.{All}
 use Rattle.std.specs.Option.{ForSome}
+use Rattle.link_base.specs.Limits.{MODULE_LIMIT}
 use Rattle.section_group.specs.SectionOrder.{no_piece}
 use Rattle.section_group.specs.BarePieces.{bare}
 use Rattle.address_layout.specs.Layout.{IsAlignment}
@@ -54,6 +55,7 @@ kept_parts plan = record { parts = plan.names; kept = plan.kept.items }
 -- a plan holds what the definitions give for its modules, its resources and the options, which have no fault up to it
 pub record IsPlanOf (options : LinkOptions) (modules : List ModuleView) (plan : LinkPlan) : Type 0 where
   pub opened : All IsOpened modules
+  pub few_modules : length modules ≤ MODULE_LIMIT
   pub modules_are : plan.modules.items ≡ modules
   pub link_is : IsLinkOf options modules (plan_resources plan) (kept_parts plan)
   pub pieces_are : map bare plan.pieces.items ≡ plan_pieces options (kept_parts plan)

@@ -24,7 +24,7 @@ use link_debug::LinkDebug;
 use link_directives::link_merges;
 use link_exports::link_exports;
 use link_fields::{EntryPlace, LoaderPlaces};
-use link_files::Files;
+use link_files::{Files, Gate};
 use link_imports::LinkImports;
 use link_pieces::{LinkNames, check_clash, link_names};
 use link_resources::LinkResources;
@@ -33,6 +33,7 @@ use module_view::Module;
 use relocate::{Fixups, Target};
 use section_group::Piece;
 use std::alloc::Global;
+use std::thread::Threads;
 
 /// What a link will hold.
 #[derive(Drop)]
@@ -68,11 +69,13 @@ pub struct LinkPlan<'a> {
 /// another name that nothing defines (`Undefined`) or whose default or alternate leads back to it (`WeakCycle`), an entry, an
 /// export or what a local slot points to that has no place in the image (`BadTarget`), and a relocation that is malformed or
 /// whose target cannot be used (`BadReloc`, `BadTarget`).
-pub fn plan<'a, F: Files>(
+pub fn plan<'a, R: Threads + Sync, F: Files, G: Gate>(
+    rt: &R,
     alloc: Global,
     files: &mut F,
     inputs: &mut Inputs<'a>,
     options: &Options<'a>,
+    gate: &G,
 ) -> Result<LinkPlan<'a>, Stop<'a>>
     requires reads_below { F.read_faults files.old < 2 ^ 64 - 1 }
     requires writes_below { F.write_faults files.old < 2 ^ 64 - 1 }
@@ -81,7 +84,7 @@ pub fn plan<'a, F: Files>(
         (files_of F.store F.read_faults F.write_faults files.old)
         (files_of F.store F.read_faults F.write_faults files.new) result }
 {
-    match complete(alloc, files, inputs, options) {
+    match complete(rt, alloc, files, inputs, options, gate) {
         Ok(list) => match plan_of(alloc, list, options) {
             Ok(plan) => Ok(plan),
             Err(refusal) => Err(Stop::from(refusal)),

@@ -1,8 +1,8 @@
 //! The most modules.
 
 use crate::run_without_failures;
-use std::alloc::Global;
 use std::test::Fail;
+use std::thread::Threads;
 
 /// An object with the code of `main`: three bytes in `.text`.
 const PLAIN: &[u8] =
@@ -14,7 +14,8 @@ const PLAIN: &[u8] =
     \x04\x00\x00\x00";
 
 /// What a link of the small object prints, named so many times.
-fn line_of_modules(alloc: Global, count: usize) -> Result<Vec<u8>, Fail> {
+fn line_of_modules<R: Threads + AllocGlobal + Sync>(rt: &R, count: usize) -> Result<Vec<u8>, Fail> {
+    let alloc = rt.alloc();
     let mut words = Vec::new(alloc);
     words.push("link")?;
     for _ in 0..count {
@@ -22,13 +23,13 @@ fn line_of_modules(alloc: Global, count: usize) -> Result<Vec<u8>, Fail> {
     }
     words.push("/ENTRY:main")?;
     words.push("/OUT:a.exe")?;
-    let ended = run_without_failures(alloc, &[("a.obj", PLAIN)], &words)?;
+    let ended = run_without_failures(rt, alloc, &[("a.obj", PLAIN)], &words)?;
     Ok(ended.out.taken().to_vec(alloc)?)
 }
 
 #[test]
 fn as_many_as_65534_modules_are_opened(rt: HostRuntime) -> Result<(), Fail> {
-    let line = line_of_modules(rt.alloc(), 65_534)?;
+    let line = line_of_modules(&rt, 65_534)?;
     assert_eq!(rt;
         line.as_slice(),
         b"fault 11 Duplicate main 0 1\n".as_slice()
@@ -38,7 +39,7 @@ fn as_many_as_65534_modules_are_opened(rt: HostRuntime) -> Result<(), Fail> {
 
 #[test]
 fn one_module_more_is_refused(rt: HostRuntime) -> Result<(), Fail> {
-    let line = line_of_modules(rt.alloc(), 65_535)?;
+    let line = line_of_modules(&rt, 65_535)?;
     assert_eq!(rt; line.as_slice(), b"fault 4 InputLimit 65535\n".as_slice());
     Ok(())
 }

@@ -5,9 +5,10 @@ ghost use Rattle.link_files.specs.Outside.{files_of};
 ghost use Rattle.link_rows.specs.Runs.{texts, stored, unfailed, shown, silent, IsRun};
 
 use link_base::Memory;
-use link_files::{Files, MemSink, NeverFails};
+use link_files::{Files, MemSink, NeverFails, OpenGate};
 use linker_program::run;
 use std::alloc::Global;
+use std::thread::Threads;
 
 /// A file's name and its bytes.
 pub type NamedFile<'a> = (&'a str, &'a [u8]);
@@ -21,7 +22,8 @@ pub struct Ended<F> {
 }
 
 /// Runs the linker where nothing fails.
-pub fn run_without_failures(
+pub fn run_without_failures<R: Threads + Sync>(
+    rt: &R,
     alloc: Global,
     files: &[NamedFile<'_>],
     words: &[&str],
@@ -30,7 +32,7 @@ pub fn run_without_failures(
 {
     let store = store_of(alloc, files)?;
     let out = MemSink::new(alloc, Vec::new(alloc));
-    run_over(alloc, store, out, words)
+    run_over(rt, alloc, store, out, words)
 }
 
 /// The files, of which no call fails.
@@ -45,7 +47,8 @@ fn store_of(alloc: Global, files: &[NamedFile<'_>]) -> Result<NeverFails, Memory
 }
 
 /// Runs the linker over files and a sink of which no call failed so far.
-pub fn run_over<F: Files + Drop>(
+pub fn run_over<R: Threads + Sync, F: Files + Drop>(
+    rt: &R,
     alloc: Global,
     mut files: F,
     mut out: MemSink,
@@ -59,7 +62,7 @@ pub fn run_over<F: Files + Drop>(
         (files_of F.store F.read_faults F.write_faults ended.files) (shown ended.out) ended.status) }
 {
     let words = owned_words(alloc, words)?;
-    let status = run(alloc, &mut files, &mut out, &words);
+    let status = run(rt, alloc, &mut files, &mut out, &OpenGate, &words);
     Ok(Ended { status, files, out })
 }
 

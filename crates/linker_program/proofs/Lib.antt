@@ -1,5 +1,6 @@
 pub mod OutcomeLemmas
 pub mod StepLemmas
+pub mod LeftLemmas
 pub mod RunLemmas
 mod WorkedLink
 pub mod ShownLemmas

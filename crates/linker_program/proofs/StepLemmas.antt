@@ -25,7 +25,7 @@ use Rattle.diagnostics.specs.FaultLine.{fault_line_text}
 use Rattle.diagnostics.specs.LineText.{operand, file_text, resource_text}
 use Rattle.res_merge.specs.Entries.{key_of}
 use Rattle.resource_files.specs.SaidFaults.{name_of, fault_said}
-use Rattle.link_words.specs.Outcome.{LinkOptions, CommandSaid, Link, At, Show, Gen, Refused as RefusedWord, refuse}
+use Rattle.link_words.specs.Outcome.{LinkOptions, CommandSaid, Link, Refused as RefusedWord, refuse}
 use Rattle.link_words.specs.declared.errors.UsageKind.{UsageKind}
 use Rattle.link_words.specs.UsageWord.{usage_word}
 use Rattle.link_words.specs.Commands.{words_say}
@@ -55,7 +55,7 @@ use Rattle.linker_program.specs.Ending.{Outcome, Usage, Refused, Linked, Plan}
 use Rattle.linker_program.proofs.OutcomeLemmas.{one_link, same_map, same_streams}
 use Rattle.linker_program.specs.Outcome.{IsPlan, BuildOutcome, LinkOutcome, AtLoading, AtModules, HasOutcome}
 use Rattle.linker_program.specs.RunLines.{write_failure_line}
-use Rattle.linker_program.specs.LinkRun.{asked_output, pdb_name, outputs_of, Expects, IsMade, LinkTries, ImageTries, PairTries, NothingTried, LinkAnswers, ShowAnswers, CommandAnswers, LeftByMemory, Answers}
+use Rattle.linker_program.specs.LinkRun.{asked_output, pdb_name, Expects, IsMade, LinkTries, LinkAnswers, CommandAnswers, LeftByMemory, Answers}
 use Rattle.linker_program.specs.Steps.{Refuses, RefusesWords, TellsReadFailure, ModulesHave, IsLinked, RefusesModules, AnswersWrite, LeftByWrites}
 use Rattle.linker_program.specs.WriteSteps.{linked_outputs, linked_summary}
 
@@ -472,40 +472,3 @@ pub on_linked : (r : Result Answer Memory) (words : List (List ℕ)) (before aft
 on_linked (Ok answer) words before after options said h = tt
 on_linked (Err error) words before after options said h =
     left_later (LinkOutcome options) (HasOutcome words) before after (asked_follows words before options said) h
-
--- what an answer left, where memory ran out before its line was printed
-left_by_link : (has : Store → Outcome → Type 0) (tries : Option Store → List ℕ → Type 0) (before after : FilesView) (answer : Status) (line : List ℕ) → LinkAnswers has tries before after answer line → LeftByMemory has before after
-left_by_link has tries before after status.Done line h =
-    inr (h.0, (h.1.0, record { made = h.1.1.made; count = length (outputs_of h.0 h.1.0); files = inl h.1.1.files }))
-left_by_link has tries before after status.Refused line h = nothing_written has before after h.1.files
-left_by_link has tries before after status.ReadFailed line h = inl (record { store = h.1.files.store; writes = h.1.files.writes })
-left_by_link has tries before after status.WriteFailed line h =
-    inr (h.0, (h.1.0, record { made = h.1.1.1.made; count = h.1.1.0; files = inr h.1.1.1.files }))
-left_by_link has tries before after status.Usage line h = absurd h
-left_by_link has tries before after status.OutOfMemory line h = absurd h
-left_by_link has tries before after status.PutFailed line h = absurd h
-
-left_by_show : (has : Store → Outcome → Type 0) (tries : Option Store → List ℕ → Type 0) (before after : FilesView) (answer : Status) (line : List ℕ) → ShowAnswers has tries before after answer line → LeftByMemory has before after
-left_by_show has tries before after status.Done line h = nothing_written has before after h.files
-left_by_show has tries before after status.Refused line h = nothing_written has before after h.1.files
-left_by_show has tries before after status.ReadFailed line h = inl (record { store = h.1.files.store; writes = h.1.files.writes })
-left_by_show has tries before after status.WriteFailed line h = absurd h
-left_by_show has tries before after status.Usage line h = absurd h
-left_by_show has tries before after status.OutOfMemory line h = absurd h
-left_by_show has tries before after status.PutFailed line h = absurd h
-
-left_by_command : (said : Result CommandSaid RefusedWord) (has : Store → Outcome → Type 0) (before after : FilesView) (answer : Status) (line : List ℕ) → CommandAnswers said has before after answer line → LeftByMemory has before after
-left_by_command (Ok (Link options)) has before after answer line h = left_by_link has (LinkTries options) before after answer line h
-left_by_command (Ok (At image base rva len)) has before after answer line h = left_by_show has (ImageTries image) before after answer line h
-left_by_command (Ok (Show image pdb base symbol len)) has before after answer line h = left_by_show has (PairTries image pdb) before after answer line h
-left_by_command (Ok (Gen count)) has before after answer line h = left_by_show has NothingTried before after answer line h
-left_by_command (Err word) has before after answer line h = absurd h
-
-pub left_by_answer : (words : List (List ℕ)) (before after : FilesView) (answer : Status) (line : List ℕ) → Answers words before after answer line → LeftByMemory (HasOutcome words) before after
-left_by_answer words before after status.Usage line h = nothing_written (HasOutcome words) before after h.1.1.files
-left_by_answer words before after status.Done line h = left_by_command (words_say words) (HasOutcome words) before after status.Done line h
-left_by_answer words before after status.Refused line h = left_by_command (words_say words) (HasOutcome words) before after status.Refused line h
-left_by_answer words before after status.ReadFailed line h = left_by_command (words_say words) (HasOutcome words) before after status.ReadFailed line h
-left_by_answer words before after status.WriteFailed line h = left_by_command (words_say words) (HasOutcome words) before after status.WriteFailed line h
-left_by_answer words before after status.OutOfMemory line h = left_by_command (words_say words) (HasOutcome words) before after status.OutOfMemory line h
-left_by_answer words before after status.PutFailed line h = left_by_command (words_say words) (HasOutcome words) before after status.PutFailed line h

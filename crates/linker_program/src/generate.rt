@@ -16,14 +16,20 @@ use bumpalo::Bump;
 use generated_world::{world_files, world_words};
 use input_arena::Inputs;
 use link_base::{Fault, Memory, Refusal, Stop};
-use link_files::NeverFails;
+use link_files::{Gate, NeverFails};
 use link_image::build;
 use link_plan::{LinkPlan, plan};
 use link_words::{Command, Options, WordsError, read_words, usage_word};
 use std::alloc::Global;
+use std::thread::Threads;
 
 /// Links a program of so many functions, and shows what becomes of its code.
-pub(crate) fn generate(alloc: Global, count: u32) -> Result<Answer, Memory>
+pub(crate) fn generate<R: Threads + Sync, G: Gate>(
+    rt: &R,
+    alloc: Global,
+    count: u32,
+    gate: &G,
+) -> Result<Answer, Memory>
     requires some { 1 ≤ count }
     requires few { count ≤ 2000 }
     ensures { IfOk result (TellsGenerated count) }
@@ -31,16 +37,18 @@ pub(crate) fn generate(alloc: Global, count: u32) -> Result<Answer, Memory>
     let arena = Bump::new(alloc);
     let mut files = world_files(alloc, count)?;
     let words = world_words(alloc, count)?;
-    link_by_words(alloc, &mut files, &arena, &words, count)
+    link_by_words(rt, alloc, &mut files, &arena, &words, count, gate)
 }
 
 /// Links what the words of the program name, with the inputs in this arena.
-fn link_by_words<'a>(
+fn link_by_words<'a, R: Threads + Sync, G: Gate>(
+    rt: &R,
     alloc: Global,
     files: &mut NeverFails,
     arena: &'a Bump,
     words: &'a [String],
     count: u32,
+    gate: &G,
 ) -> Result<Answer, Memory>
     requires files { files.old ≡ generated_files count }
     requires words { map string_bytes words.now ≡ generated_words count }
@@ -54,24 +62,26 @@ fn link_by_words<'a>(
         Err(WordsError::Memory) => return Err(Memory),
     };
     match command {
-        Command::Link(options) => link_by_options(alloc, files, arena, &options, count),
+        Command::Link(options) => link_by_options(rt, alloc, files, arena, &options, count, gate),
         _ => unreachable!(),
     }
 }
 
 /// Links these files, of which no read fails.
-fn link_by_options<'a>(
+fn link_by_options<'a, R: Threads + Sync, G: Gate>(
+    rt: &R,
     alloc: Global,
     files: &mut NeverFails,
     arena: &'a Bump,
     options: &Options<'a>,
     count: u32,
+    gate: &G,
 ) -> Result<Answer, Memory>
     ensures { IfOk result (TellsLink (LinkOutcome (options_said options.now) files.old) count) }
 {
     let mut inputs = Inputs::new(arena);
-    match plan(alloc, files, &mut inputs, options) {
-        Ok(plan) => make_image(alloc, options, &plan, count),
+    match plan(rt, alloc, files, &mut inputs, options, gate) {
+        Ok(plan) => make_image(rt, alloc, options, &plan, count, gate),
         Err(Stop::Fault(fault)) => refused(alloc, &fault),
         Err(Stop::Read(_)) => unreachable!(),
         Err(Stop::Memory) => Err(Memory),
@@ -79,16 +89,18 @@ fn link_by_options<'a>(
 }
 
 /// Makes the image of a plan, and shows what becomes of its code.
-fn make_image<'a>(
+fn make_image<'a, R: Threads + Sync, G: Gate>(
+    rt: &R,
     alloc: Global,
     options: &Options<'a>,
     plan: &LinkPlan<'a>,
     count: u32,
+    gate: &G,
 ) -> Result<Answer, Memory>
-    requires { IsPlanOf (options_said options.now) plan.now.modules.items plan.now }
+    requires planned { IsPlanOf (options_said options.now) plan.now.modules.items plan.now }
     ensures { IfOk result (TellsLink (ModulesOutcome (options_said options.now) plan.now.modules.items (plan_resources plan.now)) count) }
 {
-    match build(alloc, plan, options) {
+    match build(rt, alloc, plan, options, gate) {
         Ok(built) => show_sums(alloc, &built.image, count),
         Err(Refusal::Fault(fault)) => refused(alloc, &fault),
         Err(Refusal::Memory) => Err(Memory),

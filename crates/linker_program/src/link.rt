@@ -15,18 +15,21 @@ use crate::write::write_linked;
 use bumpalo::Bump;
 use input_arena::Inputs;
 use link_base::{Memory, Refusal, Stop};
-use link_files::Files;
+use link_files::{Files, Gate};
 use link_image::build;
 use link_plan::{LinkPlan, plan};
 use link_words::Options;
 use std::alloc::Global;
+use std::thread::Threads;
 
 /// Links what the options name, with the inputs in this arena.
-pub(crate) fn link<'a, F: Files>(
+pub(crate) fn link<'a, R: Threads + Sync, F: Files, G: Gate>(
+    rt: &R,
     alloc: Global,
     files: &mut F,
     arena: &'a Bump,
     options: &Options<'a>,
+    gate: &G,
 ) -> Result<Answer, Memory>
     requires reads_below { F.read_faults files.old < 2 ^ 64 - 1 }
     requires writes_below { F.write_faults files.old < 2 ^ 64 - 1 }
@@ -38,8 +41,8 @@ pub(crate) fn link<'a, F: Files>(
         (files_of F.store F.read_faults F.write_faults files.new)) }
 {
     let mut inputs = Inputs::new(arena);
-    match plan(alloc, files, &mut inputs, options) {
-        Ok(plan) => link_planned(alloc, files, options, &plan),
+    match plan(rt, alloc, files, &mut inputs, options, gate) {
+        Ok(plan) => link_planned(rt, alloc, files, options, &plan, gate),
         Err(Stop::Fault(fault)) => refused(alloc, &fault),
         Err(Stop::Read(name)) => read_failed(alloc, &name),
         Err(Stop::Memory) => Err(Memory),
@@ -47,11 +50,13 @@ pub(crate) fn link<'a, F: Files>(
 }
 
 /// Makes the image of a plan with its map, its PDB and its import library, and writes what comes of it.
-fn link_planned<'a, F: Files>(
+fn link_planned<'a, R: Threads + Sync, F: Files, G: Gate>(
+    rt: &R,
     alloc: Global,
     files: &mut F,
     options: &Options<'a>,
     plan: &LinkPlan<'a>,
+    gate: &G,
 ) -> Result<Answer, Memory>
     requires reads_below { F.read_faults files.old < 2 ^ 64 - 1 }
     requires writes_below { F.write_faults files.old < 2 ^ 64 - 1 }
@@ -63,7 +68,7 @@ fn link_planned<'a, F: Files>(
         (files_of F.store F.read_faults F.write_faults files.old)
         (files_of F.store F.read_faults F.write_faults files.new)) }
 {
-    match make(alloc, options, plan) {
+    match make(rt, alloc, options, plan, gate) {
         Ok(linked) => write_linked(alloc, files, options, linked),
         Err(Refusal::Fault(fault)) => refused(alloc, &fault),
         Err(Refusal::Memory) => Err(Memory),
@@ -71,16 +76,18 @@ fn link_planned<'a, F: Files>(
 }
 
 /// Makes the image of a plan, with its map, its PDB and its import library.
-fn make<'a>(
+fn make<'a, R: Threads + Sync, G: Gate>(
+    rt: &R,
     alloc: Global,
     options: &Options<'a>,
     plan: &LinkPlan<'a>,
+    gate: &G,
 ) -> Result<Linked, Refusal<'a>>
     requires { IsPlanOf (options_said options.now) plan.now.modules.items plan.now }
     ensures linked { IfOk result (IsLinked (options_said options.now) plan.now.modules.items (plan_resources plan.now)) }
     ensures refused { IfErr result (RefusesModules (options_said options.now) plan.now.modules.items (plan_resources plan.now)) }
 {
-    let built = build(alloc, plan, options)?;
+    let built = build(rt, alloc, plan, options, gate)?;
     Ok(Linked {
         modules: plan.modules.len(),
         sections: built.sections,

@@ -15,10 +15,10 @@ pub struct Job<'a> {
 }
 
 /// What opening the file of a job gives: a module, or why there is none.
-pub(crate) type Answer<'a> = Result<Module<'a>, ModuleError>;
+pub type Answer<'a> = Result<Module<'a>, ModuleError>;
 
 /// Opens the file of a job.
-pub(crate) fn open_job<'a>(alloc: Global, job: &Job<'a>) -> Answer<'a>
+pub fn open_job<'a>(alloc: Global, job: &Job<'a>) -> Answer<'a>
     requires { length job.now.bytes.now < 2 ^ 32 - 1 }
     ensures { IsOpenedAs job.now result }
 {

@@ -17,6 +17,7 @@ use row::Row;
 use std::alloc::AllocError;
 use std::io;
 use std::process::ExitCode;
+use std::thread::Threads;
 
 /// The status where a row is not right, or the input could not be read.
 const FAILED: u8 = 1;
@@ -43,7 +44,7 @@ fn status_of(rt: &impl Print, error: &io::Error) -> u8 {
 }
 
 /// Walks the rows of standard input, and says whether all are right.
-fn walk_input<R: Input + Print + AllocGlobal>(rt: &R) -> io::Result<bool> {
+fn walk_input<R: Input + Print + AllocGlobal + Threads + Sync>(rt: &R) -> io::Result<bool> {
     let text = io::read_to_string(rt.alloc(), rt.reader())?;
     let rows = match rows::rows_of(rt.alloc(), text.as_str()) {
         Ok(rows) => rows,
@@ -59,9 +60,9 @@ fn walk_input<R: Input + Print + AllocGlobal>(rt: &R) -> io::Result<bool> {
 }
 
 /// Runs a row, prints its line, and says whether it is right.
-fn walk_row<R: Print + AllocGlobal>(rt: &R, row: Row) -> io::Result<bool> {
+fn walk_row<R: Print + AllocGlobal + Threads + Sync>(rt: &R, row: Row) -> io::Result<bool> {
     let title = row.title.clone()?;
-    let (is_right, text) = match run_row::run_row(rt.alloc(), row) {
+    let (is_right, text) = match run_row::run_row(rt, rt.alloc(), row) {
         Ok(()) => (true, String::from_str(rt.alloc(), "ok")?),
         Err(failed) => (false, failed.text(rt.alloc())?),
     };

@@ -12,9 +12,10 @@ use crate::row::{Action, Contents, Row, RowFile};
 use crate::stage::{NamedBytes, Stage};
 use row_files::{RowError, library_file, object_file};
 use std::alloc::Global;
+use std::thread::Threads;
 
 /// Takes the steps of the row up to the first that is not met.
-pub fn run_row(alloc: Global, row: Row) -> Result<(), FailedLine> {
+pub fn run_row<R: Threads + Sync>(rt: &R, alloc: Global, row: Row) -> Result<(), FailedLine> {
     let Row {
         files,
         steps,
@@ -32,7 +33,7 @@ pub fn run_row(alloc: Global, row: Row) -> Result<(), FailedLine> {
     let mut stage = Stage::new(alloc, given).map_err(|error| FailedLine { line: 0, error })?;
     for step in &steps {
         let line = step.line;
-        take_step(alloc, &mut stage, &step.action).map_err(|error| FailedLine { line, error })?;
+        take_step(rt, alloc, &mut stage, &step.action).map_err(|error| FailedLine { line, error })?;
     }
     Ok(())
 }
@@ -49,13 +50,18 @@ fn push_given(alloc: Global, given: &mut Vec<NamedBytes>, file: RowFile) -> Resu
 }
 
 /// Does what the step says, or looks whether the stage meets what it expects.
-fn take_step(alloc: Global, stage: &mut Stage, action: &Action) -> Result<(), RowError>
+fn take_step<R: Threads + Sync>(
+    rt: &R,
+    alloc: Global,
+    stage: &mut Stage,
+    action: &Action,
+) -> Result<(), RowError>
     ensures { OnOk result (Meets action.now stage.new) }
 {
     match action {
         Action::FailCall(number) => stage.fail_call(*number),
         Action::FailPut(number) => stage.fail_put(*number),
-        Action::Run(words) => stage.run(alloc, words),
+        Action::Run(words) => stage.run(rt, alloc, words),
         Action::Status(status) => check_status(alloc, stage, *status),
         Action::Printed(printed) => check_printed(alloc, stage, printed),
         Action::At {

@@ -2,11 +2,12 @@
 
 ghost use Rattle.std.specs.Prelude.{◌≡◌, IfOk};
 
-use link_files::{MemFiles, MemSink, NeverFails};
+use link_files::{MemFiles, MemSink, NeverFails, OpenGate};
 use linker_program::{Status, run};
 use row_files::RowError;
 use std::alloc::Global;
 use std::mem;
+use std::thread::Threads;
 
 /// A file's name and its bytes.
 #[derive(Drop)]
@@ -87,19 +88,24 @@ impl Stage {
 
     /// Runs the linker. Where calls are to fail, the run begins with the files as the row gives them, and what it writes is
     /// seen by the steps up to the next run.
-    pub fn run(&mut self, alloc: Global, words: &[String]) -> Result<(), RowError> {
+    pub fn run<R: Threads + Sync>(
+        &mut self,
+        rt: &R,
+        alloc: Global,
+        words: &[String],
+    ) -> Result<(), RowError> {
         let calls = mem::replace(&mut self.failing_calls, Vec::new(alloc));
         let puts = mem::replace(&mut self.failing_puts, Vec::new(alloc));
         let is_planned = !calls.is_empty() || !puts.is_empty();
         let mut printed = MemSink::new(alloc, puts);
         let status = if is_planned {
             let mut files = failing_files(alloc, &self.given, calls)?;
-            let status = run(alloc, &mut files, &mut printed, words);
+            let status = run(rt, alloc, &mut files, &mut printed, &OpenGate, words);
             self.failed = Some(files);
             status
         } else {
             self.failed = None;
-            run(alloc, &mut self.store, &mut printed, words)
+            run(rt, alloc, &mut self.store, &mut printed, &OpenGate, words)
         };
         if status == Status::OutOfMemory.code() {
             return Err(RowError::Memory);

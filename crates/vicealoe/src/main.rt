@@ -1,9 +1,10 @@
-//! The linker as a program: it hands the words of its command line, the files of the system and standard
-//! output to the library, and ends with the status that this answers. Where the words cannot be had, it ends
-//! with status 7, or with 3 where that is for want of memory. It writes nothing to standard error.
+//! The linker as a program: it hands the words of its command line, the files of the system, standard output
+//! and the means to start threads to the library, and ends with the status that this answers. Where the words
+//! cannot be had, it ends with status 7, or with 3 where that is for want of memory. It writes nothing to standard
+//! error.
 #![tactic(auto)]
 
-use link_files::{HostFiles, HostSink};
+use link_files::{HostFiles, HostSink, OpenGate};
 use linker_program::run;
 use std::process::ExitCode;
 use std::rt::Env;
@@ -20,7 +21,7 @@ fn main(rt: HostRuntime) -> ExitCode {
         Ok(words) => {
             let mut files = HostFiles::new(&rt);
             let mut out = HostSink::new(io::writer(&rt));
-            run(rt.alloc(), &mut files, &mut out, &words)
+            run(&rt, rt.alloc(), &mut files, &mut out, &OpenGate, &words)
         }
         Err(error) => status_without_words(&error),
     };

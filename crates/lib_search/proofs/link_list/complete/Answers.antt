@@ -11,7 +11,7 @@ use Rattle.lib_search.proofs.EndLemmas.{short_files, stops_reading, ends_loading
 use Rattle.lib_search.proofs.link_list.complete.Goals as goal
 
 pub start-requires-clause-short : goal.start-requires-clause-short
-start-requires-clause-short g c = short_files c.in-Ok.read.items c.deref.result.now c.deref.ensures.value c.in-Ok.ensures.within
+start-requires-clause-short g c κs within = short_files c.in-Ok.read.items c.deref.result.now c.deref.ensures.value c.in-Ok.ensures.within
 
 pub returns-in-Ok-start : goal.returns-in-Ok-start
 returns-in-Ok-start g c =

@@ -6,10 +6,10 @@ use Rattle.resource_files.proofs.MergeLemmas.{mergeable}
 use Rattle.lib_search.proofs.loading.start.Goals as goal
 
 pub returns-clause-mergeable : goal.returns-clause-mergeable
-returns-clause-mergeable c =
+returns-clause-mergeable g c =
     let opened = c.in_ok-opened.ensures in
     mergeable (files_found c.args.files.now) (map entry_of c.in_ok-opened.opened.resource_files.resources.items) opened.resources c.requires.together
     (omega (arith, opened.kept.few, length-map c.in_ok-opened.opened.resource_files.resources.items entry_of)) opened.kept.apart
 
 pub returns-clause-numbered : goal.returns-clause-numbered
-returns-clause-numbered c = c.in_ok-opened.ensures.kept.numbered
+returns-clause-numbered g c = c.in_ok-opened.ensures.kept.numbered

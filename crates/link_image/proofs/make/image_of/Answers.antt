@@ -26,13 +26,13 @@ use Rattle.link_image.proofs.MeansLemmas.{built, headers_inside, large_pdb, larg
 use Rattle.link_image.proofs.make.image_of.Goals as goal
 
 pub finish-requires-clause-base : goal.finish-requires-clause-base
-finish-requires-clause-base c =
+finish-requires-clause-base g c κs within =
     let options : LinkOptions = options_said c.args.options.now in
     let placement : Placement = c.args.placement.now in
     ap (λ (h : Headers). h.base) c.headers_of-headers.ensures
 
 pub owners_of-requires-clause-within : goal.owners_of-requires-clause-within
-owners_of-requires-clause-within c =
+owners_of-requires-clause-within g c =
     let placement : Placement = c.args.placement.now in
     let count : c.len-2.result ≡ length placement.layout.pieces.items = c.len-2.ensures ∙ placement.layout.pieces.ok.0 in
     let laid = c.requires.placed.laid c.in_ok-image.ensures.rest c.in_ok-image.ensures.holds in
@@ -40,7 +40,7 @@ owners_of-requires-clause-within c =
     (subst (λ (n : ℕ). All (λ k. k < n) (all_pieces placement.sections.items)) (sym (count ∙ laid.rva_for_each)) laid.within)
 
 pub returns-clause-built : goal.returns-clause-built
-returns-clause-built c =
+returns-clause-built g c =
     let options : LinkOptions = options_said c.args.options.now in
     let plan : LinkPlan = c.args.plan.now in
     let placement : Placement = c.args.placement.now in
@@ -59,19 +59,19 @@ returns-clause-built c =
     built options plan placement owner c.requires.plan c.requires.placed all (record { image = c.finish.new.image; sections = c.len-sections.result; map = c.in_ok-map.map; pdb = c.in_ok-pdb.pdb; library = c.in_ok-library.library }) c.requires.permitted c.in_ok-exports.ensures.outside c.in_ok-exports.ensures.given c.in_ok-id.ensures.in_range file (c.len-sections.ensures ∙ placement.sections.ok.0) c.in_ok-map.ensures c.in_ok-id.id told pdb fits library accepted
 
 pub map_of-requires-clause-places : goal.map_of-requires-clause-places
-map_of-requires-clause-places c =
+map_of-requires-clause-places g c =
     (c.requires.placed.laid c.in_ok-image.ensures.rest c.in_ok-image.ensures.holds).section_for_each
 
 pub map_of-requires-clause-entry : goal.map_of-requires-clause-entry
-map_of-requires-clause-entry c = c.entry_rva-entry.ensures
+map_of-requires-clause-entry g c = c.entry_rva-entry.ensures
 
 pub overflow_cast-sections : goal.overflow_cast-sections
-overflow_cast-sections c =
+overflow_cast-sections g c =
     let placement : Placement = c.args.placement.now in
     omega (arith, c.requires.placed.few, c.len-sections.ensures, placement.sections.ok.0)
 
 pub pdb_of-requires-clause-headers : goal.pdb_of-requires-clause-headers
-pdb_of-requires-clause-headers c =
+pdb_of-requires-clause-headers g c =
     let options : LinkOptions = options_said c.args.options.now in
     let plan : LinkPlan = c.args.plan.now in
     let placement : Placement = c.args.placement.now in
@@ -84,7 +84,7 @@ pdb_of-requires-clause-headers c =
     headers_inside options plan placement owner c.requires.plan c.requires.placed all c.deref-6.result.now (c.deref-6.ensures.value ∙ file)
 
 pub returns-in_err-pdb-clause-refused : goal.returns-in_err-pdb-clause-refused
-returns-in_err-pdb-clause-refused c =
+returns-in_err-pdb-clause-refused g c =
     let options : LinkOptions = options_said c.args.options.now in
     let plan : LinkPlan = c.args.plan.now in
     let placement : Placement = c.args.placement.now in
@@ -100,17 +100,17 @@ returns-in_err-pdb-clause-refused c =
     (large_pdb options plan placement owner c.requires.plan c.requires.placed all c.in_ok-id.id c.deref-6.result.now c.in_err-pdb.field-0.0 c.requires.permitted c.in_ok-exports.ensures.outside c.in_ok-id.ensures.in_range told (c.deref-6.ensures.value ∙ file) c.in_err-pdb.ensures.refused)
 
 pub link_library-requires-clause-unrefused : goal.link_library-requires-clause-unrefused
-link_library-requires-clause-unrefused c =
+link_library-requires-clause-unrefused g c =
     ap (λ (exports : ExportsView). exports.fault) c.exports.ensures
     ∙ (exports_unrefused (options_said c.args.options.now) c.args.plan.now c.args.placement.now c.requires.plan c.requires.placed).0
 
 pub link_library-requires-clause-numbered : goal.link_library-requires-clause-numbered
-link_library-requires-clause-numbered c =
+link_library-requires-clause-numbered g c =
     ap (λ (exports : ExportsView). ordinal_fault exports.rows) c.exports.ensures
     ∙ (exports_unrefused (options_said c.args.options.now) c.args.plan.now c.args.placement.now c.requires.plan c.requires.placed).1
 
 pub returns-in_err-library-clause-refused : goal.returns-in_err-library-clause-refused
-returns-in_err-library-clause-refused c =
+returns-in_err-library-clause-refused g c =
     let options : LinkOptions = options_said c.args.options.now in
     let plan : LinkPlan = c.args.plan.now in
     let placement : Placement = c.args.placement.now in

@@ -1,49 +1,79 @@
-use Rattle.std.proofs.Common.{◌≡◌, ℕ, List, length, refl, ap, sym, ◌∙◌, arith}
-use Rattle.std.proofs.lemmas.Result.{err_from_is_err_and}
-use Rattle.link_base.specs.Refusals.{first_refusal_below}
-use Rattle.link_base.proofs.RefusalLemmas.{first_refusal_below-more, first_refusal_below-found}
-use Rattle.section_group.specs.Uniqueness.{rows_of}
+use Rattle.std.proofs.Common.{◌≡◌, ℕ, List, length, Some, ap, sym, subst, ◌∙◌, rules}
+use Rattle.std.specs.Int.{w128}
+use Rattle.std.specs.List.{All, AllPairs}
+use Rattle.std.proofs.lemmas.Int.{to_z-of_z}
+use Rattle.link_base.specs.declared.fault.Fault.TheVariants as faults
 use Rattle.link_plan.specs.Plan.{kept_parts}
-use Rattle.link_image.specs.Steps.{file_of, reloc_tables}
-use Rattle.link_pieces.specs.TablePieces.{whole_pieces}
-use Rattle.link_image.specs.LinkedBytes.{piece_range_fault, fields_range_fault}
-use Rattle.link_image.proofs.MixedLemmas.{mixed_none, mixed_all}
-use Rattle.link_image.proofs.FieldLemmas.{total_is}
+use Rattle.par_patch.specs.declared.job.Job.{Job}
+use Rattle.par_patch.specs.PatchedJobs.{EndsBefore, EndsWithin, FieldsFit, IsReady as CanPatch, patched_jobs}
+use Rattle.par_patch.specs.LeastRange.{IsLeastRange}
+use Rattle.par_patch.proofs.CallerLemmas.{length-patched_jobs}
+use Rattle.link_image.specs.LinkedBytes.{placed_contents}
+use Rattle.link_image.specs.Steps.{reloc_tables, file_of}
+use Rattle.link_image.proofs.SortLemmas.{written_back}
+use Rattle.link_image.proofs.JobLemmas.{can_have_jobs, jobs_apart, jobs_within, jobs_ready, all_patched, all_fit, least_told}
 use Rattle.link_image.proofs.patching.patch_pieces.Goals as goal
 
-pub loop-k-init : goal.loop-k-init
-unfolding first_refusal_below
-loop-k-init c = record {
-  file = c.requires.file ∙ ap (λ (cs : List (List ℕ)). file_of c.args.headers.now c.args.placement.now.sections.items c.args.placement.now.layout cs (reloc_tables c.args.placement.now.table)) (sym (mixed_none (kept_parts c.args.plan.now) (rows_of c.args.placement.now.sections.items) c.args.placement.now.layout c.args.headers.now.base));
-  none = refl;
-}
+pub patch_jobs-requires : goal.patch_jobs-requires
+patch_jobs-requires g c =
+    can_have_jobs (kept_parts c.args.plan.now) c.args.plan.now.pieces.items c.args.plan.now.fixes.items c.args.placement.now.sections.items c.args.placement.now.layout c.args.owner.now (reloc_tables c.args.placement.now.table) c.requires.ready
 
-pub returns-in_err-patch_at-clause-refused : goal.returns-in_err-patch_at-clause-refused
-unfolding fields_range_fault
-returns-in_err-patch_at-clause-refused c =
-    let link = kept_parts c.args.plan.now in
-    let total = total_is link c.args.plan.now.pieces.items c.args.plan.now.fixes.items c.args.placement.now.sections.items c.args.placement.now.layout c.args.owner.now (reloc_tables c.args.placement.now.table) c.requires.ready in
-    let given = err_from_is_err_and c.from_residual.result c.from_residual.ensures.1 in
-    rw (given.1, given.2)
-    (first_refusal_below-found c.loop-k.k (length (whole_pieces link)) (piece_range_fault link (rows_of c.args.placement.now.sections.items) c.args.placement.now.layout c.args.headers.now.base) c.in_err-patch_at.field-0.0 (omega (arith, total)) c.loop-k.invariant.none c.in_err-patch_at.ensures.refused)
+pub patch_all-requires-clause-apart : goal.patch_all-requires-clause-apart
+patch_all-requires-clause-apart g c κs within =
+    let plan = c.args.plan.now in
+    let placement = c.args.placement.now in
+    subst (AllPairs EndsBefore) (sym c.deref.ensures.value)
+    (jobs_apart (kept_parts plan) plan.pieces.items plan.fixes.items placement.sections.items placement.layout c.args.owner.now (reloc_tables placement.table) c.requires.ready c.args.headers.now c.requires.directories c.in_ok-jobs.jobs.items c.in_ok-jobs.ensures)
 
-pub loop-k-preserved : goal.loop-k-preserved
-loop-k-preserved c = record {
-  file = c.in_ok-patch_at.ensures.file;
-  none = first_refusal_below-more c.loop-k.k (piece_range_fault (kept_parts c.args.plan.now) (rows_of c.args.placement.now.sections.items) c.args.placement.now.layout c.args.headers.now.base) c.loop-k.invariant.none c.in_ok-patch_at.ensures.in_range;
-}
+pub patch_all-requires-clause-within : goal.patch_all-requires-clause-within
+patch_all-requires-clause-within g c κs within =
+    let plan = c.args.plan.now in
+    let placement = c.args.placement.now in
+    subst (λ (jobs : List Job). All (EndsWithin (length c.deref_mut.result.now)) jobs) (sym c.deref.ensures.value)
+    (subst (λ (image : List ℕ). All (EndsWithin (length image)) c.in_ok-jobs.jobs.items) (sym (c.deref_mut.ensures.value ∙ c.requires.file))
+    (jobs_within (kept_parts plan) plan.pieces.items plan.fixes.items placement.sections.items placement.layout c.args.owner.now (reloc_tables placement.table) c.requires.ready c.args.headers.now c.requires.directories c.in_ok-jobs.jobs.items c.in_ok-jobs.ensures))
 
-pub returns-clause-patched : goal.returns-clause-patched
-returns-clause-patched c =
-    let link = kept_parts c.args.plan.now in
-    let total = total_is link c.args.plan.now.pieces.items c.args.plan.now.fixes.items c.args.placement.now.sections.items c.args.placement.now.layout c.args.owner.now (reloc_tables c.args.placement.now.table) c.requires.ready in
-    c.loop-k.invariant.file
-    ∙ ap (λ (cs : List (List ℕ)). file_of c.args.headers.now c.args.placement.now.sections.items c.args.placement.now.layout cs (reloc_tables c.args.placement.now.table)) (mixed_all link (rows_of c.args.placement.now.sections.items) c.args.placement.now.layout c.args.headers.now.base c.loop-k.k (omega (arith, total, c.len-k-end.ensures)))
+pub patch_all-requires-clause-ready : goal.patch_all-requires-clause-ready
+patch_all-requires-clause-ready g c κs within =
+    let plan = c.args.plan.now in
+    let placement = c.args.placement.now in
+    subst (All (CanPatch placement.layout c.args.owner.now)) (sym c.deref.ensures.value)
+    (jobs_ready (kept_parts plan) plan.pieces.items plan.fixes.items placement.sections.items placement.layout c.args.owner.now (reloc_tables placement.table) c.requires.ready c.args.headers.now c.requires.directories c.in_ok-jobs.jobs.items c.in_ok-jobs.ensures)
 
-pub returns-clause-in_range : goal.returns-clause-in_range
-unfolding fields_range_fault
-returns-clause-in_range c =
-    let link = kept_parts c.args.plan.now in
-    let total = total_is link c.args.plan.now.pieces.items c.args.plan.now.fixes.items c.args.placement.now.sections.items c.args.placement.now.layout c.args.owner.now (reloc_tables c.args.placement.now.table) c.requires.ready in
-    let ends : c.loop-k.k ≡ length (whole_pieces link) = omega (arith, total, c.len-k-end.ensures) in
-    ap (λ (n : ℕ). first_refusal_below n (piece_range_fault link (rows_of c.args.placement.now.sections.items) c.args.placement.now.layout c.args.headers.now.base)) (sym ends) ∙ c.loop-k.invariant.none
+pub returns-in-Ok-clause-patched : goal.returns-in-Ok-clause-patched
+returns-in-Ok-clause-patched g c =
+    let plan = c.args.plan.now in
+    let placement = c.args.placement.now in
+    let base = c.args.headers.now.base in
+    let jobs = c.in_ok-jobs.jobs.items in
+    let before = file_of c.args.headers.now placement.sections.items placement.layout (placed_contents (kept_parts plan) placement.layout) (reloc_tables placement.table) in
+    let image = c.deref_mut.ensures.value ∙ c.requires.file in
+    let patched = c.in-Ok.ensures.patched
+    ∙ ap (λ (js : List Job). patched_jobs base placement.layout c.args.owner.now js c.deref_mut.result.now) c.deref.ensures.value
+    ∙ ap (patched_jobs base placement.layout c.args.owner.now jobs) image in
+    let within = jobs_within (kept_parts plan) plan.pieces.items plan.fixes.items placement.sections.items placement.layout c.args.owner.now (reloc_tables placement.table) c.requires.ready c.args.headers.now c.requires.directories jobs c.in_ok-jobs.ensures in
+    let long : length c.patch_all.new.image ≡ length c.args.image.now.items =
+    ap length patched ∙ length-patched_jobs base placement.layout c.args.owner.now jobs before within ∙ sym (ap length c.requires.file) in
+    written_back c.args.image.now.len c.patch_all.new.image c.args.image.now.items c.args.image.now.ok.0 long
+    ∙ patched
+    ∙ all_patched (kept_parts plan) plan.pieces.items plan.fixes.items placement.sections.items placement.layout c.args.owner.now (reloc_tables placement.table) c.requires.ready c.args.headers.now c.requires.directories jobs c.in_ok-jobs.ensures
+
+pub returns-in-Ok-clause-in_range : goal.returns-in-Ok-clause-in_range
+returns-in-Ok-clause-in_range g c =
+    let plan = c.args.plan.now in
+    let placement = c.args.placement.now in
+    let base = c.args.headers.now.base in
+    all_fit (kept_parts plan) plan.pieces.items plan.fixes.items placement.sections.items placement.layout c.args.owner.now (reloc_tables placement.table) c.requires.ready c.args.headers.now c.requires.directories c.in_ok-jobs.jobs.items c.in_ok-jobs.ensures
+    (subst (λ (image : List ℕ). All (FieldsFit base placement.layout c.args.owner.now image) c.in_ok-jobs.jobs.items) (c.deref_mut.ensures.value ∙ c.requires.file)
+    (subst (λ (jobs : List Job). All (FieldsFit base placement.layout c.args.owner.now c.deref_mut.result.now) jobs) c.deref.ensures.value c.in-Ok.ensures.in_range))
+
+pub returns-clause-refused : goal.returns-clause-refused
+returns-clause-refused g c =
+    let plan = c.args.plan.now in
+    let placement = c.args.placement.now in
+    let base = c.args.headers.now.base in
+    let range = c.in-Err.range in
+    least_told (kept_parts plan) plan.pieces.items plan.fixes.items placement.sections.items placement.layout c.args.owner.now (reloc_tables placement.table) c.requires.ready c.args.headers.now c.requires.directories c.in_ok-jobs.jobs.items c.in_ok-jobs.ensures range
+    (subst (λ (image : List ℕ). IsLeastRange base placement.layout c.args.owner.now c.in_ok-jobs.jobs.items image range) (c.deref_mut.ensures.value ∙ c.requires.file)
+    (subst (λ (jobs : List Job). IsLeastRange base placement.layout c.args.owner.now jobs c.deref_mut.result.now range) c.deref.ensures.value c.in-Err.ensures.refused))
+    ∙ ap (λ (value : _). Some (faults.RelocRange (Some range.«module») range.section range.index value)) (sym (to_z-of_z w128 range.value (search rules)))

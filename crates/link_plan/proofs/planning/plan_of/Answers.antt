@@ -134,6 +134,7 @@ returns-clause-planned c =
       fields = planned.fields;
       imports = subst (λ (ms : List ModuleView). AreImports ms (kept_imports (laid_link c.in_ok-names.names c.in_ok-link.link.laid)) c.in_ok-link.link.laid.imports) own planned.imports;
       told = subst AreTold (sym (ap (λ (l : LinkParts). l.exports) c.in_ok-names.ensures.names)) c.in_ok-exports.ensures.told;
+      few_modules = c.requires.few;
       mergeable = subst AreMergeable (sym (resources_so options c.args.list.modules.items (map entry_of c.args.list.resources.items) c.in_ok-names.names names_are)) c.requires.mergeable;
       numbered = subst AreNumbered (sym (resources_so options c.args.list.modules.items (map entry_of c.args.list.resources.items) c.in_ok-names.names names_are)) c.requires.numbered;
       merges_are = c.in_ok-merges.ensures ∙ ap (λ (given : List (List ℕ × List ℕ)). link_merges given c.deref-7.result.now) c.deref-6.ensures.value ∙ ap (link_merges options.merges) (c.deref-7.ensures.value ∙ sym own);

@@ -13,17 +13,17 @@ use Rattle.linker_program.proofs.GeneratedLemmas.{refusal_tells, image_tells}
 use Rattle.linker_program.proofs.generate.make_image.Goals as goal
 
 pub returns-in-Ok : goal.returns-in-Ok
-returns-in-Ok c =
+returns-in-Ok g c =
     let options = options_said c.args.options.now in
-    let planned = c.requires in
+    let planned = c.requires.planned in
     image_tells c.show_sums.result options c.args.plan.now.modules.items (plan_resources c.args.plan.now) (kept_parts c.args.plan.now) c.in-Ok.built c.args.count planned.link_is (ap (plan_fault options) (sym planned.link_is.parts_are) ∙ planned.no_fault) c.in-Ok.ensures.built
     (subst (λ (file : List ℕ). IfOk c.show_sums.result (λ answer. Says answer (image_told c.args.count file))) c.deref.ensures.value c.show_sums.ensures)
 
 pub returns-in-Err-Fault : goal.returns-in-Err-Fault
-returns-in-Err-Fault c =
+returns-in-Err-Fault g c =
     let options = options_said c.args.options.now in
     let modules = c.args.plan.now.modules.items in
-    let planned = c.requires in
+    let planned = c.requires.planned in
     let fault = c.in-Err-Fault.fault in
     let refuses : RefusesBuild options (kept_parts c.args.plan.now) (refusal.Fault fault) = rw c.in-Err-Fault.field-0-is at c.in-Err-Fault.ensures.refused in
     refusal_tells c.refused.result (ModulesOutcome options modules (plan_resources c.args.plan.now)) c.args.count fault

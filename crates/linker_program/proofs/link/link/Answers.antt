@@ -7,7 +7,7 @@ use Rattle.linker_program.proofs.StepLemmas.{if_unplanned, if_planned, on_left_p
 use Rattle.linker_program.proofs.link.link.Goals as goal
 
 pub link_planned-requires-clause-planned : goal.link_planned-requires-clause-planned
-link_planned-requires-clause-planned g c = c.in-Ok.ensures.planned
+link_planned-requires-clause-planned g c κs within = c.in-Ok.ensures.planned
 
 pub returns-in-Ok-clause-answered : goal.returns-in-Ok-clause-answered
 returns-in-Ok-clause-answered g c =

@@ -55,12 +55,17 @@ returns-in-Ok-Show-clause-memory g c =
     let after = files_of g.F.Files.store g.F.Files.read_faults g.F.Files.write_faults c.show_symbol.new.files in
     on_show c.show_symbol.result (map string_bytes c.args.words.now) before after c.show_symbol.ensures.memory
 
-pub generate-requires : goal.generate-requires
-generate-requires g c =
+pub generate-requires-clause-some : goal.generate-requires-clause-some
+generate-requires-clause-some g c κs within =
     let words = map string_bytes c.args.words.now in
     let said : words_say words ≡ Ok (Gen c.in-Ok-Gen.n) = rw c.in-Ok-Gen.field-0-is at c.in-Ok-Gen.ensures in
-    let within = gen_bounds words c.in-Ok-Gen.n said in
-    record { some = within.0; few = within.1 }
+    (gen_bounds words c.in-Ok-Gen.n said).0
+
+pub generate-requires-clause-few : goal.generate-requires-clause-few
+generate-requires-clause-few g c κs within =
+    let words = map string_bytes c.args.words.now in
+    let said : words_say words ≡ Ok (Gen c.in-Ok-Gen.n) = rw c.in-Ok-Gen.field-0-is at c.in-Ok-Gen.ensures in
+    (gen_bounds words c.in-Ok-Gen.n said).1
 
 pub returns-in-Ok-Gen-clause-answered : goal.returns-in-Ok-Gen-clause-answered
 returns-in-Ok-Gen-clause-answered g c =

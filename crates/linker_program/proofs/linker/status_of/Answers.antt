@@ -1,6 +1,6 @@
 use Rattle.std.proofs.Common.{map, string_bytes}
 use Rattle.link_files.specs.Outside.{files_of}
-use Rattle.linker_program.proofs.StepLemmas.{left_by_answer}
+use Rattle.linker_program.proofs.LeftLemmas.{left_by_answer}
 use Rattle.linker_program.proofs.linker.status_of.Goals as goal
 
 pub returns-in-Ok : goal.returns-in-Ok

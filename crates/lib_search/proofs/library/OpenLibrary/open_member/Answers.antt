@@ -13,16 +13,16 @@ pub returns-clause-accepted : goal.returns-clause-accepted
 returns-clause-accepted c =
     let library : FoundFile = record { file = c.self.inside.file; bytes = c.self.inside.library } in
     let none : member_fault (long_names_of library.bytes) library.bytes c.args.at ≡ None = not_refused _ c.in-Ok.ensures.found in
-    subst (λ (l : FoundFile). OnOk c.join.result (member_fault_in l c.args.at c.args.merges c.args.modules.now ≡ None)) c.self.view_is
-    (subst (λ (fault : Option Fault). OnOk c.join.result (fault ≡ None))
+    subst (λ (l : FoundFile). OnOk c.join_opened.result (member_fault_in l c.args.at c.args.merges c.args.modules.now ≡ None)) c.self.view_is
+    (subst (λ (fault : Option Fault). OnOk c.join_opened.result (fault ≡ None))
     (joins_as library c.args.at c.args.merges c.args.modules.now c.again-2.result c.in-Ok.member.name c.in-Ok.member.bytes.now none c.again-2.ensures c.in-Ok.ensures.name c.in-Ok.ensures.content)
-    c.join.ensures.accepted)
+    c.join_opened.ensures.accepted)
 
 pub returns-clause-refused : goal.returns-clause-refused
 returns-clause-refused c =
     let library : FoundFile = record { file = c.self.inside.file; bytes = c.self.inside.library } in
     let none : member_fault (long_names_of library.bytes) library.bytes c.args.at ≡ None = not_refused _ c.in-Ok.ensures.found in
-    subst (λ (l : FoundFile). IfErr c.join.result (RefusesFor (member_fault_in l c.args.at c.args.merges c.args.modules.now))) c.self.view_is
-    (subst (λ (fault : Option Fault). IfErr c.join.result (RefusesFor fault))
+    subst (λ (l : FoundFile). IfErr c.join_opened.result (RefusesFor (member_fault_in l c.args.at c.args.merges c.args.modules.now))) c.self.view_is
+    (subst (λ (fault : Option Fault). IfErr c.join_opened.result (RefusesFor fault))
     (joins_as library c.args.at c.args.merges c.args.modules.now c.again-2.result c.in-Ok.member.name c.in-Ok.member.bytes.now none c.again-2.ensures c.in-Ok.ensures.name c.in-Ok.ensures.content)
-    c.join.ensures.refused)
+    c.join_opened.ensures.refused)
