@@ -1,5 +1,10 @@
 -- The answers for jobs, one after another.
 use Rattle.std.proofs.Common.{◌≡◌, ◌⊎◌, inl, inr, ℕ, zero, suc, ◌+◌, ◌-◌, ◌<◌, ◌≤◌, List, [], ◌∷◌, ◌++◌, length, get_or, take, length-append, refl, sym, ap, ap₂, subst, ◌∙◌, arith}
+use Rattle.std.specs.List.{flat_map}
+use Rattle.std.specs.Prelude.{Vec}
+use Rattle.std.specs.declared.alloc.Global.{Global}
+use Rattle.std.proofs.lemmas.Grind.{flat_map-append}
+use Rattle.std.proofs.lemmas.List.{append-nil}
 use Rattle.std.proofs.lemmas.Bool.{cases_lt}
 use Rattle.std.proofs.lemmas.List.{get_or_append_left, get_or-append_right, take_more}
 use Rattle.par_read.specs.declared.job.Job.{Job}
@@ -53,3 +58,15 @@ pub parts_opened : (parts first middle end : ℕ) (jobs : List Job) (answers oth
 parts_opened parts first middle end jobs answers others low high some front back =
     subst (λ js. AreOpenedAs js (answers ++ others)) (sym (parts_joined parts first middle end jobs some low high))
     (opened_joined (jobs_between parts first middle jobs) (jobs_between parts middle end jobs) answers others front back)
+
+-- the answers of one part, as a list of one list
+pub part_opened : (parts first end : ℕ) (jobs : List Job) (list : Vec Answer Global) (lists : List (Vec Answer Global)) → first + 1 ≡ end → lists ≡ list ∷ [] → AreOpenedAs (jobs_between parts first (first + 1) jobs) list.items → AreOpenedAs (jobs_between parts first end jobs) (flat_map (λ list. list.items) lists)
+part_opened parts first end jobs list lists next only opened =
+    subst (λ e. AreOpenedAs (jobs_between parts first e jobs) (flat_map (λ list. list.items) lists)) next
+    (subst (AreOpenedAs (jobs_between parts first (first + 1) jobs)) (sym (ap (flat_map (λ list. list.items)) only ∙ append-nil list.items)) opened)
+
+-- the lists of answers of some parts, and behind them those of the parts that follow
+pub lists_opened : (parts first middle end : ℕ) (jobs : List Job) (lists others : List (Vec Answer Global)) → first ≤ middle → middle ≤ end → 0 < parts → AreOpenedAs (jobs_between parts first middle jobs) (flat_map (λ list. list.items) lists) → AreOpenedAs (jobs_between parts middle end jobs) (flat_map (λ list. list.items) others) → AreOpenedAs (jobs_between parts first end jobs) (flat_map (λ list. list.items) (lists ++ others))
+lists_opened parts first middle end jobs lists others low high some front back =
+    subst (AreOpenedAs (jobs_between parts first end jobs)) (sym (flat_map-append (λ list. list.items) lists others))
+    (parts_opened parts first middle end jobs (flat_map (λ list. list.items) lists) (flat_map (λ list. list.items) others) low high some front back)
