@@ -3,12 +3,11 @@ use Rattle.std.proofs.Common.{◌≡◌, ℕ, zero, suc, ◌+◌, ◌-◌, ◌<�
 use Rattle.std.proofs.Math.ListN.{length-set}
 use Rattle.std.proofs.lemmas.Bool.{eqb-true, eqb-false, not-false, cases_eq}
 use Rattle.std.proofs.lemmas.List.{get_or-set_other, get_or-set_same}
-use Rattle.std.proofs.lemmas.Option.{same_Some, none-some}
 use Rattle.link_base.specs.Bytes.{first_below}
 use Rattle.link_base.proofs.CallerLemmas.{first_below-found, first_below-none, first_below-some, first_below-all_fail}
 use Rattle.coff_aux.specs.Parents.{parent_at, ancestor, comes_back, AreParents}
 use Rattle.coff_aux.proofs.CallerLemmas.{ancestor-within}
-use Rattle.comdat.specs.Chains.{ends_at, chain_steps, chain_end, at_chain_end, AreDecided}
+use Rattle.comdat.specs.Chains.{ends_at, chain_steps, chain_end, AreEnds}
 
 -- no chain comes back
 pub record DoEnd (parents : List ℕ) : Type 0 where
@@ -88,27 +87,33 @@ pub behind_first : (own : List Bool) (section : ℕ) → 0 < section → get_or 
 behind_first own zero some = absurd (omega arith)
 behind_first own (suc k) some = ap (λ (n : ℕ). get_or own n false) (omega arith)
 
--- ---- what was decided
+-- ---- the ends that are known
 
--- nothing is decided
-pub none_decided : (parents : List ℕ) (own : List Bool) (decided : List (Option Bool)) → length decided ≡ length parents → ((k : ℕ) → k < length parents → get_or decided k None ≡ None) → AreDecided parents own decided
-none_decided parents own decided same none = record {
+-- none is
+pub none_known : (parents known : List ℕ) → length known ≡ length parents → ((k : ℕ) → k < length parents → get_or known k 0 ≡ 0) → AreEnds parents known
+none_known parents known same none = record {
   same_length = same;
-  right = λ section chosen lt e. absurd (none-some chosen (sym (none section lt) ∙ e));
+  right = λ section lt some. absurd (omega (arith, some, none section lt));
 }
 
 -- one more is
-pub decided_more : (parents : List ℕ) (own : List Bool) (decided : List (Option Bool)) (at section : ℕ) (chosen : Bool) → AreDecided parents own decided → at < length parents → chain_end parents at ≡ chain_end parents section → chosen ≡ at_chain_end parents own section → AreDecided parents own (set decided at (Some chosen))
-decided_more parents own decided at section chosen are within same is = record {
-  same_length = length-set decided at (Some chosen) ∙ are.same_length;
-  right = λ k other lt e. elim (cases_eq k at) [
+pub known_more : (parents known : List ℕ) (at section end : ℕ) → AreEnds parents known → at < length parents → chain_end parents at ≡ chain_end parents section → end ≡ chain_end parents section → AreEnds parents (set known at end)
+known_more parents known at section end are within same is = record {
+  same_length = length-set known at end ∙ are.same_length;
+  right = λ k lt some. elim (cases_eq k at) [
     | inl here ↦
-        let written : Some chosen ≡ Some other =
-        sym (get_or-set_same decided at (Some chosen) None (omega (arith, are.same_length))) ∙ ap (λ (n : ℕ). get_or (set decided at (Some chosen)) n None) (sym here) ∙ e in
-        sym (same_Some chosen other written) ∙ is ∙ ap (λ (n : ℕ). get_or own n false) (sym same ∙ ap (chain_end parents) (sym here))
-    | inr apart ↦ are.right k other lt (sym (get_or-set_other decided at k (Some chosen) None apart) ∙ e)
+        ap (λ (n : ℕ). get_or (set known at end) n 0) here
+        ∙ get_or-set_same known at end 0 (omega (arith, are.same_length))
+        ∙ is ∙ sym same ∙ ap (chain_end parents) (sym here)
+    | inr apart ↦
+        let old = get_or-set_other known at k end 0 apart in
+        old ∙ are.right k lt (subst (λ (n : ℕ). 0 < n) old some)
   ];
 }
+
+-- that of the number 0
+pub end_none : (parents : List ℕ) → AreParents parents → 0 < length parents → chain_end parents 0 ≡ 0
+end_none parents are some = end_here parents 0 some are.none
 
 -- ---- the end of a chain is a section
 

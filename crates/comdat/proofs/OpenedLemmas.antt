@@ -15,7 +15,7 @@ use Rattle.module_view.specs.declared.error.ModuleError.TheVariants as error
 use Rattle.module_view.specs.Module.{ModuleView, module_at}
 use Rattle.coff_aux.specs.AuxFaults.{has_no_selection, has_no_parent, first_comdat, aux_place, parent_place, aux_fault}
 use Rattle.coff_aux.specs.Comdats.{comdat_record_of, parent_in, parents_of}
-use Rattle.module_view.specs.Opening.{unsupported, directive_error, has_linker_section, has_long_section_name, has_long_symbol_name, form_error, object_error, content_error, opening_error}
+use Rattle.module_view.specs.Opening.{unsupported, directive_error, has_linker_section, has_long_section_name, has_long_symbol_name, content_error, opening_error}
 use Rattle.module_view.proofs.CallerLemmas.{opened_contents}
 use Rattle.coff_aux.specs.Parents.{comes_back, AreParents}
 use Rattle.coff_aux.specs.Steps.{all_comdat_records, parents_in}

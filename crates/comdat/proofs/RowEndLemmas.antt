@@ -84,15 +84,21 @@ is_number : (count section : ℕ) → 1 ≤ section → section < 1 + count → 
 is_number count section low high =
     and_from (nat_le 1 section) (nat_le section count) (le-leb 1 section low) (le-leb section count (omega arith))
 
-pub parents_listed : (bytes : List ℕ) (row : List ChosenBy) → row ≡ map (chosen_by bytes) (sections_of bytes) → 0 ∷ map (parent_by (length row)) row ≡ parents_of bytes
+pub parents_by : (bytes : List ℕ) → 0 ∷ map (λ section. parent_by (section_total bytes) (chosen_by bytes section)) (sections_of bytes) ≡ parents_of bytes
 unfolding parents_of
+parents_by bytes =
+    let total = section_total bytes in
+    ap (λ (parents : List ℕ). 0 ∷ parents)
+    (range_alike (λ section. parent_by total (chosen_by bytes section)) (λ section. parent_in total (comdat_record_of bytes section)) 1 total (λ k low high. parent_same bytes k (is_number total k low high)))
+
+pub parents_listed : (bytes : List ℕ) (row : List ChosenBy) → row ≡ map (chosen_by bytes) (sections_of bytes) → 0 ∷ map (parent_by (length row)) row ≡ parents_of bytes
 parents_listed bytes row is =
     let total = section_total bytes in
     ap (λ (parents : List ℕ). 0 ∷ parents)
     (ap (λ (n : ℕ). map (parent_by n) row) (list_length bytes row is)
     ∙ ap (map (parent_by total)) is
-    ∙ map-map (parent_by total) (chosen_by bytes) (sections_of bytes)
-    ∙ range_alike (λ section. parent_by total (chosen_by bytes section)) (λ section. parent_in total (comdat_record_of bytes section)) 1 total (λ k low high. parent_same bytes k (is_number total k low high)))
+    ∙ map-map (parent_by total) (chosen_by bytes) (sections_of bytes))
+    ∙ parents_by bytes
 
 childless : (count : ℕ) (said : ChosenBy) → is_child said ≡ false → parent_by count said ≡ 0
 childless count by.Itself none = refl

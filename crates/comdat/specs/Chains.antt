@@ -1,5 +1,5 @@
 -- Where chains of parents end: at the first section without a parent.
-use Rattle.std.specs.Prelude.{◌≡◌, ℕ, ◌<◌, Bool, false, ◌==◌, List, length, slice_index_or, Option, Some, None, unwrap_or}
+use Rattle.std.specs.Prelude.{◌≡◌, ℕ, ◌<◌, Bool, false, ◌==◌, List, length, slice_index, slice_index_or, unwrap_or}
 use Rattle.link_base.specs.Bytes.{first_below}
 use Rattle.coff_aux.specs.Parents.{parent_at, ancestor}
 
@@ -19,8 +19,7 @@ chain_end parents section = ancestor parents (chain_steps parents section) secti
 abbrev pub at_chain_end : List ℕ → List Bool → ℕ → Bool
 at_chain_end parents own section = slice_index_or own (chain_end parents section) false
 
--- what was decided of some sections is what the list says of the ends of their chains
-pub record AreDecided (parents : List ℕ) (own : List Bool) (decided : List (Option Bool)) : Type 0 where
-  pub same_length : length decided ≡ length parents
-  pub right :
-      (section : ℕ) (chosen : Bool) → section < length parents → slice_index_or decided section None ≡ Some chosen → chosen ≡ at_chain_end parents own section
+-- the ends that are known; where one is not, 0 stands
+pub record AreEnds (parents known : List ℕ) : Type 0 where
+  pub same_length : length known ≡ length parents
+  pub right : (section : ℕ) → section < length parents → 0 < slice_index known section → slice_index known section ≡ chain_end parents section

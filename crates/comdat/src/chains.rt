@@ -1,10 +1,10 @@
 //! Sections that are chosen with others.
 
-ghost use Rattle.std.specs.Prelude.{◌≡◌, ◌<◌, ◌+◌, ◌-◌, ◌∷◌, None, false, Bool, List, length, map, IfOk};
+ghost use Rattle.std.specs.Prelude.{◌≡◌, ◌<◌, ◌≤◌, ◌^◌, ◌+◌, ◌-◌, ◌∷◌, None, false, length, map, IfOk};
 ghost use Rattle.std.specs.List.{range_with_len};
 ghost use Rattle.link_base.specs.Bytes.{first_below};
 ghost use Rattle.coff_aux.specs.Parents.{AreParents, comes_back};
-ghost use Rattle.comdat.specs.Chains.{at_chain_end, AreDecided};
+ghost use Rattle.comdat.specs.Chains.{chain_end, at_chain_end, AreEnds};
 
 use link_base::Memory;
 use std::alloc::Global;
@@ -18,59 +18,79 @@ pub(crate) fn follow_chains(
 ) -> Result<Vec<bool>, Memory>
     requires parents { AreParents parents.now }
     requires ends { first_below (length parents.now) (comes_back parents.now) ≡ None }
+    requires few { length parents.now ≤ 2 ^ 32 }
     requires own { length own.now + 1 ≡ length parents.now }
     ensures { IfOk result (λ flags. flags.items ≡ map (at_chain_end parents.now (false ∷ own.now)) (range_with_len 1 (length parents.now - 1))) }
 {
-    let mut decided = vec![in alloc; None; parents.len()]?;
+    let ends = chain_ends(alloc, parents)?;
     let mut flags = Vec::with_capacity(alloc, parents.len())?;
     for section in 1..parents.len() {
-        let chosen = at_end(parents, own, &decided, section);
-        decide(parents, &mut decided, section, chosen);
-        flags.push(chosen)?;
+        let end = ends[section] as usize;
+        flags.push(own[end - 1])?;
     }
     Ok(flags)
 }
 
-/// What the list says of the end of a section's chain, which is followed as far as nothing is decided.
-fn at_end(parents: &[u32], own: &[bool], decided: &[Option<bool>], section: usize) -> bool
+/// For each number from 0 on the section at the end of its chain of parents, which is itself where it has no parent, and 0
+/// for 0. No part of a chain is followed twice.
+pub(crate) fn chain_ends(alloc: Global, parents: &[u32]) -> Result<Vec<u32>, Memory>
     requires parents { AreParents parents.now }
     requires ends { first_below (length parents.now) (comes_back parents.now) ≡ None }
-    requires own { length own.now + 1 ≡ length parents.now }
-    requires decided { AreDecided parents.now (false ∷ own.now) decided.now }
+    requires few { length parents.now ≤ 2 ^ 32 }
+    requires some { 0 < length parents.now }
+    ensures { IfOk result (λ ends. ends.items ≡ map (chain_end parents.now) (range_with_len 0 (length parents.now))) }
+{
+    let mut known = vec![in alloc; 0; parents.len()]?;
+    let mut ends = Vec::with_capacity(alloc, parents.len())?;
+    ends.push(0)?;
+    for section in 1..parents.len() {
+        let end = end_of(parents, &known, section);
+        note_end(parents, &mut known, section, end);
+        ends.push(end)?;
+    }
+    Ok(ends)
+}
+
+/// The end of a section's chain, which is followed as far as no end is known.
+fn end_of(parents: &[u32], known: &[u32], section: usize) -> u32
+    requires parents { AreParents parents.now }
+    requires ends { first_below (length parents.now) (comes_back parents.now) ≡ None }
+    requires few { length parents.now ≤ 2 ^ 32 }
+    requires known { AreEnds parents.now known.now }
     requires first { 0 < section }
     requires within { section < length parents.now }
-    ensures { result ≡ at_chain_end parents.now (false ∷ own.now) section }
+    ensures { result ≡ chain_end parents.now section }
 {
     let mut at = section;
     for _ in 0..parents.len() {
-        if let Some(chosen) = decided[at] {
-            return chosen;
+        let end = known[at];
+        if end != 0 {
+            return end;
         }
         let parent = parents[at] as usize;
         if parent == 0 {
-            return own[at - 1];
+            return at as u32;
         }
         at = parent;
     }
     unreachable!()
 }
 
-/// Notes what was found for a section and for all of its chain of which nothing is decided, so that no part of a chain is
-/// followed twice.
-fn decide(parents: &[u32], decided: &mut [Option<bool>], section: usize, chosen: bool)
+/// Notes the end that was found for a section and for all of its chain of which none is known.
+fn note_end(parents: &[u32], known: &mut [u32], section: usize, end: u32)
     requires parents { AreParents parents.now }
     requires ends { first_below (length parents.now) (comes_back parents.now) ≡ None }
-    requires same_length { length decided.old ≡ length parents.now }
+    requires known { AreEnds parents.now known.old }
+    requires end { end ≡ chain_end parents.now section }
     requires within { section < length parents.now }
-    ensures { (own : List Bool) → AreDecided parents.now own decided.old → chosen ≡ at_chain_end parents.now own section
-        → AreDecided parents.now own decided.new }
+    ensures { AreEnds parents.now known.new }
 {
     let mut at = section;
     for _ in 0..parents.len() {
-        if at == 0 || decided[at].is_some() {
+        if at == 0 || known[at] != 0 {
             return;
         }
-        decided[at] = Some(chosen);
+        known[at] = end;
         at = parents[at] as usize;
     }
 }

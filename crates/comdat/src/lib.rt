@@ -9,6 +9,7 @@ mod candidate;
 mod chains;
 mod choice;
 mod chosen_by;
+mod ends;
 mod error;
 mod groups;
 mod lists;
@@ -20,5 +21,6 @@ mod selection;
 
 pub use candidate::Candidate;
 pub use choice::{Conflict, choose};
+pub use ends::section_ends;
 pub use error::ChooseError;
 pub use selection::choose_all;

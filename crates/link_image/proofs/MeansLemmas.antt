@@ -34,7 +34,7 @@ use Rattle.link_pieces.specs.TablePieces.{KeptParts, table_index, whole_pieces}
 use Rattle.link_words.specs.Outcome.{LinkOptions}
 use Rattle.link_fields.specs.declared.entry.EntryPlace.{EntryPlace}
 use Rattle.link_plan.specs.declared.planning.LinkPlan.{LinkPlan}
-use Rattle.link_plan.specs.Planned.{planned_fixes}
+use Rattle.link_plan.specs.Planned.{planned_fixes, planned_entry}
 use Rattle.link_plan.specs.Plan.{IsPlanOf, kept_parts}
 use Rattle.link_plan.proofs.CallerLemmas.{plan_count}
 use Rattle.link_image.specs.declared.make.Built.{Built}
@@ -58,7 +58,6 @@ use Rattle.image_writer.proofs.LoadableLemmas.{written_writable}
 use Rattle.link_base.specs.Refusals.{RefusesFor}
 use Rattle.link_base.specs.declared.stop.Refusal.{Refusal}
 use Rattle.link_base.specs.declared.stop.Refusal.TheVariants as refusal
-use Rattle.link_fields.specs.Entry.{entry_place}
 use Rattle.link_image.specs.Steps.{reloc_tables, file_of, sorted_file, identified_file, IsGiven, IsPlaced, IsReady}
 use Rattle.link_image.proofs.HeldLemmas.{imports_are}
 use Rattle.link_image.proofs.FieldLemmas.{total_is}
@@ -280,7 +279,7 @@ module _ (options : LinkOptions) (plan : LinkPlan) (placement : Placement) (owne
   streams_are id file told is =
       ap (λ (i : List ℕ). streams_at options (kept_parts plan) (rows_of placement.sections.items) placement.layout i file)
       (told ∙ identifier_is ∙ ap (λ (place : Option EntryPlace). identifier_of (headers_at place) (kept_parts plan) (rows_of placement.sections.items) placement.layout (reloc_tables placement.table)) planned.entry_is)
-      ∙ ap (streams_at options (kept_parts plan) (rows_of placement.sections.items) placement.layout (identifier_of (headers_at (entry_place plan.names options.entry_name)) (kept_parts plan) (rows_of placement.sections.items) placement.layout (reloc_tables placement.table))) (is ∙ file_is)
+      ∙ ap (streams_at options (kept_parts plan) (rows_of placement.sections.items) placement.layout (identifier_of (headers_at (planned_entry options (kept_parts plan))) (kept_parts plan) (rows_of placement.sections.items) placement.layout (reloc_tables placement.table))) (is ∙ file_is)
 
   -- its section headers are in the file
   pub headers_inside : (file : List ℕ) → file ≡ identified_file headers plan placement → 328 + 40 * length placement.sections.items ≤ length file

@@ -20,11 +20,11 @@ use Rattle.link_debug.specs.LinkDebug.{no_identifier, entry_bytes, data_bytes}
 use Rattle.link_resources.specs.LinkResources.{tree_bytes}
 use Rattle.export_tables.specs.ExportTable.{export_table}
 use Rattle.export_tables.specs.ReadBack.{exported_name, exported_ordinal}
-use Rattle.link_plan.specs.Planned.{planned_fixes}
+use Rattle.link_plan.specs.Planned.{planned_fixes, planned_loader}
 use Rattle.piece_bytes.specs.Owners.{owners}
 use Rattle.image_headers.specs.declared.headers.Directories.{Directories}
 use Rattle.link_image.specs.NamedSections.{section_named}
-use Rattle.link_fields.specs.LoaderPlaces.{loader_place, TLS_NAME, LOAD_CONFIG_NAME}
+use Rattle.link_fields.specs.LoaderPlaces.{TLS_NAME, LOAD_CONFIG_NAME}
 use Rattle.link_image.specs.LinkedImage.{place_extent, TLS_SIZE, config_size, extent_of, placed_extent, section_extent, table_directory, directories_of, HoldsImports, HoldsExports}
 use Rattle.link_image.specs.LinkedBytes.{owners_in, rva_of, table_rvas, import_tables_at, exported_rows, export_table_at, debug_entry_at, resource_tree_at, contents_at, linked_bytes, linked_contents, out_of_range, piece_range_fault, fields_range_fault}
 
@@ -79,8 +79,8 @@ directories link resources exceptions relocations rvas = record {
   imports = extent_of (whole_pieces link) rvas (table_index link 0);
   slots = extent_of (whole_pieces link) rvas (table_index link 2);
   relocations = relocations;
-  tls = place_extent rvas (loader_place link.parts TLS_NAME) TLS_SIZE;
-  load_config = place_extent rvas (loader_place link.parts LOAD_CONFIG_NAME) (config_size link (loader_place link.parts LOAD_CONFIG_NAME));
+  tls = place_extent rvas (planned_loader link TLS_NAME) TLS_SIZE;
+  load_config = place_extent rvas (planned_loader link LOAD_CONFIG_NAME) (config_size link (planned_loader link LOAD_CONFIG_NAME));
   debug = extent_of (whole_pieces link) rvas (table_index link DEBUG_ENTRY);
 }
 

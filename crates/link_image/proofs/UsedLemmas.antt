@@ -7,16 +7,17 @@ use Rattle.link_words.specs.Outcome.{LinkOptions}
 use Rattle.link_pieces.specs.Pieces.{link_pieces}
 use Rattle.link_pieces.specs.TablePieces.{KeptParts, tables_of}
 use Rattle.link_fields.specs.declared.entry.EntryPlace.{EntryPlace}
-use Rattle.link_fields.specs.LoaderPlaces.{loader_place, TLS_NAME, LOAD_CONFIG_NAME}
-use Rattle.link_plan.specs.Reach.{AreKept, loader_names}
-use Rattle.link_plan.specs.Planned.{used_pieces, planned_fixes}
+use Rattle.link_fields.specs.LoaderPlaces.{TLS_NAME, LOAD_CONFIG_NAME}
+use Rattle.link_plan.specs.Reach.{loader_names}
+use Rattle.link_plan.specs.Standing.{AreStanding}
+use Rattle.link_plan.specs.Planned.{used_pieces, planned_fixes, planned_loader}
 use Rattle.link_plan.specs.declared.planning.LinkPlan.{LinkPlan}
 use Rattle.link_plan.specs.Plan.{IsPlanOf, kept_parts}
-use Rattle.link_plan.proofs.CallerLemmas.{used_first, used_last, fixes_kept, entry_used, loader_used, tls_sought, load_config_sought}
+use Rattle.link_plan.proofs.CallerLemmas.{standing_length, used_first, used_last, fixes_kept, entry_used, loader_used, tls_sought, load_config_sought}
 use Rattle.link_image.proofs.HeldLemmas.{piece_count, names_count}
 
 -- a piece with a relocation is used
-pub fields_used : (options : LinkOptions) (link : KeptParts) (k : ℕ) → AreKept options link.parts link.kept → 0 < length (planned_fixes link k) → get_or (used_pieces link) k false ≡ true
+pub fields_used : (options : LinkOptions) (link : KeptParts) (k : ℕ) → AreStanding options link → 0 < length (planned_fixes link k) → get_or (used_pieces link) k false ≡ true
 fields_used options link k kept some =
     let both = and_parts (ltb k (length (link_pieces link.parts))) (get_or link.kept k false) (fixes_kept link k some) in
     used_first options link k kept (ltb-true k (length (link_pieces link.parts)) both.0) ∙ both.1
@@ -35,7 +36,7 @@ module _ (options : LinkOptions) (plan : LinkPlan) (planned : IsPlanOf options p
       ]
 
   -- and so are those that a loader looks for
-  loader_place_used : (name : List ℕ) (place : EntryPlace) → Contains loader_names name → place.piece < length plan.pieces.items → loader_place plan.names name ≡ Some place → get_or (used_pieces (kept_parts plan)) place.piece false ≡ true
+  loader_place_used : (name : List ℕ) (place : EntryPlace) → Contains loader_names name → place.piece < length plan.pieces.items → planned_loader (kept_parts plan) name ≡ Some place → get_or (used_pieces (kept_parts plan)) place.piece false ≡ true
   loader_place_used name place among within is =
       let kept = planned.link_is.kept_are in
       elim (cases_lt place.piece (length (link_pieces plan.names))) [
@@ -54,7 +55,7 @@ module _ (options : LinkOptions) (plan : LinkPlan) (planned : IsPlanOf options p
 
   -- the list says it of the pieces of the link, and behind them of as many imports as there are modules
   pub kept_length : length plan.kept.items ≡ length (link_pieces plan.names) + length plan.modules.items
-  kept_length = let count = names_count options plan planned in omega (arith, planned.link_is.kept_are.for_each, count)
+  kept_length = let count = names_count options plan planned in omega (arith, standing_length options (kept_parts plan) planned.link_is.kept_are, count)
 
   pub first_fits : length (link_pieces plan.names) ≤ length plan.pieces.items
   first_fits =

@@ -4,10 +4,9 @@ use Rattle.section_group.specs.Uniqueness.{SectionRow}
 use Rattle.address_layout.specs.declared.layout.Layout.{Layout}
 use Rattle.link_words.specs.Outcome.{LinkOptions}
 use Rattle.link_pieces.specs.TablePieces.{KeptParts}
-use Rattle.link_fields.specs.Entry.{entry_place}
 use Rattle.debug_rows.specs.ImageMap.{Mapped, image_map}
 use Rattle.link_plan.specs.LinkPublics.{link_publics}
-use Rattle.link_plan.specs.Planned.{plan_pieces}
+use Rattle.link_plan.specs.Planned.{plan_pieces, planned_entry}
 use Rattle.link_image.specs.LinkedImage.{entry_rva}
 
 -- it lists what is kept of the link, where it stands in the image
@@ -24,7 +23,7 @@ mapped_link options link rows layout = record {
 
 unfoldable pub link_map : LinkOptions → KeptParts → List SectionRow → Layout → List ℕ
 link_map options link rows layout =
-    image_map (mapped_link options link rows layout) options.base (entry_rva layout.pieces.items (entry_place link.parts options.entry_name))
+    image_map (mapped_link options link rows layout) options.base (entry_rva layout.pieces.items (planned_entry options link))
 
 abbrev pub asked_map : LinkOptions → List ℕ → Option (List ℕ)
 asked_map options text = option_map (λ name. text) options.map_file

@@ -34,10 +34,9 @@ use Rattle.synthetic_sections.specs.LinkerPieces.{SLOTS, EXPORTS, DEBUG_ENTRY, R
 use Rattle.link_pieces.specs.TablePieces.{KeptParts, kept_rows, whole_pieces, whole_contents, table_index}
 use Rattle.link_words.specs.Outcome.{LinkOptions}
 use Rattle.link_fields.specs.declared.entry.EntryPlace.{EntryPlace}
-use Rattle.link_fields.specs.Entry.{entry_place}
-use Rattle.link_fields.specs.LoaderPlaces.{loader_place, TLS_NAME, LOAD_CONFIG_NAME}
+use Rattle.link_fields.specs.LoaderPlaces.{TLS_NAME, LOAD_CONFIG_NAME}
 use Rattle.link_plan.specs.Plan.{merges_of}
-use Rattle.link_plan.specs.Planned.{used_pieces, plan_pieces}
+use Rattle.link_plan.specs.Planned.{used_pieces, plan_pieces, planned_entry, planned_loader}
 use Rattle.image_headers.specs.declared.headers.Directories.{Directories}
 use Rattle.link_image.specs.BaseFields.{is_relocated, AreBaseFields}
 use Rattle.image_headers.specs.ImageHeaders.{headers_of}
@@ -162,8 +161,8 @@ directories_of link rows layout tables = record {
   imports = table_extent link layout DIRECTORY;
   slots = table_extent link layout SLOTS;
   relocations = table_directory layout tables;
-  tls = place_extent layout.pieces.items (loader_place link.parts TLS_NAME) TLS_SIZE;
-  load_config = place_extent layout.pieces.items (loader_place link.parts LOAD_CONFIG_NAME) (config_size link (loader_place link.parts LOAD_CONFIG_NAME));
+  tls = place_extent layout.pieces.items (planned_loader link TLS_NAME) TLS_SIZE;
+  load_config = place_extent layout.pieces.items (planned_loader link LOAD_CONFIG_NAME) (config_size link (planned_loader link LOAD_CONFIG_NAME));
   debug = table_extent link layout DEBUG_ENTRY;
 }
 
@@ -186,7 +185,7 @@ final_contents headers link rows layout tables base =
 -- the headers, by the places
 abbrev pub link_headers : LinkOptions → KeptParts → List SectionRow → Layout → List (List ℕ) → Headers
 link_headers options link rows layout tables =
-    headers_of options (entry_rva layout.pieces.items (entry_place link.parts options.entry_name)) (directories_of link rows layout tables)
+    headers_of options (entry_rva layout.pieces.items (planned_entry options link)) (directories_of link rows layout tables)
 
 -- the image of modules, in which every value fits
 pub record IsImageOf (options : LinkOptions) (link : KeptParts) (image : ImagePlan) : Type 0 where

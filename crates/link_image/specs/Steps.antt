@@ -27,7 +27,7 @@ use Rattle.image_writer.specs.ExpectedImage.{image_file}
 use Rattle.image_writer.specs.WrittenImage.{layout_plan, at_each_base, IsLaidOut}
 use Rattle.link_pieces.specs.TablePieces.{KeptParts, whole_piece, is_table}
 use Rattle.link_pieces.specs.PieceIndex.{is_numbered, holds}
-use Rattle.link_plan.specs.Reach.{AreKept}
+use Rattle.link_plan.specs.Standing.{AreStanding}
 use Rattle.link_plan.specs.Planned.{HaveFields, used_pieces, plan_pieces, planned_fixes, planned_target}
 use Rattle.link_base.specs.Limits.{MODULE_LIMIT, SECTION_LIMIT, IMAGE_LIMIT}
 use Rattle.link_words.specs.Outcome.{LinkOptions}
@@ -156,7 +156,7 @@ pub record IsRowPiece (link : KeptParts) (pieces : List Piece) (layout : Layout)
 pub record IsReady (link : KeptParts) (pieces : List Piece) (fixups : List (List Fix)) (sections : List OutSection) (layout : Layout) (owner : List ℕ) (tables : List (List ℕ)) : Type 0 where
   pub options : LinkOptions
   pub few_modules : length link.parts.modules ≤ MODULE_LIMIT
-  pub kept_are : AreKept options link.parts link.kept
+  pub kept_are : AreStanding options link
   pub pieces_are : map bare pieces ≡ plan_pieces options link
   pub held : (k : ℕ) → k < length pieces → IsHeld (slice_index_or pieces k no_piece) (contents_at link layout k)
   pub fields : HaveFields link (length pieces) fixups

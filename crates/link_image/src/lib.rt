@@ -1,5 +1,5 @@
 //! The image of a link. It takes the plan of `link_plan` and the options, has `section_group` order the pieces that are
-//! kept, `address_layout` place them, `import_tables` fill the import tables, `image_writer` write all, `relocate`
+//! kept, `address_layout` place them, `import_tables` fill the import tables, `image_writer` write all, `par_patch`
 //! patch the fields of the pieces where they stand and `pdata_table` put the rows of the exception table in order, and
 //! gives the bytes to the program that stores them. Its contract promises the image that the definitions give, whose
 //! file loads as planned at every permitted base, or the first fault of the stages from tables to range. Reading, the

@@ -15,10 +15,11 @@ use Rattle.link_pieces.specs.Pieces.{link_pieces, link_contents}
 -- ---- what is kept
 
 -- what takes part in a link, and whether each of its pieces is kept; behind the pieces, whether the import that is the module at
--- each position is
+-- each position is; and the piece at whose place each stands, its own behind the end of the list
 pub record KeptParts : Type 0 where
   pub parts : LinkParts
   pub kept : List Bool
+  pub places : List ℕ
 
 -- whether the import that is the module at each position is kept
 abbrev pub kept_imports : KeptParts → List Bool

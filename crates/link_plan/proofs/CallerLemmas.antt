@@ -15,12 +15,11 @@ use Rattle.relocate.specs.declared.fix.Target.TheVariants as target
 use Rattle.relocate.specs.Field.{has_field}
 use Rattle.relocate.specs.Value.{target_of}
 use Rattle.relocate.specs.Value.{meant}
-use Rattle.relocate.specs.Redirected.{redirected_if}
+use Rattle.relocate.specs.Redirected.{place_of, redirected_if}
 use Rattle.relocate.specs.PatchedBytes.{is_based, AreNumbered, AreSuited, HaveNoBased}
 use Rattle.relocate.proofs.CallerLemmas.{numbered_redirected, suited_redirected}
 use Rattle.relocate.proofs.JudgeLemmas.{or_none}
 use Rattle.link_base.specs.declared.kinds.target.TargetFault.{TargetFault}
-use Rattle.reach.proofs.CallerLemmas.{root_kept, next_kept}
 use Rattle.synthetic_sections.specs.LinkerPieces.{SLOTS, size_at}
 use Rattle.link_imports.proofs.CallerLemmas.{slots_made}
 use Rattle.link_words.specs.Outcome.{LinkOptions}
@@ -41,10 +40,16 @@ use Rattle.link_fields.proofs.EntryLemmas.{loader_target}
 use Rattle.link_fields.proofs.PdataLemmas.{fixes_suited, pdata_no_based}
 use Rattle.link_fields.proofs.CallerLemmas.{IsWithin, IsImportNode, fields_within, exports_within, fixes_numbered}
 use Rattle.link_plan.specs.PlanFaults.{fields_fault}
-use Rattle.link_plan.specs.Reach.{AreKept, IsToKeep, node_count, child_edges, link_edges, link_roots, named_nodes, node_of, name_node, loader_names, drops}
-use Rattle.link_plan.specs.Planned.{is_kept, is_meant, is_sought, is_at, leads_there, used_pieces, planned_piece, plan_pieces, slot_offsets, slot_table, placed_target, placed_fix, fixes_if, planned_fixes, planned_target, planned_targets}
+use Rattle.link_plan.specs.Reach.{node_count, child_edges, link_edges, link_roots, named_nodes, node_of, name_node, loader_names}
+use Rattle.link_plan.specs.Planned.{is_kept, is_meant, is_sought, is_shared, is_at, leads_there, used_pieces, planned_piece, plan_pieces, slot_offsets, slot_table, placed_target, placed_fix, fixes_if, planned_fixes, planned_target, planned_targets, placed_entry, planned_entry, planned_loader}
+use Rattle.link_plan.specs.Standing.{AreStanding}
+use Rattle.link_plan.proofs.StandingLemmas.{length_standing, place_inside, place_behind, place_from, next_stands, root_stands, IsPlaced, placed_some}
 
 -- ---- the pieces of a plan
+
+-- a field of what is kept means a piece, something else does, or one that is named stands at its place
+abbrev pub is_named : LinkOptions → KeptParts → ℕ → Bool
+is_named options link k = is_meant link k || (is_sought options link k || is_shared link k)
 
 pub planned_at : (options : LinkOptions) (link : KeptParts) (k : ℕ) → k < length (link_pieces link.parts) → get_or (plan_pieces options link) k no_piece ≡ planned_piece options link k
 unfolding plan_pieces
@@ -79,23 +84,26 @@ planned_pdata options link k lt = rw (planned_name options link k lt) refl
 
 -- ---- which of them are used
 
-pub used_count : (options : LinkOptions) (link : KeptParts) → AreKept options link.parts link.kept → length (used_pieces link) ≡ length (whole_pieces link)
+pub standing_length : (options : LinkOptions) (link : KeptParts) → AreStanding options link → length link.kept ≡ node_count link.parts
+standing_length options link are = ap length are.kept_are ∙ length_standing are.reached link.places ∙ are.reached_are.for_each
+
+pub used_count : (options : LinkOptions) (link : KeptParts) → AreStanding options link → length (used_pieces link) ≡ length (whole_pieces link)
 used_count options link kept =
     let n = length (link_pieces link.parts) in
     length-append (take n link.kept) (replicate (length (tables_of link)) true)
-    ∙ omega (arith, length-take n link.kept, kept.for_each, length-replicate (length (tables_of link)) true, length-append (link_pieces link.parts) (tables_of link))
+    ∙ omega (arith, length-take n link.kept, standing_length options link kept, length-replicate (length (tables_of link)) true, length-append (link_pieces link.parts) (tables_of link))
 
-pub used_first : (options : LinkOptions) (link : KeptParts) (k : ℕ) → AreKept options link.parts link.kept → k < length (link_pieces link.parts) → get_or (used_pieces link) k false ≡ get_or link.kept k false
+pub used_first : (options : LinkOptions) (link : KeptParts) (k : ℕ) → AreStanding options link → k < length (link_pieces link.parts) → get_or (used_pieces link) k false ≡ get_or link.kept k false
 used_first options link k kept lt =
     let n = length (link_pieces link.parts) in
-    get_or_append_left (take n link.kept) (replicate (length (tables_of link)) true) false k (omega (arith, lt, length-take n link.kept, kept.for_each))
+    get_or_append_left (take n link.kept) (replicate (length (tables_of link)) true) false k (omega (arith, lt, length-take n link.kept, standing_length options link kept))
     ∙ get_or-take n link.kept k false lt
 
 -- the tables are
-pub used_last : (options : LinkOptions) (link : KeptParts) (k : ℕ) → AreKept options link.parts link.kept → length (link_pieces link.parts) ≤ k → k < length (whole_pieces link) → get_or (used_pieces link) k false ≡ true
+pub used_last : (options : LinkOptions) (link : KeptParts) (k : ℕ) → AreStanding options link → length (link_pieces link.parts) ≤ k → k < length (whole_pieces link) → get_or (used_pieces link) k false ≡ true
 used_last options link k kept behind lt =
     let n = length (link_pieces link.parts) in
-    get_or-append_right (take n link.kept) (replicate (length (tables_of link)) true) n k false (omega (arith, length-take n link.kept, kept.for_each)) behind
+    get_or-append_right (take n link.kept) (replicate (length (tables_of link)) true) n k false (omega (arith, length-take n link.kept, standing_length options link kept)) behind
     ∙ each (length (tables_of link)) (k - n) (omega (arith, behind, lt, length-append (link_pieces link.parts) (tables_of link)))
   where
     each : (n k : ℕ) → k < n → get_or (replicate n true) k false ≡ true
@@ -152,26 +160,10 @@ joined_there f a (suc n) k y low high there =
           Contains-append_left (f a) (flat_map f (range_with_len (a + 1) n)) y (subst (λ (j : ℕ). Contains (f j) y) same there)
     ]
 
--- what an edge leads to from what is kept
-kept_next : (options : LinkOptions) (link : LinkParts) (kept : List Bool) (k next : ℕ) → AreKept options link kept → get_or kept k false ≡ true → Contains (link_edges link) (k, next) → next < node_count link → get_or kept next false ≡ true
-kept_next options link kept k next are here edge within = are.kept next (by (drops options) (are.only k here))
-  where
-    by : (b : Bool) → IsToKeep b options link k → IsToKeep b options link next
-    by true path = next_kept (node_count link) (link_edges link) (link_roots options link) k next path edge within
-    by false inside = within
-
--- a root
-kept_root : (options : LinkOptions) (link : LinkParts) (kept : List Bool) (root : ℕ) → AreKept options link kept → Contains (link_roots options link) root → root < node_count link → get_or kept root false ≡ true
-kept_root options link kept root are there within = are.kept root (by (drops options))
-  where
-    by : (b : Bool) → IsToKeep b options link root
-    by true = root_kept (node_count link) (link_edges link) (link_roots options link) root there within
-    by false = within
-
 -- ---- where imports stand
 
 -- an import that is kept has a slot in the table of the slots
-import_stands : (options : LinkOptions) (link : KeptParts) (node value : ℕ) → AreKept options link.parts link.kept → IsImportNode link.parts node → get_or link.kept node false ≡ true → Stands options link (target.Piece (slot_table link) value)
+import_stands : (options : LinkOptions) (link : KeptParts) (node value : ℕ) → AreStanding options link → IsImportNode link.parts node → get_or link.kept node false ≡ true → Stands options link (target.Piece (slot_table link) value)
 import_stands options link node value are import kept = by (table_index link SLOTS) refl
   where
     n : ℕ
@@ -194,20 +186,24 @@ import_stands options link node value are import kept = by (table_index link SLO
 
 -- ---- what targets mean
 
--- a target is in one of the pieces or an import, and that is kept and named
-node_stands : (options : LinkOptions) (link : KeptParts) (t : Target) → AreKept options link.parts link.kept → IsWithin link.parts t → ((node : ℕ) → piece_in t ≡ Some node → (get_or link.kept node false ≡ true) × ((is_meant link node || is_sought options link node) ≡ true)) → Stands options link (placed_target link t)
+-- a target is in one of the pieces or an import, and that is kept where it stands, and named
+node_stands : (options : LinkOptions) (link : KeptParts) (t : Target) → AreStanding options link → IsWithin link.parts t → ((node : ℕ) → piece_in t ≡ Some node → (get_or link.kept (place_of link.places node) false ≡ true) × (is_named options link (place_of link.places node) ≡ true)) → Stands options link (placed_target link t)
 node_stands options link (target.Absolute value) are within kept = tt
 node_stands options link target.ImageBase are within kept = tt
 node_stands options link (target.Piece piece value) are (inl inside) kept =
     let here = kept piece refl in
+    let place = place_of link.places piece in
+    let there = place_inside options link piece are inside in
     rw (lt-ltb piece (length (link_pieces link.parts)) inside) (
-      omega (arith, inside, length-append (link_pieces link.parts) (tables_of link)),
-      used_first options link piece are inside ∙ here.0,
-      inr (ap (λ (p : Piece). p.named) (planned_at options link piece inside) ∙ or_right (piece_at link.parts piece).named (is_meant link piece || is_sought options link piece) here.1),
+      omega (arith, there, length-append (link_pieces link.parts) (tables_of link)),
+      used_first options link place are there ∙ here.0,
+      inr (ap (λ (p : Piece). p.named) (planned_at options link place there) ∙ or_right (piece_at link.parts place).named (is_named options link place) here.1),
     )
 node_stands options link (target.Piece piece value) are (inr import) kept =
-    rw (le-ltb piece (length (link_pieces link.parts)) (omega (arith, import.is)))
-    (import_stands options link piece (get_or (slot_offsets link) (piece - length (link_pieces link.parts)) 0) are import (kept piece refl).0)
+    let past : length (link_pieces link.parts) ≤ piece = omega (arith, import.is) in
+    let own = subst (λ (n : ℕ). get_or link.kept n false ≡ true) (place_behind options link piece are past) (kept piece refl).0 in
+    rw (le-ltb piece (length (link_pieces link.parts)) past)
+    (import_stands options link piece (get_or (slot_offsets link) (piece - length (link_pieces link.parts)) 0) are import own)
 
 -- a node is one that there is
 node_there : (link : LinkParts) (t : Target) (node : ℕ) → IsWithin link t → piece_in t ≡ Some node → node < node_count link
@@ -221,18 +217,18 @@ node_there link target.ImageBase node within is = absurd cc
 target_placed_of : (link : KeptParts) (fix : Fix) → target_of (placed_fix link fix) ≡ placed_target link (target_of fix)
 target_placed_of link fix = by fix.target
   where
-    by : (t : Option (Result Target TargetFault)) → meant (option_map (redirected_if (length (link_pieces link.parts)) (slot_table link) (slot_offsets link)) t) ≡ placed_target link (meant t)
+    by : (t : Option (Result Target TargetFault)) → meant (option_map (redirected_if link.places (length (link_pieces link.parts)) (slot_table link) (slot_offsets link)) t) ≡ placed_target link (meant t)
     by None = refl
     by (Some (Ok t)) = refl
     by (Some (Err fault)) = refl
 
 -- what a field of a piece that is kept means is kept, and stands in a section
-field_stands : (options : LinkOptions) (link : KeptParts) (k i : ℕ) (d : Fix) → AreKept options link.parts link.kept → k < length (link_pieces link.parts) → get_or link.kept k false ≡ true → i < length (piece_fixes link.parts k) → has_field (get_or (piece_fixes link.parts k) i d) ≡ true → Stands options link (placed_target link (target_of (get_or (piece_fixes link.parts k) i d)))
+field_stands : (options : LinkOptions) (link : KeptParts) (k i : ℕ) (d : Fix) → AreStanding options link → k < length (link_pieces link.parts) → get_or link.kept k false ≡ true → i < length (piece_fixes link.parts k) → has_field (get_or (piece_fixes link.parts k) i d) ≡ true → Stands options link (placed_target link (target_of (get_or (piece_fixes link.parts k) i d)))
 unfolding meant_in field_edges
 field_stands options link k i d are inside here lt some =
     node_stands options link (target_of fix) are within (λ node is. (
-      kept_next options link.parts link.kept k node are here (Contains-append_left (field_edges link.parts) (child_edges link.parts) (k, node) (edge node is)) (node_there link.parts (target_of fix) node within is),
-      or_left (is_meant link node) (is_sought options link node) (any_there (leads_there link.kept node) (field_edges link.parts) (k, node) (edge node is) (ap (λ (b : Bool). b && eqb node node) here ∙ eq-eqb node node refl)),
+      next_stands options link k node are here (Contains-append_left (field_edges link.parts) (child_edges link.parts) (k, node) (edge node is)) (node_there link.parts (target_of fix) node within is),
+      or_left (is_meant link (place_of link.places node)) (is_sought options link (place_of link.places node) || is_shared link (place_of link.places node)) (any_there (leads_there link.kept link.places (place_of link.places node)) (field_edges link.parts) (k, node) (edge node is) (ap (λ (b : Bool). b && eqb (place_of link.places node) (place_of link.places node)) here ∙ eq-eqb (place_of link.places node) (place_of link.places node) refl)),
     ))
   where
     fix : Fix
@@ -247,7 +243,7 @@ field_stands options link k i d are inside here lt some =
         (made_there (edge_by k) (piece_fixes link.parts k) i d (k, node) lt
         (ap (λ (o : Option ℕ). option_map (λ to. (k, to)) o) (ap (λ (b : Bool). cond b (piece_in (target_of (get_or (piece_fixes link.parts k) i d))) None) some ∙ is)))
 
-pub fields_stand : (options : LinkOptions) (link : KeptParts) (k : ℕ) → AreKept options link.parts link.kept → All (λ fix. Stands options link (target_of fix)) (filter has_field (planned_fixes link k))
+pub fields_stand : (options : LinkOptions) (link : KeptParts) (k : ℕ) → AreStanding options link → All (λ fix. Stands options link (target_of fix)) (filter has_field (planned_fixes link k))
 fields_stand options link k are = by (is_kept link k) refl
   where
     each : (fixes : List Fix) → All (λ fix. has_field fix ≡ true → Stands options link (placed_target link (target_of fix))) fixes → All (λ fix. Stands options link (target_of fix)) (filter has_field (map (placed_fix link) fixes))
@@ -280,7 +276,7 @@ pub planned_numbered : (link : KeptParts) (k : ℕ) → AreNumbered (planned_fix
 planned_numbered link k = by (is_kept link k)
   where
     by : (b : Bool) → AreNumbered (fixes_if b (map (placed_fix link) (piece_fixes link.parts k)))
-    by true i lt = numbered_redirected (length (link_pieces link.parts)) (slot_table link) (slot_offsets link) (piece_fixes link.parts k) (fixes_numbered link.parts k) i lt
+    by true i lt = numbered_redirected link.places (length (link_pieces link.parts)) (slot_table link) (slot_offsets link) (piece_fixes link.parts k) (fixes_numbered link.parts k) i lt
     by false i lt = absurd (omega arith)
 
 -- ---- the entry, the exports and what a loader looks for
@@ -307,14 +303,21 @@ named_loader options link name place among is =
     (Contains-append_right (filter_map (option_and_then piece_in) (export_targets link)) (filter_map (name_node link) loader_names) place.piece
     (made_there (name_node link) loader_names among.0 name place.piece among.1 (ap (name_node link) among.2 ∙ own)))
 
--- what is named is a root
-sought_kept : (options : LinkOptions) (link : KeptParts) (node : ℕ) → AreKept options link.parts link.kept → Contains (named_nodes options link.parts) node → node < node_count link.parts → (get_or link.kept node false ≡ true) × ((is_meant link node || is_sought options link node) ≡ true)
-sought_kept options link node are there within = (
-  kept_root options link.parts link.kept node are (Contains-append_left (named_nodes options link.parts) _ node there) within,
-  or_right (is_meant link node) (is_sought options link node) (any_there (is_at node) (named_nodes options link.parts) node there (eq-eqb node node refl)),
-)
+-- what is sought at a place
+sought_there : (options : LinkOptions) (link : KeptParts) (node : ℕ) → Contains (named_nodes options link.parts) node → is_sought options link (place_of link.places node) ≡ true
+sought_there options link node there =
+    let place = place_of link.places node in
+    any_there (is_at link.places place) (named_nodes options link.parts) node there (eq-eqb place place refl)
 
-pub exports_stand : (options : LinkOptions) (link : KeptParts) (row : ℕ) (t : Target) → AreKept options link.parts link.kept → get_or (planned_targets link) row None ≡ Some t → Stands options link t
+-- what is named is a root
+sought_kept : (options : LinkOptions) (link : KeptParts) (node : ℕ) → AreStanding options link → Contains (named_nodes options link.parts) node → node < node_count link.parts → (get_or link.kept (place_of link.places node) false ≡ true) × (is_named options link (place_of link.places node) ≡ true)
+sought_kept options link node are there within =
+    let place = place_of link.places node in (
+      root_stands options link node are (Contains-append_left (named_nodes options link.parts) _ node there) within,
+      or_right (is_meant link place) (is_sought options link place || is_shared link place) (or_left (is_sought options link place) (is_shared link place) (sought_there options link node there)),
+    )
+
+pub exports_stand : (options : LinkOptions) (link : KeptParts) (row : ℕ) (t : Target) → AreStanding options link → get_or (planned_targets link) row None ≡ Some t → Stands options link t
 exports_stand options link row t are is =
     elim (cases_lt row (length (export_targets link.parts))) [
       | inl lt ↦ by (get_or (export_targets link.parts) row None) refl (sym (get_or-map (planned_target link) (export_targets link.parts) row None None lt) ∙ is)
@@ -335,22 +338,29 @@ exports_stand options link row t are is =
         (named_export options link.parts row u node own node_is)
         (node_there link.parts u node within node_is)))
 
-named_used : (options : LinkOptions) (link : KeptParts) (k : ℕ) → AreKept options link.parts link.kept → k < length (link_pieces link.parts) → Contains (named_nodes options link.parts) k → (get_or (used_pieces link) k false ≡ true) × (is_sought options link k ≡ true)
-named_used options link k are inside there = (
-  used_first options link k are inside ∙ (sought_kept options link k are there (omega (arith, inside))).0,
-  any_there (is_at k) (named_nodes options link.parts) k there (eq-eqb k k refl),
-)
+-- a place in a piece that is named, where that stands
+named_used : (options : LinkOptions) (link : KeptParts) (place : EntryPlace) (entry : Option EntryPlace) → AreStanding options link → place.piece < length (link_pieces link.parts) → option_map (placed_entry link.places) entry ≡ Some place → ((own : EntryPlace) → entry ≡ Some own → Contains (named_nodes options link.parts) own.piece) → (get_or (used_pieces link) place.piece false ≡ true) × (is_sought options link place.piece ≡ true)
+named_used options link place entry are inside is named =
+    let placed = placed_some link.places entry place is in
+    let own = placed.own.piece in
+    let same : place_of link.places own ≡ place.piece = ap (λ (e : EntryPlace). e.piece) placed.placed in
+    let there = named placed.own placed.is in
+    let stands : place_of link.places own < length (link_pieces link.parts) = omega (arith, inside, same) in
+    let first = place_from options link own are stands in
+    subst (λ (k : ℕ). (get_or (used_pieces link) k false ≡ true) × (is_sought options link k ≡ true)) same (
+      used_first options link (place_of link.places own) are stands ∙ (sought_kept options link own are there (omega (arith, first))).0,
+      sought_there options link own there,
+    )
 
-pub entry_used : (options : LinkOptions) (link : KeptParts) (place : EntryPlace) → AreKept options link.parts link.kept → place.piece < length (link_pieces link.parts) → entry_place link.parts options.entry_name ≡ Some place → (get_or (used_pieces link) place.piece false ≡ true) × (is_sought options link place.piece ≡ true)
+pub entry_used : (options : LinkOptions) (link : KeptParts) (place : EntryPlace) → AreStanding options link → place.piece < length (link_pieces link.parts) → planned_entry options link ≡ Some place → (get_or (used_pieces link) place.piece false ≡ true) × (is_sought options link place.piece ≡ true)
 entry_used options link place are inside is =
-    let there : Contains (named_nodes options link.parts) place.piece =
-    subst (λ (o : Option EntryPlace). Contains (cons_option (piece_of_place o) (filter_map (option_and_then piece_in) (export_targets link.parts) ++ filter_map (name_node link.parts) loader_names)) place.piece) (sym is) (first_there place.piece _) in
-    named_used options link place.piece are inside there
+    named_used options link place (entry_place link.parts options.entry_name) are inside is (λ own e.
+    subst (λ (o : Option EntryPlace). Contains (cons_option (piece_of_place o) (filter_map (option_and_then piece_in) (export_targets link.parts) ++ filter_map (name_node link.parts) loader_names)) own.piece) (sym e) (first_there own.piece _))
 
 -- one of the names that a loader looks for
-pub loader_used : (options : LinkOptions) (link : KeptParts) (name : List ℕ) (place : EntryPlace) → Contains loader_names name → AreKept options link.parts link.kept → place.piece < length (link_pieces link.parts) → loader_place link.parts name ≡ Some place → (get_or (used_pieces link) place.piece false ≡ true) × (is_sought options link place.piece ≡ true)
+pub loader_used : (options : LinkOptions) (link : KeptParts) (name : List ℕ) (place : EntryPlace) → Contains loader_names name → AreStanding options link → place.piece < length (link_pieces link.parts) → planned_loader link name ≡ Some place → (get_or (used_pieces link) place.piece false ≡ true) × (is_sought options link place.piece ≡ true)
 loader_used options link name place among are inside is =
-    named_used options link place.piece are inside (named_loader options link.parts name place among is)
+    named_used options link place (loader_place link.parts name) are inside is (λ own e. named_loader options link.parts name own among e)
 
 -- those names
 pub tls_sought : Contains loader_names TLS_NAME
@@ -373,5 +383,5 @@ pdata_not_based options link k lt none table = by (is_kept link k)
     by : (b : Bool) → HaveNoBased (fixes_if b (map (placed_fix link) (piece_fixes link.parts k)))
     by true =
         pdata_no_based options.large (map (placed_fix link) (piece_fixes link.parts k))
-        (suited_redirected (length (link_pieces link.parts)) (slot_table link) (slot_offsets link) options.large true (piece_fixes link.parts k) judged)
+        (suited_redirected link.places (length (link_pieces link.parts)) (slot_table link) (slot_offsets link) options.large true (piece_fixes link.parts k) judged)
     by false = All-nil (λ fix. has_field fix ≡ true → is_based fix ≡ false)

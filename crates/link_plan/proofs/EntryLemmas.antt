@@ -1,8 +1,8 @@
 -- The entry stands in a piece that is named, and inside it, and so does what the loader of a program looks for.
-use Rattle.std.proofs.Common.{◌≡◌, ℕ, ◌||◌, true, List, length, map, get_or, sym, ap, ◌∙◌, arith}
+use Rattle.std.proofs.Common.{◌≡◌, ℕ, ◌<◌, ◌||◌, true, List, length, map, get_or, sym, ap, ◌∙◌, arith}
 use Rattle.std.specs.List.{All, Contains}
 use Rattle.std.specs.Option.{ForSome}
-use Rattle.std.proofs.lemmas.Bool.{or_right}
+use Rattle.std.proofs.lemmas.Bool.{or_right, or_left}
 use Rattle.std.proofs.lemmas.List.{length-map, length-append}
 use Rattle.std.proofs.Math.ListN.{get_or-map}
 use Rattle.section_group.specs.declared.piece.Piece.{Piece}
@@ -17,30 +17,48 @@ use Rattle.link_fields.specs.Entry.{entry_place}
 use Rattle.link_fields.specs.LoaderPlaces.{loader_place}
 use Rattle.link_fields.specs.Fixes.{piece_at}
 use Rattle.link_fields.proofs.EntryLemmas.{IsInside, entry_inside, loader_inside}
-use Rattle.link_plan.specs.Reach.{AreKept, loader_names}
-use Rattle.link_plan.specs.Planned.{is_meant, is_sought, planned_piece, plan_pieces}
+use Rattle.relocate.specs.Redirected.{place_of}
+use Rattle.link_plan.specs.Reach.{loader_names}
+use Rattle.link_plan.specs.Planned.{is_meant, is_sought, is_shared, planned_piece, plan_pieces, placed_entry, planned_entry, planned_loader}
+use Rattle.link_plan.specs.Standing.{AreStanding}
 use Rattle.link_plan.specs.Laid.{StandsNamed}
-use Rattle.link_plan.proofs.CallerLemmas.{planned_at, plan_count, entry_used, loader_used}
+use Rattle.link_plan.proofs.StandingLemmas.{place_inside, place_as_long, placed_some}
+use Rattle.link_plan.proofs.CallerLemmas.{is_named, planned_at, plan_count, entry_used, loader_used}
 
--- a place inside a piece of the link that is sought
-place_stands : (options : LinkOptions) (link : KeptParts) (pieces : List Piece) (place : EntryPlace) → map bare pieces ≡ plan_pieces options link → IsInside link.parts place → is_sought options link place.piece ≡ true → StandsNamed pieces place
-place_stands options link pieces place are stands sought =
+-- a place inside a piece of the link, where that stands, which is sought
+place_stands : (options : LinkOptions) (link : KeptParts) (pieces : List Piece) (place own : EntryPlace) → map bare pieces ≡ plan_pieces options link → AreStanding options link → placed_entry link.places own ≡ place → IsInside link.parts own → is_sought options link place.piece ≡ true → StandsNamed pieces place
+place_stands options link pieces place own are kept placed stands sought =
     let k = place.piece in
+    let same : place_of link.places own.piece ≡ k = ap (λ (e : EntryPlace). e.piece) placed in
+    let value : own.value ≡ place.value = ap (λ (e : EntryPlace). e.value) placed in
+    let within : k < length (link_pieces link.parts) = omega (arith, same, place_inside options link own.piece kept stands.within) in
     let here : bare (get_or pieces k no_piece) ≡ planned_piece options link k =
-    sym (get_or-map bare pieces k no_piece) ∙ ap (λ (ps : List Piece). get_or ps k no_piece) are ∙ planned_at options link k stands.within in
-    let size = ap (λ (p : Piece). p.size) here in
+    sym (get_or-map bare pieces k no_piece) ∙ ap (λ (ps : List Piece). get_or ps k no_piece) are ∙ planned_at options link k within in
+    let size : (get_or pieces k no_piece).size ≡ (piece_at link.parts own.piece).size =
+    ap (λ (p : Piece). p.size) here
+    ∙ ap (λ (n : ℕ). (piece_at link.parts n).size) (sym same)
+    ∙ place_as_long options link own.piece kept stands.within in
     record {
-      within = omega (arith, stands.within, length-map pieces bare, ap (λ (ps : List Piece). length ps) are, plan_count options link, length-append (link_pieces link.parts) (tables_of link));
-      named = ap (λ (p : Piece). p.named) here ∙ or_right (piece_at link.parts k).named (is_meant link k || is_sought options link k) (or_right (is_meant link k) (is_sought options link k) sought);
-      inside = omega (arith, stands.inside, size);
+      within = omega (arith, within, length-map pieces bare, ap (λ (ps : List Piece). length ps) are, plan_count options link, length-append (link_pieces link.parts) (tables_of link));
+      named = ap (λ (p : Piece). p.named) here ∙ or_right (piece_at link.parts k).named (is_named options link k) (or_right (is_meant link k) (is_sought options link k || is_shared link k) (or_left (is_sought options link k) (is_shared link k) sought));
+      inside = omega (arith, stands.inside, size, value);
     }
 
-pub entry_stands : (options : LinkOptions) (link : KeptParts) (pieces : List Piece) → map bare pieces ≡ plan_pieces options link → AreKept options link.parts link.kept → All IsOpened link.parts.modules → ForSome (entry_place link.parts options.entry_name) (StandsNamed pieces)
-entry_stands options link pieces are kept opened = λ place e.
-    let stands = entry_inside link.parts options.entry_name place opened e in
-    place_stands options link pieces place are stands (entry_used options link place kept stands.within e).1
+-- where it is inside the piece that it is in
+inside_placed : (options : LinkOptions) (link : KeptParts) (place own : EntryPlace) → AreStanding options link → placed_entry link.places own ≡ place → IsInside link.parts own → place.piece < length (link_pieces link.parts)
+inside_placed options link place own kept placed stands =
+    omega (arith, ap (λ (e : EntryPlace). e.piece) placed, place_inside options link own.piece kept stands.within)
 
-pub loader_stands : (options : LinkOptions) (link : KeptParts) (pieces : List Piece) (name : List ℕ) → Contains loader_names name → map bare pieces ≡ plan_pieces options link → AreKept options link.parts link.kept → All IsOpened link.parts.modules → ForSome (loader_place link.parts name) (StandsNamed pieces)
+pub entry_stands : (options : LinkOptions) (link : KeptParts) (pieces : List Piece) → map bare pieces ≡ plan_pieces options link → AreStanding options link → All IsOpened link.parts.modules → ForSome (planned_entry options link) (StandsNamed pieces)
+entry_stands options link pieces are kept opened = λ place e.
+    let placed = placed_some link.places (entry_place link.parts options.entry_name) place e in
+    let stands = entry_inside link.parts options.entry_name placed.own opened placed.is in
+    place_stands options link pieces place placed.own are kept placed.placed stands
+    (entry_used options link place kept (inside_placed options link place placed.own kept placed.placed stands) e).1
+
+pub loader_stands : (options : LinkOptions) (link : KeptParts) (pieces : List Piece) (name : List ℕ) → Contains loader_names name → map bare pieces ≡ plan_pieces options link → AreStanding options link → All IsOpened link.parts.modules → ForSome (planned_loader link name) (StandsNamed pieces)
 loader_stands options link pieces name among are kept opened = λ place e.
-    let stands = loader_inside link.parts name place opened e in
-    place_stands options link pieces place are stands (loader_used options link name place among kept stands.within e).1
+    let placed = placed_some link.places (loader_place link.parts name) place e in
+    let stands = loader_inside link.parts name placed.own opened placed.is in
+    place_stands options link pieces place placed.own are kept placed.placed stands
+    (loader_used options link name place among kept (inside_placed options link place placed.own kept placed.placed stands) e).1

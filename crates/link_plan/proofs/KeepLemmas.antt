@@ -7,7 +7,11 @@ use Rattle.std.proofs.lemmas.Option.{get_or_from_slice_get, slice_get-get_or}
 use Rattle.reach.specs.Paths.{IsKept}
 use Rattle.link_words.specs.Outcome.{LinkOptions}
 use Rattle.link_pieces.specs.LinkParts.{LinkParts}
+use Rattle.link_pieces.specs.TablePieces.{KeptParts}
+use Rattle.link_folding.specs.Places.{standing}
 use Rattle.link_plan.specs.Reach.{node_count, link_edges, link_roots, drops, IsToKeep, AreKept}
+use Rattle.link_plan.specs.Standing.{FoldsTo, AreStanding}
+use Rattle.link_plan.proofs.StandingLemmas.{one_places}
 
 -- where unreferenced sections are dropped
 pub reached : (options : LinkOptions) (link : LinkParts) (kept : List Bool) (count : ℕ) (edges : List (ℕ × ℕ)) (roots : List ℕ) → drops options ≡ true → count ≡ node_count link → edges ≡ link_edges link → roots ≡ link_roots options link → length kept ≡ count → ((node : ℕ) → IsKept count edges roots node → slice_get kept node ≡ Some true) → ((node : ℕ) → slice_get kept node ≡ Some true → IsKept count edges roots node) → AreKept options link kept
@@ -64,3 +68,21 @@ one_kept options link a b x y =
     both true q there back = sym (there refl)
     both false true there back = back refl
     both false false there back = refl
+
+-- and so is a link of which it is known what stands
+pub one_standing : (options : LinkOptions) (a b : KeptParts) → a.parts ≡ b.parts → AreStanding options a → AreStanding options b → a ≡ b
+one_standing options a b same x y =
+    let reached : x.reached ≡ y.reached =
+    one_kept options b.parts x.reached y.reached (subst (λ (l : LinkParts). AreKept options l x.reached) same x.reached_are) y.reached_are in
+    let folded : FoldsTo options.icf b.parts y.reached a.places =
+    subst (λ (l : LinkParts). FoldsTo options.icf l y.reached a.places) same
+    (subst (λ (flags : List Bool). FoldsTo options.icf a.parts flags a.places) reached x.places_are) in
+    let places : a.places ≡ b.places = one_places options.icf b.parts y.reached a.places b.places folded y.places_are in
+    let kept : a.kept ≡ b.kept =
+    x.kept_are
+    ∙ ap (λ (flags : List Bool). standing flags a.places) reached
+    ∙ ap (standing y.reached) places
+    ∙ sym y.kept_are in
+    ap (λ (l : LinkParts). record a { parts = l }) same
+    ∙ ap (λ (flags : List Bool). record a { parts = b.parts; kept = flags }) kept
+    ∙ ap (λ (ps : List ℕ). record b { places = ps }) places

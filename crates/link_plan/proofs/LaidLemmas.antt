@@ -17,7 +17,7 @@ use Rattle.relocate.specs.declared.fix.Fix.{Fix}
 use Rattle.relocate.specs.declared.fix.Target.{Target}
 use Rattle.relocate.specs.declared.fix.Target.TheVariants as target
 use Rattle.relocate.specs.Judged.{AreTheFields, ArePatchable}
-use Rattle.relocate.specs.Redirected.{redirected, redirected_if, redirected_fix}
+use Rattle.relocate.specs.Redirected.{place_of, redirected, redirected_if, redirected_fix}
 use Rattle.link_base.specs.declared.kinds.target.TargetFault.{TargetFault}
 use Rattle.relocate.proofs.CallerLemmas.{fields_redirected, patchable_redirected}
 use Rattle.link_base.specs.Bytes.{first_below}
@@ -35,14 +35,14 @@ use Rattle.link_pieces.proofs.PieceLemmas.{over_bare}
 use Rattle.link_pieces.proofs.TableLemmas.{tables_aligned, tables_told, tables_few}
 use Rattle.link_fields.specs.ExportTargets.{export_targets}
 use Rattle.link_fields.specs.Fixes.{piece_fixes, HaveFields as HaveAll}
-use Rattle.link_plan.specs.Planned.{is_meant, is_sought, named_if, planned_piece, plan_pieces, slot_offsets, slot_table, placed_target, placed_fix, fixes_if, HaveFields, planned_target, planned_targets}
-use Rattle.link_plan.proofs.CallerLemmas.{planned_at, table_at, plan_count}
+use Rattle.link_plan.specs.Planned.{named_if, planned_piece, plan_pieces, slot_offsets, slot_table, placed_target, placed_fix, fixes_if, HaveFields, planned_target, planned_targets}
+use Rattle.link_plan.proofs.CallerLemmas.{is_named, planned_at, table_at, plan_count}
 use Rattle.link_plan.proofs.NamedLemmas.{AreNamed, count_named, contents_named}
 
 -- ---- pieces
 
 -- those of the link, named where they are to be
-pub planned : (options : LinkOptions) (link : KeptParts) (old : List Piece) (marks : List Bool) (now : List Piece) → map bare old ≡ link_pieces link.parts → ((k : ℕ) → k < length old → get_or marks k false ≡ (is_meant link k || is_sought options link k)) → AreNamed old marks now → map bare now ≡ map (planned_piece options link) (range_with_len 0 (length (link_pieces link.parts)))
+pub planned : (options : LinkOptions) (link : KeptParts) (old : List Piece) (marks : List Bool) (now : List Piece) → map bare old ≡ link_pieces link.parts → ((k : ℕ) → k < length old → get_or marks k false ≡ is_named options link k) → AreNamed old marks now → map bare now ≡ map (planned_piece options link) (range_with_len 0 (length (link_pieces link.parts)))
 planned options link old marks now are marked is =
     let n : length old ≡ length (link_pieces link.parts) = sym (length-map old bare) ∙ ap (λ (ps : List Piece). length ps) are in
     let f = λ (k : ℕ). named_if (get_or marks k false) (get_or old k no_piece) in
@@ -53,11 +53,11 @@ planned options link old marks now are marked is =
     get_or-map bare now i no_piece
     ∙ ap bare here
     ∙ ap (λ (b : Bool). named_if b (bare (get_or old i no_piece))) (marked i within)
-    ∙ ap (named_if (is_meant link i || is_sought options link i)) (bare_at link.parts old i are)
+    ∙ ap (named_if (is_named options link i)) (bare_at link.parts old i are)
     ∙ sym (get_or-map-range_with_len (planned_piece options link) 0 (length (link_pieces link.parts)) i i no_piece (omega (arith, within, n)) (omega arith)))
 
 -- with the tables behind them
-pub pieces_planned : (options : LinkOptions) (link : KeptParts) (old : List Piece) (marks : List Bool) (now after : List Piece) → map bare old ≡ link_pieces link.parts → ((k : ℕ) → k < length old → get_or marks k false ≡ (is_meant link k || is_sought options link k)) → AreNamed old marks now → map bare after ≡ map bare now ++ tables_of link → map bare after ≡ plan_pieces options link
+pub pieces_planned : (options : LinkOptions) (link : KeptParts) (old : List Piece) (marks : List Bool) (now after : List Piece) → map bare old ≡ link_pieces link.parts → ((k : ℕ) → k < length old → get_or marks k false ≡ is_named options link k) → AreNamed old marks now → map bare after ≡ map bare now ++ tables_of link → map bare after ≡ plan_pieces options link
 unfolding plan_pieces
 pieces_planned options link old marks now after are marked is grown =
     grown ∙ ap (λ (ps : List Piece). ps ++ tables_of link) (planned options link old marks now are marked is)
@@ -149,12 +149,12 @@ one_more_none old now after count is grown =
     last (suc n) = ap (λ (fs : List (List Fix)). no_fix ∷ fs) (last n)
 
 -- with the same offsets in another list
-pub same_place : (first home other : ℕ) (offsets own : List ℕ) (t : Target) → home ≡ other → ((p : ℕ) → get_or offsets p 0 ≡ get_or own p 0) → redirected first home offsets t ≡ redirected first other own t
-same_place first home other offsets own (target.Piece piece value) same each =
-    ap (λ (h : ℕ). cond (ltb piece first) (target.Piece piece value) (target.Piece h (get_or offsets (piece - first) 0))) same
-    ∙ ap (λ (o : ℕ). cond (ltb piece first) (target.Piece piece value) (target.Piece other o)) (each (piece - first))
-same_place first home other offsets own (target.Absolute value) same each = refl
-same_place first home other offsets own target.ImageBase same each = refl
+pub same_place : (spots : List ℕ) (first home other : ℕ) (offsets own : List ℕ) (t : Target) → home ≡ other → ((p : ℕ) → get_or offsets p 0 ≡ get_or own p 0) → redirected spots first home offsets t ≡ redirected spots first other own t
+same_place spots first home other offsets own (target.Piece piece value) same each =
+    ap (λ (h : ℕ). cond (ltb piece first) (target.Piece (place_of spots piece) value) (target.Piece h (get_or offsets (piece - first) 0))) same
+    ∙ ap (λ (o : ℕ). cond (ltb piece first) (target.Piece (place_of spots piece) value) (target.Piece other o)) (each (piece - first))
+same_place spots first home other offsets own (target.Absolute value) same each = refl
+same_place spots first home other offsets own target.ImageBase same each = refl
 
 -- the offsets of slots as a list
 pub same_offsets : (link : KeptParts) (offsets : List ℕ) → ((p : ℕ) → get_or offsets p 0 ≡ slot_offset link.parts.modules (kept_imports link) p) → (p : ℕ) → get_or offsets p 0 ≡ get_or (slot_offsets link) p 0
@@ -166,39 +166,41 @@ same_offsets link offsets each p =
       | inr past ↦ past_all modules (kept_imports link) p past ∙ sym (get_or_past (slot_offsets link) p 0 (omega (arith, past, length-map-range_with_len f 0 (length modules))))
     ]
 
--- where the imports stand, as it is known to the code
-pub record ArePlaces (link : KeptParts) (first home : ℕ) (offsets : List ℕ) : Type 0 where
+-- where the pieces and the imports stand, as it is known to the code
+pub record ArePlaces (link : KeptParts) (spots : List ℕ) (first home : ℕ) (offsets : List ℕ) : Type 0 where
+  pub spots_are : spots ≡ link.places
   pub first_is : first ≡ length (link_pieces link.parts)
   pub home_is : home ≡ slot_table link
   pub offsets_are : (p : ℕ) → get_or offsets p 0 ≡ slot_offset link.parts.modules (kept_imports link) p
 
-pub target_placed : (link : KeptParts) (first home : ℕ) (offsets : List ℕ) (t : Target) → ArePlaces link first home offsets → redirected first home offsets t ≡ placed_target link t
-target_placed link first home offsets t places =
-    same_place first home (slot_table link) offsets (slot_offsets link) t places.home_is (same_offsets link offsets places.offsets_are)
-    ∙ ap (λ (n : ℕ). redirected n (slot_table link) (slot_offsets link) t) places.first_is
+pub target_placed : (link : KeptParts) (spots : List ℕ) (first home : ℕ) (offsets : List ℕ) (t : Target) → ArePlaces link spots first home offsets → redirected spots first home offsets t ≡ placed_target link t
+target_placed link spots first home offsets t places =
+    same_place spots first home (slot_table link) offsets (slot_offsets link) t places.home_is (same_offsets link offsets places.offsets_are)
+    ∙ ap (λ (n : ℕ). redirected spots n (slot_table link) (slot_offsets link) t) places.first_is
+    ∙ ap (λ (ps : List ℕ). redirected ps (length (link_pieces link.parts)) (slot_table link) (slot_offsets link) t) places.spots_are
 
-fix_placed : (link : KeptParts) (first home : ℕ) (offsets : List ℕ) (fix : Fix) → ArePlaces link first home offsets → redirected_fix first home offsets fix ≡ placed_fix link fix
-fix_placed link first home offsets fix places =
+fix_placed : (link : KeptParts) (spots : List ℕ) (first home : ℕ) (offsets : List ℕ) (fix : Fix) → ArePlaces link spots first home offsets → redirected_fix spots first home offsets fix ≡ placed_fix link fix
+fix_placed link spots first home offsets fix places =
     ap (λ (t : Option (Result Target TargetFault)). record fix { target = t }) (by fix.target)
   where
-    by : (t : Option (Result Target TargetFault)) → option_map (redirected_if first home offsets) t ≡ option_map (redirected_if (length (link_pieces link.parts)) (slot_table link) (slot_offsets link)) t
+    by : (t : Option (Result Target TargetFault)) → option_map (redirected_if spots first home offsets) t ≡ option_map (redirected_if link.places (length (link_pieces link.parts)) (slot_table link) (slot_offsets link)) t
     by None = refl
-    by (Some (Ok t)) = ap (λ (x : Target). Some (Ok x)) (target_placed link first home offsets t places)
+    by (Some (Ok t)) = ap (λ (x : Target). Some (Ok x)) (target_placed link spots first home offsets t places)
     by (Some (Err fault)) = refl
 
-fixes_placed : (link : KeptParts) (first home : ℕ) (offsets : List ℕ) (fixes : List Fix) → ArePlaces link first home offsets → map (redirected_fix first home offsets) fixes ≡ map (placed_fix link) fixes
-fixes_placed link first home offsets [] places = refl
-fixes_placed link first home offsets (fix ∷ fixes) places =
-    rw (fix_placed link first home offsets fix places, fixes_placed link first home offsets fixes places) refl
+fixes_placed : (link : KeptParts) (spots : List ℕ) (first home : ℕ) (offsets : List ℕ) (fixes : List Fix) → ArePlaces link spots first home offsets → map (redirected_fix spots first home offsets) fixes ≡ map (placed_fix link) fixes
+fixes_placed link spots first home offsets [] places = refl
+fixes_placed link spots first home offsets (fix ∷ fixes) places =
+    rw (fix_placed link spots first home offsets fix places, fixes_placed link spots first home offsets fixes places) refl
 
 fields_if : (link : KeptParts) (kept : Bool) (fixes fixups : List Fix) → AreTheFields fixes fixups → AreTheFields (fixes_if kept (map (placed_fix link) fixes)) (fixes_if kept (map (placed_fix link) fixups))
 fields_if link true fixes fixups are =
-    fields_redirected (length (link_pieces link.parts)) (slot_table link) (slot_offsets link) fixes fixups are
+    fields_redirected link.places (length (link_pieces link.parts)) (slot_table link) (slot_offsets link) fixes fixups are
 fields_if link false fixes fixups are = no_permutation
 
 patchable_if : (link : KeptParts) (kept : Bool) (len : ℕ) (fixups : List Fix) → ArePatchable len fixups → ArePatchable len (fixes_if kept (map (placed_fix link) fixups))
 patchable_if link true len fixups are =
-    patchable_redirected (length (link_pieces link.parts)) (slot_table link) (slot_offsets link) len fixups are
+    patchable_redirected link.places (length (link_pieces link.parts)) (slot_table link) (slot_offsets link) len fixups are
 patchable_if link false len fixups are = no_fields len
 
 nothing_at : (n k : ℕ) → get_or (replicate n no_fix) k [] ≡ []
@@ -206,12 +208,12 @@ nothing_at zero k = refl
 nothing_at (suc n) zero = refl
 nothing_at (suc n) (suc k) = nothing_at n k
 
-pub fields_planned : (link : KeptParts) (first home : ℕ) (offsets : List ℕ) (old now after : List (List Fix)) (tables count : ℕ) → length (link_contents link.parts) ≡ length (link_pieces link.parts) → ArePlaces link first home offsets → HaveAll link.parts (length (link_pieces link.parts)) old → now ≡ map (λ k. fixes_if (get_or link.kept k false) (map (redirected_fix first home offsets) (get_or old k []))) (range_with_len 0 (length old)) → after ≡ now ++ replicate tables no_fix → count ≡ length (link_pieces link.parts) + tables → HaveFields link count after
-fields_planned link first home offsets old now after tables count contents places have is grown counted =
+pub fields_planned : (link : KeptParts) (spots : List ℕ) (first home : ℕ) (offsets : List ℕ) (old now after : List (List Fix)) (tables count : ℕ) → length (link_contents link.parts) ≡ length (link_pieces link.parts) → ArePlaces link spots first home offsets → HaveAll link.parts (length (link_pieces link.parts)) old → now ≡ map (λ k. fixes_if (get_or link.kept k false) (map (redirected_fix spots first home offsets) (get_or old k []))) (range_with_len 0 (length old)) → after ≡ now ++ replicate tables no_fix → count ≡ length (link_pieces link.parts) + tables → HaveFields link count after
+fields_planned link spots first home offsets old now after tables count contents places have is grown counted =
     let n = length (link_pieces link.parts) in
-    let f = λ (k : ℕ). fixes_if (get_or link.kept k false) (map (redirected_fix first home offsets) (get_or old k [])) in
+    let f = λ (k : ℕ). fixes_if (get_or link.kept k false) (map (redirected_fix spots first home offsets) (get_or old k [])) in
     let long : length now ≡ n = ap length is ∙ length-map-range_with_len f 0 (length old) ∙ have.for_each in
-    let here = λ (k : ℕ) (lt : k < n). ap (λ (fs : List (List Fix)). get_or fs k []) grown ∙ get_or_append_left now (replicate tables no_fix) [] k (omega (arith, lt, long)) ∙ ap (λ (fs : List (List Fix)). get_or fs k []) is ∙ get_or-map-range_with_len f 0 (length old) k k [] (omega (arith, lt, have.for_each)) (omega arith) ∙ ap (fixes_if (get_or link.kept k false)) (fixes_placed link first home offsets (get_or old k []) places) in
+    let here = λ (k : ℕ) (lt : k < n). ap (λ (fs : List (List Fix)). get_or fs k []) grown ∙ get_or_append_left now (replicate tables no_fix) [] k (omega (arith, lt, long)) ∙ ap (λ (fs : List (List Fix)). get_or fs k []) is ∙ get_or-map-range_with_len f 0 (length old) k k [] (omega (arith, lt, have.for_each)) (omega arith) ∙ ap (fixes_if (get_or link.kept k false)) (fixes_placed link spots first home offsets (get_or old k []) places) in
     let past = λ (k : ℕ) (ge : n ≤ k). ap (λ (fs : List (List Fix)). get_or fs k []) grown ∙ get_or-append_right now (replicate tables no_fix) n k [] long ge ∙ nothing_at tables (k - n) in
     record {
       for_each = ap length grown ∙ length-append now (replicate tables no_fix) ∙ omega (arith, long, counted, length-replicate tables no_fix);
@@ -240,14 +242,14 @@ fields_planned link first home offsets old now after tables count contents place
 
 -- ---- exports
 
-pub targets_planned : (link : KeptParts) (first home : ℕ) (offsets : List ℕ) (old now : List (Option Target)) → ArePlaces link first home offsets → old ≡ export_targets link.parts → now ≡ map (option_map (redirected first home offsets)) old → now ≡ planned_targets link
-targets_planned link first home offsets old now places are is = is ∙ each old ∙ ap (map (planned_target link)) are
+pub targets_planned : (link : KeptParts) (spots : List ℕ) (first home : ℕ) (offsets : List ℕ) (old now : List (Option Target)) → ArePlaces link spots first home offsets → old ≡ export_targets link.parts → now ≡ map (option_map (redirected spots first home offsets)) old → now ≡ planned_targets link
+targets_planned link spots first home offsets old now places are is = is ∙ each old ∙ ap (map (planned_target link)) are
   where
-    one : (t : Option Target) → option_map (redirected first home offsets) t ≡ planned_target link t
+    one : (t : Option Target) → option_map (redirected spots first home offsets) t ≡ planned_target link t
     one None = refl
-    one (Some t) = ap (λ (x : Target). Some x) (target_placed link first home offsets t places)
+    one (Some t) = ap (λ (x : Target). Some x) (target_placed link spots first home offsets t places)
 
-    each : (ts : List (Option Target)) → map (option_map (redirected first home offsets)) ts ≡ map (planned_target link) ts
+    each : (ts : List (Option Target)) → map (option_map (redirected spots first home offsets)) ts ≡ map (planned_target link) ts
     each [] = refl
     each (t ∷ ts) = rw (one t, each ts) refl
 

@@ -1,4 +1,5 @@
 pub mod StageLemmas
+pub mod StandingLemmas
 pub mod CallerLemmas
 pub mod EntryLemmas
 pub mod ReferenceLemmas

@@ -1,5 +1,5 @@
 -- Pieces that are marked, one after the other, and named by their marks.
-use Rattle.std.proofs.Common.{◌≡◌, ℕ, ◌+◌, ◌<◌, ◌≤◌, Bool, true, false, ◌||◌, eqb, List, [], ◌∷◌, ◌++◌, length, map, get_or, set, take, inl, inr, refl, sym, ap, ◌∙◌, add-one, subst, arith}
+use Rattle.std.proofs.Common.{◌≡◌, ℕ, ◌+◌, ◌<◌, ◌≤◌, Bool, true, false, ◌||◌, ◌&&◌, eqb, List, [], ◌∷◌, ◌++◌, length, map, get_or, set, take, inl, inr, refl, sym, ap, ◌∙◌, add-one, subst, arith}
 use Rattle.std.specs.List.{list_any, range_with_len}
 use Rattle.std.proofs.Math.Seq.{take-suc}
 use Rattle.std.proofs.lemmas.Bool.{cases_lt}
@@ -7,6 +7,7 @@ use Rattle.std.proofs.lemmas.Bool.Decides.{eqb_tells}
 use Rattle.std.proofs.lemmas.List.{get_or-set_same, get_or-set_other, get_or_default, length-set, ext_get_or}
 use Rattle.std.proofs.lemmas.List.Folds.{list_any-append}
 use Rattle.std.proofs.lemmas.List.FromFn.{get_or-map-range_with_len, length-map-range_with_len}
+use Rattle.link_base.proofs.RangeLemmas.{range_more}
 use Rattle.section_group.specs.declared.piece.Piece.{Piece}
 use Rattle.section_group.specs.SectionOrder.{no_piece}
 use Rattle.link_plan.specs.Planned.{LeadsWithin, named_if}
@@ -19,7 +20,7 @@ or_false : (b : Bool) → b ≡ (b || false)
 or_false true = refl
 or_false false = refl
 
-or_or : (a b c : Bool) → ((a || b) || c) ≡ (a || (b || c))
+pub or_or : (a b c : Bool) → ((a || b) || c) ≡ (a || (b || c))
 or_or true b c = refl
 or_or false b c = refl
 
@@ -57,6 +58,23 @@ marks_more {X} test xs i x first was now lt read before after =
     ∙ ap (λ (y : X). list_any test (take i xs ++ y ∷ [])) read
     ∙ ap (list_any test) (sym (take-suc xs i x lt))
     ∙ ap (λ (n : ℕ). list_any test (take n xs)) (sym (add-one i)))
+
+-- one more number that does
+pub marks_range : (test : ℕ → Bool) (i : ℕ) (first was now : Bool) → was ≡ (first || list_any test (range_with_len 0 i)) → now ≡ (was || test i) → now ≡ (first || list_any test (range_with_len 0 (i + 1)))
+marks_range test i first was now before after =
+    after
+    ∙ ap (λ (b : Bool). b || test i) before
+    ∙ or_or first (list_any test (range_with_len 0 i)) (test i)
+    ∙ ap (λ (b : Bool). first || b)
+    (ap (λ (b : Bool). list_any test (range_with_len 0 i) || b) (or_false (test i))
+    ∙ sym (list_any-append test (range_with_len 0 i) (i ∷ []))
+    ∙ ap (list_any test) (sym (range_more 0 i i (omega arith))))
+
+pub and_swap : (a b : Bool) → (a && b) ≡ (b && a)
+and_swap true true = refl
+and_swap true false = refl
+and_swap false true = refl
+and_swap false false = refl
 
 -- ---- pieces that are named
 

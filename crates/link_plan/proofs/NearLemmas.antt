@@ -1,4 +1,4 @@
--- Where no field of what is kept means an import, these fields have the places that imports would give them already.
+-- Where nothing folds and no field of what is kept means an import, these fields have the places already that they are to have.
 use Rattle.std.proofs.Common.{◌≡◌, ℕ, zero, suc, ◌+◌, ◌<◌, Bool, true, false, cond, List, [], ◌∷◌, ◌++◌, length, map, filter, get_or, Option, Some, None, option_map, Result, Ok, Err, refl, sym, ap, ◌∙◌, subst, inl, inr, lt-ltb, arith}
 use Rattle.std.specs.List.{All, AllByRecursion, cons_option, flat_map, range_with_len}
 use Rattle.std.proofs.lemmas.Bool.{cases_lt}
@@ -58,9 +58,9 @@ same_map {X} f (x ∷ xs) all = ap (λ (y : X). y ∷ map f xs) all.0 ∙ ap (λ
 
 module _ (count home : ℕ) (offsets : List ℕ) where
   abbrev Stays : Fix → Type 0
-  Stays fix = redirected_fix count home offsets fix ≡ fix
+  Stays fix = redirected_fix [] count home offsets fix ≡ fix
 
-  same_target : (told : Option (Result Target TargetFault)) → ((to : ℕ) → piece_in (meant told) ≡ Some to → to < count) → option_map (redirected_if count home offsets) told ≡ told
+  same_target : (told : Option (Result Target TargetFault)) → ((to : ℕ) → piece_in (meant told) ≡ Some to → to < count) → option_map (redirected_if [] count home offsets) told ≡ told
   same_target None near = refl
   same_target (Some (Err fault)) near = refl
   same_target (Some (Ok (target.Piece piece value))) near = rw (lt-ltb piece count (near piece refl)) refl
@@ -88,11 +88,16 @@ module _ (count home : ℕ) (offsets : List ℕ) where
 
 -- ---- those of all pieces
 
+-- nothing folds where the list is empty
+pub no_places : (places : List ℕ) → length places ≡ 0 → places ≡ []
+no_places [] none = refl
+no_places (place ∷ places) none = absurd (omega (arith, none))
+
 pub fields_stay : (link : LinkParts) (count home : ℕ) (offsets : List ℕ) (kept : List Bool) (fixups : List (List Fix)) (k : ℕ) → count ≡ length (link_pieces link) → HaveFields link count fixups → All (LeadsWithin kept count) (field_edges link) → k < count → get_or kept k false ≡ true
-    → map (redirected_fix count home offsets) (get_or fixups k []) ≡ get_or fixups k []
+    → map (redirected_fix [] count home offsets) (get_or fixups k []) ≡ get_or fixups k []
 unfolding field_edges
 fields_stay link count home offsets kept fixups k counted have near lt is =
     let edges = of_one (LeadsWithin kept count) (edges_of link) 0 (length (link_pieces link)) k (omega arith) (omega (arith, lt, counted)) (each (LeadsWithin kept count) (field_edges link) near) in
     let own = each_stays count home offsets kept k (piece_fixes link k) is edges in
     let all = All-permutation (Stays count home offsets) (filter has_field (piece_fixes link k)) (get_or fixups k []) (have.fields k lt) (whole (Stays count home offsets) (filter has_field (piece_fixes link k)) own) in
-    same_map (redirected_fix count home offsets) (get_or fixups k []) (each (Stays count home offsets) (get_or fixups k []) all)
+    same_map (redirected_fix [] count home offsets) (get_or fixups k []) (each (Stays count home offsets) (get_or fixups k []) all)

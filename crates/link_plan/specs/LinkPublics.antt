@@ -16,4 +16,4 @@ lists_publics options = is_some options.map_file || options.debug
 -- the slot of an import stands in the table of slots
 unfoldable pub link_publics : KeptParts → List PublicPlace
 link_publics link =
-    filter_map (kept_public link.kept (length (link_pieces link.parts)) (slot_table link) (slot_offsets link)) (publics_of link.parts)
+    filter_map (kept_public link.kept link.places (length (link_pieces link.parts)) (slot_table link) (slot_offsets link)) (publics_of link.parts)

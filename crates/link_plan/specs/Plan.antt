@@ -22,10 +22,9 @@ use Rattle.link_imports.specs.Imports.{AreImports}
 use Rattle.link_pieces.specs.TablePieces.{KeptParts, kept_imports, whole_contents, is_table}
 use Rattle.link_words.specs.Outcome.{LinkOptions}
 use Rattle.link_plan.specs.declared.planning.LinkPlan.{LinkPlan}
-use Rattle.link_fields.specs.Entry.{entry_place}
-use Rattle.link_fields.specs.LoaderPlaces.{loader_place, TLS_NAME, LOAD_CONFIG_NAME}
-use Rattle.link_plan.specs.Reach.{AreKept}
-use Rattle.link_plan.specs.Planned.{plan_pieces, planned_targets, HaveFields}
+use Rattle.link_fields.specs.LoaderPlaces.{TLS_NAME, LOAD_CONFIG_NAME}
+use Rattle.link_plan.specs.Standing.{AreStanding}
+use Rattle.link_plan.specs.Planned.{plan_pieces, planned_targets, planned_entry, planned_loader, HaveFields}
 use Rattle.link_plan.specs.PlanFaults.{plan_fault}
 use Rattle.link_plan.specs.Laid.{StandsNamed}
 use Rattle.link_plan.specs.LinkPublics.{lists_publics, link_publics}
@@ -38,7 +37,7 @@ link_parts options modules resources =
 -- with what is kept of it
 pub record IsLinkOf (options : LinkOptions) (modules : List ModuleView) (resources : List Entry) (link : KeptParts) : Type 0 where
   pub parts_are : link.parts ≡ link_parts options modules resources
-  pub kept_are : AreKept options link.parts link.kept
+  pub kept_are : AreStanding options link
 
 -- the merges of a link: those of the options, then those of the directives
 abbrev pub merges_of : LinkOptions → LinkParts → List (List ℕ × List ℕ)
@@ -50,7 +49,7 @@ plan_resources plan = plan.names.resources.entries
 
 -- what a plan keeps
 abbrev pub kept_parts : LinkPlan → KeptParts
-kept_parts plan = record { parts = plan.names; kept = plan.kept.items }
+kept_parts plan = record { parts = plan.names; kept = plan.kept.items; places = plan.place_of.items }
 
 -- a plan holds what the definitions give for its modules, its resources and the options, which have no fault up to it
 pub record IsPlanOf (options : LinkOptions) (modules : List ModuleView) (plan : LinkPlan) : Type 0 where
@@ -69,11 +68,11 @@ pub record IsPlanOf (options : LinkOptions) (modules : List ModuleView) (plan : 
   pub mergeable : AreMergeable (plan_resources plan)
   pub numbered : AreNumbered (plan_resources plan)
   pub merges_are : plan.merges.items ≡ merges_of options plan.names
-  pub entry_is : plan.entry ≡ entry_place plan.names options.entry_name
+  pub entry_is : plan.entry ≡ planned_entry options (kept_parts plan)
   pub stands : ForSome plan.entry (StandsNamed plan.pieces.items)
-  pub tls_is : plan.loader.tls ≡ loader_place plan.names TLS_NAME
+  pub tls_is : plan.loader.tls ≡ planned_loader (kept_parts plan) TLS_NAME
   pub tls_stands : ForSome plan.loader.tls (StandsNamed plan.pieces.items)
-  pub load_config_is : plan.loader.load_config ≡ loader_place plan.names LOAD_CONFIG_NAME
+  pub load_config_is : plan.loader.load_config ≡ planned_loader (kept_parts plan) LOAD_CONFIG_NAME
   pub load_config_stands : ForSome plan.loader.load_config (StandsNamed plan.pieces.items)
   pub exported_are : plan.exported.items ≡ planned_targets (kept_parts plan)
   pub publics_are : lists_publics options ≡ true → plan.publics.items ≡ link_publics (kept_parts plan)

@@ -6,19 +6,23 @@ use Rattle.section_group.specs.declared.piece.Piece.{Piece}
 use Rattle.relocate.specs.declared.fix.Fix.{Fix}
 use Rattle.relocate.specs.declared.fix.Target.{Target}
 use Rattle.relocate.specs.Judged.{AreTheFields, ArePatchable}
-use Rattle.relocate.specs.Redirected.{redirected, redirected_fix}
+use Rattle.relocate.specs.Redirected.{place_of, redirected, redirected_fix}
 use Rattle.synthetic_sections.specs.LinkerPieces.{SLOTS}
 use Rattle.link_imports.specs.Imports.{slot_offset}
 use Rattle.link_words.specs.Outcome.{LinkOptions}
+use Rattle.link_pieces.specs.LinkParts.{LinkParts}
 use Rattle.link_pieces.specs.Pieces.{link_pieces}
 use Rattle.link_pieces.specs.TablePieces.{KeptParts, kept_imports, tables_of, whole_contents, table_index}
+use Rattle.link_fields.specs.declared.entry.EntryPlace.{EntryPlace}
+use Rattle.link_fields.specs.Entry.{entry_place}
+use Rattle.link_fields.specs.LoaderPlaces.{loader_place}
 use Rattle.link_fields.specs.ExportTargets.{export_targets}
 use Rattle.link_fields.specs.Fixes.{piece_at, piece_fixes, field_edges}
 use Rattle.link_plan.specs.Reach.{named_nodes}
 
 -- ---- what is kept
 
--- a piece of the link is kept
+-- a piece of the link is kept, and stands at its own place
 abbrev pub is_kept : KeptParts → ℕ → Bool
 is_kept link k = nat_lt k (length (link_pieces link.parts)) && slice_index_or link.kept k false
 
@@ -28,29 +32,36 @@ used_pieces link = take (length (link_pieces link.parts)) link.kept ++ replicate
 
 -- ---- pieces that are named
 
--- a field of a piece that is kept means it
-abbrev pub leads_there : List Bool → ℕ → ℕ × ℕ → Bool
-leads_there kept k edge = slice_index_or kept edge.0 false && (edge.1 == k)
+-- a field of a piece that is kept means it, or one that stands at its place
+abbrev pub leads_there : List Bool → List ℕ → ℕ → ℕ × ℕ → Bool
+leads_there kept places k edge = slice_index_or kept edge.0 false && (place_of places edge.1 == k)
 
 abbrev pub is_meant : KeptParts → ℕ → Bool
-is_meant link k = list_any (leads_there link.kept k) (field_edges link.parts)
+is_meant link k = list_any (leads_there link.kept link.places k) (field_edges link.parts)
 
 -- where a piece is kept that an edge begins at, it leads to one of the first nodes
 abbrev pub LeadsWithin : List Bool → ℕ → ℕ × ℕ → Type 0
 LeadsWithin kept count edge = slice_index_or kept edge.0 false ≡ true → edge.1 < count
 
 -- the entry, an export or what a loader looks for is there
-abbrev pub is_at : ℕ → ℕ → Bool
-is_at k node = node == k
+abbrev pub is_at : List ℕ → ℕ → ℕ → Bool
+is_at places k node = place_of places node == k
 
 abbrev pub is_sought : LinkOptions → KeptParts → ℕ → Bool
-is_sought options link k = list_any (is_at k) (named_nodes options link.parts)
+is_sought options link k = list_any (is_at link.places k) (named_nodes options link.parts)
+
+-- a piece that is named stands there
+abbrev pub is_named_at : LinkParts → List ℕ → ℕ → ℕ → Bool
+is_named_at link places k other = (place_of places other == k) && (piece_at link other).named
+
+abbrev pub is_shared : KeptParts → ℕ → Bool
+is_shared link k = list_any (is_named_at link.parts link.places k) (range_with_len 0 (length link.places))
 
 abbrev pub named_if : Bool → Piece → Piece
 named_if meant piece = record piece { named = piece.named || meant }
 
 abbrev pub planned_piece : LinkOptions → KeptParts → ℕ → Piece
-planned_piece options link k = named_if (is_meant link k || is_sought options link k) (piece_at link.parts k)
+planned_piece options link k = named_if (is_meant link k || (is_sought options link k || is_shared link k)) (piece_at link.parts k)
 
 -- the pieces of the link, and the tables
 unfoldable pub plan_pieces : LinkOptions → KeptParts → List Piece
@@ -67,12 +78,12 @@ slot_offsets link =
 abbrev pub slot_table : KeptParts → ℕ
 slot_table link = unwrap_or (table_index link SLOTS) 0
 
--- an import stands where its slot does
+-- an import stands where its slot does, and a piece that folds where the other does
 abbrev pub placed_target : KeptParts → Target → Target
-placed_target link target = redirected (length (link_pieces link.parts)) (slot_table link) (slot_offsets link) target
+placed_target link target = redirected link.places (length (link_pieces link.parts)) (slot_table link) (slot_offsets link) target
 
 abbrev pub placed_fix : KeptParts → Fix → Fix
-placed_fix link fix = redirected_fix (length (link_pieces link.parts)) (slot_table link) (slot_offsets link) fix
+placed_fix link fix = redirected_fix link.places (length (link_pieces link.parts)) (slot_table link) (slot_offsets link) fix
 
 -- those of a piece that is kept; a table has none
 abbrev pub fixes_if : Bool → List Fix → List Fix
@@ -95,3 +106,14 @@ planned_target link target = option_map (placed_target link) target
 
 abbrev pub planned_targets : KeptParts → List (Option Target)
 planned_targets link = map (planned_target link) (export_targets link.parts)
+
+-- ---- the entry, and what a loader looks for
+
+abbrev pub placed_entry : List ℕ → EntryPlace → EntryPlace
+placed_entry places entry = record entry { piece = place_of places entry.piece }
+
+abbrev pub planned_entry : LinkOptions → KeptParts → Option EntryPlace
+planned_entry options link = option_map (placed_entry link.places) (entry_place link.parts options.entry_name)
+
+abbrev pub planned_loader : KeptParts → List ℕ → Option EntryPlace
+planned_loader link name = option_map (placed_entry link.places) (loader_place link.parts name)

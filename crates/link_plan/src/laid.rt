@@ -6,6 +6,7 @@ ghost use Rattle.link_base.specs.Refusals.{RefusesFor};
 ghost use Rattle.section_group.specs.BarePieces.{bare};
 ghost use Rattle.section_group.specs.PieceContents.{piece_contents, HasItsBytes};
 ghost use Rattle.address_layout.specs.Layout.{IsAlignment};
+ghost use Rattle.module_view.specs.Opening.{IsOpened};
 ghost use Rattle.link_words.specs.Outcome.{options_said};
 ghost use Rattle.link_pieces.specs.LocalSlots.{slot_names};
 ghost use Rattle.link_pieces.specs.Pieces.{link_pieces, link_contents};
@@ -19,7 +20,9 @@ ghost use Rattle.link_plan.specs.Laid.{ArePlanned, AreLaid, laid_link};
 ghost use Rattle.link_plan.specs.LinkPublics.{lists_publics, link_publics};
 
 use crate::keeping::kept_nodes;
-use crate::kept_fields::{SlotPlaces, keep_fields, place_exports, push_none, slot_table};
+use crate::kept_fields::{
+    SlotPlaces, fields_stay, keep_fields, place_exports, placed_entry, push_none, slot_table,
+};
 use crate::meanings::Meanings;
 use crate::named::name_meant;
 use crate::publics::listed_publics;
@@ -40,6 +43,7 @@ use std::alloc::Global;
 pub(crate) struct LaidPieces<'a> {
     pub(crate) pieces: Vec<Piece<'a>>,
     pub(crate) kept: Vec<bool>,
+    pub(crate) place_of: Vec<u32>,
     pub(crate) fixes: Vec<Fixups>,
     pub(crate) imports: LinkImports<'a>,
     pub(crate) entry: Option<EntryPlace>,
@@ -87,6 +91,7 @@ pub(crate) fn lay_pieces<'a>(
         alloc,
         &publics,
         &laid.kept,
+        &laid.place_of,
         first as u32,
         table,
         &laid.imports.offsets,
@@ -107,6 +112,7 @@ fn keep_pieces<'a>(
 ) -> Result<LaidPieces<'a>, Memory>
     requires same { names.now.modules ≡ modules.now }
     requires few_modules { length modules.now ≤ MODULE_LIMIT }
+    requires opened { All IsOpened modules.now }
     requires indexed { IsPieceIndex names.now index.now }
     requires pieces { map bare pieces.items ≡ link_pieces names.now }
     requires contents { map piece_contents pieces.items ≡ link_contents names.now }
@@ -123,7 +129,7 @@ fn keep_pieces<'a>(
 {
     let JudgedFixes { fixups, edges } = fixes;
     let nodes = kept_nodes(
-        alloc, names, index, modules, &pieces, &places, edges, options,
+        alloc, names, index, modules, &pieces, &places, edges, &fixups, options,
     )?;
     let mut pieces = pieces;
     name_meant(&mut pieces, &nodes.meant);
@@ -139,12 +145,14 @@ fn keep_pieces<'a>(
         names.resources().size(),
     )?;
     let slots = SlotPlaces {
+        places: &nodes.place_of,
         first: count as u32,
         table: slot_table(&pieces, count, position),
         offsets: &imports.offsets,
     };
     let mut fixes = fixups;
-    keep_fields(alloc, &mut fixes, &nodes.kept, &slots, nodes.no_import);
+    let stays = fields_stay(nodes.no_import, slots.places);
+    keep_fields(alloc, &mut fixes, &nodes.kept, &slots, stays);
     push_none(alloc, &mut fixes, pieces.len() - count)?;
     let NamedPlaces {
         entry,
@@ -152,9 +160,15 @@ fn keep_pieces<'a>(
         loader,
     } = places;
     place_exports(&mut exported, &slots);
+    let entry = placed_entry(entry, &nodes.place_of);
+    let loader = LoaderPlaces {
+        tls: placed_entry(loader.tls, &nodes.place_of),
+        load_config: placed_entry(loader.load_config, &nodes.place_of),
+    };
     Ok(LaidPieces {
         pieces,
         kept: nodes.kept,
+        place_of: nodes.place_of,
         fixes,
         imports,
         entry,

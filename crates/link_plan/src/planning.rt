@@ -47,6 +47,9 @@ pub struct LinkPlan<'a> {
     pub pieces: Vec<Piece<'a>>,
     /// Whether each piece but the tables is kept, and behind these whether the import that is the module at each position is.
     pub kept: Vec<bool>,
+    /// The piece at whose place each piece stands; behind the end of the list, and so of all where nothing folds, its own. One that
+    /// stands at the place of another is not kept.
+    pub place_of: Vec<u32>,
     /// The fields of each piece that is kept.
     pub fixes: Vec<Fixups>,
     /// The imports that are kept, as rows of import tables.
@@ -126,6 +129,7 @@ fn plan_of<'a>(
     let LaidPieces {
         pieces,
         kept,
+        place_of,
         fixes,
         imports,
         entry,
@@ -137,6 +141,7 @@ fn plan_of<'a>(
         names,
         pieces,
         kept,
+        place_of,
         fixes,
         imports,
         merges,

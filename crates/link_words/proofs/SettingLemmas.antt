@@ -4,7 +4,7 @@ use Rattle.std.specs.List.{cons_option, filter_map, last_or}
 use Rattle.link_words.specs.Setting as says
 use Rattle.link_words.specs.Setting.{Setting, word_says, said_in}
 use Rattle.link_words.specs.LinkWords.{settings}
-use Rattle.link_words.specs.Options.{input_in, alternate_in, merge_in, default_lib_in, export_in, include_in, lib_path_in, no_default_in, no_default_all_in, debug_in, dll_in, noentry_in, dynamic_in, entropy_in, nx_in, large_in, fixed_in, base_in, entry_in, heap_in, stack_in, map_in, implib_in, refs_in, out_in, pdb_in, subsystem_in, time_in, version_in, options_of}
+use Rattle.link_words.specs.Options.{input_in, alternate_in, merge_in, default_lib_in, export_in, include_in, lib_path_in, no_default_in, no_default_all_in, debug_in, dll_in, noentry_in, dynamic_in, entropy_in, nx_in, large_in, fixed_in, base_in, entry_in, heap_in, stack_in, map_in, implib_in, refs_in, icf_in, out_in, pdb_in, subsystem_in, time_in, version_in, options_of}
 use Rattle.link_words.specs.Steps.{SoFar, nothing_said, with_setting, also, final_options}
 use Rattle.link_words.proofs.WordLemmas.{word_step}
 
@@ -48,6 +48,7 @@ merged given settings = record {
     stack = end_at given.options.stack (filter_map stack_in settings);
     implib = last_or given.options.implib (filter_map implib_in settings);
     refs = last_or given.options.refs (filter_map refs_in settings);
+    icf = end_at given.options.icf (filter_map icf_in settings);
     time = end_at given.options.time (filter_map time_in settings);
     version = end_at given.options.version (filter_map version_in settings);
   };
@@ -84,8 +85,10 @@ merged_more given (says.Heap two) settings = refl
 merged_more given (says.Stack two) settings = refl
 merged_more given (says.MapFile file) settings = refl
 merged_more given (says.ImpLib file) settings = refl
-merged_more given (says.Refs None) settings = refl
-merged_more given (says.Refs (Some refs)) settings = refl
+merged_more given (says.Optimize (None, None)) settings = refl
+merged_more given (says.Optimize (None, Some icf)) settings = refl
+merged_more given (says.Optimize (Some refs, None)) settings = refl
+merged_more given (says.Optimize (Some refs, Some icf)) settings = refl
 merged_more given (says.Out text) settings = refl
 merged_more given (says.Pdb text) settings = refl
 merged_more given (says.Subsystem n) settings = refl

@@ -1,5 +1,5 @@
 -- The definitions on command lines.
-use Rattle.std.proofs.Common.{◌≡◌, ℕ, true, false, List, [], ◌∷◌, ◌++◌, map, Some, None, Ok, Err, refl}
+use Rattle.std.proofs.Common.{◌≡◌, ℕ, Bool, true, false, List, [], ◌∷◌, ◌++◌, map, Option, Some, None, Ok, Err, refl}
 use Rattle.std.specs.Prelude.{codes}
 use Rattle.link_base.specs.Refusals.{first_refusal_below}
 use Rattle.directives.specs.Text.{is_text, is_name}
@@ -59,6 +59,7 @@ one_object : words_say (codes "link" ∷ codes "a.obj" ∷ []) ≡ Ok (Link (rec
   no_default = [];
   no_default_all = false;
   refs = None;
+  icf = false;
   out = codes "a.exe";
   pdb = codes "a.pdb";
   subsystem = 3;
@@ -74,11 +75,11 @@ refused_words : map (λ word. refusal_in (word_says word)) (codes "/" ∷ codes 
 unfolding word_says known is_word
 refused_words = refl
 
-refused_values : map (λ word. refusal_in (word_says word)) (codes "/MERGE:.a" ∷ codes "/INCLUDE:\"a\"b" ∷ codes "/DEBUG:FULL" ∷ codes "/NXCOMPAT:on" ∷ codes "/HEAP:1," ∷ codes "/STACK:1,2,3" ∷ codes "/BASE:0X12" ∷ codes "/BASE:18446744073709551616" ∷ codes "/TIMESTAMP:4294967296" ∷ codes "/VERSION:65536" ∷ codes "/VERSION:1." ∷ codes "/OPT:REF," ∷ codes "/OPT:ICF" ∷ codes "/SUBSYSTEM:EFI" ∷ codes "/MACHINE:ARM64" ∷ (codes "a" ++ 0 ∷ []) ∷ []) ≡ Some BadValue ∷ Some BadValue ∷ Some BadValue ∷ Some BadValue ∷ Some BadValue ∷ Some BadValue ∷ Some BadValue ∷ Some BadValue ∷ Some BadValue ∷ Some BadValue ∷ Some BadValue ∷ Some BadValue ∷ Some BadValue ∷ Some BadValue ∷ Some BadValue ∷ Some BadValue ∷ []
+refused_values : map (λ word. refusal_in (word_says word)) (codes "/MERGE:.a" ∷ codes "/INCLUDE:\"a\"b" ∷ codes "/DEBUG:FULL" ∷ codes "/NXCOMPAT:on" ∷ codes "/HEAP:1," ∷ codes "/STACK:1,2,3" ∷ codes "/BASE:0X12" ∷ codes "/BASE:18446744073709551616" ∷ codes "/TIMESTAMP:4294967296" ∷ codes "/VERSION:65536" ∷ codes "/VERSION:1." ∷ codes "/OPT:REF," ∷ codes "/OPT:ICF,LBR" ∷ codes "/SUBSYSTEM:EFI" ∷ codes "/MACHINE:ARM64" ∷ (codes "a" ++ 0 ∷ []) ∷ []) ≡ Some BadValue ∷ Some BadValue ∷ Some BadValue ∷ Some BadValue ∷ Some BadValue ∷ Some BadValue ∷ Some BadValue ∷ Some BadValue ∷ Some BadValue ∷ Some BadValue ∷ Some BadValue ∷ Some BadValue ∷ Some BadValue ∷ Some BadValue ∷ Some BadValue ∷ Some BadValue ∷ []
 unfolding word_says known is_word is_text is_name value_said listed names_of name_of whole pair form quoted_form negated sizes version subsystem opt_item opts number_up_to decimal_up_to digits_up_to are_digits digits_value
 refused_values = refl
 
-taken_words : map word_says (codes "-entry:\"a b\"" ∷ codes "/export:a=k.f" ∷ codes "/Heap:1" ∷ codes "/stack:0x10,2" ∷ codes "/opt:ref,NoRef,noicf" ∷ codes "/MANIFEST:no" ∷ []) ≡ Ok (says.Entry (codes "\"a b\"")) ∷ Ok (says.Exported (record { name = codes "a"; internal = Some (codes "k.f"); ordinal = None; noname = false; form = Code; private = false })) ∷ Ok (says.Heap (1, 4096)) ∷ Ok (says.Stack (16, 2)) ∷ Ok (says.Refs (Some false)) ∷ Ok says.Nothing ∷ []
+taken_words : map word_says (codes "-entry:\"a b\"" ∷ codes "/export:a=k.f" ∷ codes "/Heap:1" ∷ codes "/stack:0x10,2" ∷ codes "/opt:ref,NoRef,noicf" ∷ codes "/Opt:noIcf,ICF" ∷ codes "/MANIFEST:no" ∷ []) ≡ Ok (says.Entry (codes "\"a b\"")) ∷ Ok (says.Exported (record { name = codes "a"; internal = Some (codes "k.f"); ordinal = None; noname = false; form = Code; private = false })) ∷ Ok (says.Heap (1, 4096)) ∷ Ok (says.Stack (16, 2)) ∷ Ok (says.Optimize (Some false, Some false)) ∷ Ok (says.Optimize (None, Some true)) ∷ Ok says.Nothing ∷ []
 unfolding word_says known is_word is_text is_name value_said listed form export_value export_of export_internal sizes opt_item opts number_up_to decimal_up_to digits_up_to are_digits digits_value
 taken_words = refl
 
@@ -96,9 +97,17 @@ map_again : (options (codes "a.obj" ∷ codes "/MAP:x" ∷ codes "/MAP" ∷ []))
 unfolding options options_of settings with_extension stem word_says known is_word is_text
 map_again = refl
 
-lists_join : (options (codes "/OPT:REF" ∷ codes "/OPT:NOICF" ∷ [])).refs ≡ Some true
-unfolding options options_of settings word_says known is_word is_text opt_item opts
+-- whether unreferenced sections are dropped, and whether equal functions fold
+lists : List (List ℕ) → Option Bool × Bool
+lists words = ((options words).refs, (options words).icf)
+
+lists_join : map lists ((codes "/OPT:REF" ∷ codes "/OPT:ICF" ∷ []) ∷ (codes "/OPT:ICF" ∷ codes "/OPT:NOREF" ∷ []) ∷ (codes "/OPT:ref,icf" ∷ codes "/DEBUG" ∷ []) ∷ (codes "/OPT:REF" ∷ codes "/OPT:NOICF" ∷ []) ∷ []) ≡ (Some true, true) ∷ (Some false, true) ∷ (Some true, true) ∷ (Some true, false) ∷ []
+unfolding lists options options_of settings word_says known is_word is_text opt_item opts
 lists_join = refl
+
+last_list_counts : map lists ((codes "/OPT:ICF" ∷ codes "/OPT:NOICF" ∷ []) ∷ (codes "/OPT:NOICF" ∷ codes "/OPT:ICF" ∷ []) ∷ (codes "/OPT:REF,ICF" ∷ codes "/OPT:NOREF,NOICF" ∷ []) ∷ (codes "/DEBUG" ∷ []) ∷ []) ≡ (None, false) ∷ (None, true) ∷ (Some false, false) ∷ (None, false) ∷ []
+unfolding lists options options_of settings word_says known is_word is_text opt_item opts
+last_list_counts = refl
 
 fixed_again : (options (codes "/FIXED" ∷ codes "/FIXED:NO" ∷ [])).fixed ≡ false
 unfolding options options_of settings word_says known is_word is_text negated

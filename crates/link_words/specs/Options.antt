@@ -6,7 +6,7 @@ use Rattle.link_base.specs.PeFormat.{PAGE_SIZE, SUBSYSTEM_WINDOWS_GUI, SUBSYSTEM
 use Rattle.directives.specs.declared.item.Export.{Export}
 use Rattle.link_words.specs.Extension.{is_slash, with_extension}
 use Rattle.link_words.specs.Outcome as outcome
-use Rattle.link_words.specs.Setting.{Setting, Input, Alternate, Merged, DefaultLib, Exported, Included, LibPath, NoDefault, NoDefaultAll, Debug, Dll, NoEntry, Dynamic, Entropy, Nx, Large, Fixed, Base, Entry, Heap, Stack, MapFile, ImpLib, Refs, Out, Pdb, Subsystem, Time, Version}
+use Rattle.link_words.specs.Setting.{Setting, Input, Alternate, Merged, DefaultLib, Exported, Included, LibPath, NoDefault, NoDefaultAll, Debug, Dll, NoEntry, Dynamic, Entropy, Nx, Large, Fixed, Base, Entry, Heap, Stack, MapFile, ImpLib, Optimize, Out, Pdb, Subsystem, Time, Version}
 
 -- ---- what a setting says of one field
 
@@ -103,8 +103,12 @@ implib_in (ImpLib file) = Some file
 implib_in _ = None
 
 abbrev pub refs_in : Setting → Option Bool
-refs_in (Refs refs) = refs
+refs_in (Optimize (refs, icf)) = refs
 refs_in _ = None
+
+abbrev pub icf_in : Setting → Option Bool
+icf_in (Optimize (refs, icf)) = icf
+icf_in _ = None
 
 abbrev pub out_in : Setting → Option (List ℕ)
 out_in (Out text) = Some text
@@ -214,6 +218,7 @@ options_of settings = record {
   no_default = all_said no_default_in settings;
   no_default_all = said_or false no_default_all_in settings;
   refs = last_said refs_in settings;
+  icf = said_or false icf_in settings;
   out = out_of settings;
   pdb = said_or (with_extension (out_of settings) (codes ".pdb")) pdb_in settings;
   subsystem = subsystem_of settings;

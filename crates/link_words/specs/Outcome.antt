@@ -34,6 +34,7 @@ pub record LinkOptions : Type 0 where
   pub no_default : List (List ℕ)
   pub no_default_all : Bool
   pub refs : Option Bool
+  pub icf : Bool
   pub out : List ℕ
   pub pdb : List ℕ
   pub subsystem : ℕ
@@ -67,6 +68,7 @@ options_said options = record {
   no_default = texts_of options.no_default.items;
   no_default_all = options.no_default_all;
   refs = options.refs;
+  icf = options.icf;
   out = string_bytes options.out;
   pdb = string_bytes options.pdb;
   subsystem = options.subsystem;

@@ -37,7 +37,7 @@ pub data Setting : Type 0 where
   Stack : ℕ × ℕ → Setting
   MapFile : Option (List ℕ) → Setting
   ImpLib : List ℕ → Setting
-  Refs : Option Bool → Setting
+  Optimize : Option Bool × Option Bool → Setting
   Out : List ℕ → Setting
   Pdb : List ℕ → Setting
   Subsystem : ℕ → Setting
@@ -85,7 +85,7 @@ value_says option.Heap name value = option_map Heap (sizes value)
 value_says option.Stack name value = option_map Stack (sizes value)
 value_says option.Map name value = Some (MapFile (Some value))
 value_says option.ImpLib name value = Some (ImpLib value)
-value_says option.Opt name value = option_map Refs (opts value)
+value_says option.Opt name value = option_map Optimize (opts value)
 value_says option.Out name value = Some (Out value)
 value_says option.Pdb name value = Some (Pdb value)
 value_says option.Subsystem name value = option_map Subsystem (subsystem value)

@@ -65,6 +65,7 @@ nothing_said = record {
     no_default = [];
     no_default_all = false;
     refs = None;
+    icf = false;
     out = [];
     pdb = [];
     subsystem = 0;
@@ -104,7 +105,7 @@ with_setting given (says.Heap two) = record given { options = record given.optio
 with_setting given (says.Stack two) = record given { options = record given.options { stack = two } }
 with_setting given (says.MapFile file) = record given { map_file = Some file }
 with_setting given (says.ImpLib file) = record given { options = record given.options { implib = Some file } }
-with_setting given (says.Refs refs) = record given { options = record given.options { refs = option_or refs given.options.refs } }
+with_setting given (says.Optimize (refs, icf)) = record given { options = record given.options { refs = option_or refs given.options.refs; icf = unwrap_or icf given.options.icf } }
 with_setting given (says.Out text) = record given { out = Some text }
 with_setting given (says.Pdb text) = record given { pdb = Some text }
 with_setting given (says.Subsystem n) = record given { subsystem = Some n }

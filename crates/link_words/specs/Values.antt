@@ -48,19 +48,24 @@ subsystem_names =
 unfoldable pub subsystem : List ℕ → Option ℕ
 subsystem text = lookup subsystem_names text
 
--- whether unreferenced sections are dropped, where a part of a list says so or says not
-abbrev pub opt_names : List (List ℕ × Option Bool)
-opt_names = (codes "REF", Some true) ∷ (codes "NOREF", Some false) ∷ (codes "NOICF", None) ∷ []
+-- whether unreferenced sections are dropped, and whether equal functions fold, where a part of a list says so or says not
+abbrev pub opt_names : List (List ℕ × (Option Bool × Option Bool))
+opt_names =
+    (codes "REF", (Some true, None)) ∷ (codes "NOREF", (Some false, None)) ∷ (codes "ICF", (None, Some true)) ∷ (codes "NOICF", (None, Some false)) ∷ []
 
-unfoldable pub opt_item : List ℕ → Option (Option Bool)
+unfoldable pub opt_item : List ℕ → Option (Option Bool × Option Bool)
 opt_item text = lookup opt_names text
 
--- the last of the parts between commas that says, where each is one of the table
-abbrev pub refs_in : Option (Option Bool) → Option Bool
+abbrev pub refs_in : Option (Option Bool × Option Bool) → Option Bool
 refs_in None = None
-refs_in (Some refs) = refs
+refs_in (Some (refs, icf)) = refs
 
-unfoldable pub opts : List ℕ → Option (Option Bool)
+abbrev pub icf_in : Option (Option Bool × Option Bool) → Option Bool
+icf_in None = None
+icf_in (Some (refs, icf)) = icf
+
+-- for each of the two the last of the parts between commas that says, where each part is one of the table
+unfoldable pub opts : List ℕ → Option (Option Bool × Option Bool)
 opts text =
     let parts = map opt_item (slice_split is_comma text) in
-    if list_all is_some parts then Some (last_or None (filter_map refs_in parts)) else None
+    if list_all is_some parts then Some (last_or None (filter_map refs_in parts), last_or None (filter_map icf_in parts)) else None

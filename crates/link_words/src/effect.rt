@@ -3,7 +3,7 @@
 ghost use Rattle.std.specs.Prelude.{◌≡◌, option_map, option_and_then};
 ghost use Rattle.std.specs.Option.{ok_or};
 ghost use Rattle.directives.specs.Said.{said};
-ghost use Rattle.link_words.specs.Setting.{bare_says, value_says, shared, Refs};
+ghost use Rattle.link_words.specs.Setting.{bare_says, value_says, shared, Optimize};
 ghost use Rattle.link_words.specs.Steps.{so_far, with_said, Gives};
 
 use crate::errors::{Refusal, UsageKind};
@@ -60,7 +60,7 @@ pub(crate) fn with_value<'w>(
         Known::Stack => set(&mut given.options.stack, sizes(text)),
         Known::Map => set(&mut given.map, Some(Some(Some(value)))),
         Known::ImpLib => set(&mut given.options.implib, Some(Some(value))),
-        Known::Opt => set_refs(given, opts(text)),
+        Known::Opt => set_opts(given, opts(text)),
         Known::Out => set(&mut given.out, Some(Some(value))),
         Known::Pdb => set(&mut given.pdb, Some(Some(value))),
         Known::Subsystem => set(&mut given.subsystem, subsystem(text).map(Some)),
@@ -74,13 +74,17 @@ pub(crate) fn with_value<'w>(
     }
 }
 
-/// Whether unreferenced sections are dropped, where a list says so or says not.
-fn set_refs(given: &mut Given<'_>, read: Option<Option<bool>>) -> Result<(), Refusal>
-    ensures { Gives result (with_said (so_far given.old) (ok_or (option_map Refs read) UsageKind.BadValue)) (so_far given.new) }
+/// Whether unreferenced sections are dropped, and whether equal functions fold, where a list says so or says not.
+fn set_opts(
+    given: &mut Given<'_>,
+    read: Option<(Option<bool>, Option<bool>)>,
+) -> Result<(), Refusal>
+    ensures { Gives result (with_said (so_far given.old) (ok_or (option_map Optimize read) UsageKind.BadValue)) (so_far given.new) }
 {
     match read {
-        Some(refs) => {
+        Some((refs, icf)) => {
             given.options.refs = refs.or(given.options.refs);
+            given.options.icf = icf.unwrap_or(given.options.icf);
             Ok(())
         }
         None => Err(Refusal::Usage(UsageKind::BadValue)),

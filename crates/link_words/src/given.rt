@@ -66,6 +66,7 @@ fn default_options<'w>(alloc: Global) -> Options<'w>
         no_default: Vec::new(alloc),
         no_default_all: false,
         refs: None,
+        icf: false,
         out: String::new(alloc),
         pdb: String::new(alloc),
         subsystem: 0,

@@ -80,6 +80,8 @@ pub struct Options<'w> {
     pub no_default_all: bool,
     /// Whether unreferenced sections are dropped, where a word says so or says not.
     pub refs: Option<bool>,
+    /// Whether equal functions fold: `/OPT:ICF`, and off where the last word is `NOICF` or none says.
+    pub icf: bool,
     /// The file that the image is written to.
     pub out: String,
     /// The file that the PDB is written to, where one is written.

@@ -15,10 +15,11 @@ const SUBSYSTEMS: [(&[u8], u16); 3] = [
     (b"CONSOLE", SUBSYSTEM_WINDOWS_CUI),
 ];
 
-const OPTS: [(&[u8], Option<bool>); 3] = [
-    (b"REF", Some(true)),
-    (b"NOREF", Some(false)),
-    (b"NOICF", None),
+const OPTS: [(&[u8], (Option<bool>, Option<bool>)); 4] = [
+    (b"REF", (Some(true), None)),
+    (b"NOREF", (Some(false), None)),
+    (b"ICF", (None, Some(true))),
+    (b"NOICF", (None, Some(false))),
 ];
 
 /// A number below 2^64.
@@ -81,19 +82,23 @@ pub(crate) fn subsystem(text: &[u8]) -> Option<u16>
     lookup(&SUBSYSTEMS, text)
 }
 
-/// Whether unreferenced sections are dropped, as the last of the parts between commas says that says so.
-pub(crate) fn opts(text: &[u8]) -> Option<Option<bool>>
+/// Whether unreferenced sections are dropped, and whether equal functions fold, each as the last of the parts between commas
+/// says that says so.
+pub(crate) fn opts(text: &[u8]) -> Option<(Option<bool>, Option<bool>)>
     ensures { result ≡ opts text.now }
 {
     let mut refs = None;
+    let mut icf = None;
     for part in text.split(|b| *b == b',') {
-        refs = opt_item(part)?.or(refs);
+        let (part_refs, part_icf) = opt_item(part)?;
+        refs = part_refs.or(refs);
+        icf = part_icf.or(icf);
     }
-    Some(refs)
+    Some((refs, icf))
 }
 
 #[tactic(auto, unfolding(crate::specs::Values::opt_item))]
-fn opt_item(text: &[u8]) -> Option<Option<bool>>
+fn opt_item(text: &[u8]) -> Option<(Option<bool>, Option<bool>)>
     ensures { result ≡ opt_item text.now }
 {
     lookup(&OPTS, text)

@@ -28,21 +28,18 @@ use Rattle.image_pdb.specs.ImagePdb.{image_streams}
 use Rattle.link_image.specs.LinkPdb.{section_headers_in, streams_at, link_streams, Fits}
 use Rattle.image_writer.specs.WrittenImage.{written_plan}
 use Rattle.module_view.specs.Module.{ModuleView}
-use Rattle.link_pieces.specs.LinkParts.{LinkParts}
 use Rattle.link_pieces.specs.TablePieces.{KeptParts}
-use Rattle.link_plan.specs.Reach.{AreKept}
 use Rattle.lib_search.proofs.OneLoading.{one_fault, fault_or_loads, one_loading}
 use Rattle.link_plan.specs.Plan.{link_parts, merges_of, IsLinkOf}
-use Rattle.link_plan.proofs.KeepLemmas.{one_kept}
+use Rattle.link_plan.proofs.KeepLemmas.{one_standing}
 use Rattle.link_plan.specs.PlanFaults.{plan_fault}
-use Rattle.link_plan.specs.Planned.{plan_pieces}
+use Rattle.link_plan.specs.Planned.{plan_pieces, planned_entry}
 use Rattle.link_plan.specs.LinkPublics.{link_publics}
 use Rattle.debug_rows.specs.ImageMap.{image_map}
 use Rattle.link_image.specs.LinkMap.{link_map}
 use Rattle.res_merge.specs.Entries.{Entry}
 use Rattle.link_words.specs.Outcome.{LinkOptions, CommandSaid, Link, At, Show, Gen, Refused as RefusedWord}
 use Rattle.link_words.specs.Commands.{words_say}
-use Rattle.link_fields.specs.Entry.{entry_place}
 use Rattle.link_image.specs.BaseFields.{is_relocated}
 use Rattle.image_writer.specs.declared.headers.Headers.{Headers}
 use Rattle.image_headers.specs.ImageHeaders.{headers_of}
@@ -296,7 +293,7 @@ same_made : {A : Type 0} (made : MadeOf A) (options : LinkOptions) (link : KeptP
     → made (link_headers options link x.rows x.layout x.tables) x.rows x.layout.sections.items x.layout.pieces.items x.layout.image (image_contents link x.rows x.layout x.tables)
     ≡ made (link_headers options link y.rows y.layout y.tables) y.rows y.layout.sections.items y.layout.pieces.items y.layout.image (image_contents link y.rows y.layout y.tables)
 same_made {A} made options link a b x y =
-    let place = entry_place link.parts options.entry_name in
+    let place = planned_entry options link in
     let same = one_placement options link x.rows y.rows x.layout y.layout x.tables y.tables x.placement y.placement in
     let linked : linked_contents link x.rows x.layout ≡ linked_contents link y.rows y.layout =
     ap (λ (r : List SectionRow). linked_contents link r x.layout) same.rows_same ∙ contents_by_places link y.rows x.layout y.layout (sym same.layouts.pieces) (sym same.layouts.sections) in
@@ -372,7 +369,7 @@ fault_or_plan options modules resources link f plan (inr (inr x)) y = none_or_so
 -- the map of a layout, by its lists
 abbrev map_at : LinkOptions → KeptParts → List SectionRow → List Placed → List ℕ → ℕ → List ℕ
 map_at options link rows places rvas size =
-    image_map (record { modules = link.parts.modules; pieces = plan_pieces options link; publics = link_publics link; sections = rows; places = places; rvas = rvas; size = size }) options.base (entry_rva rvas (entry_place link.parts options.entry_name))
+    image_map (record { modules = link.parts.modules; pieces = plan_pieces options link; publics = link_publics link; sections = rows; places = places; rvas = rvas; size = size }) options.base (entry_rva rvas (planned_entry options link))
 
 pub same_map : (options : LinkOptions) (link : KeptParts) (rows other_rows : List SectionRow) (layout other : Layout) → rows ≡ other_rows → SameLayout layout other → link_map options link rows layout ≡ link_map options link other_rows other
 unfolding link_map
@@ -412,17 +409,8 @@ same_plan options modules resources link p q x y =
 
 -- ---- what is kept
 
-kept_of : LinkParts → List Bool → KeptParts
-kept_of parts kept = record { parts = parts; kept = kept }
-
 pub one_link : (options : LinkOptions) (modules : List ModuleView) (resources : List Entry) (a b : KeptParts) → IsLinkOf options modules resources a → IsLinkOf options modules resources b → a ≡ b
-unfolding kept_of
-one_link options modules resources a b x y =
-    let parts : a.parts ≡ b.parts = x.parts_are ∙ sym y.parts_are in
-    let kept : a.kept ≡ b.kept = one_kept options b.parts a.kept b.kept (subst (λ (link : LinkParts). AreKept options link a.kept) parts x.kept_are) y.kept_are in
-    let start : a ≡ kept_of a.parts a.kept = refl in
-    let end : b ≡ kept_of b.parts b.kept = refl in
-    start ∙ ap (λ (link : LinkParts). kept_of link a.kept) parts ∙ ap (kept_of b.parts) kept ∙ sym end
+one_link options modules resources a b x y = one_standing options a b (x.parts_are ∙ sym y.parts_are) x.kept_are y.kept_are
 
 -- ---- the outcome
 

@@ -62,10 +62,10 @@ pub fn patching_keeps_the_length()
 /// Targets that are given other places leave the fields as they are: the same relocations have one, in the same bytes, and
 /// each can be patched as before.
 pub fn redirected_fields_are_fields()
-    ensures fields { (first home : ℕ) (offsets : List ℕ) (fixes fixups : List Fix) → AreTheFields fixes fixups
-        → AreTheFields (map (redirected_fix first home offsets) fixes) (map (redirected_fix first home offsets) fixups) }
-    ensures patchable { (first home : ℕ) (offsets : List ℕ) (len : ℕ) (fixups : List Fix) → ArePatchable len fixups
-        → ArePatchable len (map (redirected_fix first home offsets) fixups) }
+    ensures fields { (places : List ℕ) (first home : ℕ) (offsets : List ℕ) (fixes fixups : List Fix) → AreTheFields fixes fixups
+        → AreTheFields (map (redirected_fix places first home offsets) fixes) (map (redirected_fix places first home offsets) fixups) }
+    ensures patchable { (places : List ℕ) (first home : ℕ) (offsets : List ℕ) (len : ℕ) (fixups : List Fix) → ArePatchable len fixups
+        → ArePatchable len (map (redirected_fix places first home offsets) fixups) }
 {}
 
 /// Fixups may be shared by threads and handed from one to another.

@@ -35,5 +35,5 @@ pub use laws::{
 pub use link_base::{RelocKind, TargetFault};
 pub use patching::patch;
 pub use range::RelocRange;
-pub use redirect::redirected;
+pub use redirect::{place_of, redirected};
 pub use target::is_based;

@@ -1,46 +1,53 @@
 //! Targets that are given other places.
 
 ghost use Rattle.std.specs.Prelude.{◌≡◌, map, slice_index_or};
-ghost use Rattle.relocate.specs.Redirected.{redirected, redirected_fix};
+ghost use Rattle.relocate.specs.Redirected.{place_of, redirected, redirected_fix};
 
 use crate::fix::{Fix, Target};
 use crate::fixups::Fixups;
 
 impl Fixups {
-    /// Gives other places to the targets in pieces from `first` on: each stands for an offset in the one piece `home`, by
-    /// its number among them.
-    pub fn redirect(&mut self, first: u32, home: u32, offsets: &[u32])
-        ensures { self.new ≡ map (redirected_fix first home offsets.now) self.old }
+    /// Gives other places to targets. One in a piece before `first` has the piece that `places` gives for its own, where that
+    /// has one, and keeps its offset; one from `first` on stands for an offset in the one piece `home`, by its number among them.
+    pub fn redirect(&mut self, places: &[u32], first: u32, home: u32, offsets: &[u32])
+        ensures { self.new ≡ map (redirected_fix places.now first home offsets.now) self.old }
     {
         for fix in self.fixes.iter_mut() {
-            redirect_fix(fix, first, home, offsets);
+            redirect_fix(fix, places, first, home, offsets);
         }
     }
 }
 
-/// Gives another place to a relocation's target, where it is in a piece from `first` on; others are not written.
-fn redirect_fix(fix: &mut Fix, first: u32, home: u32, offsets: &[u32])
-    ensures { fix.new ≡ redirected_fix first home offsets.now fix.old }
+/// Gives another place to a relocation's target, where it has one; others are not written.
+fn redirect_fix(fix: &mut Fix, places: &[u32], first: u32, home: u32, offsets: &[u32])
+    ensures { fix.new ≡ redirected_fix places.now first home offsets.now fix.old }
 {
-    if let Some(Ok(Target::Piece { piece, .. })) = fix.target {
+    if let Some(Ok(Target::Piece { piece, value })) = fix.target {
         if piece >= first {
             fix.target = Some(Ok(Target::Piece {
                 piece: home,
                 value: offset_at(offsets, piece - first),
             }));
+        } else if let Some(place) = places.get(piece as usize) {
+            fix.target = Some(Ok(Target::Piece {
+                piece: *place,
+                value,
+            }));
         }
     }
 }
 
-/// A target with the place that it stands for: a piece from `first` on stands for the offset of its number among them, in the
-/// one piece `home`.
-pub fn redirected(target: Target, first: u32, home: u32, offsets: &[u32]) -> Target
-    ensures { result ≡ redirected first home offsets.now target }
+/// A target with the place that it stands for, as `Fixups::redirect` says.
+pub fn redirected(target: Target, places: &[u32], first: u32, home: u32, offsets: &[u32]) -> Target
+    ensures { result ≡ redirected places.now first home offsets.now target }
 {
     match target {
         Target::Piece { piece, value } => {
             if piece < first {
-                return Target::Piece { piece, value };
+                return Target::Piece {
+                    piece: place_of(places, piece),
+                    value,
+                };
             }
             Target::Piece {
                 piece: home,
@@ -49,6 +56,13 @@ pub fn redirected(target: Target, first: u32, home: u32, offsets: &[u32]) -> Tar
         }
         other => other,
     }
+}
+
+/// The piece at whose place a piece stands: its own, where the list does not reach.
+pub fn place_of(places: &[u32], piece: u32) -> u32
+    ensures { result ≡ place_of places.now piece }
+{
+    places.get(piece as usize).copied().unwrap_or(piece)
 }
 
 /// The offset of a number; 0 where there is none.

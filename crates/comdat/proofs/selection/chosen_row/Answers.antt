@@ -56,6 +56,12 @@ follow_chains-requires-clause-ends c =
     let all = whole bytes c.args.row.now c.is_empty.result c.requires.row c.is_empty.ensures c.if-is_empty.false in
     subst (λ (parents : List ℕ). first_below (length parents) (comes_back parents) ≡ None) (sym (c.deref.ensures.value ∙ c.in_ok-parents.ensures ∙ parents_listed bytes c.args.row.now all)) (ends bytes c.section_count-count.ensures.opened)
 
+pub follow_chains-requires-clause-few : goal.follow_chains-requires-clause-few
+follow_chains-requires-clause-few c =
+    let bytes = c.args.«module».now.bytes in
+    let all = whole bytes c.args.row.now c.is_empty.result c.requires.row c.is_empty.ensures c.if-is_empty.false in
+    omega (arith, ap length (c.deref.ensures.value ∙ c.in_ok-parents.ensures ∙ parents_listed bytes c.args.row.now all), parent_count bytes, c.section_count-count.ensures.count, c.section_count-count.type_inv)
+
 pub follow_chains-requires-clause-own : goal.follow_chains-requires-clause-own
 follow_chains-requires-clause-own c =
     let bytes = c.args.«module».now.bytes in

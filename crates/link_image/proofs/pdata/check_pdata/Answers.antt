@@ -9,6 +9,11 @@ use Rattle.link_image.specs.TableFaults.{pdata_fault_at, pdata_fault}
 use Rattle.link_image.proofs.UsedLemmas.{kept_length}
 use Rattle.link_image.proofs.pdata.check_pdata.Goals as goal
 
+pub overflow_sub-first : goal.overflow_sub-first
+overflow_sub-first c =
+    let plan = c.args.plan.now in
+    omega (arith, kept_length (options_said c.args.options.now) plan c.requires, c.len.ensures ∙ plan.kept.ok.0, c.len-2.ensures ∙ plan.modules.ok.0)
+
 pub loop-k-init : goal.loop-k-init
 unfolding first_refusal_below
 loop-k-init c = refl

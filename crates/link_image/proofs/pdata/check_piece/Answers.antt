@@ -12,6 +12,10 @@ pub index-piece-requires : goal.index-piece-requires
 index-piece-requires c =
     omega (arith, first_fits (options_said c.args.options.now) c.args.plan.now c.requires.plan, c.requires.piece, c.args.plan.now.pieces.ok.0)
 
+pub index-requires : goal.index-requires
+index-requires c =
+    omega (arith, kept_length (options_said c.args.options.now) c.args.plan.now c.requires.plan, c.requires.piece, c.args.plan.now.kept.ok.0)
+
 pub returns-then-is_bad-clause-refused : goal.returns-then-is_bad-clause-refused
 returns-then-is_bad-clause-refused c =
     let plan = c.args.plan.now in

@@ -3,6 +3,11 @@ use Rattle.link_words.specs.Outcome.{options_said}
 use Rattle.link_image.proofs.UsedLemmas.{kept_length, first_fits, used_are}
 use Rattle.link_image.proofs.sections.merge_pieces.Goals as goal
 
+pub overflow_sub-first : goal.overflow_sub-first
+overflow_sub-first c =
+    let plan = c.args.plan.now in
+    omega (arith, kept_length (options_said c.args.options.now) plan c.requires, c.len.ensures ∙ plan.kept.ok.0, c.len-2.ensures ∙ plan.modules.ok.0)
+
 pub used_pieces-requires-clause-count : goal.used_pieces-requires-clause-count
 used_pieces-requires-clause-count c =
     let options = options_said c.args.options.now in

@@ -7,7 +7,8 @@ use Rattle.image_headers.specs.declared.headers.Directories.{Directories}
 use Rattle.section_group.specs.PieceContents.{piece_contents}
 use Rattle.section_group.specs.Uniqueness.{rows_of}
 use Rattle.link_fields.specs.declared.entry.EntryPlace.{EntryPlace}
-use Rattle.link_fields.specs.LoaderPlaces.{loader_place, TLS_NAME, LOAD_CONFIG_NAME}
+use Rattle.link_fields.specs.LoaderPlaces.{TLS_NAME, LOAD_CONFIG_NAME}
+use Rattle.link_plan.specs.Planned.{planned_loader}
 use Rattle.link_image.specs.LinkedImage.{extent_of, table_extent, section_extent, resource_extent, place_extent, config_size, table_directory, TLS_SIZE}
 use Rattle.link_image.specs.Steps.{reloc_tables}
 use Rattle.link_image.proofs.SectionLemmas.{sections_each}
@@ -115,7 +116,7 @@ returns c =
     let resources = resource_extent (kept_parts plan) rows layout in
     let exceptions = section_extent rows layout (codes ".pdata") in
     let relocations = table_directory layout (reloc_tables c.args.placement.now.table) in
-    let own_tls = place_extent rvas (loader_place plan.names TLS_NAME) TLS_SIZE in
+    let own_tls = place_extent rvas (planned_loader (kept_parts plan) TLS_NAME) TLS_SIZE in
     ap (λ (e : ℕ × ℕ). directories e c.resource_extent.result c.section_extent.result c.extent_of-2.result c.extent_of-3.result c.table_directory.result c.place_extent.result c.place_extent-2.result c.extent_of-4.result) exports
     ∙ ap (λ (e : ℕ × ℕ). directories (extent 5) e c.section_extent.result c.extent_of-2.result c.extent_of-3.result c.table_directory.result c.place_extent.result c.place_extent-2.result c.extent_of-4.result) c.resource_extent.ensures
     ∙ ap (λ (e : ℕ × ℕ). directories (extent 5) resources e c.extent_of-2.result c.extent_of-3.result c.table_directory.result c.place_extent.result c.place_extent-2.result c.extent_of-4.result) c.section_extent.ensures
@@ -124,4 +125,4 @@ returns c =
     ∙ ap (λ (e : ℕ × ℕ). directories (extent 5) resources exceptions (extent 0) (extent 2) e c.place_extent.result c.place_extent-2.result c.extent_of-4.result) c.table_directory.ensures
     ∙ ap (λ (e : ℕ × ℕ). directories (extent 5) resources exceptions (extent 0) (extent 2) relocations e c.place_extent-2.result c.extent_of-4.result) tls
     ∙ ap (λ (e : ℕ × ℕ). directories (extent 5) resources exceptions (extent 0) (extent 2) relocations own_tls e c.extent_of-4.result) load_config
-    ∙ ap (directories (extent 5) resources exceptions (extent 0) (extent 2) relocations own_tls (place_extent rvas (loader_place plan.names LOAD_CONFIG_NAME) (config_size (kept_parts plan) (loader_place plan.names LOAD_CONFIG_NAME)))) debug
+    ∙ ap (directories (extent 5) resources exceptions (extent 0) (extent 2) relocations own_tls (place_extent rvas (planned_loader (kept_parts plan) LOAD_CONFIG_NAME) (config_size (kept_parts plan) (planned_loader (kept_parts plan) LOAD_CONFIG_NAME)))) debug

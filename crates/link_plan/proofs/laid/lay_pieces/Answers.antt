@@ -115,12 +115,14 @@ returns-clause-publics c = λ asked.
     let link = laid_link c.args.names.now c.in_ok-laid.laid in
     let pieces = c.in_ok-pieces.pieces in
     let first = c.len-first.result in
+    let spots = c.deref-7.result.now in
     let home = c.slot_table-table.result in
-    let offsets = c.deref-7.result.now in
+    let offsets = c.deref-8.result.now in
     let listed = c.deref-5.result.now in
-    let places : ArePlaces link first home offsets = record {
+    let places : ArePlaces link spots first home offsets = record {
+      spots_are = c.deref-7.ensures.value;
       first_is = omega (arith, c.len-first.ensures, pieces.ok.0, length-map pieces.items bare, ap length c.in_ok-pieces.ensures.pieces);
       home_is = c.slot_table-table.ensures ∙ table_planned options link (length c.args.modules.now) c.deref-4.result.now (ap length (sym c.requires.same)) (ap (map bare) c.deref-4.ensures.value ∙ c.in_ok-laid.ensures.pieces_are);
-      offsets_are = λ p. ap (λ (os : List ℕ). get_or os p 0) c.deref-7.ensures.value ∙ c.in_ok-laid.ensures.imports.offsets p;
+      offsets_are = λ p. ap (λ (os : List ℕ). get_or os p 0) c.deref-8.ensures.value ∙ c.in_ok-laid.ensures.imports.offsets p;
     } in
-    publics_planned link first home offsets listed c.in_ok-publics-2.publics.items places (c.deref-5.ensures.value ∙ c.in_ok-publics.ensures asked) (c.in_ok-publics-2.ensures ∙ ap (λ (kept : List Bool). filter_map (kept_public kept first home offsets) listed) c.deref-6.ensures.value)
+    publics_planned link spots first home offsets listed c.in_ok-publics-2.publics.items places (c.deref-5.ensures.value ∙ c.in_ok-publics.ensures asked) (c.in_ok-publics-2.ensures ∙ ap (λ (kept : List Bool). filter_map (kept_public kept spots first home offsets) listed) c.deref-6.ensures.value)

@@ -1,4 +1,4 @@
-use Rattle.std.proofs.Common.{◌<◌, length, get_or, ◌∙◌, arith}
+use Rattle.std.proofs.Common.{ℕ, ◌<◌, ◌||◌, eqb, false, length, get_or, ap, ◌∙◌, arith}
 use Rattle.std.proofs.lemmas.List.{get_or_default}
 use Rattle.link_plan.specs.Planned.{is_at}
 use Rattle.link_plan.proofs.MeantLemmas.{marks_more}
@@ -13,6 +13,7 @@ loop-node-preserved c =
     record {
       same_length = c.mark.ensures.len ∙ c.loop-node.invariant.same_length;
       marked = λ k lt.
-          marks_more (is_at k) nodes i node _ _ _ inside (get_or_default nodes i 0 node inside) (c.loop-node.invariant.marked k lt)
-          (c.mark.ensures.marked k (omega (arith, lt, c.loop-node.invariant.same_length)));
+          marks_more (is_at c.args.places.now k) nodes i node _ _ _ inside (get_or_default nodes i 0 node inside) (c.loop-node.invariant.marked k lt)
+          (c.mark.ensures.marked k (omega (arith, lt, c.loop-node.invariant.same_length))
+          ∙ ap (λ (place : ℕ). get_or c.loop-node.meant.items k false || eqb place k) c.place_of.ensures);
     }

@@ -10,4 +10,4 @@ pub loop-fix-preserved : goal.loop-fix-preserved
 loop-fix-preserved c =
     let fix : Fix = get_or c.loop-fix.fix-items c.loop-fix.fix-index no_fix in
     rw c.redirect_fix.ensures
-    (map_over_more (redirected_fix c.args.first c.args.home c.args.offsets.now) _ c.loop-fix.fix-items c.loop-fix.fix-index fix c.loop-fix-test.true c.loop-fix.invariant (get_or_default c.loop-fix.fix-items c.loop-fix.fix-index no_fix fix (omega arith)))
+    (map_over_more (redirected_fix c.args.places.now c.args.first c.args.home c.args.offsets.now) _ c.loop-fix.fix-items c.loop-fix.fix-index fix c.loop-fix-test.true c.loop-fix.invariant (get_or_default c.loop-fix.fix-items c.loop-fix.fix-index no_fix fix (omega arith)))

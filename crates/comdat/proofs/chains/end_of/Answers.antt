@@ -1,7 +1,7 @@
-use Rattle.std.proofs.Common.{◌≡◌, ◌<◌, ℕ, false, ◌∷◌, get_or, length, refl, sym, ap, ◌∙◌, arith}
+use Rattle.std.proofs.Common.{◌≡◌, ◌<◌, ℕ, length, refl, sym, ap, ◌∙◌, arith}
 use Rattle.coff_aux.specs.Parents.{ancestor, parent_at}
-use Rattle.comdat.proofs.ChainLemmas.{DoEnd, ancestor_first, ancestor_more, has_ended, end_here, end_above, behind_first}
-use Rattle.comdat.proofs.chains.at_end.Goals as goal
+use Rattle.comdat.proofs.ChainLemmas.{DoEnd, ancestor_first, ancestor_more, has_ended, end_here, end_above}
+use Rattle.comdat.proofs.chains.end_of.Goals as goal
 
 pub loop-init : goal.loop-init
 loop-init c = record {
@@ -11,11 +11,13 @@ loop-init c = record {
   same = refl;
 }
 
+pub returns-then-end-ne0 : goal.returns-then-end-ne0
+returns-then-end-ne0 c =
+    c.requires.known.right c.loop.at c.loop.invariant.within (omega (arith, c.if-end-ne0.true)) ∙ c.loop.invariant.same
+
 pub returns-then-parent-eq0 : goal.returns-then-parent-eq0
 returns-then-parent-eq0 c =
-    let before = c.loop.invariant in
-    behind_first c.args.own.now c.loop.at before.some
-    ∙ ap (λ (n : ℕ). get_or (false ∷ c.args.own.now) n false) (sym (end_here c.args.parents.now c.loop.at before.within c.if-parent-eq0.true) ∙ before.same)
+    sym (end_here c.args.parents.now c.loop.at c.loop.invariant.within c.if-parent-eq0.true) ∙ c.loop.invariant.same
 
 pub loop-preserved : goal.loop-preserved
 loop-preserved c =

@@ -1,7 +1,6 @@
-use Rattle.std.proofs.Common.{◌<◌, Some, sym, ◌∙◌, arith}
-use Rattle.std.proofs.Math.ListN.{length-set}
-use Rattle.comdat.proofs.ChainLemmas.{DoEnd, end_above, decided_more}
-use Rattle.comdat.proofs.chains.decide.Goals as goal
+use Rattle.std.proofs.Common.{◌<◌, sym, ◌∙◌, arith}
+use Rattle.comdat.proofs.ChainLemmas.{DoEnd, end_above, known_more}
+use Rattle.comdat.proofs.chains.note_end.Goals as goal
 
 pub loop-preserved : goal.loop-preserved
 loop-preserved c =
@@ -13,6 +12,5 @@ loop-preserved c =
     record {
       within = c.requires.parents.within at before.within;
       same = λ above. sym (end_above parents at are some before.within above) ∙ before.same some;
-      same_length = length-set c.loop.decided at (Some c.args.chosen) ∙ before.same_length;
-      right = λ own was is. decided_more parents own c.loop.decided at c.args.section c.args.chosen (before.right own was is) before.within (before.same some) is;
+      known = known_more parents c.loop.known at c.args.section c.args.end before.known before.within (before.same some) c.requires.end;
     }

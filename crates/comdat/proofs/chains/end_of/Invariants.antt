@@ -1,7 +1,7 @@
 use Rattle.std.proofs.Common.{◌≡◌, ◌<◌, length}
 use Rattle.coff_aux.specs.Parents.{ancestor}
 use Rattle.comdat.specs.Chains.{chain_end}
-use Rattle.comdat.proofs.chains.at_end.Given as goal
+use Rattle.comdat.proofs.chains.end_of.Given as goal
 
 abbrev pub invariant-loop : goal.invariant-loop
 invariant-loop l = record {

@@ -1,0 +1,11 @@
+pub mod SectionsLemmas
+pub mod PlaceLemmas
+pub mod CallerLemmas
+pub mod NumberLemmas
+pub mod PieceLemmas
+pub mod ChildLemmas
+pub mod DistinctLemmas
+pub mod PutLemmas
+pub mod FoldableLemmas
+pub mod OneLemmas
+pub mod WholeLemmas
