@@ -1,8 +1,10 @@
 -- Chains of parents that end: a section and its parent have one end.
-use Rattle.std.proofs.Common.{◌≡◌, ℕ, zero, suc, ◌+◌, ◌-◌, ◌<◌, Bool, false, eqb, List, ◌∷◌, length, get_or, set, Option, None, Some, unwrap_or, refl, sym, ap, ◌∙◌, subst, inl, inr, eq-eqb, add-one, arith}
+use Rattle.std.proofs.Common.{◌≡◌, ℕ, zero, suc, ◌+◌, ◌-◌, ◌<◌, Bool, false, eqb, List, ◌∷◌, length, map, get_or, set, Option, None, Some, unwrap_or, refl, sym, ap, ◌∙◌, subst, inl, inr, eq-eqb, add-one, arith}
+use Rattle.std.specs.List.{range_with_len}
 use Rattle.std.proofs.Math.ListN.{length-set}
 use Rattle.std.proofs.lemmas.Bool.{eqb-true, eqb-false, not-false, cases_eq}
-use Rattle.std.proofs.lemmas.List.{get_or-set_other, get_or-set_same}
+use Rattle.std.proofs.lemmas.List.{get_or-set_other, get_or-set_same, ext_get_or}
+use Rattle.std.proofs.lemmas.List.FromFn.{get_or-map-range_with_len, length-map-range_with_len}
 use Rattle.link_base.specs.Bytes.{first_below}
 use Rattle.link_base.proofs.CallerLemmas.{first_below-found, first_below-none, first_below-some, first_below-all_fail}
 use Rattle.coff_aux.specs.Parents.{parent_at, ancestor, comes_back, AreParents}
@@ -114,6 +116,23 @@ known_more parents known at section end are within same is = record {
 -- that of the number 0
 pub end_none : (parents : List ℕ) → AreParents parents → 0 < length parents → chain_end parents 0 ≡ 0
 end_none parents are some = end_here parents 0 some are.none
+
+-- all are, where each section's is
+pub all_known : (parents known : List ℕ) → AreParents parents → 0 < length parents → AreEnds parents known → ((k : ℕ) → 0 < k → k < length parents → 0 < get_or known k 0) → known ≡ map (chain_end parents) (range_with_len 0 (length parents))
+all_known parents known are some ends noted =
+    ext_get_or 0 known (map (chain_end parents) (range_with_len 0 (length parents))) (ends.same_length ∙ sym (length-map-range_with_len (chain_end parents) 0 (length parents)))
+    (λ k lt.
+    let within : k < length parents = omega (arith, lt, ends.same_length) in
+    at k within ∙ sym (get_or-map-range_with_len (chain_end parents) 0 (length parents) k k 0 within (omega arith)))
+  where
+    -- none stands for the number 0
+    first : (n : ℕ) → n ≡ get_or known 0 0 → get_or known 0 0 ≡ 0
+    first zero is = sym is
+    first (suc n) is = absurd (omega (arith, is, ends.right 0 some (omega (arith, is)), end_none parents are some))
+
+    at : (k : ℕ) → k < length parents → get_or known k 0 ≡ chain_end parents k
+    at zero lt = first (get_or known 0 0) refl ∙ sym (end_none parents are some)
+    at (suc k) lt = ends.right (suc k) lt (noted (suc k) (omega arith) lt)
 
 -- ---- the end of a chain is a section
 

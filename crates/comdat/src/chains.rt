@@ -1,6 +1,6 @@
 //! Sections that are chosen with others.
 
-ghost use Rattle.std.specs.Prelude.{◌≡◌, ◌<◌, ◌≤◌, ◌^◌, ◌+◌, ◌-◌, ◌∷◌, None, false, length, map, IfOk};
+ghost use Rattle.std.specs.Prelude.{◌≡◌, ◌<◌, ◌≤◌, ◌^◌, ◌+◌, ◌-◌, ◌∷◌, ℕ, None, false, length, map, slice_index, IfOk};
 ghost use Rattle.std.specs.List.{range_with_len};
 ghost use Rattle.link_base.specs.Bytes.{first_below};
 ghost use Rattle.coff_aux.specs.Parents.{AreParents, comes_back};
@@ -40,13 +40,10 @@ pub(crate) fn chain_ends(alloc: Global, parents: &[u32]) -> Result<Vec<u32>, Mem
     requires some { 0 < length parents.now }
     ensures { IfOk result (λ ends. ends.items ≡ map (chain_end parents.now) (range_with_len 0 (length parents.now))) }
 {
-    let mut known = vec![in alloc; 0; parents.len()]?;
-    let mut ends = Vec::with_capacity(alloc, parents.len())?;
-    ends.push(0)?;
+    let mut ends = vec![in alloc; 0; parents.len()]?;
     for section in 1..parents.len() {
-        let end = end_of(parents, &known, section);
-        note_end(parents, &mut known, section, end);
-        ends.push(end)?;
+        let end = end_of(parents, &ends, section);
+        note_end(parents, &mut ends, section, end);
     }
     Ok(ends)
 }
@@ -82,8 +79,11 @@ fn note_end(parents: &[u32], known: &mut [u32], section: usize, end: u32)
     requires ends { first_below (length parents.now) (comes_back parents.now) ≡ None }
     requires known { AreEnds parents.now known.old }
     requires end { end ≡ chain_end parents.now section }
+    requires first { 0 < section }
     requires within { section < length parents.now }
-    ensures { AreEnds parents.now known.new }
+    ensures known { AreEnds parents.now known.new }
+    ensures noted { slice_index known.new section ≡ end }
+    ensures kept { (other : ℕ) → 0 < slice_index known.old other → slice_index known.new other ≡ slice_index known.old other }
 {
     let mut at = section;
     for _ in 0..parents.len() {

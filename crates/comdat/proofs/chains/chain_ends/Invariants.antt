@@ -1,11 +1,10 @@
-use Rattle.std.proofs.Common.{◌≡◌, ◌≤◌, length, map}
-use Rattle.std.specs.List.{range_with_len}
-use Rattle.comdat.specs.Chains.{chain_end, AreEnds}
+use Rattle.std.proofs.Common.{◌≤◌, ◌<◌, ℕ, length, get_or}
+use Rattle.comdat.specs.Chains.{AreEnds}
 use Rattle.comdat.proofs.chains.chain_ends.Given as goal
 
 abbrev pub invariant-loop-section : goal.invariant-loop-section
 invariant-loop-section l = record {
   within : l.section ≤ length l.parents;
-  known : AreEnds l.parents l.known.items;
-  ends : l.ends.items ≡ map (chain_end l.parents) (range_with_len 0 l.section);
+  known : AreEnds l.parents l.ends.items;
+  noted : (k : ℕ) → 0 < k → k < l.section → 0 < get_or l.ends.items k 0;
 }
