@@ -90,7 +90,7 @@ table_row row rva = record { name = row.name; ordinal = row.ordinal; noname = ro
 
 -- without a place
 abbrev pub unplaced_row : Export → ExportRow
-unplaced_row row = table_row row 0
+unplaced_row listed = table_row listed 0
 
 -- the DLL has the name of the image's file, behind the last slash
 abbrev pub dll_name : List ℕ → List ℕ

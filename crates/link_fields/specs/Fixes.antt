@@ -64,7 +64,7 @@ slot_at link number = slice_index_or (slot_names link) (number - FIRST_LOCAL_SLO
 abbrev pub jump_fixes : LinkParts → ℕ → List Fix
 jump_fixes link position = thunk_field (import_target link position) ∷ []
 
--- of a piece that the linker makes, by its number: an import table has none
+-- of a piece that the linker makes, by its number: a table has none
 abbrev pub linker_fixes : LinkParts → ℕ → List Fix
 linker_fixes link number =
     if nat_lt number FIRST_THUNK then []

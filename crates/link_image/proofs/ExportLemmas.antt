@@ -106,7 +106,7 @@ same_row row rva other = record {
 
 all_same : (link : KeptParts) (rvas : List ℕ) (rows : List Export) → AllZip SameSize (map unplaced_row rows) (map (exported_row link rvas) rows)
 all_same link rvas [] = tt
-all_same link rvas (row ∷ rows) = (same_row row 0 _, all_same link rvas rows)
+all_same link rvas (listed ∷ rows) = (same_row listed 0 _, all_same link rvas rows)
 
 pub same_rows : (link : KeptParts) (rvas : List ℕ) → AllZip SameSize (map unplaced_row link.parts.exports.rows) (exported_rows link rvas)
 unfolding exported_rows

@@ -1,4 +1,5 @@
--- Why the pieces of modules make no image, or no PDB: the faults of the stages from tables to range, in their order. Own.
+-- Why the pieces of modules make no image, no PDB or no import library: the faults of the stages from tables on, in their order.
+-- Own.
 use Rattle.std.specs.Prelude.{◌≡◌, ℕ, true, false, List, length, Some, None, ◌⊎◌}
 use Rattle.link_base.specs.declared.fault.Fault.{Fault}
 use Rattle.link_base.specs.declared.fault.Fault.TheVariants as faults
