@@ -8,8 +8,8 @@ use Rattle.link_pieces.specs.Pieces.{link_pieces}
 use Rattle.link_pieces.specs.TablePieces.{KeptParts, tables_of}
 use Rattle.link_fields.specs.declared.entry.EntryPlace.{EntryPlace}
 use Rattle.link_fields.specs.LoaderPlaces.{TLS_NAME, LOAD_CONFIG_NAME}
-use Rattle.link_plan.specs.Reach.{loader_names}
-use Rattle.link_plan.specs.Standing.{AreStanding}
+use Rattle.link_keeping.specs.Reach.{loader_names}
+use Rattle.link_keeping.specs.Standing.{AreStanding}
 use Rattle.link_plan.specs.Planned.{used_pieces, planned_fixes, planned_loader}
 use Rattle.link_plan.specs.declared.planning.LinkPlan.{LinkPlan}
 use Rattle.link_plan.specs.Plan.{IsPlanOf, kept_parts}

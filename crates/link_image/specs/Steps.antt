@@ -27,7 +27,7 @@ use Rattle.image_writer.specs.ExpectedImage.{image_file}
 use Rattle.image_writer.specs.WrittenImage.{layout_plan, at_each_base, IsLaidOut}
 use Rattle.link_pieces.specs.TablePieces.{KeptParts, whole_piece, is_table}
 use Rattle.link_pieces.specs.PieceIndex.{is_numbered, holds}
-use Rattle.link_plan.specs.Standing.{AreStanding}
+use Rattle.link_keeping.specs.Standing.{AreStanding}
 use Rattle.link_plan.specs.Planned.{HaveFields, used_pieces, plan_pieces, planned_fixes, planned_target}
 use Rattle.link_base.specs.Limits.{MODULE_LIMIT, SECTION_LIMIT, IMAGE_LIMIT}
 use Rattle.link_words.specs.Outcome.{LinkOptions}

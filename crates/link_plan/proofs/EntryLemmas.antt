@@ -18,11 +18,12 @@ use Rattle.link_fields.specs.LoaderPlaces.{loader_place}
 use Rattle.link_fields.specs.Fixes.{piece_at}
 use Rattle.link_fields.proofs.EntryLemmas.{IsInside, entry_inside, loader_inside}
 use Rattle.relocate.specs.Redirected.{place_of}
-use Rattle.link_plan.specs.Reach.{loader_names}
+use Rattle.link_keeping.specs.Reach.{loader_names}
+use Rattle.link_keeping.specs.Standing.{AreStanding}
+use Rattle.link_keeping.proofs.CallerLemmas.{place_inside, place_as_long}
 use Rattle.link_plan.specs.Planned.{is_meant, is_sought, is_shared, planned_piece, plan_pieces, placed_entry, planned_entry, planned_loader}
-use Rattle.link_plan.specs.Standing.{AreStanding}
 use Rattle.link_plan.specs.Laid.{StandsNamed}
-use Rattle.link_plan.proofs.StandingLemmas.{place_inside, place_as_long, placed_some}
+use Rattle.link_plan.proofs.PlacedLemmas.{placed_some}
 use Rattle.link_plan.proofs.CallerLemmas.{is_named, planned_at, plan_count, entry_used, loader_used}
 
 -- a place inside a piece of the link, where that stands, which is sought

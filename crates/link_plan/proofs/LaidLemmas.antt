@@ -35,9 +35,10 @@ use Rattle.link_pieces.proofs.PieceLemmas.{over_bare}
 use Rattle.link_pieces.proofs.TableLemmas.{tables_aligned, tables_told, tables_few}
 use Rattle.link_fields.specs.ExportTargets.{export_targets}
 use Rattle.link_fields.specs.Fixes.{piece_fixes, HaveFields as HaveAll}
-use Rattle.link_plan.specs.Planned.{named_if, planned_piece, plan_pieces, slot_offsets, slot_table, placed_target, placed_fix, fixes_if, HaveFields, planned_target, planned_targets}
+use Rattle.link_keeping.specs.Named.{named_if}
+use Rattle.link_keeping.proofs.CallerLemmas.{AreNamed, count_named, contents_named}
+use Rattle.link_plan.specs.Planned.{planned_piece, plan_pieces, slot_offsets, slot_table, placed_target, placed_fix, fixes_if, HaveFields, planned_target, planned_targets}
 use Rattle.link_plan.proofs.CallerLemmas.{is_named, planned_at, table_at, plan_count}
-use Rattle.link_plan.proofs.NamedLemmas.{AreNamed, count_named, contents_named}
 
 -- ---- pieces
 

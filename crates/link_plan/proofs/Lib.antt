@@ -1,14 +1,10 @@
 pub mod StageLemmas
-pub mod StandingLemmas
+pub mod PlacedLemmas
 pub mod CallerLemmas
 pub mod EntryLemmas
 pub mod ReferenceLemmas
 pub mod SlotLemmas
-pub mod RootLemmas
-pub mod KeepLemmas
 pub mod MadeLemmas
-pub mod MeantLemmas
-pub mod NamedLemmas
 pub mod NearLemmas
 pub mod LaidLemmas
 pub mod PublicLemmas

@@ -15,7 +15,7 @@ use Rattle.link_pieces.specs.LinkParts.{LinkParts}
 use Rattle.link_pieces.specs.Pieces.{link_pieces}
 use Rattle.link_fields.specs.Targets.{piece_in}
 use Rattle.link_fields.specs.Fixes.{piece_fixes, meant_in, edges_by, edges_of, field_edges, HaveFields}
-use Rattle.link_plan.specs.Planned.{LeadsWithin}
+use Rattle.link_keeping.specs.Named.{LeadsWithin}
 
 -- ---- lists
 

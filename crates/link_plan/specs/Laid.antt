@@ -14,8 +14,8 @@ use Rattle.link_pieces.specs.TablePieces.{KeptParts, kept_imports, whole_content
 use Rattle.link_words.specs.Outcome.{LinkOptions}
 use Rattle.link_fields.specs.declared.entry.EntryPlace.{EntryPlace}
 use Rattle.link_fields.specs.LoaderPlaces.{TLS_NAME, LOAD_CONFIG_NAME}
+use Rattle.link_keeping.specs.Standing.{AreStanding}
 use Rattle.link_plan.specs.declared.laid.LaidPieces.{LaidPieces}
-use Rattle.link_plan.specs.Standing.{AreStanding}
 use Rattle.link_plan.specs.Planned.{plan_pieces, planned_targets, planned_entry, planned_loader, HaveFields}
 use Rattle.link_plan.specs.PlanFaults.{fields_fault}
 

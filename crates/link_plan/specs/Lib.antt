@@ -1,8 +1,6 @@
 pub mod References
 pub mod PlanFaults
-pub mod Reach
 pub mod Planned
-pub mod Standing
 pub mod Laid
 pub mod LinkPublics
 pub mod Plan

@@ -21,9 +21,9 @@ use Rattle.link_directives.specs.LinkDirectives.{link_merges}
 use Rattle.link_imports.specs.Imports.{AreImports}
 use Rattle.link_pieces.specs.TablePieces.{KeptParts, kept_imports, whole_contents, is_table}
 use Rattle.link_words.specs.Outcome.{LinkOptions}
+use Rattle.link_keeping.specs.Standing.{AreStanding}
 use Rattle.link_plan.specs.declared.planning.LinkPlan.{LinkPlan}
 use Rattle.link_fields.specs.LoaderPlaces.{TLS_NAME, LOAD_CONFIG_NAME}
-use Rattle.link_plan.specs.Standing.{AreStanding}
 use Rattle.link_plan.specs.Planned.{plan_pieces, planned_targets, planned_entry, planned_loader, HaveFields}
 use Rattle.link_plan.specs.PlanFaults.{plan_fault}
 use Rattle.link_plan.specs.Laid.{StandsNamed}

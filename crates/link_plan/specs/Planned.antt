@@ -18,7 +18,8 @@ use Rattle.link_fields.specs.Entry.{entry_place}
 use Rattle.link_fields.specs.LoaderPlaces.{loader_place}
 use Rattle.link_fields.specs.ExportTargets.{export_targets}
 use Rattle.link_fields.specs.Fixes.{piece_at, piece_fixes, field_edges}
-use Rattle.link_plan.specs.Reach.{named_nodes}
+use Rattle.link_keeping.specs.Reach.{named_nodes}
+use Rattle.link_keeping.specs.Named.{leads_there, is_at, is_named_at, named_if}
 
 -- ---- what is kept
 
@@ -33,32 +34,16 @@ used_pieces link = take (length (link_pieces link.parts)) link.kept ++ replicate
 -- ---- pieces that are named
 
 -- a field of a piece that is kept means it, or one that stands at its place
-abbrev pub leads_there : List Bool → List ℕ → ℕ → ℕ × ℕ → Bool
-leads_there kept places k edge = slice_index_or kept edge.0 false && (place_of places edge.1 == k)
-
 abbrev pub is_meant : KeptParts → ℕ → Bool
 is_meant link k = list_any (leads_there link.kept link.places k) (field_edges link.parts)
 
--- where a piece is kept that an edge begins at, it leads to one of the first nodes
-abbrev pub LeadsWithin : List Bool → ℕ → ℕ × ℕ → Type 0
-LeadsWithin kept count edge = slice_index_or kept edge.0 false ≡ true → edge.1 < count
-
 -- the entry, an export or what a loader looks for is there
-abbrev pub is_at : List ℕ → ℕ → ℕ → Bool
-is_at places k node = place_of places node == k
-
 abbrev pub is_sought : LinkOptions → KeptParts → ℕ → Bool
 is_sought options link k = list_any (is_at link.places k) (named_nodes options link.parts)
 
 -- a piece that is named stands there
-abbrev pub is_named_at : LinkParts → List ℕ → ℕ → ℕ → Bool
-is_named_at link places k other = (place_of places other == k) && (piece_at link other).named
-
 abbrev pub is_shared : KeptParts → ℕ → Bool
 is_shared link k = list_any (is_named_at link.parts link.places k) (range_with_len 0 (length link.places))
-
-abbrev pub named_if : Bool → Piece → Piece
-named_if meant piece = record piece { named = piece.named || meant }
 
 abbrev pub planned_piece : LinkOptions → KeptParts → ℕ → Piece
 planned_piece options link k = named_if (is_meant link k || (is_sought options link k || is_shared link k)) (piece_at link.parts k)

@@ -19,17 +19,16 @@ ghost use Rattle.link_plan.specs.PlanFaults.{fields_fault};
 ghost use Rattle.link_plan.specs.Laid.{ArePlanned, AreLaid, laid_link};
 ghost use Rattle.link_plan.specs.LinkPublics.{lists_publics, link_publics};
 
-use crate::keeping::kept_nodes;
 use crate::kept_fields::{
     SlotPlaces, fields_stay, keep_fields, place_exports, placed_entry, push_none, slot_table,
 };
 use crate::meanings::Meanings;
-use crate::named::name_meant;
 use crate::publics::listed_publics;
 use debug_rows::{PublicPlace, kept_publics};
 use link_base::{Memory, Refusal};
 use link_fields::{EntryPlace, JudgedFixes, LoaderPlaces, NamedPlaces, judge_pieces, named_places};
 use link_imports::{LinkImports, link_imports};
+use link_keeping::{kept_nodes, name_meant};
 use link_pieces::{LinkNames, PieceIndex, pieces_of, push_tables};
 use link_words::Options;
 use module_view::Module;

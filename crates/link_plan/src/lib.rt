@@ -5,15 +5,12 @@
 #![tactic(auto)]
 
 mod entry;
-mod keeping;
 mod kept_fields;
 mod laid;
 mod meanings;
 mod mismatch;
-mod named;
 mod planning;
 mod publics;
 mod references;
-mod roots;
 
 pub use planning::{LinkPlan, plan};

@@ -30,8 +30,8 @@ use Rattle.image_writer.specs.WrittenImage.{written_plan}
 use Rattle.module_view.specs.Module.{ModuleView}
 use Rattle.link_pieces.specs.TablePieces.{KeptParts}
 use Rattle.lib_search.proofs.OneLoading.{one_fault, fault_or_loads, one_loading}
+use Rattle.link_keeping.proofs.CallerLemmas.{one_standing}
 use Rattle.link_plan.specs.Plan.{link_parts, merges_of, IsLinkOf}
-use Rattle.link_plan.proofs.KeepLemmas.{one_standing}
 use Rattle.link_plan.specs.PlanFaults.{plan_fault}
 use Rattle.link_plan.specs.Planned.{plan_pieces, planned_entry}
 use Rattle.link_plan.specs.LinkPublics.{link_publics}

@@ -17,9 +17,10 @@ use Rattle.link_pieces.specs.Pieces.{link_pieces}
 use Rattle.link_pieces.specs.TablePieces.{KeptParts, kept_imports, tables_for, tables_of}
 use Rattle.link_fields.specs.Fixes.{HaveFields, field_edges}
 use Rattle.relocate.specs.Redirected.{redirected_fix}
-use Rattle.link_plan.specs.Planned.{fixes_if, LeadsWithin, placed_entry}
+use Rattle.link_keeping.specs.Named.{LeadsWithin}
+use Rattle.link_keeping.proofs.CallerLemmas.{count_named, aligned_named, bodies_named}
+use Rattle.link_plan.specs.Planned.{fixes_if, placed_entry}
 use Rattle.link_plan.proofs.CallerLemmas.{standing_length}
-use Rattle.link_plan.proofs.NamedLemmas.{count_named, aligned_named, bodies_named}
 use Rattle.link_plan.proofs.NearLemmas.{fields_stay, no_places}
 use Rattle.link_plan.proofs.LaidLemmas.{ArePlaces, pieces_planned, contents_planned, whole_count, few_planned, aligned_planned, bodies_planned, fields_planned, targets_planned, table_planned, others_fail, part_from, no_fix}
 use Rattle.link_plan.proofs.laid.keep_pieces.Goals as goal

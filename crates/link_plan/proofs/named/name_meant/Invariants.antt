@@ -1,5 +1,0 @@
-use Rattle.link_plan.proofs.MeantLemmas.{AreNamedUpTo}
-use Rattle.link_plan.proofs.named.name_meant.Given as goal
-
-abbrev pub invariant-loop-k : goal.invariant-loop-k
-invariant-loop-k l = AreNamedUpTo l.fn.pieces.items l.meant l.k l.pieces.items
