@@ -3,6 +3,7 @@ pub mod ChoiceLemmas
 pub mod CallerLemmas
 pub mod NameLemmas
 pub mod NumberingLemmas
+pub mod NotedLemmas
 pub mod ListLemmas
 pub mod GroupLemmas
 pub mod ChainLemmas

@@ -53,7 +53,7 @@ one_twice = refl
 -- ---- several groups
 
 under : ℕ → ℕ → Candidate → Named
-under name position candidate = record { name = name ∷ []; candidate = record candidate { «module» = position } }
+under name position candidate = record { name = name ∷ []; number = 0; candidate = record candidate { «module» = position } }
 
 -- `a` of the modules 0 and 1, and `b` of 1 and 2, which is the greater one
 named : List Named

@@ -11,7 +11,7 @@ use Rattle.comdat.specs.declared.named.Named.{Named}
 use Rattle.comdat.specs.Choice.{no_candidate, chosen_place, conflict_place}
 
 abbrev pub no_named : Named
-no_named = record { name = []; candidate = no_candidate }
+no_named = record { name = []; number = 0; candidate = no_candidate }
 
 abbrev pub name_at : List Named → ℕ → List ℕ
 name_at entries k = (slice_index_or entries k no_named).name

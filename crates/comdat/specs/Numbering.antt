@@ -4,10 +4,23 @@ use Rattle.std.specs.List.{All}
 use Rattle.std.specs.declared.vec.Vec.{Vec}
 use Rattle.std.specs.declared.alloc.Global.{Global}
 use Rattle.link_base.specs.NameText.{same_name}
+use Rattle.symbol_names.specs.Interning.{Numbers}
 use Rattle.comdat.specs.declared.candidate.Candidate.{Candidate}
 use Rattle.comdat.specs.declared.named.Named.{Named}
 use Rattle.comdat.specs.Choice.{no_candidate}
 use Rattle.comdat.specs.Groups.{no_named, name_at, candidate_of, group_of, chosen_of}
+
+-- ---- the numbers of names
+
+-- a section goes with the number of its name
+abbrev pub HasNumber : List (List ℕ) → Named → Type 0
+HasNumber names entry = Numbers names entry.number entry.name
+
+-- ---- the numbers of groups
+
+-- the number of no group
+abbrev pub NO_GROUP : ℕ
+NO_GROUP = 4294967295
 
 -- the first section of a group, by the numbers of groups
 pub record IsFirstOf (numbers : List ℕ) (number first : ℕ) : Type 0 where

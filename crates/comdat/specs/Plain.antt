@@ -1,4 +1,4 @@
--- Sections without the places of what they borrow. Own.
+-- Sections without the places of what they borrow and the numbers of their names. Own.
 use Rattle.std.specs.Prelude.{option_map, option_copied}
 use Rattle.comdat.specs.declared.candidate.Candidate.{Candidate}
 use Rattle.comdat.specs.declared.named.Named.{Named}
@@ -8,4 +8,4 @@ abbrev pub plain : Candidate → Candidate
 plain candidate = record candidate { body = option_map lent (option_copied candidate.body) }
 
 abbrev pub plain_entry : Named → Named
-plain_entry entry = record { name = entry.name; candidate = plain entry.candidate }
+plain_entry entry = record { name = entry.name; number = 0; candidate = plain entry.candidate }

@@ -56,10 +56,12 @@ candidate_in position bytes section =
       body = option_map lent (body_of bytes section);
     }
 
+-- the number of the name decides nothing
 abbrev pub entry_in : ℕ → List ℕ → ℕ → Named
 entry_in position bytes section =
     record {
       name = unwrap_or (group_name_of (comdat_of bytes section)) [];
+      number = 0;
       candidate = candidate_in position bytes section;
     }
 

@@ -3,7 +3,7 @@
 ghost use Rattle.std.specs.Prelude.{◌≡◌, ◌<◌, None, length, map, OnOk, IfOk, IfErr};
 ghost use Rattle.std.specs.List.{All};
 ghost use Rattle.comdat.specs.Groups.{is_selected, first_conflict, is_same_section, RefusesChoice};
-ghost use Rattle.comdat.specs.Numbering.{AreNumbers, AreLists, AreWinners, candidates_at};
+ghost use Rattle.comdat.specs.Numbering.{HasNumber, AreNumbers, AreLists, AreWinners, candidates_at};
 
 use crate::candidate::Candidate;
 use crate::choice::choose;
@@ -11,16 +11,22 @@ use crate::error::ChooseError;
 use crate::lists::group_lists;
 use crate::named::Named;
 use crate::numbering::{Numbering, number_groups};
-use link_base::Memory;
+use indexmap::IndexSet;
+use link_base::{Memory, Name};
 use std::alloc::Global;
 
 /// For each section whether it is the chosen one of its group.
-pub(crate) fn select<'a>(alloc: Global, entries: &[Named<'a>]) -> Result<Vec<bool>, ChooseError<'a>>
+pub(crate) fn select<'a>(
+    alloc: Global,
+    names: &IndexSet<Name<'a>>,
+    entries: &[Named<'a>],
+) -> Result<Vec<bool>, ChooseError<'a>>
+    requires { All (HasNumber names.now.keys) entries.now }
     ensures selected { IfOk result (λ flags. flags.items ≡ map (is_selected entries.now) entries.now) }
     ensures accepted { OnOk result (first_conflict entries.now ≡ None) }
     ensures refused { IfErr result (RefusesChoice (first_conflict entries.now)) }
 {
-    let numbering = number_groups(alloc, entries)?;
+    let numbering = number_groups(alloc, names, entries)?;
     let lists = group_lists(alloc, entries, &numbering)?;
     let winners = winners(alloc, entries, &numbering, &lists)?;
     let mut flags = Vec::with_capacity(alloc, entries.len())?;

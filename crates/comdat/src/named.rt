@@ -7,5 +7,7 @@ use link_base::Name;
 #[derive(Drop)]
 pub(crate) struct Named<'a> {
     pub(crate) name: Name<'a>,
+    /// The number of the name.
+    pub(crate) number: u32,
     pub(crate) candidate: Candidate<'a>,
 }

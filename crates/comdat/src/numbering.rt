@@ -1,12 +1,16 @@
 //! The numbers of groups.
 
-ghost use Rattle.std.specs.Prelude.{◌≡◌, ◌<◌, length, IfOk};
-ghost use Rattle.comdat.specs.Numbering.{AreNumbers};
+ghost use Rattle.std.specs.Prelude.{◌≡◌, ◌<◌, IfOk};
+ghost use Rattle.std.specs.List.{All};
+ghost use Rattle.comdat.specs.Numbering.{NO_GROUP, HasNumber, AreNumbers};
 
 use crate::named::Named;
 use indexmap::IndexSet;
-use link_base::Memory;
+use link_base::{Memory, Name};
 use std::alloc::Global;
+
+/// Stands at the number of a name that no group has yet. No group has it.
+const NO_GROUP: u32 = u32::MAX;
 
 /// The groups of some sections, which have numbers in the order of their first sections.
 #[derive(Drop)]
@@ -17,19 +21,36 @@ pub(crate) struct Numbering {
     pub(crate) firsts: Vec<usize>,
 }
 
-/// Numbers the groups of sections, each of which is looked up once.
-pub(crate) fn number_groups(alloc: Global, entries: &[Named<'_>]) -> Result<Numbering, Memory>
+/// Numbers the groups of sections, each of which is found by the number of its name. No name is read.
+pub(crate) fn number_groups<'a>(
+    alloc: Global,
+    names: &IndexSet<Name<'a>>,
+    entries: &[Named<'a>],
+) -> Result<Numbering, Memory>
+    requires { All (HasNumber names.now.keys) entries.now }
     ensures { IfOk result (λ n. AreNumbers entries.now n.numbers.items n.firsts.items) }
 {
-    let mut names = IndexSet::new(alloc);
+    let mut groups = vec![in alloc; NO_GROUP; names.len()]?;
     let mut numbers = Vec::with_capacity(alloc, entries.len())?;
     let mut firsts = Vec::new(alloc);
     for (index, entry) in entries.iter().enumerate() {
-        let (number, is_new) = names.insert_full(entry.name.again())?;
-        if is_new {
+        let name = entry.number as usize;
+        if groups[name] == NO_GROUP {
+            groups[name] = next_group(firsts.len())?;
             firsts.push(index)?;
         }
-        numbers.push(number)?;
+        numbers.push(groups[name] as usize)?;
     }
     Ok(Numbering { numbers, firsts })
+}
+
+/// The number of the next group after so many. More groups than have numbers are want of memory.
+fn next_group(count: usize) -> Result<u32, Memory>
+    ensures number { IfOk result (λ number. number ≡ count) }
+    ensures below { IfOk result (λ number. number < NO_GROUP) }
+{
+    if count >= NO_GROUP as usize {
+        return Err(Memory);
+    }
+    Ok(count as u32)
 }

@@ -1,7 +1,7 @@
 //! Which sections of a link are chosen.
 
 ghost use Rattle.std.specs.Prelude.{◌≡◌, ◌≤◌, ◌++◌, ℕ, Bool, List, None, length, map, IfOk, OnOk, IfErr};
-ghost use Rattle.std.specs.List.{range_with_len};
+ghost use Rattle.std.specs.List.{All, range_with_len};
 ghost use Rattle.link_base.specs.Limits as limit;
 ghost use Rattle.coff_records.specs.ObjectFile.{section_total};
 ghost use Rattle.coff_aux.specs.Comdats.{parents_of};
@@ -11,7 +11,8 @@ ghost use Rattle.comdat.specs.Chains.{chain_end};
 ghost use Rattle.comdat.specs.ChosenBy.{all_chosen_by, listed};
 ghost use Rattle.comdat.specs.Groups.{is_selected, first_conflict, RefusesChoice};
 ghost use Rattle.comdat.specs.Selection.{named_sections, sections_of, own_flag, all_entries, chosen_sections};
-ghost use Rattle.symbol_names.specs.Kept.{rows_of};
+ghost use Rattle.symbol_names.specs.Interning.{NotesModule};
+ghost use Rattle.symbol_names.specs.Kept.{rows_of, noted_view};
 
 use crate::chains::follow_chains;
 use crate::chosen_by::ChosenBy;
@@ -19,24 +20,33 @@ use crate::error::ChooseError;
 use crate::groups::select;
 use crate::rows::{has_child, own_flags, parents};
 use crate::sections::read_sections;
-use link_base::Memory;
+use indexmap::IndexSet;
+use link_base::{Memory, Name};
 use module_view::Module;
 use std::alloc::Global;
-use symbol_names::Chosen;
+use symbol_names::{Chosen, ModuleNames};
 
 /// Which sections of the modules are chosen. Each COMDAT section goes by the name of its leader, the second symbol of the
 /// section, where that is external, and of all that go by one name one is chosen, as `choose` says. An associative section
 /// is chosen where the section at the end of its chain of parents is. One that is no COMDAT section is chosen, and so is one
 /// with neither leader nor parent. The first group that conflicts is told, in the order of the first sections of groups.
-/// (PE Format, "COMDAT Sections (Object Only)".)
-pub fn choose_all<'a>(alloc: Global, modules: &[Module<'a>]) -> Result<Chosen, ChooseError<'a>>
-    requires { length modules.now ≤ limit.MODULE_LIMIT }
+/// (PE Format, "COMDAT Sections (Object Only)".) Names go by the numbers that are noted of what the modules define: none is
+/// read or hashed.
+pub fn choose_all<'a>(
+    alloc: Global,
+    modules: &[Module<'a>],
+    names: &IndexSet<Name<'a>>,
+    noted: &[ModuleNames<'a>],
+) -> Result<Chosen, ChooseError<'a>>
+    requires few { length modules.now ≤ limit.MODULE_LIMIT }
+    requires modules { map noted_view noted.now ≡ modules.now }
+    requires noted { All (NotesModule names.now.keys) noted.now }
     ensures chosen { IfOk result (λ chosen. rows_of chosen.items ≡ chosen_sections modules.now) }
     ensures accepted { OnOk result (first_conflict (all_entries modules.now) ≡ None) }
     ensures refused { IfErr result (RefusesChoice (first_conflict (all_entries modules.now))) }
 {
-    let sections = read_sections(alloc, modules)?;
-    let selected = select(alloc, &sections.entries)?;
+    let sections = read_sections(alloc, modules, names, noted)?;
+    let selected = select(alloc, names, &sections.entries)?;
     let rows = chosen_rows(alloc, modules, &sections.rows, &selected)?;
     Ok(rows)
 }

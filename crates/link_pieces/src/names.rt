@@ -110,7 +110,7 @@ pub fn link_names<'a>(
     ensures accepted { OnOk result (conflict_fault modules.now ≡ None) }
     ensures refused { IfErr result (RefusesFor (conflict_fault modules.now)) }
 {
-    let chosen = choose(alloc, modules)?;
+    let chosen = choose(alloc, &table, modules)?;
     let names = table.resolved(alloc, chosen)?;
     Ok(LinkNames {
         names,
@@ -120,14 +120,20 @@ pub fn link_names<'a>(
     })
 }
 
-/// Which sections of the modules are chosen.
-fn choose<'a>(alloc: Global, modules: &[Module<'a>]) -> Result<Chosen, Refusal<'a>>
-    requires { length modules.now ≤ MODULE_LIMIT }
+/// Which sections of the modules are chosen, by the numbers that a table of these modules gives their names.
+fn choose<'a>(
+    alloc: Global,
+    table: &SymbolTable<'a>,
+    modules: &[Module<'a>],
+) -> Result<Chosen, Refusal<'a>>
+    requires few { length modules.now ≤ MODULE_LIMIT }
+    requires same { table.now.modules ≡ modules.now }
     ensures chosen { IfOk result (λ chosen. rows_of chosen.items ≡ chosen_sections modules.now) }
     ensures accepted { OnOk result (conflict_fault modules.now ≡ None) }
     ensures refused { IfErr result (RefusesFor (conflict_fault modules.now)) }
 {
-    match choose_all(alloc, modules) {
+    let (names, noted) = table.numbered();
+    match choose_all(alloc, modules, names, noted) {
         Ok(chosen) => Ok(chosen),
         Err(
             ChooseError::Conflict {

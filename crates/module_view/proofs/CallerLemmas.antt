@@ -122,7 +122,7 @@ unfolding starts_symbol
 symbols_start bytes = all_starts (symbols_of bytes)
 
 -- those of a list that pass a test
-all_filtered : {X : Type 0} (P : X → Type 0) (Q : X → Type 0) (test : X → Bool) (xs : List X) → All P xs → ((x : X) → P x → test x ≡ true → Q x) → All Q (filter test xs)
+pub all_filtered : {X : Type 0} (P : X → Type 0) (Q : X → Type 0) (test : X → Bool) (xs : List X) → All P xs → ((x : X) → P x → test x ≡ true → Q x) → All Q (filter test xs)
 all_filtered P Q test [] all passes = All-nil Q
 all_filtered {X} P Q test (x ∷ xs) all passes =
     go (test x) refl (all_filtered P Q test xs (λ k d lt. all (suc k) d (omega arith)) passes)
@@ -132,11 +132,11 @@ all_filtered {X} P Q test (x ∷ xs) all passes =
     go false e rest = rest
 
 -- an entry is a symbol of the object
-record IsEntryOf (bytes : List ℕ) (entry : SymbolEntry) : Type 0 where
-  starts : starts_symbol bytes entry.0 ≡ true
-  is : entry.1 ≡ symbol_at bytes entry.0
+pub record IsEntryOf (bytes : List ℕ) (entry : SymbolEntry) : Type 0 where
+  pub starts : starts_symbol bytes entry.0 ≡ true
+  pub is : entry.1 ≡ symbol_at bytes entry.0
 
-entries_are : (bytes : List ℕ) → All (IsEntryOf bytes) (symbol_entries bytes)
+pub entries_are : (bytes : List ℕ) → All (IsEntryOf bytes) (symbol_entries bytes)
 entries_are bytes =
     All-map (IsEntryOf bytes) (symbol_entry bytes) (symbols_of bytes)
     (All-weaker (λ i. starts_symbol bytes i ≡ true) (λ i. IsEntryOf bytes (symbol_entry bytes i)) (λ i h. record { starts = h; is = refl }) (symbols_of bytes) (symbols_start bytes))

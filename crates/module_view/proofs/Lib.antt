@@ -7,3 +7,5 @@ pub mod ImportLemmas
 pub mod AuxLemmas
 pub mod DirectiveLemmas
 pub mod FormLemmas
+pub mod DefinitionLemmas
+pub mod ChoiceLemmas

@@ -7,3 +7,4 @@ pub mod ModuleDirectives
 pub mod Resources
 pub mod Steps
 pub mod ModuleParts
+pub mod Choices

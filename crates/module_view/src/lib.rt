@@ -7,6 +7,7 @@
 
 mod aux_faults;
 mod base_name;
+mod comdat_choice;
 mod definition;
 mod directive_list;
 mod error;
@@ -24,6 +25,7 @@ mod symbols;
 
 pub use base_name::has_base_name;
 pub use coff_aux::Comdat;
+pub use comdat_choice::ComdatChoice;
 pub use definition::{Common, Definition, Place};
 pub use error::ModuleError;
 pub use input_module::{Module, Origin};

@@ -1,9 +1,12 @@
 //! The table of names.
 
-ghost use Rattle.std.specs.Prelude.{◌≡◌, ◌<◌, ◌++◌, ◌∷◌, [], length, IfOk, OnOk, OnErr};
+ghost use Rattle.std.specs.Prelude.{◌≡◌, ◌<◌, ◌++◌, ◌∷◌, [], length, map, IfOk, OnOk, OnErr};
+ghost use Rattle.std.specs.List.{All, IsDistinct};
 ghost use Rattle.std.specs.Option.{option_copied};
 ghost use Rattle.link_base.specs.Limits as limit;
-ghost use Rattle.symbol_names.specs.Kept.{rows_of};
+ghost use Rattle.link_base.specs.NameText.{same_name};
+ghost use Rattle.symbol_names.specs.Interning.{NotesModule};
+ghost use Rattle.symbol_names.specs.Kept.{noted_view, rows_of};
 ghost use Rattle.symbol_names.specs.References.{all_asked};
 ghost use Rattle.symbol_table.specs.OpenNames.{is_provided, is_open_name, open_from};
 ghost use Rattle.symbol_table.specs.TableParts.{ResolvedView};
@@ -140,6 +143,15 @@ impl<'a> SymbolTable<'a> {
         ensures { result ≡ length (all_asked self.now) }
     {
         self.asked.list.len()
+    }
+
+    /// The names by their numbers, and what each module that was added notes of its own by these.
+    pub fn numbered(&self) -> (&IndexSet<Name<'a>>, &[ModuleNames<'a>])
+        ensures distinct { IsDistinct same_name result.0.now.keys }
+        ensures noted { All (NotesModule result.0.now.keys) result.1.now }
+        ensures modules { map noted_view result.1.now ≡ self.now.modules }
+    {
+        (&self.names, &self.modules)
     }
 
     /// What the names mean where these sections are chosen. Each name's definitions and its chain are followed once.

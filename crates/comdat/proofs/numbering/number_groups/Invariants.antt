@@ -1,5 +1,6 @@
-use Rattle.comdat.proofs.NumberingLemmas.{Numbered}
+use Rattle.std.proofs.Common.{length}
+use Rattle.comdat.proofs.NumberingLemmas.{Grouped}
 use Rattle.comdat.proofs.numbering.number_groups.Given as goal
 
 abbrev pub invariant-loop-index : goal.invariant-loop-index
-invariant-loop-index l = Numbered l.entries l.index l.names.keys l.numbers.items l.firsts.items
+invariant-loop-index l = Grouped l.entries (length l.names.keys) l.index l.groups.items l.numbers.items l.firsts.items

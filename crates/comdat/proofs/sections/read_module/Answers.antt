@@ -26,6 +26,7 @@ loop-index-preserved c =
     let before = c.loop-index.invariant in
     record {
       entries = kept_grows (entry_in c.args.position bytes) (goes_by_name bytes) 1 i (i + 1) (map plain_entry c.args.entries.now.items) (map plain_entry c.loop-index.entries.items) (map plain_entry c.read_section.new.entries.items) (omega arith) before.entries c.in_ok-by.ensures.entries;
+      numbers = λ keys zipped all. c.in_ok-by.ensures.numbers keys zipped (before.numbers keys zipped all);
       row =
           c.in_ok-push.ensures.items
           ∙ ap (λ (row : List ChosenBy). row ++ c.in_ok-by.by ∷ []) before.row
