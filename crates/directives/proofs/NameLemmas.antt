@@ -1,7 +1,8 @@
 -- Names in either case.
-use Rattle.std.proofs.Common.{◌≡◌, ℕ, Bool, true, false, List, map, IsTrue, ◌↔◌, nat_eq, refl, sym, ap, ◌∙◌}
+use Rattle.std.proofs.Common.{◌≡◌, ℕ, Bool, true, false, List, length, map, IsTrue, ◌↔◌, nat_eq, refl, sym, ap, ◌∙◌}
 use lib.Pointwise.{pointwise}
 use Rattle.std.specs.Char.{to_ascii_lowercase}
+use Rattle.std.proofs.lemmas.List.{length-map}
 use Rattle.std.proofs.lemmas.Slice.Eq.{bytes_eq-Decides}
 use Rattle.directives.specs.Names.{is_word}
 
@@ -22,3 +23,8 @@ pub is_word_own : (r : Bool) (text word : List ℕ) → r ≡ pointwise nat_eq t
 is_word_own r text word is e =
     let same : text ≡ word = (bytes_eq-Decides text word).0 (sym is ∙ e) in
     e ∙ is_word_is true text word ((λ t. ap (map to_ascii_lowercase) same), (λ t. refl))
+
+-- a word of another length
+pub is_word_other : (text word : List ℕ) → (length text ≡ length word → ⊥) → false ≡ is_word text word
+is_word_other text word apart =
+    is_word_is false text word ((λ t. absurd cc), (λ same. absurd (apart (sym (length-map text to_ascii_lowercase) ∙ ap (λ (xs : List ℕ). length xs) same ∙ length-map word to_ascii_lowercase))))

@@ -47,9 +47,13 @@ pub fn lookup<T: Copy>(mut table: &[(&[u8], T)], name: &[u8]) -> Option<T>
     None
 }
 
-/// Whether the text is the word, in either case of ASCII letters. The word's own case is tried first, as it costs least.
+/// Whether the text is the word, in either case of ASCII letters. Its length is looked at first, and then the word's own case,
+/// as they cost least.
 pub fn is_word(text: &[u8], word: &[u8]) -> bool
     ensures { result ≡ is_word text.now word.now }
 {
+    if text.len() != word.len() {
+        return false;
+    }
     text == word || text.eq_ignore_ascii_case(word)
 }
