@@ -30,8 +30,9 @@ use Rattle.export_tables.proofs.NameReadLemmas.{name_read_back}
 use Rattle.export_tables.proofs.OrdinalReadLemmas.{ordinal_read_back}
 use Rattle.synthetic_sections.specs.LinkerPieces.{EXPORTS}
 use Rattle.link_exports.specs.Exports.{refused_rows, numbers_fault, numbers_of, export_to, unplaced_row, size_of, text_of, ExportsView, exports_from, CanBeTold, AreTold}
+use Rattle.piece_bytes.specs.Extents.{rva_of}
 use Rattle.link_pieces.specs.TablePieces.{KeptParts, table_index}
-use Rattle.link_image.specs.LinkedBytes.{rva_of, table_rva, exported_row, exported_rows, export_table_at}
+use Rattle.link_image.specs.LinkedBytes.{table_rva, exported_row, exported_rows, export_table_at}
 use Rattle.link_image.specs.ExportFaults.{absolute_fault, export_fault, lies_in, inside_fault, in_table_fault}
 use Rattle.link_image.proofs.ExportLemmas.{HasTable, numbers_given, size_given, placed_numbered, placed_size, export_table_some}
 

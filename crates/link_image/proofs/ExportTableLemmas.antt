@@ -12,12 +12,13 @@ use Rattle.export_tables.specs.declared.row.ExportRow.{ExportRow}
 use Rattle.export_tables.specs.ExportTable.{AreNumbered, table_size, export_table}
 use Rattle.synthetic_sections.specs.LinkerPieces.{EXPORTS, size_at}
 use Rattle.link_exports.specs.Exports.{export_rows, dll_name}
+use Rattle.piece_bytes.specs.Extents.{rva_of}
 use Rattle.link_pieces.specs.TablePieces.{KeptParts, table_sizes, table_index, whole_piece}
 use Rattle.link_words.specs.Outcome.{LinkOptions}
 use Rattle.link_plan.specs.declared.planning.LinkPlan.{LinkPlan}
 use Rattle.link_plan.specs.Plan.{IsPlanOf, kept_parts}
 use Rattle.link_image.specs.declared.placement.Placement.{Placement}
-use Rattle.link_image.specs.LinkedBytes.{rva_of, table_rva, exported_row, exported_rows, export_table_at}
+use Rattle.link_image.specs.LinkedBytes.{table_rva, exported_row, exported_rows, export_table_at}
 use Rattle.link_image.specs.ExportFaults.{inside_of, inside_fault, in_table_fault}
 use Rattle.link_image.specs.Steps.{IsGiven, IsPlaced}
 use Rattle.link_image.proofs.HeldLemmas.{piece_count, exports_are, same_size}

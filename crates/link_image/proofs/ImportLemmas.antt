@@ -2,6 +2,7 @@
 use Rattle.std.proofs.Common.{◌≡◌, ℕ, ◌+◌, ◌^◌, ◌<◌, ◌≤◌, ◌⊎◌, Bool, true, false, cond, eqb, List, [], ◌∷◌, ◌++◌, length, get_or, slice_index, slice_get, Option, Some, None, refl, sym, ap, ◌∙◌, subst, inl, inr, arith}
 use Rattle.std.specs.Prelude.{codes}
 use Rattle.std.specs.List.{All}
+use Rattle.piece_bytes.specs.Extents.{rva_of, extent_of}
 use Rattle.link_exports.specs.Exports.{export_rows, dll_name}
 use Rattle.export_tables.specs.declared.row.ExportRow.{ExportRow}
 use Rattle.export_tables.specs.ExportDirectory.{export_of_name, export_of_ordinal}
@@ -43,10 +44,10 @@ use Rattle.link_plan.specs.Plan.{IsPlanOf, kept_parts}
 use Rattle.piece_bytes.specs.Owners.{section_of}
 use Rattle.link_image.specs.declared.placement.Placement.{Placement}
 use Rattle.image_headers.specs.ImageHeaders.{headers_of}
-use Rattle.link_image.specs.LinkedBytes.{owners_in, rva_of, table_rva, table_rvas, import_tables_at, exported_rows, export_table_at, resource_tree_at, tables_at, contents_at, image_contents}
+use Rattle.link_image.specs.LinkedBytes.{owners_in, table_rva, table_rvas, import_tables_at, exported_rows, export_table_at, resource_tree_at, tables_at, contents_at, image_contents}
 use Rattle.export_tables.specs.Ordinals.{ordinal_fault}
 use Rattle.link_image.specs.ExportFaults.{export_fault, in_table_fault}
-use Rattle.link_image.specs.LinkedImage.{extent_of, table_extent, section_extent, resource_extent, directories_of, identifier_of, final_contents, HoldsImports, HoldsExports, HoldsResources}
+use Rattle.link_image.specs.LinkedImage.{table_extent, section_extent, resource_extent, directories_of, identifier_of, final_contents, HoldsImports, HoldsExports, HoldsResources}
 use Rattle.link_image.specs.Steps.{reloc_tables, IsGiven, IsPlaced, IsReady}
 use Rattle.link_image.proofs.HeldLemmas.{piece_count, exports_are, tree_sized, both_sized, same_size, table_contents, table_fixes}
 use Rattle.link_image.proofs.ExportLemmas.{HasTable, has_table, length-tables, import_size, import_table, export_size, export_table_is, tree_size_is, tree_table_is}

@@ -11,6 +11,7 @@ use Rattle.address_layout.specs.declared.layout.Layout.{Layout}
 use Rattle.relocate.specs.PatchedBytes.{patched_bytes, range_fault}
 use Rattle.relocate.proofs.PlaceLemmas.{bytes_by_places}
 use Rattle.relocate.proofs.PlaceLemmas as places
+use Rattle.piece_bytes.specs.Extents.{rva_of, extent_of}
 use Rattle.link_pieces.specs.TablePieces.{KeptParts, kept_rows, is_table, table_index, whole_pieces, whole_contents, whole_piece}
 use Rattle.import_tables.specs.ImportDirectory.{Imports}
 use Rattle.import_tables.specs.ReadBack.{found_of}
@@ -25,8 +26,8 @@ use Rattle.piece_bytes.specs.Owners.{owners}
 use Rattle.image_headers.specs.declared.headers.Directories.{Directories}
 use Rattle.link_image.specs.NamedSections.{section_named}
 use Rattle.link_fields.specs.LoaderPlaces.{TLS_NAME, LOAD_CONFIG_NAME}
-use Rattle.link_image.specs.LinkedImage.{place_extent, TLS_SIZE, config_size, extent_of, placed_extent, section_extent, table_directory, directories_of, HoldsImports, HoldsExports}
-use Rattle.link_image.specs.LinkedBytes.{owners_in, rva_of, table_rvas, import_tables_at, exported_rows, export_table_at, debug_entry_at, resource_tree_at, contents_at, linked_bytes, linked_contents, out_of_range, piece_range_fault, fields_range_fault}
+use Rattle.link_image.specs.LinkedImage.{place_extent, TLS_SIZE, config_size, placed_extent, section_extent, table_directory, directories_of, HoldsImports, HoldsExports}
+use Rattle.link_image.specs.LinkedBytes.{owners_in, table_rvas, import_tables_at, exported_rows, export_table_at, debug_entry_at, resource_tree_at, contents_at, linked_bytes, linked_contents, out_of_range, piece_range_fault, fields_range_fault}
 
 module _ (layout other : Layout) (pieces : layout.pieces.items ≡ other.pieces.items) (sections : layout.sections.items ≡ other.sections.items) where
   held_same : (link : KeptParts) (k : ℕ) → contents_at link layout k ≡ contents_at link other k

@@ -13,6 +13,7 @@ use Rattle.section_group.specs.SectionOrder.{no_piece}
 use Rattle.address_layout.specs.declared.layout.Layout.{Layout}
 use Rattle.import_tables.specs.ImportTables.{EndBelow4G}
 use Rattle.synthetic_sections.specs.LinkerPieces.{RESOURCES, FIRST_THUNK, size_at}
+use Rattle.piece_bytes.specs.Extents.{rva_of, extent_of}
 use Rattle.link_pieces.specs.TablePieces.{KeptParts, is_table, table_sizes, IsLinkTable, table_index, whole_pieces, whole_piece, kept_imports}
 use Rattle.link_imports.specs.Imports.{import_sizes}
 use Rattle.link_pieces.specs.PieceIndex.{is_numbered, holds}
@@ -24,8 +25,7 @@ use Rattle.link_plan.specs.declared.planning.LinkPlan.{LinkPlan}
 use Rattle.link_plan.proofs.CallerLemmas.{used_last}
 use Rattle.link_plan.specs.Plan.{IsPlanOf, kept_parts}
 use Rattle.link_image.specs.declared.placement.Placement.{Placement}
-use Rattle.link_image.specs.LinkedBytes.{rva_of, table_rva, table_rvas}
-use Rattle.link_image.specs.LinkedImage.{extent_of}
+use Rattle.link_image.specs.LinkedBytes.{table_rva, table_rvas}
 use Rattle.link_image.specs.Steps.{numbered_index, numbered_indexes, IsPlaced}
 use Rattle.link_image.proofs.HeldLemmas.{table_behind, piece_count, planned_is, names_count, same_size}
 use Rattle.link_image.proofs.ExportLemmas.{import_size, tree_size_is}

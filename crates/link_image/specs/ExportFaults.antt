@@ -1,6 +1,7 @@
 -- What is wrong with the exports of a link, beyond names that nothing defines (own).
 use Rattle.std.specs.Prelude.{ℕ, ◌+◌, Bool, true, false, ◌&&◌, ◌==◌, nat_le, nat_lt, if◌then◌else◌, List, map, Option, Some, None}
 use Rattle.std.specs.Option.{option_or}
+use Rattle.piece_bytes.specs.Extents.{rva_of}
 use Rattle.link_base.specs.Refusals.{first_standing}
 use Rattle.link_base.specs.declared.fault.Fault.{Fault}
 use Rattle.link_base.specs.declared.fault.Fault.TheVariants as faults
@@ -14,7 +15,7 @@ use Rattle.export_tables.specs.declared.row.ExportTo.TheVariants.{Rva, Forward}
 use Rattle.synthetic_sections.specs.LinkerPieces.{EXPORTS}
 use Rattle.link_pieces.specs.TablePieces.{KeptParts, table_index}
 use Rattle.link_fields.specs.ExportTargets.{export_target}
-use Rattle.link_image.specs.LinkedBytes.{rva_of, exported_row}
+use Rattle.link_image.specs.LinkedBytes.{exported_row}
 
 -- ---- before anything has a place
 

@@ -3,6 +3,7 @@
 -- own).
 use Rattle.std.specs.Prelude.{ℕ, ◌+◌, if◌then◌else◌, List, [], ◌∷◌, ◌++◌, length, map, slice_index, slice_index_or, Option, Some, None, option_map, ◌==◌, slice_set}
 use Rattle.std.specs.List.{range_with_len}
+use Rattle.piece_bytes.specs.Extents.{rva_of}
 use Rattle.link_base.specs.Refusals.{first_refusal_below}
 use Rattle.link_base.specs.declared.fault.Fault.{Fault}
 use Rattle.link_base.specs.declared.fault.Fault.TheVariants as faults
@@ -36,12 +37,7 @@ owners_in rows layout = owners rows (length layout.pieces.items)
 
 -- ---- the import tables
 
--- the RVA of a piece, or 0 where there is none
-abbrev pub rva_of : List ℕ → Option ℕ → ℕ
-rva_of rvas None = 0
-rva_of rvas (Some k) = slice_index rvas k
-
--- that of the table of a number
+-- the RVA of the table of a number, or 0 where there is none
 abbrev pub table_rva : KeptParts → Layout → ℕ → ℕ
 table_rva link layout number = rva_of layout.pieces.items (table_index link number)
 

@@ -1,5 +1,6 @@
 -- The image of modules: their pieces in sections, the places of these, and what they make. Own.
 use Rattle.std.specs.Prelude.{◌≡◌, ◌≤◌, ℕ, ◌+◌, ◌-◌, ◌<◌, ◌==◌, Bool, true, false, if◌then◌else◌, List, [], ◌∷◌, ◌++◌, length, slice_index, slice_index_or, Option, Some, None, codes}
+use Rattle.piece_bytes.specs.Extents.{extent_of}
 use Rattle.link_base.specs.Bytes.{u32_at, has_bytes}
 use Rattle.link_base.specs.Limits.{SECTION_LIMIT, IMAGE_LIMIT}
 use Rattle.link_base.specs.PeFormat.{SCN_CNT_INITIALIZED_DATA, SCN_MEM_DISCARDABLE, SCN_MEM_READ, DIRECTORY_ENTRY_EXPORT, DIRECTORY_ENTRY_IMPORT, DIRECTORY_ENTRY_RESOURCE}
@@ -108,11 +109,6 @@ table_directory layout [] = (0, 0)
 table_directory layout (table ∷ tables) = (slice_index layout.pieces.items (length layout.pieces.items - 1), length table)
 
 -- ---- the directories
-
--- the RVA and the size of a piece, where there is one
-abbrev pub extent_of : List Piece → List ℕ → Option ℕ → ℕ × ℕ
-extent_of pieces rvas None = (0, 0)
-extent_of pieces rvas (Some k) = (slice_index rvas k, (slice_index_or pieces k no_piece).size)
 
 -- the number of the import directory among the import tables
 abbrev pub DIRECTORY : ℕ

@@ -18,6 +18,7 @@ use link_base::pe_format::{SCN_CNT_INITIALIZED_DATA, SCN_MEM_DISCARDABLE, SCN_ME
 use link_base::{Fault, Memory, Name, Refusal};
 use link_plan::LinkPlan;
 use link_words::Options;
+use piece_bytes::rva_in;
 use section_group::OutSection;
 use std::alloc::Global;
 
@@ -168,14 +169,6 @@ pub(crate) fn entry_rva<'a>(
         None => 0,
         Some(place) => rva_in(placement.layout.pieces[place.piece as usize], place.value),
     }
-}
-
-/// The RVA of an offset in a piece, whose RVA is given.
-pub(crate) fn rva_in(rva: u32, offset: u32) -> u32
-    requires { rva < 2 ^ 32 → rva + offset < 2 ^ 32 }
-    ensures { result ≡ rva + offset }
-{
-    rva + offset
 }
 
 /// The RVA and the size of the table of base relocations, which is the last piece.

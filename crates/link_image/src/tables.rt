@@ -4,22 +4,24 @@ ghost use Rattle.std.specs.Prelude.{◌≡◌, ◌<◌, ◌^◌, ◌+◌, ℕ, S
 ghost use Rattle.std.specs.Option.{option_or};
 ghost use Rattle.section_group.specs.Uniqueness.{rows_of};
 ghost use Rattle.section_group.specs.PieceContents.{piece_contents};
+ghost use Rattle.piece_bytes.specs.Extents.{rva_of, extent_of};
 ghost use Rattle.link_pieces.specs.TablePieces.{KeptParts, whole_contents};
 ghost use Rattle.link_pieces.specs.PieceIndex.{is_numbered};
 ghost use Rattle.link_words.specs.Outcome.{options_said};
 ghost use Rattle.link_plan.specs.Plan.{IsPlanOf, kept_parts};
-ghost use Rattle.link_image.specs.LinkedBytes.{rva_of, import_tables_at, export_table_at, other_tables_at};
-ghost use Rattle.link_image.specs.LinkedImage.{extent_of, section_extent, resource_extent, place_extent, config_size, directories_of};
+ghost use Rattle.link_image.specs.LinkedBytes.{import_tables_at, export_table_at, other_tables_at};
+ghost use Rattle.link_image.specs.LinkedImage.{section_extent, resource_extent, place_extent, config_size, directories_of};
 ghost use Rattle.link_image.specs.NamedSections.{section_named};
 ghost use Rattle.link_image.specs.Steps.{numbered_indexes, reloc_tables, IsPlaced};
 
-use crate::placement::{Placement, rva_in, table_directory};
+use crate::placement::{Placement, table_directory};
 use image_headers::Directories;
 use import_tables::fill;
 use link_base::{Memory, Name, field_u32};
 use link_fields::EntryPlace;
 use link_plan::LinkPlan;
 use link_words::Options;
+use piece_bytes::{extent_of, rva_in, rva_of};
 use section_group::{OutSection, Piece};
 use std::alloc::Global;
 use synthetic_sections::{DEBUG_DATA, DEBUG_ENTRY, EXPORTS, RESOURCES, SLOTS};
@@ -220,27 +222,4 @@ fn table_rvas(rvas: &[u32], places: &[Option<usize>; 9]) -> [u32; 5]
         rva_of(rvas, places[3]),
         rva_of(rvas, places[4]),
     ]
-}
-
-/// The RVA of a piece, or 0 where there is none.
-fn rva_of(rvas: &[u32], place: Option<usize>) -> u32
-    requires { IfSome place (λ k. k < length rvas.now) }
-    ensures { result ≡ rva_of rvas.now place }
-{
-    match place {
-        None => 0,
-        Some(k) => rvas[k],
-    }
-}
-
-/// The RVA and the size of a piece, or zeros where there is none.
-fn extent_of(pieces: &[Piece<'_>], rvas: &[u32], place: Option<usize>) -> (u32, u32)
-    requires rva { IfSome place (λ k. k < length rvas.now) }
-    requires piece { IfSome place (λ k. k < length pieces.now) }
-    ensures { result ≡ extent_of pieces.now rvas.now place }
-{
-    match place {
-        None => (0, 0),
-        Some(k) => (rvas[k], pieces[k].size),
-    }
 }

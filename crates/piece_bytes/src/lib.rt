@@ -5,11 +5,13 @@
 //! left to others.
 #![tactic(auto)]
 
+mod extent;
 mod owners;
 mod place;
 mod reading;
 mod writing;
 
+pub use extent::{extent_of, rva_in, rva_of};
 pub use owners::owners_of;
 pub use place::place_in_section;
 pub use reading::read_pieces;

@@ -2,6 +2,7 @@ use Rattle.std.proofs.Common.{◌≡◌, ◌<◌, ◌+◌, ◌^◌, ℕ, length,
 use Rattle.std.specs.Prelude.{codes}
 use Rattle.section_group.specs.declared.piece.Piece.{Piece}
 use Rattle.link_words.specs.Outcome.{options_said}
+use Rattle.piece_bytes.specs.Extents.{extent_of}
 use Rattle.link_plan.specs.Plan.{kept_parts}
 use Rattle.image_headers.specs.declared.headers.Directories.{Directories}
 use Rattle.section_group.specs.PieceContents.{piece_contents}
@@ -9,7 +10,7 @@ use Rattle.section_group.specs.Uniqueness.{rows_of}
 use Rattle.link_fields.specs.declared.entry.EntryPlace.{EntryPlace}
 use Rattle.link_fields.specs.LoaderPlaces.{TLS_NAME, LOAD_CONFIG_NAME}
 use Rattle.link_plan.specs.Planned.{planned_loader}
-use Rattle.link_image.specs.LinkedImage.{extent_of, table_extent, section_extent, resource_extent, place_extent, config_size, table_directory, TLS_SIZE}
+use Rattle.link_image.specs.LinkedImage.{table_extent, section_extent, resource_extent, place_extent, config_size, table_directory, TLS_SIZE}
 use Rattle.link_image.specs.Steps.{reloc_tables}
 use Rattle.link_image.proofs.SectionLemmas.{sections_each}
 use Rattle.link_image.proofs.UsedLemmas.{tls_used, load_config_used}

@@ -3,9 +3,10 @@ use Rattle.std.proofs.lemmas.Result.{IfOk-weaker}
 use Rattle.import_tables.specs.declared.row.ImportRow.{ImportRow}
 use Rattle.import_tables.specs.ImportTables.{tables_of}
 use Rattle.link_words.specs.Outcome.{options_said}
+use Rattle.piece_bytes.specs.Extents.{rva_of}
 use Rattle.link_pieces.specs.TablePieces.{kept_rows}
 use Rattle.link_plan.specs.Plan.{kept_parts}
-use Rattle.link_image.specs.LinkedBytes.{rva_of, import_tables_at}
+use Rattle.link_image.specs.LinkedBytes.{import_tables_at}
 use Rattle.link_image.proofs.HeldLemmas.{imports_are}
 use Rattle.link_image.proofs.TableLemmas.{places_within, rvas_are, tables_end}
 use Rattle.link_image.proofs.tables.import_tables.Goals as goal

@@ -4,8 +4,9 @@ use Rattle.link_debug.specs.LinkDebug.{DebugView, no_identifier, entry_bytes, da
 use Rattle.link_resources.specs.LinkResources.{ResourcesView, tree_bytes}
 use Rattle.synthetic_sections.specs.LinkerPieces.{RESOURCES}
 use Rattle.link_words.specs.Outcome.{options_said}
+use Rattle.piece_bytes.specs.Extents.{rva_of}
 use Rattle.link_plan.specs.Plan.{kept_parts}
-use Rattle.link_image.specs.LinkedBytes.{rva_of, table_rva, export_table_at, debug_entry_at, resource_tree_at}
+use Rattle.link_image.specs.LinkedBytes.{table_rva, export_table_at, debug_entry_at, resource_tree_at}
 use Rattle.link_image.proofs.TableLemmas.{place_is, place_within, tree_end}
 use Rattle.link_image.proofs.tables.other_tables.Goals as goal
 

@@ -4,8 +4,9 @@ use Rattle.section_group.specs.declared.piece.Piece.{Piece}
 use Rattle.section_group.specs.Uniqueness.{rows_of}
 use Rattle.link_words.specs.Outcome.{options_said}
 use Rattle.link_resources.specs.LinkResources.{ResourcesView}
+use Rattle.piece_bytes.specs.Extents.{extent_of}
 use Rattle.link_plan.specs.Plan.{kept_parts}
-use Rattle.link_image.specs.LinkedImage.{extent_of, table_extent, section_extent}
+use Rattle.link_image.specs.LinkedImage.{table_extent, section_extent}
 use Rattle.link_image.proofs.TableLemmas.{counted, place_within, extent_is}
 use Rattle.link_image.proofs.tables.resource_extent.Goals as goal
 
