@@ -3,18 +3,17 @@ use Rattle.std.proofs.Common.{◌≡◌, ℕ, zero, suc, ◌+◌, ◌-◌, ◌<�
 use Rattle.std.specs.Prelude.{IfSome}
 use Rattle.std.specs.List.{list_any, range_with_len}
 use Rattle.std.specs.Ordering.{int_eq}
-use Rattle.std.proofs.lemmas.Bool.{false≢true}
+use Rattle.std.proofs.lemmas.Bool.{cases_lt, false≢true}
 use Rattle.std.proofs.lemmas.Bool.Decides.{eqb_tells, leb_tells, Decides-int_eq}
 use Rattle.std.proofs.lemmas.List.{ext_get_or, length-set, get_or-set_same, get_or-set_other}
 use Rattle.std.proofs.lemmas.List.Folds.{list_any_at}
 use Rattle.std.proofs.lemmas.List.FromFn.{get_or-map-range_with_len, length-map-range_with_len, get_or-range_with_len, length-range_with_len}
 use Rattle.coff_records.specs.ObjectFile.{section_total, starts_symbol, SymbolEntry, section_number_in, section_of_number, symbol_entries}
-use Rattle.coff_aux.specs.declared.comdat.Comdat.{Comdat}
 use Rattle.coff_aux.specs.declared.comdat.ComdatRecord.{ComdatRecord}
 use Rattle.coff_aux.specs.declared.comdat.SectionSymbols.{SectionSymbols}
-use Rattle.coff_aux.specs.Comdats.{stands_in, first_two, section_symbols_of, is_section_number, is_comdat, has_comdat, comdat_record_of, said_by_first, leader_name, parent_said, comdat_by}
-use Rattle.coff_aux.specs.Steps.{KeepsSymbols}
-use Rattle.coff_aux.specs.Steps.{all_section_symbols, no_symbols, with_symbol, noted_symbols, noted_at}
+use Rattle.coff_aux.specs.Comdats.{stands_in, first_two, section_symbols_of, is_section_number, is_comdat, has_comdat, comdat_record_of}
+use Rattle.coff_aux.specs.Steps.{KeepsRecords}
+use Rattle.coff_aux.specs.Steps.{all_section_symbols, all_comdat_records, no_symbols, with_symbol, noted_symbols, noted_at}
 use Rattle.coff_aux.proofs.StartLemmas.{starts_among}
 
 -- ---- the symbols of a section start at records
@@ -22,10 +21,6 @@ use Rattle.coff_aux.proofs.StartLemmas.{starts_among}
 first_is : (entry : SymbolEntry) (rest : List SymbolEntry) → (first_two (entry ∷ rest)).first ≡ Some entry.0
 first_is entry [] = refl
 first_is entry (other ∷ rest) = refl
-
-second_is : (entry : SymbolEntry) (rest : List SymbolEntry) → (first_two (entry ∷ rest)).second ≡ (first_two rest).first
-second_is entry [] = refl
-second_is entry (other ∷ rest) = sym (first_is other rest)
 
 some_same : (i j : ℕ) → Some i ≡ Some j → eqb i j ≡ true
 some_same i j is = elim (eqb_tells i j) [
@@ -52,25 +47,11 @@ first_among test (entry ∷ rest) j is = go (test entry) (first_among test rest 
     go true later is = ap (λ (b : Bool). b || list_any (λ (e : SymbolEntry). eqb e.0 j) rest) (some_same entry.0 j (sym (first_is entry (filter test rest)) ∙ is))
     go false later is = ap (λ (b : Bool). eqb entry.0 j || b) (later is) ∙ or_true (eqb entry.0 j)
 
-second_among : (test : SymbolEntry → Bool) (entries : List SymbolEntry) (j : ℕ) → (first_two (filter test entries)).second ≡ Some j → list_any (λ e. eqb e.0 j) entries ≡ true
-second_among test [] j is = absurd cc
-second_among test (entry ∷ rest) j is = ap (λ (b : Bool). eqb entry.0 j || b) (go (test entry) (second_among test rest j) is) ∙ or_true (eqb entry.0 j)
-  where
-    go : (b : Bool) → ((first_two (filter test rest)).second ≡ Some j → list_any (λ e. eqb e.0 j) rest ≡ true) → (first_two (cond b (entry ∷ filter test rest) (filter test rest))).second ≡ Some j → list_any (λ e. eqb e.0 j) rest ≡ true
-    go true later is = first_among test rest j (sym (second_is entry (filter test rest)) ∙ is)
-    go false later is = later is
-
 pub section_symbol_starts : (bytes : List ℕ) (section : ℕ) (first : Option ℕ) → first ≡ (section_symbols_of bytes section).first → IfSome first (λ j. starts_symbol bytes j ≡ true)
 unfolding section_symbols_of
 section_symbol_starts bytes section None is = tt
 section_symbol_starts bytes section (Some j) is =
     sym (starts_among bytes j) ∙ first_among (stands_in section) (symbol_entries bytes) j (sym is)
-
-pub leader_starts : (bytes : List ℕ) (section : ℕ) (second : Option ℕ) → second ≡ (section_symbols_of bytes section).second → IfSome second (λ j. starts_symbol bytes j ≡ true)
-unfolding section_symbols_of
-leader_starts bytes section None is = tt
-leader_starts bytes section (Some j) is =
-    sym (starts_among bytes j) ∙ second_among (stands_in section) (symbol_entries bytes) j (sym is)
 
 -- ---- one more symbol in a loop over all
 
@@ -194,7 +175,7 @@ all_noted symbols bytes entries count none each =
     ext_get_or no_symbols symbols (all_section_symbols bytes) (count ∙ sym (length-map-range_with_len (section_symbols_of bytes) 1 (section_total bytes)))
     (λ k lt. noted_all symbols bytes k entries none (each k lt) ∙ sym (get_or-map-range_with_len (section_symbols_of bytes) 1 (section_total bytes) k (k + 1) no_symbols (omega (arith, count)) (omega arith)))
 
--- ---- the symbols of COMDAT sections are kept
+-- ---- what COMDAT sections say is kept
 
 pub section_within : (count section : ℕ) → is_section_number count section ≡ true → (1 ≤ section) × (section ≤ count)
 section_within count section e = elim (leb_tells 1 section) [
@@ -205,12 +186,12 @@ section_within count section e = elim (leb_tells 1 section) [
   | inr none ↦ absurd (false≢true (sym (rw none.0 refl) ∙ e))
 ]
 
-pub kept_symbols : (bytes : List ℕ) (symbols : List SectionSymbols) → symbols ≡ all_section_symbols bytes → KeepsSymbols bytes symbols
-kept_symbols bytes symbols is section inside comdat =
+pub kept_records : (bytes : List ℕ) (records : List (Option ComdatRecord)) → records ≡ all_comdat_records bytes → KeepsRecords bytes records
+kept_records bytes records is section inside =
     let low = (section_within (section_total bytes) section inside).0 in
     let high = (section_within (section_total bytes) section inside).1 in
-    ap (λ (xs : List SectionSymbols). get_or xs (section - 1) no_symbols) is
-    ∙ get_or-map-range_with_len (section_symbols_of bytes) 1 (section_total bytes) (section - 1) section no_symbols (omega arith) (omega arith)
+    ap (λ (xs : List (Option ComdatRecord)). get_or xs (section - 1) None) is
+    ∙ get_or-map-range_with_len (comdat_record_of bytes) 1 (section_total bytes) (section - 1) section None (omega arith) (omega arith)
 
 -- ---- sections that are no COMDAT
 
@@ -221,10 +202,6 @@ no_comdat bytes section none low high = go (is_comdat bytes section) refl
     go true is = absurd (false≢true (sym none ∙ list_any_at (is_comdat bytes) (range_with_len 1 (section_total bytes)) (section - 1) 0 (omega (arith, length-range_with_len 1 (section_total bytes))) (ap (is_comdat bytes) (get_or-range_with_len 1 (section_total bytes) (section - 1) 0 (omega arith) ∙ omega arith) ∙ is)))
     go false is = refl
 
-pub none_kept : (bytes : List ℕ) (symbols : List SectionSymbols) → has_comdat bytes ≡ false → KeepsSymbols bytes symbols
-none_kept bytes symbols none section inside comdat =
-    absurd (false≢true (sym (no_comdat bytes section none (section_within (section_total bytes) section inside).0 (section_within (section_total bytes) section inside).1) ∙ comdat))
-
 none_said : (bytes : List ℕ) (section : ℕ) → is_comdat bytes section ≡ false → comdat_record_of bytes section ≡ None
 unfolding comdat_record_of
 none_said bytes section is = rw is refl
@@ -233,18 +210,26 @@ none_said bytes section is = rw is refl
 pub no_records : (bytes : List ℕ) → has_comdat bytes ≡ false → (k : ℕ) → k < section_total bytes → comdat_record_of bytes (k + 1) ≡ None
 no_records bytes none k lt = none_said bytes (k + 1) (no_comdat bytes (k + 1) none (omega arith) (omega arith))
 
--- ---- a COMDAT section, by its first two symbols
+pub none_kept : (bytes : List ℕ) → has_comdat bytes ≡ false → KeepsRecords bytes []
+none_kept bytes none section inside =
+    sym (none_said bytes section (no_comdat bytes section none (section_within (section_total bytes) section inside).0 (section_within (section_total bytes) section inside).1))
 
-pub comdat_by_symbols : (bytes : List ℕ) (section : ℕ) (noted : SectionSymbols) (said : ComdatRecord) (leader : Option (List ℕ)) (parent : Option ℕ) → is_comdat bytes section ≡ true → noted ≡ section_symbols_of bytes section → said ≡ said_by_first bytes noted.first → leader ≡ leader_name bytes noted.second → parent ≡ parent_said said → Some (record { selection = said.selection; leader = leader; parent = parent }) ≡ comdat_by (leader_name bytes (section_symbols_of bytes section).second) (comdat_record_of bytes section)
-unfolding comdat_record_of
-comdat_by_symbols bytes section noted said leader parent comdat kept said_is leader_is parent_is =
-    let name = leader_name bytes (section_symbols_of bytes section).second in
-    let said_same = said_is ∙ ap (λ (symbols : SectionSymbols). said_by_first bytes symbols.first) kept in
-    let leader_same = leader_is ∙ ap (λ (symbols : SectionSymbols). leader_name bytes symbols.second) kept in
-    rw comdat
-    (ap (λ (p : Option ℕ). Some (comdat_with said.selection leader p)) parent_is
-    ∙ ap (λ (l : Option (List ℕ)). Some (comdat_with said.selection l (parent_said said))) leader_same
-    ∙ ap (λ (x : ComdatRecord). Some (comdat_with x.selection name (parent_said x))) said_same)
+-- ---- a section that says something is a COMDAT
+
+pub says_as_comdat : (bytes : List ℕ) (section : ℕ) (said : ComdatRecord) → comdat_record_of bytes section ≡ Some said → is_comdat bytes section ≡ true
+says_as_comdat bytes section said is = go (is_comdat bytes section) refl
   where
-    comdat_with : ℕ → Option (List ℕ) → Option ℕ → Comdat
-    comdat_with selection leader parent = record { selection = selection; leader = leader; parent = parent }
+    go : (b : Bool) → is_comdat bytes section ≡ b → b ≡ true
+    go true e = refl
+    go false e = absurd (let h = sym (none_said bytes section e) ∙ is in cc)
+
+-- ---- some section is one
+
+pub some_said : (bytes : List ℕ) (records : List (Option ComdatRecord)) → has_comdat bytes ≡ true → records ≡ all_comdat_records bytes → 0 < length records
+some_said bytes records some is = elim (cases_lt 0 (section_total bytes)) [
+  | inl lt ↦ omega (arith, ap (λ (xs : List (Option ComdatRecord)). length xs) is, length-map-range_with_len (comdat_record_of bytes) 1 (section_total bytes), lt)
+  | inr none ↦ absurd (let h = sym (ap (λ (n : ℕ). list_any (is_comdat bytes) (range_with_len 1 n)) (zero_total none)) ∙ some in cc)
+]
+  where
+    zero_total : section_total bytes ≤ 0 → section_total bytes ≡ 0
+    zero_total le = omega (arith, le)

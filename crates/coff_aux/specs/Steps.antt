@@ -1,17 +1,17 @@
 -- What the passes over symbols and over sections say of an object, and what is kept of its COMDAT sections. It decides
 -- nothing.
-use Rattle.std.specs.Prelude.{◌≡◌, ℕ, zero, suc, ◌+◌, ◌-◌, ℤ, Bool, true, List, [], ◌∷◌, length, map, slice_index_or, slice_set, Option, Some, None, option_map}
+use Rattle.std.specs.Prelude.{◌≡◌, ℕ, zero, suc, ◌+◌, ◌-◌, ℤ, Bool, true, false, List, [], ◌∷◌, length, map, slice_index_or, slice_set, Option, Some, None, option_map}
 use Rattle.std.specs.Borrow.{Bor}
 use Rattle.std.specs.List.{range_with_len}
 use Rattle.link_base.specs.Bytes.{first_below}
 use Rattle.link_base.specs.Refusals.{first_standing}
 use Rattle.link_base.specs.declared.kinds.object.ObjFault.TheVariants as kind
-use Rattle.coff_records.specs.ObjectFile.{section_total, section_of_number}
+use Rattle.coff_records.specs.ObjectFile.{section_total, section_of_number, starts_symbol}
 use Rattle.coff_object.specs.ObjectFaults.{least_place, row}
 use Rattle.coff_object.specs.declared.error.ObjError.{ObjError}
 use Rattle.coff_aux.specs.declared.comdat.ComdatRecord.{ComdatRecord}
 use Rattle.coff_aux.specs.declared.comdat.SectionSymbols.{SectionSymbols}
-use Rattle.coff_aux.specs.Comdats.{is_section_number, is_comdat, section_symbols_of, comdat_record_of, parent_in}
+use Rattle.coff_aux.specs.Comdats.{is_section_number, section_symbols_of, comdat_record_of, parent_in}
 use Rattle.coff_aux.specs.Parents.{comes_back}
 use Rattle.coff_aux.specs.AuxFaults.{fails_of, lacks_symbol, has_no_selection, has_no_parent}
 
@@ -44,17 +44,17 @@ noted_at symbols (suc k) index = slice_set symbols k (with_symbol (slice_index_o
 unfoldable pub noted_symbols : List SectionSymbols → ℤ → ℕ → List SectionSymbols
 noted_symbols symbols section index = noted_at symbols (section_of_number section) index
 
--- the first two symbols of each COMDAT section
-abbrev pub KeepsSymbols : List ℕ → List SectionSymbols → Type 0
-KeepsSymbols bytes symbols =
-    (section : ℕ) → is_section_number (section_total bytes) section ≡ true → is_comdat bytes section ≡ true
-    → slice_index_or symbols (section - 1) no_symbols ≡ section_symbols_of bytes section
-
 -- ---- COMDAT sections
 
 -- what each says of itself, by the sections' numbers from 1
 abbrev pub all_comdat_records : List ℕ → List (Option ComdatRecord)
 all_comdat_records bytes = map (comdat_record_of bytes) (range_with_len 1 (section_total bytes))
+
+-- what is kept of it; where no section is a COMDAT, nothing need be kept
+abbrev pub KeepsRecords : List ℕ → List (Option ComdatRecord) → Type 0
+KeepsRecords bytes records =
+    (section : ℕ) → is_section_number (section_total bytes) section ≡ true
+    → slice_index_or records (section - 1) None ≡ comdat_record_of bytes section
 
 -- the parents that records say, by the sections' numbers; 0 stands in front
 abbrev pub parents_in : List (Option ComdatRecord) → List ℕ
@@ -83,3 +83,9 @@ record_fault symbol_records records =
     ∷ row kind.Selection (first_record records has_no_selection)
     ∷ row kind.Associative (parent_place_in records)
     ∷ [])
+
+-- ---- where symbols start
+
+-- a mark for each record, whether a symbol starts there
+abbrev pub HasStarts : List ℕ → List Bool → Type 0
+HasStarts bytes starts = (symbol : ℕ) → slice_index_or starts symbol false ≡ starts_symbol bytes symbol

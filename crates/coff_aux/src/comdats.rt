@@ -1,17 +1,17 @@
 //! What COMDAT sections say of themselves, read by one pass over the symbols of an object.
 
-ghost use Rattle.std.specs.Prelude.{◌≡◌, ◌<◌, ◌≤◌, ◌-◌, ◌^◌, true, length, slice_index_or, IfSome, IfOk};
+ghost use Rattle.std.specs.Prelude.{◌≡◌, ◌<◌, ◌≤◌, ◌^◌, true, length, IfSome, IfOk};
 ghost use Rattle.link_base.specs.Bytes.{has_flag};
 ghost use Rattle.link_base.specs.PeFormat.{SCN_LNK_COMDAT};
 ghost use Rattle.coff_records.specs.ObjectFile.{section_total, starts_symbol};
-ghost use Rattle.coff_aux.specs.Comdats.{section_symbols_of, said_by_symbol, said_by_first, comdat_record_of, is_associative, is_section_number, parent_in, leader_name, parent_said, comdat_by};
-ghost use Rattle.coff_aux.specs.Steps.{KeepsSymbols, all_section_symbols, all_comdat_records, no_symbols, parents_in, with_symbol, noted_symbols};
+ghost use Rattle.coff_aux.specs.Comdats.{section_symbols_of, said_by_symbol, said_by_first, comdat_record_of, is_associative, is_section_number, parent_in, parent_said};
+ghost use Rattle.coff_aux.specs.Steps.{all_section_symbols, all_comdat_records, parents_in, with_symbol, noted_symbols};
 
 use crate::aux_records::{COMDAT_SELECT_ASSOCIATIVE, associated_in, first_aux, selection_in};
-use crate::comdat::{Comdat, ComdatRecord, SectionSymbols};
+use crate::comdat::{ComdatRecord, SectionSymbols};
 use coff_object::Object;
-use link_base::pe_format::{SCN_LNK_COMDAT, SYM_CLASS_EXTERNAL, SYM_CLASS_STATIC, SYM_UNDEFINED};
-use link_base::{Memory, Name};
+use link_base::Memory;
+use link_base::pe_format::{SCN_LNK_COMDAT, SYM_CLASS_STATIC, SYM_UNDEFINED};
 use std::alloc::Global;
 
 /// Of a section without symbols.
@@ -147,59 +147,8 @@ fn said_by_symbol(object: &Object<'_>, symbol: u32) -> ComdatRecord
     }
 }
 
-/// The name of a leader, where it is external.
-#[tactic(auto, unfolding(crate::specs::Comdats::leader_name))]
-pub(crate) fn leader_name<'a>(object: &Object<'a>, second: Option<u32>) -> Option<Name<'a>>
-    requires { IfSome second (λ symbol. starts_symbol object.now symbol ≡ true) }
-    ensures { result ≡ leader_name object.now second }
-{
-    let Some(symbol) = second else {
-        return None;
-    };
-    let leader = object.symbol_record(symbol);
-    if leader.class() == SYM_CLASS_EXTERNAL {
-        Some(leader.name())
-    } else {
-        None
-    }
-}
-
-/// As which COMDAT a section goes, by the first two symbols of each.
-#[tactic(auto, unfolding(crate::specs::Comdats::comdat_record_of))]
-pub fn comdat_in<'a>(
-    object: &Object<'a>,
-    number: u32,
-    symbols: &[SectionSymbols],
-) -> Option<Comdat<'a>>
-    requires section { is_section_number (section_total object.now) number ≡ true }
-    requires kept { KeepsSymbols object.now symbols.now }
-    ensures { result ≡ comdat_by (leader_name object.now (section_symbols_of object.now number).second) (comdat_record_of object.now number) }
-{
-    if !is_comdat(object.section_flags(number)) {
-        return None;
-    }
-    let noted = symbols_at(symbols, number);
-    let said = said_by_first(object, noted.first);
-    Some(Comdat {
-        selection: said.selection,
-        leader: leader_name(object, noted.second),
-        parent: parent_said(&said),
-    })
-}
-
-/// The first two symbols of a section.
-fn symbols_at(symbols: &[SectionSymbols], number: u32) -> SectionSymbols
-    requires { 1 ≤ number }
-    ensures { result ≡ slice_index_or symbols.now (number - 1) no_symbols }
-{
-    match symbols.get(number as usize - 1) {
-        Some(noted) => *noted,
-        None => NO_SYMBOLS,
-    }
-}
-
 /// The section that a COMDAT section is selected with, where its selection says so.
-fn parent_said(said: &ComdatRecord) -> Option<u32>
+pub fn parent_said(said: &ComdatRecord) -> Option<u32>
     ensures { result ≡ parent_said said.now }
 {
     if is_associative(said) {

@@ -10,11 +10,13 @@ mod comdats;
 mod faults;
 mod laws;
 mod parents;
+mod starts;
 mod weaks;
 
 pub use aux_records::{characteristics_in, first_aux, tag_in};
 pub use comdat::{Comdat, ComdatRecord, SectionSymbols};
-pub use comdats::{comdat_in, comdat_records, is_comdat, is_section_number, section_symbols};
+pub use comdats::{comdat_records, is_comdat, is_section_number, parent_said, section_symbols};
 pub use faults::record_fault;
 pub use laws::circles_come_twice;
+pub use starts::{is_start, symbol_starts};
 pub use weaks::first_bad_weak;

@@ -7,3 +7,4 @@ pub mod Readable
 pub mod LongTextLemmas
 pub mod CallerLemmas
 mod WorkedObjects
+pub mod FormLemmas

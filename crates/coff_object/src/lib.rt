@@ -8,6 +8,7 @@
 
 mod error;
 mod fault;
+mod forms;
 mod long_texts;
 mod object;
 mod section;
@@ -18,6 +19,7 @@ mod well_formed;
 
 pub use coff_records::{Relocation, Relocations, SymbolRecord, Symbols, is_big_object};
 pub use error::ObjError;
+pub use forms::form_shown;
 pub use long_texts::LongTexts;
 pub use object::Object;
 pub use section::Section;

@@ -11,7 +11,7 @@ use crate::section::{Section, section_in};
 use crate::symbol::{Symbol, symbol_in};
 use crate::well_formed::is_well_formed;
 use coff_records::{
-    CoffFile, Relocation, Relocations, SymbolRecord, Symbols, name_offset, relocation_at,
+    CoffFile, Relocation, Relocations, SymbolRecord, Symbols, data_in, name_offset, relocation_at,
     relocation_count, relocations_place, section_name_start, string_table,
 };
 use link_base::Name;
@@ -103,6 +103,16 @@ impl<'a> Object<'a> {
         ensures { result ≡ raw_size_of self.now i }
     {
         self.file.section_header(i).size()
+    }
+
+    /// The data of a section, by its number: none where it is uninitialised.
+    pub fn section_body(&self, i: u32) -> Option<&'a [u8]>
+        requires first { 1 ≤ i }
+        requires last { i ≤ section_total self.now }
+        ensures { option_copied result ≡ body_of self.now i }
+    {
+        let header = self.file.section_header(i);
+        data_in(self.file.bytes(), &header)
     }
 
     /// The first bytes of a section's name, at most `limit`: a name that is longer costs no more.

@@ -47,10 +47,10 @@ fn section_parents(alloc: Global, module: &Module<'_>) -> Result<Vec<u32>, Memor
 fn section_parent(module: &Module<'_>, count: u32, section: u32) -> u32
     ensures { result ≡ parent_by count (chosen_by «module».now.bytes section) }
 {
-    let Some(comdat) = module.comdat(section) else {
+    let Some(choice) = module.comdat_choice(section) else {
         return 0;
     };
-    match comdat.parent {
+    match choice.parent {
         Some(parent) if is_section_number(count, parent) => parent,
         _ => 0,
     }

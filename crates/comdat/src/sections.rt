@@ -4,7 +4,6 @@ ghost use Rattle.std.specs.Prelude.{◌≡◌, ◌+◌, ◌≤◌, ◌++◌, ◌
 ghost use Rattle.std.specs.List.{All, AllZip, range_with_len};
 ghost use Rattle.link_base.specs.Limits as limit;
 ghost use Rattle.coff_records.specs.ObjectFile.{section_total};
-ghost use Rattle.coff_aux.specs.Comdats.{has_comdat};
 ghost use Rattle.module_view.specs.Module.{module_at};
 ghost use Rattle.module_view.specs.ImportModule.{module_definitions};
 ghost use Rattle.symbol_names.specs.Interning.{NotesDefinition, NotesModule};
@@ -17,7 +16,6 @@ ghost use Rattle.comdat.specs.Numbering.{HasNumber};
 use crate::candidate::Candidate;
 use crate::chosen_by::ChosenBy;
 use crate::named::Named;
-use coff_aux::is_comdat;
 use coff_object::Object;
 use indexmap::IndexSet;
 use link_base::{Memory, Name};
@@ -82,30 +80,18 @@ fn read_module<'a>(
     ensures row { IfOk result (λ row. row.items ≡ all_chosen_by «module».now.bytes) }
 {
     let mut row = Vec::new(alloc);
+    if !module.has_comdat() {
+        return Ok(row);
+    }
     let Some(object) = module.object() else {
         return Ok(row);
     };
-    if !has_comdat(object) {
-        return Ok(row);
-    }
     row.reserve(object.section_count() as usize)?;
     for index in 0..object.section_count() {
         let by = read_section(entries, position, module, object, noted, index + 1)?;
         row.push(by)?;
     }
     Ok(row)
-}
-
-/// Whether some section is a COMDAT section.
-fn has_comdat(object: &Object<'_>) -> bool
-    ensures { result ≡ has_comdat object.now }
-{
-    for index in 0..object.section_count() {
-        if is_comdat(object.section_flags(index + 1)) {
-            return true;
-        }
-    }
-    false
 }
 
 /// By what a section is chosen. It is appended, where it goes by a name.
@@ -128,9 +114,6 @@ fn read_section<'a>(
         → All (HasNumber keys) entries.old.items → All (HasNumber keys) entries.new.items) }
     ensures by { IfOk result (λ by. by ≡ chosen_by «module».now.bytes section) }
 {
-    if !is_comdat(object.section_flags(section)) {
-        return Ok(ChosenBy::Itself);
-    }
     let Some(choice) = module.comdat_choice(section) else {
         return Ok(ChosenBy::Itself);
     };
@@ -145,7 +128,6 @@ fn read_section<'a>(
     let Some(leader) = leader else {
         return Ok(ChosenBy::Itself);
     };
-    let header = object.section(section);
     entries.push(Named {
         name: module.definitions()[leader as usize].name.again(),
         number: noted[leader as usize].name,
@@ -153,8 +135,8 @@ fn read_section<'a>(
             module: position,
             section,
             selection,
-            size: header.size,
-            body: header.body,
+            size: object.section_size(section),
+            body: object.section_body(section),
         },
     })?;
     Ok(ChosenBy::Group)

@@ -13,7 +13,7 @@ use Rattle.link_base.specs.Refusals.{first_refusal_below}
 use Rattle.link_base.proofs.RefusalLemmas.{first_refusal_below-found}
 use Rattle.link_base.specs.NameText.{begins}
 use Rattle.lib_reader.specs.LibraryWalk.{has_magic}
-use Rattle.module_view.specs.Opening.{resource_start}
+use Rattle.coff_object.specs.Forms.{resource_start}
 use Rattle.module_view.specs.Module.{ModuleView}
 use Rattle.file_search.specs.declared.found.FoundFile.{FoundFile as Found}
 use Rattle.file_search.specs.FoundFiles.{FoundFile, no_file}

@@ -13,7 +13,8 @@ use Rattle.lib_reader.specs.LibraryWalk.{listing_of, long_names_of}
 use Rattle.lib_reader.specs.MemberFault.{member_fault}
 use Rattle.file_search.specs.FoundFiles.{FoundFile, no_file}
 use Rattle.module_view.specs.Module.{ModuleView}
-use Rattle.lib_search.specs.Joining.{bad_library, joining_fault}
+use Rattle.par_read.specs.Joining.{joining_fault}
+use Rattle.lib_search.specs.LibraryFaults.{bad_library}
 use Rattle.lib_search.specs.OpenLibraries.{ListsBelow, ListsSoFar}
 use Rattle.lib_search.proofs.ListingLemmas.{same_item}
 use Rattle.lib_search.specs.SearchSteps.{MemberPlace, place_in, listing_at, name_of_member, member_fault_in}

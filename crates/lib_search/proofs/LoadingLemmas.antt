@@ -26,7 +26,7 @@ use Rattle.file_search.specs.Reading.{LeavesFiles, Tries, GivesNamed, ReadsNamed
 use Rattle.lib_search.specs.declared.loading.Loading.{Loading}
 use Rattle.lib_search.specs.declared.search.Search.{Search}
 use Rattle.lib_search.specs.LinkOf.{link_of}
-use Rattle.lib_search.specs.Joining.{no_library}
+use Rattle.lib_search.specs.LibraryFaults.{no_library}
 use Rattle.lib_search.specs.SearchSteps.{MemberPlace, Searched, SearchState, Faults, Goes, goes_unless, member_at, with_module, with_member, with_library, after_default, default_step_as, default_step, join_step, wants_library, next_default, next_member, next_step}
 use Rattle.lib_search.specs.Loading.{state_in, state_after_one, state_after, Reaches, HasLoadingFault, AtStep}
 use Rattle.lib_search.specs.AlternateParts.{KeepsSearch}

@@ -23,7 +23,8 @@ use Rattle.file_search.specs.InputFiles.{text_at, input_file, input_files, total
 use Rattle.resource_files.specs.SaidFaults.{fault_said}
 use Rattle.resource_files.specs.Held.{is_resource_file, entries_among, merges_resources, resource_fault}
 use Rattle.resource_files.proofs.SaidLemmas.{IsPlain, plain_fault, plain_or, plain_if, plain_first, resource_plain}
-use Rattle.lib_search.specs.Joining.{module_fault, brings_resources, second_fault, count_fault, joining_fault, bad_library, no_library}
+use Rattle.par_read.specs.Joining.{module_fault, brings_resources, second_fault, count_fault, joining_fault}
+use Rattle.lib_search.specs.LibraryFaults.{bad_library, no_library}
 use Rattle.lib_search.specs.Inputs.{is_library, modules_among, file_fault, opening_fault_at, opening_fault}
 use Rattle.lib_search.specs.SearchSteps.{MemberPlace, SearchState, Ends, Faults, Goes, goes_unless, name_of_member, library_at, header_fault, member_fault_in, join_fault, with_member, join_step, after_default, default_fault, default_step_as, default_step, wants_library, next_default, next_member, next_step}
 use Rattle.lib_search.specs.Loading.{HasLoadingFault, AtRead, AtOpening, AtStep}

@@ -11,7 +11,8 @@ use Rattle.module_view.specs.ImportModule.{file_view}
 use Rattle.res_merge.specs.Entries.{Entry}
 use Rattle.file_search.specs.FoundFiles.{FoundFile, no_file}
 use Rattle.resource_files.specs.Held.{is_resource_file, entries_among, merges_resources, resource_fault}
-use Rattle.lib_search.specs.Joining.{brings_resources, joining_fault, no_library}
+use Rattle.par_read.specs.Joining.{brings_resources, joining_fault}
+use Rattle.lib_search.specs.LibraryFaults.{no_library}
 
 abbrev pub is_library : FoundFile → Bool
 is_library found = has_magic found.bytes

@@ -1,5 +1,5 @@
 pub mod LinkOf
-pub mod Joining
+pub mod LibraryFaults
 pub mod Inputs
 pub mod OpenedFiles
 pub mod SearchSteps

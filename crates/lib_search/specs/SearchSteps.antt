@@ -21,7 +21,8 @@ use Rattle.link_words.specs.Outcome.{LinkOptions}
 use Rattle.file_search.specs.FoundFiles.{FoundFile, no_file, read_fault}
 use Rattle.file_search.specs.InputFiles.{text_at, input_file}
 use Rattle.file_search.specs.DefaultLibraries.{default_libraries}
-use Rattle.lib_search.specs.Joining.{joining_fault, bad_library, no_library}
+use Rattle.par_read.specs.Joining.{joining_fault}
+use Rattle.lib_search.specs.LibraryFaults.{bad_library, no_library}
 
 -- a member of a library, by the library's place among all of them and the offset of the member's header
 abbrev pub MemberPlace : Type 0

@@ -7,7 +7,6 @@
 
 mod alternates;
 mod asked;
-mod join;
 mod library;
 mod link_list;
 mod loading;

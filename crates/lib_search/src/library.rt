@@ -7,16 +7,15 @@ ghost use Rattle.link_base.specs.Limits.{FILE_LIMIT as most_bytes, MODULE_LIMIT 
 ghost use Rattle.link_base.specs.NameText.{same_name};
 ghost use Rattle.link_base.specs.Refusals.{RefusesFor};
 ghost use Rattle.file_search.specs.FoundFiles.{FoundFile, no_file};
-ghost use Rattle.lib_search.specs.Joining.{bad_library, no_library};
+ghost use Rattle.lib_search.specs.LibraryFaults.{bad_library, no_library};
 ghost use Rattle.lib_search.specs.OpenLibraries.{ListsBelow};
 ghost use Rattle.lib_search.specs.SearchSteps.{library_at, first_listing, member_view, member_fault_in};
 
-use crate::join::join_opened;
 use indexmap::IndexMap;
 use lib_reader::{LibError, Library};
 use link_base::{Fault, Memory, Name, Refusal};
 use module_view::{Module, Origin};
-use par_read::{Job, open_job};
+use par_read::{Job, join_opened, open_job};
 use std::alloc::Global;
 use std::marker::Model;
 

@@ -19,7 +19,7 @@ ghost use Rattle.lib_search.specs.Inputs.{opening_fault};
 ghost use Rattle.lib_search.specs.Loading.{inputs_state};
 ghost use Rattle.lib_search.specs.AlternateParts.{KeepsSearch};
 ghost use Rattle.lib_search.specs.LoadingSteps.{state_now, KeepsLoading, ReadsDefault};
-ghost use Rattle.lib_search.specs.Joining.{no_library};
+ghost use Rattle.lib_search.specs.LibraryFaults.{no_library};
 ghost use Rattle.lib_search.specs.SearchParts.{IsFresh};
 ghost use Rattle.lib_search.specs.SearchSteps.{join_fault, with_member, with_library, wants_library};
 

@@ -8,11 +8,10 @@ ghost use Rattle.res_merge.specs.Entries.{entry_of};
 ghost use Rattle.resource_files.specs.SaidFaults.{RefusesSaid};
 ghost use Rattle.resource_files.specs.Held.{entries_in, entries_among, merges_resources, resource_fault};
 ghost use Rattle.resource_files.specs.Parts.{KeepsResources};
-ghost use Rattle.lib_search.specs.Joining.{brings_resources};
+ghost use Rattle.par_read.specs.Joining.{brings_resources};
 ghost use Rattle.lib_search.specs.Inputs.{modules_among, libraries_among, file_fault, opening_fault};
 ghost use Rattle.lib_search.specs.OpenedFiles.{AnswersFile};
 
-use crate::join::join_opened;
 use crate::library::{OpenLibrary, push_library};
 use crate::opened_files::{job_of, next_answer, open_modules};
 use file_search::FoundFile;
@@ -20,7 +19,7 @@ use lib_reader::begins_library;
 use link_base::{Fault, Kind, Memory, Refusal};
 use link_files::Gate;
 use module_view::Module;
-use par_read::Answer;
+use par_read::{Answer, join_opened};
 use resource_files::{ResourceFiles, begins_resources};
 use std::alloc::Global;
 use std::thread::Threads;
@@ -53,7 +52,7 @@ pub(crate) fn open_inputs<'a, R: Threads + Sync, G: Gate>(
     ensures refused { IfErr result (RefusesSaid (opening_fault (files_found files.now))) }
 {
     let mut opened = OpenInputs {
-        modules: Vec::new(alloc),
+        modules: Vec::with_capacity(alloc, files.len())?,
         brings: false,
         libraries: Vec::new(alloc),
         resource_files: ResourceFiles::new(alloc),

@@ -69,7 +69,7 @@ fn jobs_among<'a>(alloc: Global, files: &[FoundFile<'a>]) -> Result<Vec<Job<'a>>
     ensures jobs { IfOk result (λ jobs. jobs.items ≡ jobs_among files.now) }
     ensures short { IfOk result (λ jobs. All (λ job. length job.bytes.now ≤ most_bytes) jobs.items) }
 {
-    let mut jobs = Vec::new(alloc);
+    let mut jobs = Vec::with_capacity(alloc, files.len())?;
     for file in files {
         if is_module(file) {
             jobs.push(job_of(file))?;

@@ -3,8 +3,8 @@
 ghost use Rattle.std.specs.Prelude.{◌≡◌};
 ghost use Rattle.link_fields.specs.Pdata.{is_pdata};
 
-use module_view::has_base_name;
 use section_group::Piece;
+use section_rules::has_base_name;
 
 /// Whether a piece is one of the exception table, by its base name.
 #[tactic(auto, unfolding(crate::specs::Pdata::is_pdata))]

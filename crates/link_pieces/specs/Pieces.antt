@@ -5,7 +5,7 @@ use Rattle.std.specs.List.{range_with_len, flat_map, list_any}
 use Rattle.coff_records.specs.ObjectFile.{section_total, section_name_of, raw_size_of, flags_of, alignment_of, is_uninitialised, body_of}
 use Rattle.section_group.specs.declared.piece.Piece.{Piece}
 use Rattle.module_view.specs.Module.{module_at}
-use Rattle.module_view.specs.PlacedSection.{is_placed}
+use Rattle.section_rules.specs.PlacedSection.{is_placed}
 use Rattle.module_view.specs.SymbolLists.{definitions_of}
 use Rattle.module_view.specs.declared.definition.Common.{Common}
 use Rattle.module_view.specs.declared.definition.Definition.{Definition}

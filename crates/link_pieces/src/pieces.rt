@@ -8,7 +8,7 @@ ghost use Rattle.section_group.specs.BarePieces.{bare};
 ghost use Rattle.address_layout.specs.Layout.{IsAlignment};
 ghost use Rattle.section_group.specs.PieceContents.{piece_contents, HasItsBytes};
 ghost use Rattle.module_view.specs.Opening.{IsOpened};
-ghost use Rattle.module_view.specs.PlacedSection.{is_placed};
+ghost use Rattle.section_rules.specs.PlacedSection.{is_placed};
 ghost use Rattle.link_directives.specs.Alignments.{AreAsked};
 ghost use Rattle.link_pieces.specs.Commons.{is_meant_common, meant_commons, common_piece, HasFewSections, FIRST_COMMON};
 ghost use Rattle.link_pieces.specs.Rows.{HasSomePlace};
@@ -24,8 +24,9 @@ use coff_object::{Object, Section};
 use link_base::Memory;
 use link_directives::CommonAlignments;
 use link_imports::push_thunks;
-use module_view::{Common, Module, comes_in};
+use module_view::{Common, Module};
 use section_group::Piece;
+use section_rules::comes_in;
 use std::alloc::Global;
 
 /// So many pieces are enough for the tables, which come after the others.

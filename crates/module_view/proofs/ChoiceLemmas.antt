@@ -1,15 +1,19 @@
--- What a section says of itself as a COMDAT section, by the place of its leader.
-use Rattle.std.proofs.Common.{◌≡◌, ℕ, ◌≤◌, true, cond, eqb, List, Option, Some, None, refl, sym, ap, ◌∙◌}
+-- What a section says of itself as a COMDAT section, by the place of its leader, and what is kept of it.
+use Rattle.std.proofs.Common.{◌≡◌, ℕ, ◌-◌, ◌<◌, ◌≤◌, true, false, not, List, [], length, get_or, Option, Some, None, refl, sym, ap, subst, ◌∙◌, arith}
 use Rattle.std.specs.Prelude.{option_map}
-use Rattle.std.specs.Option.{MatchOption, option_and_then}
-use Rattle.std.proofs.lemmas.Bool.{eq-eqb}
-use Rattle.coff_records.specs.ObjectFile.{symbol_name_of, symbol_class_of}
-use Rattle.coff_aux.specs.AuxRecords.{COMDAT_SELECT_ASSOCIATIVE, first_aux, said_by, selection_in, associated_in}
+use Rattle.std.specs.Option.{IfSome, MatchOption}
+use Rattle.std.proofs.lemmas.Bool.{eq-eqb, ne_eqb, false≢true}
+use Rattle.std.proofs.lemmas.List.FromFn.{get_or-map-range_with_len, length-map-range_with_len}
+use Rattle.coff_records.specs.ObjectFile.{section_total, symbol_name_of, symbol_class_of}
 use Rattle.coff_aux.specs.declared.comdat.Comdat.{Comdat}
+use Rattle.coff_aux.specs.declared.comdat.ComdatRecord.{ComdatRecord}
 use Rattle.coff_aux.specs.declared.comdat.SectionSymbols.{SectionSymbols}
-use Rattle.coff_aux.specs.Comdats.{is_comdat, section_symbols_of, said_by_symbol, said_by_first, comdat_record_of, leader_name, parent_said, comdat_by}
+use Rattle.coff_aux.specs.Comdats.{has_comdat, section_symbols_of, comdat_record_of, leader_name, parent_said, comdat_by}
+use Rattle.coff_aux.specs.Steps.{no_symbols, all_section_symbols, all_comdat_records}
+use Rattle.coff_aux.proofs.CallerLemmas.{kept_records, some_said, no_comdat, section_within, none_kept as no_records_kept}
+use Rattle.module_view.specs.declared.definition.Definition.{Definition}
 use Rattle.module_view.specs.SymbolLists.{definitions_of}
-use Rattle.module_view.specs.Choices.{no_definition, definition_at, name_defined, comdat_named, IsPlaceOf}
+use Rattle.module_view.specs.Choices.{no_definition, definition_at, name_defined, comdat_named, IsPlaceOf, IsLeaderOf, AreLeaders, KeepsComdats}
 use Rattle.module_view.proofs.DefinitionLemmas.{IsExternal, definitions_are, second_internal}
 
 -- ---- the leader
@@ -24,37 +28,62 @@ leader_by_place bytes section (Some j) (Some k) first is found =
     rw (eq-eqb (symbol_class_of bytes j) 2 (ap (symbol_class_of bytes) (sym found.symbol_is) ∙ external.class_is))
     (ap Some (external.name_is ∙ ap (symbol_name_of bytes) found.symbol_is))
 
--- ---- what the section symbol says
+-- a leader is among the definitions
+pub leader_among : (definitions : List Definition) (second leader : Option ℕ) → IsLeaderOf definitions second leader → IfSome leader (λ k. k < length definitions)
+leader_among definitions None leader none = subst (λ (o : Option ℕ). IfSome o (λ k. k < length definitions)) (sym none) tt
+leader_among definitions (Some symbol) None absent = tt
+leader_among definitions (Some symbol) (Some k) found = found.within
 
-abbrev pub parent_by : ℕ → Option (List ℕ) → Option ℕ
-parent_by selection aux = cond (eqb selection COMDAT_SELECT_ASSOCIATIVE) (Some (said_by associated_in aux)) None
+-- ---- a COMDAT section, by what is kept of it
 
-selection_by_aux : (bytes : List ℕ) (first : Option ℕ) → said_by selection_in (option_and_then (first_aux bytes) first) ≡ (said_by_first bytes first).selection
-unfolding said_by_symbol
-selection_by_aux bytes None = refl
-selection_by_aux bytes (Some symbol) = refl
+-- what says nothing is no COMDAT
+pub nothing_said : (bytes : List ℕ) (section : ℕ) → comdat_record_of bytes section ≡ None → comdat_by (leader_name bytes (section_symbols_of bytes section).second) (comdat_record_of bytes section) ≡ None
+nothing_said bytes section none = ap (comdat_by (leader_name bytes (section_symbols_of bytes section).second)) none
 
-parent_by_aux : (bytes : List ℕ) (first : Option ℕ) → parent_by (said_by_first bytes first).selection (option_and_then (first_aux bytes) first) ≡ parent_said (said_by_first bytes first)
-unfolding said_by_symbol
-parent_by_aux bytes None = refl
-parent_by_aux bytes (Some symbol) = refl
-
--- ---- a COMDAT section
-
-pub choice_by_parts : (bytes : List ℕ) (section : ℕ) (noted : SectionSymbols) (aux : Option (List ℕ)) (selection : ℕ) (leader parent : Option ℕ) → is_comdat bytes section ≡ true → 1 ≤ section → noted ≡ section_symbols_of bytes section → aux ≡ option_and_then (first_aux bytes) noted.first → selection ≡ said_by selection_in aux → parent ≡ parent_by selection aux → MatchOption noted.second (leader ≡ None) (λ symbol. IsPlaceOf (definitions_of bytes) symbol leader) → Some (comdat_named (definitions_of bytes) (record { selection = selection; leader = leader; parent = parent })) ≡ comdat_by (leader_name bytes (section_symbols_of bytes section).second) (comdat_record_of bytes section)
-unfolding comdat_record_of
-choice_by_parts bytes section noted aux selection leader parent comdat first kept aux_is selection_is parent_is placed =
-    let symbols = section_symbols_of bytes section in
-    let said = said_by_first bytes symbols.first in
-    let aux_same : aux ≡ option_and_then (first_aux bytes) symbols.first = aux_is ∙ ap (λ (s : SectionSymbols). option_and_then (first_aux bytes) s.first) kept in
-    let selection_same : selection ≡ said.selection = selection_is ∙ ap (said_by selection_in) aux_same ∙ selection_by_aux bytes symbols.first in
-    let parent_same : parent ≡ parent_said said = parent_is ∙ ap (λ (a : Option (List ℕ)). parent_by selection a) aux_same ∙ ap (λ (s : ℕ). parent_by s (option_and_then (first_aux bytes) symbols.first)) selection_same ∙ parent_by_aux bytes symbols.first in
-    let leader_same : option_map (name_defined (definitions_of bytes)) leader ≡ leader_name bytes symbols.second =
-    leader_by_place bytes section noted.second leader first (ap (λ (s : SectionSymbols). s.second) kept) placed ∙ ap (λ (s : SectionSymbols). leader_name bytes s.second) kept in
-    rw comdat
-    (ap (λ (s : ℕ). Some (comdat_with s (option_map (name_defined (definitions_of bytes)) leader) parent)) selection_same
-    ∙ ap (λ (l : Option (List ℕ)). Some (comdat_with said.selection l parent)) leader_same
-    ∙ ap (λ (p : Option ℕ). Some (comdat_with said.selection (leader_name bytes symbols.second) p)) parent_same)
+pub choice_by_record : (bytes : List ℕ) (section : ℕ) (said : ComdatRecord) (leader parent : Option ℕ) → comdat_record_of bytes section ≡ Some said → 1 ≤ section → parent ≡ parent_said said → IsLeaderOf (definitions_of bytes) (section_symbols_of bytes section).second leader → Some (comdat_named (definitions_of bytes) (record { selection = said.selection; leader = leader; parent = parent })) ≡ comdat_by (leader_name bytes (section_symbols_of bytes section).second) (comdat_record_of bytes section)
+choice_by_record bytes section said leader parent says first parent_is placed =
+    let second = (section_symbols_of bytes section).second in
+    let leader_same : option_map (name_defined (definitions_of bytes)) leader ≡ leader_name bytes second = leader_by_place bytes section second leader first refl placed in
+    ap (λ (p : Option ℕ). Some (comdat_with said.selection (option_map (name_defined (definitions_of bytes)) leader) p)) parent_is
+    ∙ ap (λ (l : Option (List ℕ)). Some (comdat_with said.selection l (parent_said said))) leader_same
+    ∙ ap (comdat_by (leader_name bytes second)) (sym says)
   where
     comdat_with : ℕ → Option (List ℕ) → Option ℕ → Comdat
     comdat_with selection leader parent = record { selection = selection; leader = leader; parent = parent }
+
+-- ---- what is kept
+
+-- nothing, where no section is a COMDAT
+pub none_kept : (bytes : List ℕ) (records : List (Option ComdatRecord)) (leaders : List (Option ℕ)) → has_comdat bytes ≡ false → records ≡ [] → leaders ≡ [] → KeepsComdats bytes records leaders
+none_kept bytes records leaders none no_records no_leaders =
+    subst (λ (rs : List (Option ComdatRecord)). KeepsComdats bytes rs leaders) (sym no_records)
+    record {
+      some = none;
+      says = no_records_kept bytes none;
+      leads = λ section inside comdat. absurd (false≢true (sym (no_comdat bytes section none (section_within (section_total bytes) section inside).0 (section_within (section_total bytes) section inside).1) ∙ comdat));
+    }
+
+pub all_kept : (bytes : List ℕ) (symbols : List SectionSymbols) (records : List (Option ComdatRecord)) (leaders : List (Option ℕ)) (definitions : List Definition) → has_comdat bytes ≡ true → symbols ≡ all_section_symbols bytes → records ≡ all_comdat_records bytes → definitions ≡ definitions_of bytes → AreLeaders definitions symbols leaders → KeepsComdats bytes records leaders
+all_kept bytes symbols records leaders definitions some noted read defined placed = record {
+  some = some ∙ sym (ap not (ne_eqb (length records) 0 (λ empty. absurd (omega (arith, empty, some_said bytes records some read)))));
+  says = kept_records bytes records read;
+  leads = λ section inside comdat. leader_of section (section_within (section_total bytes) section inside);
+}
+  where
+    noted_at : (section : ℕ) → (1 ≤ section) × (section ≤ section_total bytes) → get_or symbols (section - 1) no_symbols ≡ section_symbols_of bytes section
+    noted_at section within =
+        let low = within.0 in
+        let high = within.1 in
+        ap (λ (xs : List SectionSymbols). get_or xs (section - 1) no_symbols) noted
+        ∙ get_or-map-range_with_len (section_symbols_of bytes) 1 (section_total bytes) (section - 1) section no_symbols (omega arith) (omega arith)
+
+    count : length symbols ≡ section_total bytes
+    count = ap (λ (xs : List SectionSymbols). length xs) noted ∙ length-map-range_with_len (section_symbols_of bytes) 1 (section_total bytes)
+
+    leader_of : (section : ℕ) → (1 ≤ section) × (section ≤ section_total bytes) → IsLeaderOf (definitions_of bytes) (section_symbols_of bytes section).second (get_or leaders (section - 1) None)
+    leader_of section within =
+        let low = within.0 in
+        let high = within.1 in
+        subst (λ (ds : List Definition). IsLeaderOf ds (section_symbols_of bytes section).second (get_or leaders (section - 1) None)) defined
+        (subst (λ (s : SectionSymbols). IsLeaderOf definitions s.second (get_or leaders (section - 1) None)) (noted_at section within)
+        (placed (section - 1) (omega (arith, count))))

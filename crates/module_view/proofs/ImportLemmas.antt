@@ -10,16 +10,17 @@ use Rattle.coff_records.specs.StringTable.{string_table_offset, string_table_siz
 use Rattle.coff_aux.specs.Comdats.{parents_of, has_comdat}
 use Rattle.coff_aux.specs.Parents.{ancestor}
 use Rattle.coff_aux.specs.AuxFaults.{aux_place, parent_place, aux_fault}
-use Rattle.coff_aux.proofs.CallerLemmas.{none_kept}
 use Rattle.module_view.specs.SymbolLists.{definitions_of, references_of, weaks_of, commons_of}
 use Rattle.module_view.specs.ModuleParts.{KeepsLists}
 use Rattle.module_view.specs.ImportModule.{no_object}
-use Rattle.module_view.specs.Opening.{resource_start, form_error, content_error, opening_error}
+use Rattle.coff_object.specs.Forms.{form_shown, resource_start}
+use Rattle.module_view.specs.Opening.{content_error, opening_error}
 use Rattle.module_view.specs.Resources.{has_resources}
 use Rattle.module_view.proofs.CallerLemmas.{opened_sound}
+use Rattle.module_view.proofs.ChoiceLemmas.{none_kept}
 
 pub nothing_opens : opening_error no_object ≡ None
-unfolding module_says number_at first_below is_truncated table_leaves first_section first_of is_other_machine first_torn_record symbol_range_fault string_table_fault object_fault starts_within big_object_class is_big_object header_size symbol_size machine_of section_total section_headers_offset symbols_offset record_total string_table_offset string_table_size string_table parents_of ancestor aux_place parent_place aux_fault no_object resource_start form_error content_error opening_error
+unfolding module_says number_at first_below is_truncated table_leaves first_section first_of is_other_machine first_torn_record symbol_range_fault string_table_fault object_fault starts_within big_object_class is_big_object header_size symbol_size machine_of section_total section_headers_offset symbols_offset record_total string_table_offset string_table_size string_table parents_of ancestor aux_place parent_place aux_fault no_object resource_start form_shown content_error opening_error
 nothing_opens = refl
 
 pub nothing_is_short : length no_object < 4294967296
@@ -47,10 +48,10 @@ unfolding has_resources number_at big_object_class is_big_object header_size sec
 no_resources = refl
 
 -- it has no lists
-pub nothing_kept : (bytes object : List ℕ) → bytes ≡ no_object → object ≡ no_object → KeepsLists bytes object [] [] [] [] [] [] [] false
+pub nothing_kept : (bytes object : List ℕ) → bytes ≡ no_object → object ≡ no_object → KeepsLists bytes object [] [] [] [] [] [] [] [] false
 unfolding definitions_of references_of weaks_of commons_of starts_symbol
 nothing_kept bytes object nothing same =
-    subst (λ (bs : List ℕ). KeepsLists bs object [] [] [] [] [] [] [] false) (sym nothing)
+    subst (λ (bs : List ℕ). KeepsLists bs object [] [] [] [] [] [] [] [] false) (sym nothing)
     record {
       opened = nothing_opens;
       viewed = same;
@@ -59,7 +60,7 @@ nothing_kept bytes object nothing same =
       weak = rw no_symbols refl;
       common = rw no_symbols refl;
       started = λ some. absurd cc;
-      comdats = none_kept no_object [] no_comdat;
+      comdats = none_kept no_object [] [] no_comdat refl refl;
       said_are = no_directives;
       resources_are = no_resources;
     }

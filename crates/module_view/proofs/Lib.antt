@@ -1,4 +1,3 @@
-pub mod BaseNameLemmas
 pub mod CallerLemmas
 pub mod SectionLemmas
 pub mod SymbolLemmas

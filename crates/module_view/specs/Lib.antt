@@ -1,6 +1,5 @@
 pub mod Module
 pub mod Opening
-pub mod PlacedSection
 pub mod SymbolLists
 pub mod ImportModule
 pub mod ModuleDirectives

@@ -1,17 +1,16 @@
 -- Which bytes do not open as a module, and why. Of a short import: its faults, then a name that is too long. Of other bytes: the
 -- forms that the first bytes show, then the faults of the object, then the forms that its names show, then the faults of
 -- auxiliary records, then malformed directives. The order is own.
-use Rattle.std.specs.Prelude.{◌≡◌, ℕ, Bool, ◌||◌, ◌&&◌, not, ◌==◌, nat_lt, if◌then◌else◌, List, [], ◌∷◌, length, Option, Some, None, option_map, codes}
+use Rattle.std.specs.Prelude.{◌≡◌, ℕ, Bool, ◌||◌, nat_lt, if◌then◌else◌, List, [], ◌∷◌, length, Option, Some, None, option_map}
 use Rattle.std.specs.List.{list_any}
-use Rattle.link_base.specs.Bytes.{u16_at, has_bytes}
 use Rattle.link_base.specs.Limits.{NAME_LIMIT}
-use Rattle.link_base.specs.NameText.{same_name, begins}
 use Rattle.link_base.specs.Refusals.{shown, first_standing}
-use Rattle.link_base.specs.SectionName.{base_name}
 use Rattle.link_base.specs.declared.kinds.form.Kind.{Kind}
 use Rattle.link_base.specs.declared.kinds.form.Kind.TheVariants as form
-use Rattle.coff_records.specs.ObjectFile.{is_big_object, section_name_of, name_in, symbol_entries}
+use Rattle.coff_records.specs.ObjectFile.{section_name_of, name_in, symbol_entries}
+use Rattle.coff_object.specs.Forms.{form_shown}
 use Rattle.coff_object.specs.ObjectFaults.{object_fault}
+use Rattle.section_rules.specs.SoughtNames.{is_linker_section}
 use Rattle.module_view.specs.declared.error.ModuleError.{ModuleError}
 use Rattle.module_view.specs.declared.error.ModuleError.TheVariants as error
 use Rattle.module_view.specs.Module.{ModuleView}
@@ -24,46 +23,9 @@ use Rattle.module_view.specs.ImportModule.{is_short_import}
 
 -- ---- the first bytes
 
--- an archive that names its members and does not hold them (LLVM, "llvm-ar", thin archives)
-abbrev pub thin_library_start : List ℕ
-thin_library_start = codes "!<thin>"
-
--- LLVM, "LLVM Bitcode File Format", "Magic Numbers"
-abbrev pub bitcode_start : List ℕ
-bitcode_start = 0x42 ∷ 0x43 ∷ 0xC0 ∷ 0xDE ∷ []
-
--- PE Format, "MS-DOS Stub (Image Only)"
-abbrev pub image_start : List ℕ
-image_start = codes "MZ"
-
--- the empty entry that a resource file begins with (Windows, "Resource File Formats"): its data size, its
--- header's size, and the numbers 0 as its type and its name
-unfoldable pub resource_start : List ℕ
-resource_start =
-    0 ∷ 0 ∷ 0 ∷ 0 ∷ 0x20 ∷ 0 ∷ 0 ∷ 0 ∷ 0xFF ∷ 0xFF ∷ 0 ∷ 0 ∷ 0xFF ∷ 0xFF ∷ 0 ∷ 0 ∷ []
-
--- no machine, and 0xFFFF in the place of the count of sections (PE Format, "Import Header")
-abbrev pub anonymous_start : List ℕ
-anonymous_start = 0 ∷ 0 ∷ 0xFF ∷ 0xFF ∷ []
-
--- a version follows, and is not 0, which is that of a short import; the object is not a big one
-abbrev pub is_anonymous : List ℕ → Bool
-is_anonymous bytes =
-    begins bytes anonymous_start && (has_bytes bytes 4 2 && (not (u16_at bytes 4 == 0) && not (is_big_object bytes)))
-
-abbrev pub unsupported : Bool → Kind → Option ModuleError
-unsupported stands kind = shown stands (error.Unsupported kind)
-
--- the first form that the first bytes show, of those that are never read
-unfoldable pub form_error : List ℕ → Option ModuleError
-form_error bytes =
-    first_standing
-    (unsupported (begins bytes thin_library_start) form.ThinLibrary
-    ∷ unsupported (begins bytes bitcode_start) form.Bitcode
-    ∷ unsupported (begins bytes image_start) form.Image
-    ∷ unsupported (begins bytes resource_start) form.Resource
-    ∷ unsupported (is_anonymous bytes) form.Anonymous
-    ∷ [])
+-- the form that they show, of those that are not read as an object
+abbrev pub form_error : List ℕ → Option ModuleError
+form_error bytes = option_map error.Unsupported (form_shown bytes)
 
 -- ---- the object
 
@@ -72,10 +34,8 @@ object_error bytes = option_map error.Object (object_fault bytes)
 
 -- ---- its names, its auxiliary records and its directives
 
--- a section that the linker makes itself: a part of the import tables, or the base relocations (PE Format, "The
--- .idata Section" and "The .reloc Section (Image Only)"); that it is refused is own
-unfoldable pub is_linker_section : List ℕ → Bool
-is_linker_section name = begins name (codes ".idata$") || same_name (base_name name) (codes ".reloc")
+abbrev pub unsupported : Bool → Kind → Option ModuleError
+unsupported stands kind = shown stands (error.Unsupported kind)
 
 abbrev pub is_long : List ℕ → Bool
 is_long name = nat_lt NAME_LIMIT (length name)

@@ -1,9 +1,9 @@
 -- What the passes over sections and over symbols say of an object. It decides nothing.
-use Rattle.std.specs.Prelude.{◌≡◌, ℕ, Bool, false, ◌==◌, List, [], ◌∷◌, length, slice_index_or, Option}
+use Rattle.std.specs.Prelude.{◌≡◌, ℕ, Bool, false, ◌==◌, List, [], ◌∷◌, length, Option}
 use Rattle.link_base.specs.Refusals.{shown, first_standing}
 use Rattle.link_base.specs.declared.kinds.form.Kind.{Kind}
 use Rattle.link_base.specs.declared.kinds.form.Kind.TheVariants as form
-use Rattle.coff_records.specs.ObjectFile.{starts_symbol}
+use Rattle.coff_aux.specs.Steps.{HasStarts}
 use Rattle.module_view.specs.declared.reference.Weak.{Weak}
 use Rattle.module_view.specs.Opening.{has_linker_section, has_long_section_name}
 
@@ -12,10 +12,6 @@ unfoldable pub section_form : List ℕ → Option Kind
 section_form bytes =
     first_standing
     (shown (has_linker_section bytes) form.LinkerSection ∷ shown (has_long_section_name bytes) form.LongName ∷ [])
-
--- a mark for each record, whether a symbol starts there
-abbrev pub HasStarts : List ℕ → List Bool → Type 0
-HasStarts bytes starts = (symbol : ℕ) → slice_index_or starts symbol false ≡ starts_symbol bytes symbol
 
 -- the marks are made where there are weak externals
 abbrev pub KeepsStarts : List ℕ → List Weak → List Bool → Type 0

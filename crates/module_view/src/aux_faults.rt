@@ -1,39 +1,41 @@
 //! What is wrong with the auxiliary records of an object.
 
-ghost use Rattle.std.specs.Prelude.{◌≡◌, ◌<◌, ◌^◌, ℕ, false, None, length, slice_index_or, option_map, IfOk, OnOk, IfErr};
+ghost use Rattle.std.specs.Prelude.{◌≡◌, ◌<◌, ◌^◌, [], ℕ, false, None, length, slice_index_or, option_map, IfOk, OnOk, IfErr};
 ghost use Rattle.link_base.specs.declared.kinds.object.ObjFault.TheVariants as kind;
 ghost use Rattle.coff_records.specs.ObjectFile.{starts_symbol, symbol_entries};
 ghost use Rattle.coff_object.specs.ObjectFaults.{object_fault, first_of};
 ghost use Rattle.coff_aux.specs.Comdats.{has_comdat};
 ghost use Rattle.coff_aux.specs.AuxFaults.{aux_fault, is_bad_weak};
-ghost use Rattle.coff_aux.specs.Steps.{KeepsSymbols};
-ghost use Rattle.module_view.specs.SymbolLists.{weaks_of};
+ghost use Rattle.module_view.specs.Choices.{KeepsComdats};
+ghost use Rattle.module_view.specs.SymbolLists.{definitions_of, weaks_of};
 ghost use Rattle.module_view.specs.Steps.{KeepsStarts};
 ghost use Rattle.module_view.specs.declared.error.ModuleError.TheVariants as error;
 ghost use Rattle.module_view.specs.Opening.{RefusesToOpen};
 
+use crate::comdat_choice::{ComdatLists, leaders_of};
 use crate::error::ModuleError;
 use crate::reference::Weak;
 use crate::symbols::SymbolLists;
-use coff_aux::{SectionSymbols, comdat_records, first_bad_weak, record_fault, section_symbols};
+use coff_aux::{comdat_records, first_bad_weak, record_fault, section_symbols};
 use coff_object::{ObjError, Object};
 use link_base::ObjFault;
 use std::alloc::Global;
 
-/// Judges the auxiliary records of weak externals and of COMDAT sections, where there are any. It gives the first two symbols
-/// of each such section.
+/// Judges the auxiliary records of weak externals and of COMDAT sections, where there are any. It gives what is kept of those
+/// sections.
 pub(crate) fn judge_aux(
     alloc: Global,
     object: &Object<'_>,
     lists: &SymbolLists<'_>,
     any_comdat: bool,
-) -> Result<Vec<SectionSymbols>, ModuleError>
+) -> Result<ComdatLists, ModuleError>
     requires sound { object_fault object.now ≡ None }
     requires short { length object.now < 2 ^ 32 }
+    requires definitions { lists.now.definitions.items ≡ definitions_of object.now }
     requires weaks { lists.now.weaks.items ≡ weaks_of object.now }
     requires starts { KeepsStarts object.now lists.now.weaks.items lists.now.starts.items }
     requires comdat { any_comdat ≡ has_comdat object.now }
-    ensures symbols { IfOk result (λ symbols. KeepsSymbols object.now symbols.items) }
+    ensures comdats { IfOk result (λ comdats. KeepsComdats object.now comdats.records.items comdats.leaders.items) }
     ensures accepted { OnOk result (aux_fault object.now ≡ None) }
     ensures refused { IfErr result (RefusesToOpen (option_map error.Object (aux_fault object.now))) }
 {
@@ -41,13 +43,27 @@ pub(crate) fn judge_aux(
         return Err(aux_error(index));
     }
     if !any_comdat {
-        return Ok(Vec::new(alloc));
+        return Ok(no_comdats(alloc));
     }
     let symbols = section_symbols(alloc, object)?;
     let records = comdat_records(alloc, object, &symbols)?;
     match record_fault(alloc, object.record_count(), &records)? {
         Some(error) => Err(ModuleError::Object(error)),
-        None => Ok(symbols),
+        None => {
+            let leaders = leaders_of(alloc, &symbols, &lists.definitions)?;
+            Ok(ComdatLists { records, leaders })
+        }
+    }
+}
+
+/// What is kept where no section is a COMDAT section.
+fn no_comdats(alloc: Global) -> ComdatLists
+    ensures records { result.records.items ≡ [] }
+    ensures leaders { result.leaders.items ≡ [] }
+{
+    ComdatLists {
+        records: Vec::new(alloc),
+        leaders: Vec::new(alloc),
     }
 }
 

@@ -1,23 +1,18 @@
-//! What COMDAT sections say of themselves, with their leaders by their places among the definitions of a module: no name is
-//! read.
+//! What COMDAT sections say of themselves, as it is kept of a module, with their leaders by their places among its definitions.
 
-ghost use Rattle.std.specs.Prelude.{◌≡◌, ◌≤◌, ◌-◌, true, length, slice_index_or, option_map, IfSome, Some, None, if◌then◌else◌, ◌==◌};
-ghost use Rattle.std.specs.Option.{MatchOption, option_and_then, option_copied};
-ghost use Rattle.link_base.specs.PeFormat as pe;
-ghost use Rattle.coff_records.specs.ObjectFile.{section_total, starts_symbol};
-ghost use Rattle.coff_aux.specs.AuxRecords.{COMDAT_SELECT_ASSOCIATIVE, first_aux, said_by, selection_in, associated_in};
-ghost use Rattle.coff_aux.specs.Comdats.{section_symbols_of, comdat_record_of, is_section_number, leader_name, comdat_by, comdat_of};
-ghost use Rattle.coff_aux.specs.Steps.{KeepsSymbols, no_symbols};
-ghost use Rattle.module_view.specs.Choices.{comdat_named, HasLeaderAmong, AscendBySymbol, IsPlaceOf};
+ghost use Rattle.std.specs.Prelude.{◌≡◌, ◌<◌, None, length, slice_index_or, option_map, IfSome, IfOk};
+ghost use Rattle.coff_aux.specs.Comdats.{has_comdat, comdat_of};
+ghost use Rattle.module_view.specs.Choices.{name_defined, comdat_named, HasLeaderAmong, AscendBySymbol, IsPlaceOf, IsLeaderOf, AreLeaders, KeepsComdats};
 ghost use Rattle.module_view.specs.ImportModule.{module_definitions};
 ghost use Rattle.module_view.specs.Opening.{IsOpened};
 ghost use Rattle.module_view.specs.SymbolLists.{definitions_of};
 
 use crate::definition::Definition;
 use crate::input_module::{Content, Module};
-use coff_aux::aux_records::{COMDAT_SELECT_ASSOCIATIVE, associated_in, selection_in};
-use coff_aux::{SectionSymbols, first_aux, is_comdat, is_section_number};
+use coff_aux::{Comdat, ComdatRecord, SectionSymbols, is_section_number, parent_said};
 use coff_object::Object;
+use link_base::{Memory, Name};
+use std::alloc::Global;
 
 /// What a COMDAT section says of itself: how one of several is selected (1 to 6, as the PE Format specification numbers
 /// selections), the index among the module's definitions of its leader, where that is external, and the section that it is
@@ -29,127 +24,161 @@ pub struct ComdatChoice {
     pub parent: Option<u32>,
 }
 
-/// Of a section without symbols.
-const NO_SYMBOLS: SectionSymbols = SectionSymbols {
-    first: None,
-    second: None,
-};
+/// What is kept of the COMDAT sections of an object, by the numbers of sections less 1: nothing where no section is one.
+#[derive(Drop)]
+pub(crate) struct ComdatLists {
+    /// What each says of itself.
+    pub(crate) records: Vec<Option<ComdatRecord>>,
+    /// The place of its leader among the definitions.
+    pub(crate) leaders: Vec<Option<u32>>,
+}
 
 impl<'a> Module<'a> {
-    /// As which COMDAT a section goes, by its number, with its leader by its place among the definitions: none where there is
-    /// no such section, or it is no COMDAT.
-    #[tactic(auto, unfolding(coff_aux::specs::Comdats::comdat_of))]
+    /// Whether some section is a COMDAT section.
+    pub fn has_comdat(&self) -> bool
+        ensures { result ≡ has_comdat self.now.bytes }
+    {
+        match &self.content {
+            Content::Object(parts) => !parts.comdats.records.is_empty(),
+            Content::Import(_) => false,
+        }
+    }
+
+    /// As which COMDAT a section goes, by its number: none where there is no such section, or it is no COMDAT.
+    pub fn comdat(&self, i: u32) -> Option<Comdat<'a>>
+        ensures comdat { result ≡ comdat_of self.now.bytes i }
+        ensures opened { IsOpened self.now }
+    {
+        let choice = self.comdat_choice(i)?;
+        Some(Comdat {
+            selection: choice.selection,
+            leader: leader_name(self.definitions(), choice.leader),
+            parent: choice.parent,
+        })
+    }
+
+    /// The same with its leader by its place among the definitions.
     pub fn comdat_choice(&self, i: u32) -> Option<ComdatChoice>
         ensures comdat { option_map (comdat_named (module_definitions self.now)) result ≡ comdat_of self.now.bytes i }
         ensures leader { IfSome result (HasLeaderAmong (module_definitions self.now)) }
         ensures opened { IsOpened self.now }
     {
-        if !is_section_number(self.object.section_count(), i) {
-            return None;
-        }
         match &self.content {
             Content::Object(parts) => {
-                choice_in(&self.object, i, &parts.comdats, &parts.lists.definitions)
+                choice_at(
+                    &self.object,
+                    &parts.comdats.records,
+                    &parts.comdats.leaders,
+                    i,
+                )
             }
-            Content::Import(_) => choice_in(&self.object, i, &[], &[]),
+            Content::Import(_) => choice_at(&self.object, &[], &[], i),
         }
     }
 }
 
-/// As which COMDAT a section goes, by the first two symbols of each and by the definitions of all symbols.
-#[tactic(auto, unfolding(coff_aux::specs::Comdats::comdat_record_of))]
-fn choice_in(
+/// As which COMDAT a section goes, by what is kept of all.
+#[tactic(auto, unfolding(coff_aux::specs::Comdats::comdat_of))]
+fn choice_at(
     object: &Object<'_>,
+    records: &[Option<ComdatRecord>],
+    leaders: &[Option<u32>],
     number: u32,
-    symbols: &[SectionSymbols],
-    definitions: &[Definition<'_>],
 ) -> Option<ComdatChoice>
-    requires section { is_section_number (section_total object.now) number ≡ true }
-    requires kept { KeepsSymbols object.now symbols.now }
-    requires defined { definitions.now ≡ definitions_of object.now }
-    ensures comdat { option_map (comdat_named definitions.now) result
-        ≡ comdat_by (leader_name object.now (section_symbols_of object.now number).second) (comdat_record_of object.now number) }
-    ensures leader { IfSome result (HasLeaderAmong definitions.now) }
+    requires { KeepsComdats object.now records.now leaders.now }
+    ensures comdat { option_map (comdat_named (definitions_of object.now)) result ≡ comdat_of object.now number }
+    ensures leader { IfSome result (HasLeaderAmong (definitions_of object.now)) }
 {
-    if !is_comdat(object.section_flags(number)) {
+    if !is_section_number(object.section_count(), number) {
         return None;
     }
-    let noted = symbols_at(symbols, number);
-    let aux = section_aux(object, noted.first);
-    let selection = selection_said(aux);
+    let place = number as usize - 1;
+    let said = record_at(records, place)?;
     Some(ComdatChoice {
-        selection,
-        leader: leader_place(definitions, noted.second),
-        parent: parent_said(selection, aux),
+        selection: said.selection,
+        leader: leader_at(leaders, place),
+        parent: parent_said(&said),
     })
 }
 
-/// The first two symbols of a section.
-fn symbols_at(symbols: &[SectionSymbols], number: u32) -> SectionSymbols
-    requires { 1 ≤ number }
-    ensures { result ≡ slice_index_or symbols.now (number - 1) no_symbols }
+fn record_at(records: &[Option<ComdatRecord>], place: usize) -> Option<ComdatRecord>
+    ensures { result ≡ slice_index_or records.now place None }
 {
-    match symbols.get(number as usize - 1) {
-        Some(noted) => *noted,
-        None => NO_SYMBOLS,
-    }
-}
-
-// ---- what the section symbol says
-
-/// The first auxiliary record of a section symbol, where there is one.
-fn section_aux<'a>(object: &Object<'a>, first: Option<u32>) -> Option<&'a [u8]>
-    requires { IfSome first (λ symbol. starts_symbol object.now symbol ≡ true) }
-    ensures aux { option_copied result ≡ option_and_then (first_aux object.now) first }
-    ensures whole { IfSome result (λ aux. pe.SIZEOF_SYMBOL ≤ length aux.now) }
-{
-    let symbol = first?;
-    first_aux(object, symbol, object.symbol_record(symbol).aux())
-}
-
-/// The selection that an auxiliary record says, 0 without one.
-fn selection_said(aux: Option<&[u8]>) -> u8
-    requires { IfSome aux (λ aux. pe.SIZEOF_SYMBOL ≤ length aux.now) }
-    ensures { result ≡ said_by selection_in (option_copied aux.entry) }
-{
-    match aux {
-        Some(aux) => selection_in(aux),
-        None => 0,
-    }
-}
-
-/// The section that a section with this selection is selected with, where its selection says so.
-fn parent_said(selection: u8, aux: Option<&[u8]>) -> Option<u32>
-    requires { IfSome aux (λ aux. pe.SIZEOF_SYMBOL ≤ length aux.now) }
-    ensures { result ≡ (if selection == COMDAT_SELECT_ASSOCIATIVE then Some (said_by associated_in (option_copied aux.entry)) else None) }
-{
-    if selection != COMDAT_SELECT_ASSOCIATIVE {
-        return None;
-    }
-    match aux {
-        Some(aux) => Some(associated_in(aux)),
-        None => Some(0),
-    }
-}
-
-// ---- the leader
-
-/// The place of a leader among the definitions, where it is one of them.
-fn leader_place(definitions: &[Definition<'_>], second: Option<u32>) -> Option<u32>
-    requires { AscendBySymbol definitions.now }
-    ensures { MatchOption second (result ≡ None) (λ symbol. IsPlaceOf definitions.now symbol result) }
-{
-    match second {
-        Some(symbol) => place_of_symbol(definitions, symbol),
+    match records.get(place) {
+        Some(said) => *said,
         None => None,
     }
 }
 
-/// The place of the definition of a symbol. Definitions stand in the order of their symbols.
-fn place_of_symbol(definitions: &[Definition<'_>], symbol: u32) -> Option<u32>
+fn leader_at(leaders: &[Option<u32>], place: usize) -> Option<u32>
+    ensures { result ≡ slice_index_or leaders.now place None }
+{
+    match leaders.get(place) {
+        Some(leader) => *leader,
+        None => None,
+    }
+}
+
+/// The name of a leader, by its place among the definitions.
+fn leader_name<'a>(definitions: &[Definition<'a>], leader: Option<u32>) -> Option<Name<'a>>
+    requires { IfSome leader (λ place. place < length definitions.now) }
+    ensures { result ≡ option_map (name_defined definitions.now) leader }
+{
+    match leader {
+        Some(place) => Some(definitions[place as usize].name.again()),
+        None => None,
+    }
+}
+
+// ---- the leaders
+
+/// The place of each section's leader among the definitions, which stand in the order of their symbols: none where the section
+/// has no second symbol, or that is not external.
+pub(crate) fn leaders_of(
+    alloc: Global,
+    symbols: &[SectionSymbols],
+    definitions: &[Definition<'_>],
+) -> Result<Vec<Option<u32>>, Memory>
+    requires { AscendBySymbol definitions.now }
+    ensures { IfOk result (λ leaders. AreLeaders definitions.now symbols.now leaders.items) }
+{
+    let mut leaders = Vec::with_capacity(alloc, symbols.len())?;
+    let mut next = 0;
+    for place in 0..symbols.len() {
+        let leader = leader_place(definitions, symbols[place].second, next);
+        next = place_after(leader, next);
+        leaders.push(leader)?;
+    }
+    Ok(leaders)
+}
+
+/// The place of a leader among the definitions, where it is one of them.
+fn leader_place(definitions: &[Definition<'_>], second: Option<u32>, next: usize) -> Option<u32>
+    requires { AscendBySymbol definitions.now }
+    ensures { IsLeaderOf definitions.now second result }
+{
+    match second {
+        Some(symbol) => place_of_symbol(definitions, symbol, next),
+        None => None,
+    }
+}
+
+/// The place after that of a leader, or the same one where there is no leader.
+fn place_after(leader: Option<u32>, next: usize) -> usize {
+    match leader {
+        Some(place) => place as usize + 1,
+        None => next,
+    }
+}
+
+/// The place of the definition of a symbol. It is looked for at the next place first, where it mostly is.
+fn place_of_symbol(definitions: &[Definition<'_>], symbol: u32, next: usize) -> Option<u32>
     requires { AscendBySymbol definitions.now }
     ensures { IsPlaceOf definitions.now symbol result }
 {
+    if next < definitions.len() && definitions[next].symbol == symbol {
+        return Some(next as u32);
+    }
     match definitions.binary_search_by_key(&symbol, |definition| definition.symbol) {
         Ok(place) => Some(place as u32),
         Err(_) => None,

@@ -5,19 +5,18 @@ ghost use Rattle.std.specs.Option.{option_copied};
 ghost use Rattle.coff_records.specs.ObjectFile.{starts_symbol};
 ghost use Rattle.module_view.specs.ImportModule.{module_definitions};
 ghost use Rattle.module_view.specs.SymbolLists.{definitions_of, references_of, weaks_of, commons_of};
-ghost use Rattle.coff_aux.specs.Comdats.{comdat_of};
 ghost use Rattle.directives.specs.Said.{said};
 ghost use Rattle.module_view.specs.ModuleDirectives.{module_directives};
 ghost use Rattle.module_view.specs.Opening.{IsOpened};
 ghost use Rattle.module_view.specs.Resources.{has_resources};
 ghost use Rattle.module_view.specs.Steps.{KeepsStarts};
 
+use crate::comdat_choice::ComdatLists;
 use crate::definition::{Common, Definition};
 use crate::open_import::OpenImport;
 use crate::reference::{Reference, Weak};
-use crate::symbol_starts::is_start;
 use crate::symbols::SymbolLists;
-use coff_aux::{Comdat, SectionSymbols, comdat_in, is_section_number};
+use coff_aux::is_start;
 use coff_object::Object;
 use directives::Directive;
 use link_base::Name;
@@ -51,8 +50,7 @@ pub(crate) enum Content<'a> {
 #[derive(Drop)]
 pub(crate) struct ObjectLists<'a> {
     pub(crate) lists: SymbolLists<'a>,
-    /// The first two symbols of each section, where one is a COMDAT.
-    pub(crate) comdats: Vec<SectionSymbols>,
+    pub(crate) comdats: ComdatLists,
     pub(crate) directives: Vec<Directive<'a>>,
     /// One of the sections holds resources.
     pub(crate) has_resources: bool,
@@ -108,6 +106,16 @@ impl<'a> Module<'a> {
         match &self.content {
             Content::Object(_) => None,
             Content::Import(open) => Some(open.import()),
+        }
+    }
+
+    /// An equal short import, where it is one.
+    pub fn import_again(&self) -> Option<Import<'a>>
+        ensures { result ≡ self.now.imported }
+    {
+        match &self.content {
+            Content::Object(_) => None,
+            Content::Import(open) => Some(open.import().again()),
         }
     }
 
@@ -185,21 +193,6 @@ impl<'a> Module<'a> {
         match &self.content {
             Content::Object(parts) => parts.has_resources,
             Content::Import(_) => false,
-        }
-    }
-
-    /// As which COMDAT a section goes, by its number: none where there is no such section, or it is no COMDAT.
-    #[tactic(auto, unfolding(coff_aux::specs::Comdats::comdat_of))]
-    pub fn comdat(&self, i: u32) -> Option<Comdat<'a>>
-        ensures comdat { result ≡ comdat_of self.now.bytes i }
-        ensures opened { IsOpened self.now }
-    {
-        if !is_section_number(self.object.section_count(), i) {
-            return None;
-        }
-        match &self.content {
-            Content::Object(parts) => comdat_in(&self.object, i, &parts.comdats),
-            Content::Import(_) => comdat_in(&self.object, i, &[]),
         }
     }
 

@@ -6,7 +6,6 @@
 #![tactic(auto)]
 
 mod aux_faults;
-mod base_name;
 mod comdat_choice;
 mod definition;
 mod directive_list;
@@ -17,13 +16,10 @@ mod input_module;
 mod laws;
 mod open_import;
 mod opening;
-mod placed_section;
 mod reference;
 mod sections;
-mod symbol_starts;
 mod symbols;
 
-pub use base_name::has_base_name;
 pub use coff_aux::Comdat;
 pub use comdat_choice::ComdatChoice;
 pub use definition::{Common, Definition, Place};
@@ -31,5 +27,4 @@ pub use error::ModuleError;
 pub use input_module::{Module, Origin};
 pub use laws::modules_are_shared;
 pub use opening::open_module;
-pub use placed_section::comes_in;
 pub use reference::{Reference, Weak};

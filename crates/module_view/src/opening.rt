@@ -8,13 +8,13 @@ ghost use Rattle.module_view.specs.Opening.{file_error, import_error, opening_er
 use crate::aux_faults::judge_aux;
 use crate::directive_list::read_directives;
 use crate::error::ModuleError;
-use crate::first_bytes::{form_shown, is_short_import};
+use crate::first_bytes::is_short_import;
 use crate::import::{no_object, nothing};
 use crate::input_module::{Content, Module, ObjectLists, Origin};
 use crate::open_import::OpenImport;
 use crate::sections::judge_sections;
 use crate::symbols::read_symbols;
-use coff_object::{LongTexts, Object};
+use coff_object::{LongTexts, Object, form_shown};
 use std::alloc::Global;
 
 /// The module with these bytes. A short import is refused for its first fault (`Import`), and then for a name of more than

@@ -1,23 +1,24 @@
 //! What one pass over the sections of an object shows.
 
-ghost use Rattle.std.specs.Prelude.{◌≡◌, ◌≤◌, false, None, Some, IfOk, OnOk, IfErr, codes};
-ghost use Rattle.link_base.specs.NameText.{begins};
+ghost use Rattle.std.specs.Prelude.{◌≡◌, ◌≤◌, false, None, Some, IfOk, OnOk, IfErr};
+ghost use Rattle.link_base.specs.Bytes.{has_flag};
+ghost use Rattle.link_base.specs.PeFormat.{SCN_LNK_COMDAT};
+ghost use Rattle.section_rules.specs.SoughtNames.{is_linker_section};
 ghost use Rattle.coff_records.specs.ObjectFile.{section_total, section_name_of, string_table};
 ghost use Rattle.coff_aux.specs.Comdats.{is_comdat, has_comdat};
 ghost use Rattle.std.specs.List.{list_any};
 ghost use Rattle.module_view.specs.ModuleDirectives.{sections_in, holds_directives};
-ghost use Rattle.module_view.specs.Resources.{holds_resources, is_resources, has_resources};
-ghost use Rattle.module_view.specs.Opening.{is_linker_section, is_long};
+ghost use Rattle.module_view.specs.Resources.{holds_resources, has_resources};
+ghost use Rattle.module_view.specs.Opening.{is_long};
 ghost use Rattle.module_view.specs.Steps.{section_form};
 
-use crate::base_name::has_base_name;
 use crate::directive_list::holds_directives;
 use coff_aux::is_comdat;
 use coff_object::{LongTexts, Object};
-use link_base::{Kind, Name};
-
-/// So many bytes of a section's name show whether the linker makes it itself.
-const LINKER_NAME_START: usize = 7;
+use link_base::Kind;
+use section_rules::{
+    LINKER_NAME_START, NAME_START, is_linker_section, is_resources, may_be_sought,
+};
 
 /// What a section shows.
 #[derive(Clone, Copy)]
@@ -78,7 +79,8 @@ pub(crate) fn judge_sections(
     })
 }
 
-/// What a section shows: of one whose name is too long no more than that.
+/// What a section shows: of one whose name is too long no more than that. Most names begin otherwise than those that are
+/// looked for, and are not read.
 fn section_form(object: &Object<'_>, texts: &LongTexts<'_>, number: u32) -> SectionForm
     requires table { texts.now ≡ string_table object.now }
     requires first { 1 ≤ number }
@@ -99,6 +101,9 @@ fn section_form(object: &Object<'_>, texts: &LongTexts<'_>, number: u32) -> Sect
             holds_resources: false,
         };
     }
+    if !may_be_sought(&object.section_name_start(number, NAME_START)) {
+        return plain_form(object.section_flags(number));
+    }
     let section = object.section(number);
     SectionForm {
         is_linker: is_linker_section(&section.name),
@@ -109,27 +114,19 @@ fn section_form(object: &Object<'_>, texts: &LongTexts<'_>, number: u32) -> Sect
     }
 }
 
-/// Whether a section of this name is one that the linker makes itself.
-#[tactic(auto, unfolding(crate::specs::Opening::is_linker_section))]
-fn is_linker_section(name: &Name<'_>) -> bool
-    ensures { result ≡ is_linker_section name.now }
+/// What a section shows whose name is none that is looked for.
+fn plain_form(flags: u32) -> SectionForm
+    ensures linker { result.is_linker ≡ false }
+    ensures long { result.is_long ≡ false }
+    ensures comdat { result.is_comdat ≡ has_flag flags SCN_LNK_COMDAT }
+    ensures directives { result.holds_directives ≡ false }
+    ensures resources { result.holds_resources ≡ false }
 {
-    begins_import_table(name) || has_base_name(name, b".reloc")
-}
-
-/// Whether a section of this name holds resources.
-fn is_resources(name: &Name<'_>) -> bool
-    ensures { result ≡ is_resources name.now }
-{
-    has_base_name(name, b".rsrc")
-}
-
-/// Whether a section of this name is a part of the import tables.
-fn begins_import_table(name: &Name<'_>) -> bool
-    ensures { result ≡ begins name.now (codes ".idata$") }
-{
-    if name.is_import() {
-        return false;
+    SectionForm {
+        is_linker: false,
+        is_long: false,
+        is_comdat: is_comdat(flags),
+        holds_directives: false,
+        holds_resources: false,
     }
-    name.rest().starts_with(b".idata$")
 }

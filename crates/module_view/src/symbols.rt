@@ -13,9 +13,8 @@ ghost use Rattle.module_view.specs.Opening.{unsupported, has_long_symbol_name, R
 use crate::definition::{Common, Definition, Place};
 use crate::error::ModuleError;
 use crate::reference::{Reference, Weak};
-use crate::symbol_starts::symbol_starts;
 use coff_aux::aux_records::WEAK_EXTERN_SEARCH_LIBRARY;
-use coff_aux::{characteristics_in, first_aux, tag_in};
+use coff_aux::{characteristics_in, first_aux, symbol_starts, tag_in};
 use coff_object::{LongTexts, Object, SymbolRecord};
 use link_base::pe_format::{
     SYM_ABSOLUTE, SYM_CLASS_EXTERNAL, SYM_CLASS_WEAK_EXTERNAL, SYM_UNDEFINED,

@@ -4,7 +4,7 @@ use Rattle.link_base.specs.Bytes.{number_at, first_below}
 use Rattle.link_base.specs.declared.fault.Fault.TheVariants.{BadResource, DuplicateResource}
 use Rattle.link_base.specs.declared.kinds.resource.ResFault.TheVariants.{Data}
 use Rattle.link_base.specs.declared.kinds.resource.ResName.TheVariants as name
-use Rattle.module_view.specs.Opening.{resource_start}
+use Rattle.coff_object.specs.Forms.{resource_start}
 use Rattle.res_merge.specs.Entries.{Entry, Number}
 use Rattle.res_merge.specs.ResourceFile.{aligned, text_units, name_read, heading, size_is_bad, header_is_bad, entry_with, entry_read, entries_from, resources_of}
 use Rattle.file_search.specs.FoundFiles.{FoundFile}

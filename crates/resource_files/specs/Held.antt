@@ -7,7 +7,7 @@ use Rattle.link_base.specs.Refusals.{shown, first_standing}
 use Rattle.link_base.specs.declared.fault.Fault.{Fault}
 use Rattle.link_base.specs.declared.fault.Fault.TheVariants.{Unsupported, BadResource, DuplicateResource, TooManyResources}
 use Rattle.link_base.specs.declared.kinds.form.Kind.TheVariants.{SecondResource}
-use Rattle.module_view.specs.Opening.{resource_start}
+use Rattle.coff_object.specs.Forms.{resource_start}
 use Rattle.res_merge.specs.declared.resource.ResError.{ResError}
 use Rattle.res_merge.specs.Entries.{Entry}
 use Rattle.res_merge.specs.Order.{RESOURCE_LIMIT}

@@ -4,7 +4,7 @@ ghost use Rattle.std.specs.Prelude.{◌≡◌, ◌≤◌, ◌<◌, ◌+◌, ◌+
 ghost use Rattle.link_base.specs.Limits.{FILE_LIMIT as most_bytes};
 ghost use Rattle.link_base.specs.NameText.{begins};
 ghost use Rattle.link_base.specs.Refusals.{first_standing};
-ghost use Rattle.module_view.specs.Opening.{resource_start};
+ghost use Rattle.coff_object.specs.Forms.{resource_start};
 ghost use Rattle.res_merge.specs.Entries.{entry_of};
 ghost use Rattle.res_merge.specs.Order.{RESOURCE_LIMIT as most_resources};
 ghost use Rattle.res_merge.specs.ResourceFile.{resources_of};
@@ -160,7 +160,7 @@ fn bad_entry<'a>(file: &Name<'a>, error: ResError) -> Fault<'a>
 
 /// Whether a file begins with the empty entry of a resource file: with 16 bytes that say that it has no data and a header of 32
 /// bytes, and that its type and its name are the number 0.
-#[tactic(auto, unfolding(module_view::specs::Opening::resource_start))]
+#[tactic(auto, unfolding(coff_object::specs::Forms::resource_start))]
 pub fn begins_resources(bytes: &[u8]) -> bool
     ensures { result ≡ begins bytes.now resource_start }
 {

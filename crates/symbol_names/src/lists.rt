@@ -8,7 +8,7 @@ ghost use Rattle.module_view.specs.SymbolLists.{weaks_of};
 
 use crate::alternates::note_directives;
 use crate::interning::{number_of, number_symbol};
-use crate::noted::{NotedCommon, NotedDefault, NotedDefinition, NotedLists, NotedWeak};
+use crate::noted::{NotedAsked, NotedCommon, NotedDefault, NotedDefinition, NotedLists, NotedWeak};
 use crate::records::no_records;
 use crate::references::note_asked;
 use crate::weak_default::{WeakDefault, default_of};
@@ -17,11 +17,12 @@ use link_base::{Memory, Name};
 use module_view::{Common, Definition, Module};
 use std::alloc::Global;
 
-/// The lists of a module, by the numbers of their names.
+/// The lists of a module, by the numbers of their names. That of what it asks for takes the memory of another one.
 pub fn note_lists<'a>(
     alloc: Global,
     names: &mut IndexSet<Name<'a>>,
     module: &Module<'a>,
+    other: Vec<NotedAsked>,
 ) -> Result<NotedLists, Memory>
     ensures kept { KeepsNumbers names.old.keys names.new.keys }
     ensures noted { IfOk result (NotesLists names.new.keys «module».now) }
@@ -32,7 +33,7 @@ pub fn note_lists<'a>(
     let definitions = note_provided(alloc, names, &mut records, module)?;
     let commons = note_commons(alloc, names, &mut records, module.commons())?;
     let weaks = note_weaks(alloc, names, &mut records, module)?;
-    let asked = note_asked(alloc, names, &mut records, module)?;
+    let asked = note_asked(names, &mut records, module, other)?;
     Ok(NotedLists {
         definitions,
         commons,

@@ -32,12 +32,12 @@ pub fn note_words<'a>(
     Ok(noted)
 }
 
-/// What a module asks for, by its symbols, then by its directives.
+/// What a module asks for, by its symbols, then by its directives, in the memory of another list.
 pub(crate) fn note_asked<'a>(
-    alloc: Global,
     names: &mut IndexSet<Name<'a>>,
     records: &mut Vec<u32>,
     module: &Module<'a>,
+    other: Vec<NotedAsked>,
 ) -> Result<Vec<NotedAsked>, Memory>
     ensures kept { KeepsNumbers names.old.keys names.new.keys }
     ensures noted { IfOk result (λ noted. AllZip (NotesAsked names.new.keys) (asked_by 0 «module».now.bytes) noted.items) }
@@ -45,7 +45,9 @@ pub(crate) fn note_asked<'a>(
         → AreRecords names.new.keys «module».now.bytes records.new.items) }
 {
     let references = module.references();
-    let mut noted = Vec::with_capacity(alloc, references.len())?;
+    let mut noted = other;
+    noted.clear();
+    noted.reserve(references.len())?;
     note_references(names, records, &mut noted, references)?;
     note_names(names, &mut noted, module.directives())?;
     Ok(noted)

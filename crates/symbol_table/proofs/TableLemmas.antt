@@ -20,9 +20,6 @@ use Rattle.symbol_table.specs.Resolution.{Step, Ends, Leads, step}
 use Rattle.symbol_names.specs.Interning.{Numbers, KeepsNumbers, NotesDefinition, NotesCommon, NotesAlternate, NotesWeak, NotesAsked, NotesLists, NotesModule, AreRecords}
 use Rattle.symbol_names.specs.References.{Asked, asked_by_name, asked_by, all_asked}
 use Rattle.symbol_table.specs.AskedParts.{names_definition, names_common, seeks, kept_definitions, kept_commons, flag_of, KeepsParts, AddsLists, AreWithin}
-use Rattle.std.specs.declared.vec.Vec.{Vec}
-use Rattle.std.specs.declared.alloc.Global.{Global}
-use Rattle.symbol_table.specs.declared.meaning.Clash.{Clash}
 use Rattle.symbol_table.specs.declared.lives.FirstLive.{FirstLive}
 use Rattle.symbol_table.specs.declared.greatest.GreatestCommon.{GreatestCommon}
 use Rattle.symbol_table.specs.declared.first_weak.FirstWeak.{FirstWeak}
@@ -35,8 +32,8 @@ use Rattle.symbol_names.specs.declared.given.GivenNames.{GivenNames}
 use Rattle.symbol_names.specs.LinkView.{LinkView}
 use Rattle.symbol_names.specs.Alternates.{alternates_by, all_alternates}
 use Rattle.symbol_names.specs.Lists.{of_all, live_definitions, all_commons, all_weaks}
-use Rattle.symbol_names.specs.Kept.{rows_of, noted_view}
-use Rattle.symbol_table.specs.Passes.{AreFirst, AreLives, TellsGreatest, TellsWeaks, TellsAlternates}
+use Rattle.symbol_names.specs.Kept.{noted_view}
+use Rattle.symbol_table.specs.Passes.{AreFirst, TellsGreatest, TellsWeaks, TellsAlternates}
 use Rattle.symbol_table.specs.Links.{IsStep, no_link, link_at, LeadsBelow, AreSteps}
 use Rattle.symbol_table.specs.TableParts.{link_view, KeepsLink, KeepsTable}
 use Rattle.symbol_names.proofs.NumberLemmas.{number_within, definition_kept, common_kept, weak_kept, alternate_kept, asked_kept, records_kept, asked_within, zip_map, zip_append, zip_right}

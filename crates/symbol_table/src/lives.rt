@@ -5,7 +5,7 @@ ghost use Rattle.std.specs.List.{All, IsDistinct};
 ghost use Rattle.link_base.specs.NameText.{same_name};
 ghost use Rattle.module_view.specs.declared.definition.Definition.{Definition};
 ghost use Rattle.symbol_names.specs.Lists.{Provided, provided, provided_by, is_live, live_definitions};
-ghost use Rattle.symbol_table.specs.Clash.{is_number, agree};
+ghost use Rattle.symbol_table.specs.Clash.{agree};
 ghost use Rattle.symbol_names.specs.Interning.{Numbers, NotesDefinition, NotesModule};
 ghost use Rattle.symbol_names.specs.Kept.{rows_of, noted_view};
 ghost use Rattle.symbol_table.specs.Passes.{AreLives, clash_with_first};
@@ -138,18 +138,8 @@ fn clash_with<'a>(
 fn agree(place: Place, other: Place) -> bool
     ensures { result ≡ agree place other }
 {
-    match place {
-        Place::Absolute(value) => is_number(value, other),
-        Place::Section { .. } | Place::Slot | Place::Thunk => false,
-    }
-}
-
-/// Whether a place is this number.
-fn is_number(value: u32, place: Place) -> bool
-    ensures { result ≡ is_number value place }
-{
-    match place {
-        Place::Absolute(other) => other == value,
-        Place::Section { .. } | Place::Slot | Place::Thunk => false,
+    match (place, other) {
+        (Place::Absolute(value), Place::Absolute(other)) => other == value,
+        _ => false,
     }
 }

@@ -2,7 +2,6 @@
 
 ghost use Rattle.std.specs.Prelude.{◌≡◌, ◌<◌, ◌++◌, ◌∷◌, [], length, map, IfOk, OnOk, OnErr};
 ghost use Rattle.std.specs.List.{All, IsDistinct};
-ghost use Rattle.std.specs.Option.{option_copied};
 ghost use Rattle.link_base.specs.Limits as limit;
 ghost use Rattle.link_base.specs.NameText.{same_name};
 ghost use Rattle.symbol_names.specs.Interning.{NotesModule};
@@ -18,11 +17,12 @@ use crate::settled::settled;
 use indexmap::IndexSet;
 use link_base::{Memory, Name};
 use module_view::Module;
-use short_import::Import;
 use std::alloc::Global;
 use std::marker::Model;
+use std::mem;
 use symbol_names::{
-    Chosen, GivenNames, ModuleNames, NotedLists, given_names, name_at, note_lists, note_rests,
+    Chosen, GivenNames, ModuleNames, NotedAsked, NotedLists, given_names, name_at, note_lists,
+    note_rests,
 };
 
 /// The names that the command line asks for, the alternates that it gives, and the names of the modules that were added, in
@@ -34,6 +34,8 @@ pub struct SymbolTable<'a> {
     given: GivenNames<'a>,
     modules: Vec<ModuleNames<'a>>,
     asked: AskedNames,
+    /// What the last module asks for: the next one's list takes its memory.
+    last_asked: Vec<NotedAsked>,
 }
 
 impl<'a> Model for SymbolTable<'a> {
@@ -66,6 +68,7 @@ impl<'a> SymbolTable<'a> {
             given,
             modules: Vec::new(alloc),
             asked,
+            last_asked: Vec::new(alloc),
         })
     }
 
@@ -77,7 +80,8 @@ impl<'a> SymbolTable<'a> {
         ensures added { OnOk result (self.new ≡ record self.old { modules = self.old.modules ++ «module».now ∷ [] }) }
         ensures unchanged { OnErr result (self.new ≡ self.old) }
     {
-        let noted = note_lists(self.alloc, &mut self.names, module);
+        let last = mem::replace(&mut self.last_asked, Vec::new(self.alloc));
+        let noted = note_lists(self.alloc, &mut self.names, module, last);
         let count = self.names.len();
         let lists = noted?;
         self.modules.reserve(1)?;
@@ -88,12 +92,13 @@ impl<'a> SymbolTable<'a> {
             weaks,
             alternates,
             records,
-            ..
+            asked,
         } = lists;
+        self.last_asked = asked;
         let position = self.modules.len() as u32;
         self.modules.push(ModuleNames {
             origin: module.origin(),
-            imported: again(module.import()),
+            imported: module.import_again(),
             bytes: module.bytes(),
             definitions,
             commons,
@@ -174,15 +179,5 @@ impl<'a> SymbolTable<'a> {
             links: settled.links,
             clash: settled.clash,
         })
-    }
-}
-
-/// An equal short import, where there is one.
-fn again<'a>(import: Option<&Import<'a>>) -> Option<Import<'a>>
-    ensures { result ≡ option_copied import.entry }
-{
-    match import {
-        Some(import) => Some(import.again()),
-        None => None,
     }
 }

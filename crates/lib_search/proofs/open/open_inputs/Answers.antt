@@ -10,7 +10,7 @@ use Rattle.file_search.specs.Reading.{file_found, files_found}
 use Rattle.res_merge.specs.Entries.{Entry, entry_of}
 use Rattle.resource_files.specs.SaidFaults.{RefusesSaid}
 use Rattle.resource_files.specs.Held.{entries_among, merges_resources}
-use Rattle.lib_search.specs.Joining.{brings_resources}
+use Rattle.par_read.specs.Joining.{brings_resources}
 use Rattle.lib_search.specs.Inputs.{modules_among, libraries_among, opening_fault_at}
 use Rattle.lib_search.proofs.InputLemmas.{modules_more, libraries_more, entries_more, merges_more, opens_here, opening_stops}
 use Rattle.lib_search.proofs.OpenedFileLemmas.{holds_from}
@@ -19,13 +19,13 @@ use Rattle.lib_search.proofs.open.open_inputs.Goals as goal
 pub loop-file-init : goal.loop-file-init
 unfolding first_refusal_below
 loop-file-init g c = record {
-  modules = c.new.ensures.items;
-  libraries = c.new-2.ensures.items;
-  resources = c.new-3.ensures.none;
-  merges = c.new-3.ensures.unopened;
-  kept = c.new-3.ensures.kept;
-  brings = sym (ap (list_any brings_resources) c.new.ensures.items);
-  few = let none = ap (λ (ms : List ModuleView). length ms) c.new.ensures.items in omega (arith, none);
+  modules = c.in_ok-with_capacity.ensures.items;
+  libraries = c.new.ensures.items;
+  resources = c.new-2.ensures.none;
+  merges = c.new-2.ensures.unopened;
+  kept = c.new-2.ensures.kept;
+  brings = sym (ap (list_any brings_resources) c.in_ok-with_capacity.ensures.items);
+  few = let none = ap (λ (ms : List ModuleView). length ms) c.in_ok-with_capacity.ensures.items in omega (arith, none);
   accepted = refl;
   answers = c.in_ok-answers.ensures;
 }

@@ -6,7 +6,7 @@ use Rattle.file_search.specs.Reading.{files_found}
 use Rattle.res_merge.specs.Entries.{entry_of}
 use Rattle.resource_files.specs.Held.{entries_among, merges_resources}
 use Rattle.resource_files.specs.Parts.{KeepsResources}
-use Rattle.lib_search.specs.Joining.{brings_resources}
+use Rattle.par_read.specs.Joining.{brings_resources}
 use Rattle.lib_search.specs.Inputs.{modules_among, libraries_among, opening_fault_at}
 use Rattle.lib_search.specs.OpenedFiles.{HoldsAnswers}
 use Rattle.lib_search.proofs.open.open_inputs.Given as goal

@@ -11,8 +11,10 @@ use Rattle.coff_aux.specs.AuxFaults.{is_bad_weak, aux_fault}
 use Rattle.coff_aux.specs.Comdats.{comdat_record_of}
 use Rattle.module_view.specs.Opening.{RefusesToOpen}
 use Rattle.coff_aux.specs.Steps.{all_comdat_records, record_fault}
-use Rattle.coff_aux.proofs.CallerLemmas.{kept_symbols, none_kept}
 use Rattle.coff_aux.proofs.CallerLemmas.{weak_stands, fault_by_records, no_comdat_fault}
+use Rattle.module_view.specs.Choices.{AscendBySymbol}
+use Rattle.module_view.proofs.DefinitionLemmas.{definitions_ascend}
+use Rattle.module_view.proofs.ChoiceLemmas.{none_kept, all_kept}
 use Rattle.module_view.proofs.aux_faults.judge_aux.Goals as goal
 
 pub returns-in-Some-clause-refused : goal.returns-in-Some-clause-refused
@@ -20,9 +22,9 @@ returns-in-Some-clause-refused c =
     subst (λ (e : ModuleError). RefusesToOpen (option_map error.Object (aux_fault c.args.object.now)) e) (sym c.aux_error.ensures)
     (ap (option_map error.Object) (weak_stands c.args.object.now c.in-Some.index (sym c.in-Some.ensures)))
 
-pub returns-then-not-any_comdat-clause-symbols : goal.returns-then-not-any_comdat-clause-symbols
-returns-then-not-any_comdat-clause-symbols c =
-    none_kept c.args.object.now c.new.result.items (sym c.requires.comdat ∙ c.if-not-any_comdat.true)
+pub returns-then-not-any_comdat-clause-comdats : goal.returns-then-not-any_comdat-clause-comdats
+returns-then-not-any_comdat-clause-comdats c =
+    none_kept c.args.object.now c.no_comdats.result.records.items c.no_comdats.result.leaders.items (sym c.requires.comdat ∙ c.if-not-any_comdat.true) c.no_comdats.ensures.records c.no_comdats.ensures.leaders
 
 pub returns-then-not-any_comdat-clause-accepted : goal.returns-then-not-any_comdat-clause-accepted
 returns-then-not-any_comdat-clause-accepted c =
@@ -46,11 +48,15 @@ returns-in-Some-2-clause-refused c =
     let bytes = c.args.object.now in
     ap (option_map error.Object) (by_read bytes c.record_count.result c.deref-4.result.now (sym c.in_default.ensures) c.record_count.ensures (c.deref-4.ensures.value ∙ c.in_ok-records.ensures) ∙ sym c.in_ok-error.ensures ∙ c.in-Some-2.is)
 
-pub returns-in-None-clause-symbols : goal.returns-in-None-clause-symbols
-returns-in-None-clause-symbols c =
-    kept_symbols c.args.object.now c.in_ok-symbols.symbols.items c.in_ok-symbols.ensures
+pub leaders_of-requires : goal.leaders_of-requires
+leaders_of-requires c =
+    subst AscendBySymbol (sym (c.deref-in-None-2.ensures.value ∙ c.requires.definitions)) (definitions_ascend c.args.object.now)
 
-pub returns-in-None-clause-accepted : goal.returns-in-None-clause-accepted
-returns-in-None-clause-accepted c =
+pub returns-clause-comdats : goal.returns-clause-comdats
+returns-clause-comdats c =
+    all_kept c.args.object.now c.deref-in-None.result.now c.in_ok-records.records.items c.in_ok-leaders-in-None.leaders.items c.deref-in-None-2.result.now (sym c.requires.comdat ∙ c.if-not-any_comdat.false) (c.deref-in-None.ensures.value ∙ c.in_ok-symbols.ensures) c.in_ok-records.ensures (c.deref-in-None-2.ensures.value ∙ c.requires.definitions) c.in_ok-leaders-in-None.ensures
+
+pub returns-clause-accepted : goal.returns-clause-accepted
+returns-clause-accepted c =
     let bytes = c.args.object.now in
     by_read bytes c.record_count.result c.deref-4.result.now (sym c.in_default.ensures) c.record_count.ensures (c.deref-4.ensures.value ∙ c.in_ok-records.ensures) ∙ sym c.in_ok-error.ensures ∙ c.in-None.is

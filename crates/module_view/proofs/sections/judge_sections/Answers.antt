@@ -4,7 +4,8 @@ use Rattle.link_base.proofs.TestLemmas.{or_left, or_right}
 use Rattle.coff_aux.specs.Comdats.{is_comdat}
 use Rattle.module_view.specs.ModuleDirectives.{holds_directives}
 use Rattle.module_view.specs.Resources.{holds_resources}
-use Rattle.module_view.specs.Opening.{is_linker_section, is_long}
+use Rattle.section_rules.specs.SoughtNames.{is_linker_section}
+use Rattle.module_view.specs.Opening.{is_long}
 use Rattle.module_view.specs.Steps.{section_form}
 use Rattle.module_view.proofs.SectionLemmas.{some_section, no_section, any_section}
 use Rattle.module_view.proofs.sections.judge_sections.Goals as goal

@@ -4,7 +4,8 @@ use Rattle.coff_records.specs.ObjectFile.{section_name_of}
 use Rattle.coff_aux.specs.Comdats.{is_comdat}
 use Rattle.module_view.specs.ModuleDirectives.{holds_directives}
 use Rattle.module_view.specs.Resources.{holds_resources}
-use Rattle.module_view.specs.Opening.{is_linker_section, is_long}
+use Rattle.section_rules.specs.SoughtNames.{is_linker_section}
+use Rattle.module_view.specs.Opening.{is_long}
 use Rattle.module_view.proofs.sections.judge_sections.Given as goal
 
 abbrev pub invariant-loop-index : goal.invariant-loop-index

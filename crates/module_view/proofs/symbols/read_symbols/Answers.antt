@@ -9,7 +9,8 @@ use Rattle.module_view.specs.declared.reference.Reference.{Reference}
 use Rattle.module_view.specs.declared.reference.Weak.{Weak}
 use Rattle.module_view.specs.SymbolLists.{defines, definition_of, definitions_in, definitions_of, refers, reference_of, references_of, is_weak, weak_of, weaks_of, is_common, common_of, commons_in, commons_of}
 use Rattle.module_view.specs.Opening.{is_long}
-use Rattle.module_view.proofs.SymbolLemmas.{still_none, listed_more}
+use Rattle.coff_aux.proofs.CallerLemmas.{still_none}
+use Rattle.module_view.proofs.SymbolLemmas.{listed_more}
 use Rattle.module_view.proofs.symbols.read_symbols.Goals as goal
 
 abbrev weak_entry : SymbolEntry → Bool

@@ -1,4 +1,4 @@
-use Rattle.std.proofs.Common.{List, [], ◌++◌, map, subst, sym}
+use Rattle.std.proofs.Common.{List, [], ◌++◌, map, subst, sym, ◌∙◌}
 use Rattle.std.specs.Prelude.{filter_map}
 use Rattle.std.specs.List.{All, AllZip}
 use Rattle.directives.specs.Said.{Said}
@@ -17,7 +17,7 @@ returns-clause-noted c =
     let last = c.note_names.new.names.keys in
     let by_symbols =
     subst (λ (rs : List Reference). AllZip (NotesAsked first) (map asked_by_symbol rs) c.note_references.new.noted.items) c.references-references.ensures.references
-    (c.in_ok-note_references.ensures.noted [] (subst (AllZip (NotesAsked c.args.names.now.keys) []) (sym c.in_ok-noted.ensures.items) tt)) in
+    (c.in_ok-note_references.ensures.noted [] (subst (AllZip (NotesAsked c.args.names.now.keys) []) (sym (c.reserve.ensures.items ∙ c.clear.ensures.items)) tt)) in
     subst (λ (says : List Said). AllZip (NotesAsked last) (map asked_by_symbol (references_of bytes) ++ map asked_by_name (filter_map name_said says)) c.note_names.new.noted.items) c.directives.ensures.directives
     (c.in_ok-note_names.ensures.noted (map asked_by_symbol (references_of bytes)) by_symbols)
 

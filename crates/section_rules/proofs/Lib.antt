@@ -1,0 +1,2 @@
+pub mod BaseNameLemmas
+pub mod SoughtLemmas

@@ -1,0 +1,2 @@
+pub mod PlacedSection
+pub mod SoughtNames
