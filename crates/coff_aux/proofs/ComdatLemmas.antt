@@ -12,7 +12,6 @@ use Rattle.coff_records.specs.ObjectFile.{section_total, starts_symbol, SymbolEn
 use Rattle.coff_aux.specs.declared.comdat.ComdatRecord.{ComdatRecord}
 use Rattle.coff_aux.specs.declared.comdat.SectionSymbols.{SectionSymbols}
 use Rattle.coff_aux.specs.Comdats.{stands_in, first_two, section_symbols_of, is_section_number, is_comdat, has_comdat, comdat_record_of}
-use Rattle.coff_aux.specs.Steps.{KeepsRecords}
 use Rattle.coff_aux.specs.Steps.{all_section_symbols, all_comdat_records, no_symbols, with_symbol, noted_symbols, noted_at}
 use Rattle.coff_aux.proofs.StartLemmas.{starts_among}
 
@@ -175,7 +174,7 @@ all_noted symbols bytes entries count none each =
     ext_get_or no_symbols symbols (all_section_symbols bytes) (count ∙ sym (length-map-range_with_len (section_symbols_of bytes) 1 (section_total bytes)))
     (λ k lt. noted_all symbols bytes k entries none (each k lt) ∙ sym (get_or-map-range_with_len (section_symbols_of bytes) 1 (section_total bytes) k (k + 1) no_symbols (omega (arith, count)) (omega arith)))
 
--- ---- what COMDAT sections say is kept
+-- ---- the numbers of sections
 
 pub section_within : (count section : ℕ) → is_section_number count section ≡ true → (1 ≤ section) × (section ≤ count)
 section_within count section e = elim (leb_tells 1 section) [
@@ -185,13 +184,6 @@ section_within count section e = elim (leb_tells 1 section) [
   ])
   | inr none ↦ absurd (false≢true (sym (rw none.0 refl) ∙ e))
 ]
-
-pub kept_records : (bytes : List ℕ) (records : List (Option ComdatRecord)) → records ≡ all_comdat_records bytes → KeepsRecords bytes records
-kept_records bytes records is section inside =
-    let low = (section_within (section_total bytes) section inside).0 in
-    let high = (section_within (section_total bytes) section inside).1 in
-    ap (λ (xs : List (Option ComdatRecord)). get_or xs (section - 1) None) is
-    ∙ get_or-map-range_with_len (comdat_record_of bytes) 1 (section_total bytes) (section - 1) section None (omega arith) (omega arith)
 
 -- ---- sections that are no COMDAT
 
@@ -209,19 +201,6 @@ none_said bytes section is = rw is refl
 -- none says anything
 pub no_records : (bytes : List ℕ) → has_comdat bytes ≡ false → (k : ℕ) → k < section_total bytes → comdat_record_of bytes (k + 1) ≡ None
 no_records bytes none k lt = none_said bytes (k + 1) (no_comdat bytes (k + 1) none (omega arith) (omega arith))
-
-pub none_kept : (bytes : List ℕ) → has_comdat bytes ≡ false → KeepsRecords bytes []
-none_kept bytes none section inside =
-    sym (none_said bytes section (no_comdat bytes section none (section_within (section_total bytes) section inside).0 (section_within (section_total bytes) section inside).1))
-
--- ---- a section that says something is a COMDAT
-
-pub says_as_comdat : (bytes : List ℕ) (section : ℕ) (said : ComdatRecord) → comdat_record_of bytes section ≡ Some said → is_comdat bytes section ≡ true
-says_as_comdat bytes section said is = go (is_comdat bytes section) refl
-  where
-    go : (b : Bool) → is_comdat bytes section ≡ b → b ≡ true
-    go true e = refl
-    go false e = absurd (let h = sym (none_said bytes section e) ∙ is in cc)
 
 -- ---- some section is one
 

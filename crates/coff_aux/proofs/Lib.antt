@@ -3,3 +3,4 @@ pub mod StartLemmas
 pub mod ComdatLemmas
 pub mod ParentLemmas
 pub mod RecordLemmas
+pub mod OrderLemmas

@@ -1,6 +1,5 @@
--- What the passes over symbols and over sections say of an object, and what is kept of its COMDAT sections. It decides
--- nothing.
-use Rattle.std.specs.Prelude.{◌≡◌, ℕ, zero, suc, ◌+◌, ◌-◌, ℤ, Bool, true, false, List, [], ◌∷◌, length, map, slice_index_or, slice_set, Option, Some, None, option_map}
+-- What the passes over symbols and over sections say of an object. It decides nothing.
+use Rattle.std.specs.Prelude.{◌≡◌, ℕ, zero, suc, ◌+◌, ◌-◌, ℤ, Bool, true, false, ◌||◌, List, [], ◌∷◌, length, map, slice_index_or, slice_set, Option, Some, None, option_map}
 use Rattle.std.specs.Borrow.{Bor}
 use Rattle.std.specs.List.{range_with_len}
 use Rattle.link_base.specs.Bytes.{first_below}
@@ -50,12 +49,6 @@ noted_symbols symbols section index = noted_at symbols (section_of_number sectio
 abbrev pub all_comdat_records : List ℕ → List (Option ComdatRecord)
 all_comdat_records bytes = map (comdat_record_of bytes) (range_with_len 1 (section_total bytes))
 
--- what is kept of it; where no section is a COMDAT, nothing need be kept
-abbrev pub KeepsRecords : List ℕ → List (Option ComdatRecord) → Type 0
-KeepsRecords bytes records =
-    (section : ℕ) → is_section_number (section_total bytes) section ≡ true
-    → slice_index_or records (section - 1) None ≡ comdat_record_of bytes section
-
 -- the parents that records say, by the sections' numbers; 0 stands in front
 abbrev pub parents_in : List (Option ComdatRecord) → List ℕ
 parents_in records = 0 ∷ map (parent_in (length records)) records
@@ -64,6 +57,10 @@ parents_in records = 0 ∷ map (parent_in (length records)) records
 abbrev pub first_record : List (Option ComdatRecord) → (ComdatRecord → Bool) → Option ℕ
 first_record records fails =
     option_map (λ k. k + 1) (first_below (length records) (λ k. fails_of fails (slice_index_or records k None)))
+
+-- it lacks a symbol or a selection, or is selected with none of so many sections before it
+abbrev pub is_out_of_order : ℕ → ComdatRecord → Bool
+is_out_of_order before said = lacks_symbol said || (has_no_selection said || has_no_parent before said)
 
 -- what the code answers of what a section says is what a test says of it
 abbrev pub DecidesRecords : (Bor ComdatRecord → Bool → Type 0) → (ComdatRecord → Bool) → Type 0

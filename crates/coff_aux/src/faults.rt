@@ -1,9 +1,9 @@
 //! What is wrong with COMDAT sections, by what they say of themselves.
 
-ghost use Rattle.std.specs.Prelude.{◌≡◌, ◌<◌, ◌≤◌, ◌+◌, ◌-◌, ◌^◌, Bool, None, length, IfSome, IfOk};
+ghost use Rattle.std.specs.Prelude.{◌≡◌, ◌<◌, ◌≤◌, ◌+◌, ◌-◌, ◌^◌, ℕ, Bool, true, None, length, IfSome, IfOk};
 ghost use Rattle.coff_object.specs.ObjectFaults.{least_place};
 ghost use Rattle.coff_aux.specs.AuxFaults.{lacks_symbol, has_no_selection, has_no_parent};
-ghost use Rattle.coff_aux.specs.Steps.{first_record, parent_place_in, record_fault, DecidesRecords};
+ghost use Rattle.coff_aux.specs.Steps.{is_out_of_order, first_record, parent_place_in, record_fault, DecidesRecords};
 
 use crate::aux_records::{COMDAT_SELECT_LARGEST, COMDAT_SELECT_NODUPLICATES};
 use crate::comdat::ComdatRecord;
@@ -23,6 +23,9 @@ pub fn record_fault(
     requires { symbol_records + length records.now < 2 ^ 32 - 1 }
     ensures { IfOk result (λ fault. fault ≡ record_fault symbol_records records.now) }
 {
+    if are_in_order(records) {
+        return Ok(None);
+    }
     if let Some(section) = first_record(records, |said| lacks_symbol(said)) {
         return Ok(Some(ObjError {
             kind: ObjFault::Aux,
@@ -42,6 +45,29 @@ pub fn record_fault(
         })),
         None => Ok(None),
     }
+}
+
+/// Whether each COMDAT section has a symbol and a selection, and each parent stands before its children: then no chain of
+/// parents comes back, and nothing is wrong. Nearly all objects are so, and one walk tells it.
+fn are_in_order(records: &[Option<ComdatRecord>]) -> bool
+    requires { length records.now < 2 ^ 32 - 1 }
+    ensures { result ≡ true → (symbol_records : ℕ) → record_fault symbol_records records.now ≡ None }
+{
+    for index in 0..records.len() as u32 {
+        if let Some(said) = &records[index as usize] {
+            if is_out_of_order(index, said) {
+                return false;
+            }
+        }
+    }
+    true
+}
+
+/// Whether it lacks a symbol or a selection, or is selected with none of so many sections before it.
+fn is_out_of_order(before: u32, said: &ComdatRecord) -> bool
+    ensures { result ≡ is_out_of_order before said.now }
+{
+    lacks_symbol(said) || has_no_selection(said) || has_no_parent(before, said)
 }
 
 /// The first section whose parent is none, or whose chain of parents comes back.

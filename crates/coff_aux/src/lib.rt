@@ -1,7 +1,8 @@
 //! The auxiliary records of objects that a link reads: those of weak externals, and those of COMDAT sections, by which one of
-//! several is selected. It takes objects that were opened, from `coff_object`, and gives what the records say to those that make
-//! a module of an object. Its contracts promise that the first fault of a table is found, and that what a section says is what
-//! its bytes say. Which of several sections is selected is left to others.
+//! several is selected; and at which records of an object a symbol starts. It takes objects that were opened, from
+//! `coff_object`, and gives what the records say to those that make a module of an object. Its contracts promise that the first
+//! fault of a table is found, and that what a section says is what its bytes say. Which of several sections is selected is left
+//! to others.
 #![tactic(auto)]
 
 pub mod aux_records;

@@ -6,6 +6,7 @@ ghost use Rattle.link_base.specs.PeFormat as pe;
 ghost use Rattle.coff_records.specs.ObjectFile.{starts_symbol, symbol_at, symbol_entries};
 ghost use Rattle.coff_object.specs.ObjectFaults.{first_of};
 ghost use Rattle.coff_aux.specs.AuxFaults.{is_search, says_weak, is_weak_in_order, is_bad_weak};
+ghost use Rattle.coff_aux.specs.Steps.{HasStarts};
 
 use crate::aux_records::{
     WEAK_EXTERN_SEARCH_ALIAS, WEAK_EXTERN_SEARCH_NOLIBRARY, characteristics_in, first_aux, tag_in,
@@ -15,7 +16,7 @@ use link_base::pe_format::{SYM_CLASS_WEAK_EXTERNAL, SYM_UNDEFINED};
 
 /// The first weak external that stands in a section, or has no auxiliary record that says what it is, by its record.
 pub fn first_bad_weak(object: &Object<'_>, starts: &[bool]) -> Option<u32>
-    requires { (j : ℕ) → slice_index_or starts.now j false ≡ starts_symbol object.now j }
+    requires { HasStarts object.now starts.now }
     ensures { result ≡ first_of (is_bad_weak object.now) (symbol_entries object.now) }
 {
     for (index, symbol) in object.symbols() {
@@ -28,7 +29,7 @@ pub fn first_bad_weak(object: &Object<'_>, starts: &[bool]) -> Option<u32>
 
 #[tactic(auto, unfolding(crate::specs::AuxFaults::is_bad_weak))]
 fn is_bad_weak(object: &Object<'_>, starts: &[bool], index: u32, symbol: &SymbolRecord<'_>) -> bool
-    requires starts { (j : ℕ) → slice_index_or starts.now j false ≡ starts_symbol object.now j }
+    requires starts { HasStarts object.now starts.now }
     requires start { starts_symbol object.now index ≡ true }
     requires symbol { symbol.now ≡ symbol_at object.now index }
     ensures { result ≡ is_bad_weak object.now (index, symbol.now) }
@@ -38,7 +39,7 @@ fn is_bad_weak(object: &Object<'_>, starts: &[bool], index: u32, symbol: &Symbol
 
 #[tactic(auto, unfolding(crate::specs::AuxFaults::is_weak_in_order))]
 fn is_in_order(object: &Object<'_>, starts: &[bool], index: u32, symbol: &SymbolRecord<'_>) -> bool
-    requires starts { (j : ℕ) → slice_index_or starts.now j false ≡ starts_symbol object.now j }
+    requires starts { HasStarts object.now starts.now }
     requires start { starts_symbol object.now index ≡ true }
     requires symbol { symbol.now ≡ symbol_at object.now index }
     ensures { result ≡ is_weak_in_order object.now (index, symbol.now) }
@@ -50,8 +51,7 @@ fn is_in_order(object: &Object<'_>, starts: &[bool], index: u32, symbol: &Symbol
 #[tactic(auto, unfolding(crate::specs::AuxFaults::says_weak))]
 fn says_weak(starts: &[bool], aux: Option<&[u8]>) -> bool
     requires whole { IfSome aux (λ aux. pe.SIZEOF_SYMBOL ≤ length aux.now) }
-    ensures { (bytes : List ℕ) → ((j : ℕ) → slice_index_or starts.now j false ≡ starts_symbol bytes j)
-        → result ≡ says_weak bytes (option_copied aux.entry) }
+    ensures { (bytes : List ℕ) → HasStarts bytes starts.now → result ≡ says_weak bytes (option_copied aux.entry) }
 {
     match aux {
         Some(aux) => is_search(characteristics_in(aux)) && is_start(starts, tag_in(aux)),

@@ -1,7 +1,8 @@
 //! An object file, as a view of its bytes.
 
-ghost use Rattle.std.specs.Prelude.{◌≡◌, ◌<◌, ◌≤◌, ◌^◌, length, take, IfOk, OnOk, IfErr, is_ok, is_none, true, None, Some};
+ghost use Rattle.std.specs.Prelude.{◌≡◌, ◌<◌, ◌≤◌, ◌^◌, length, take, IfSome, IfOk, OnOk, IfErr, is_ok, is_none, true, None, Some};
 ghost use Rattle.std.specs.Option.{option_copied};
+ghost use Rattle.coff_records.specs.SectionHeader.{names_an_offset};
 ghost use Rattle.coff_records.specs.ObjectFile.{section_total, section_name_of, name_offset_of, raw_size_of, flags_of, alignment_of, body_of, relocation_total, relocation_of, relocations_of, record_total, symbol_size, string_table, starts_symbol, symbol_at, symbol_name_of, symbol_value_of, symbol_section_of, symbol_kind_of, symbol_class_of, aux_total_of, aux_record, symbol_entries};
 ghost use Rattle.coff_object.specs.ObjectFaults.{object_fault};
 
@@ -125,6 +126,23 @@ impl<'a> Object<'a> {
         section_name_start(self.strings, &header, limit)
     }
 
+    /// The name of a section, where it stands in its header: one that begins with a slash there is in the string table.
+    #[tactic(auto, unfolding(coff_records::specs::SectionHeader::section_name_in))]
+    pub fn section_short_name(&self, i: u32) -> Option<&'a [u8]>
+        requires first { 1 ≤ i }
+        requires last { i ≤ section_total self.now }
+        ensures name { IfSome result (λ name. name.now ≡ section_name_of self.now i) }
+        ensures short { IfSome result (λ name. length name.now ≤ 8) }
+    {
+        let header = self.file.section_header(i);
+        let text = header.short_name();
+        if names_an_offset(text) {
+            None
+        } else {
+            Some(text)
+        }
+    }
+
     /// The offset in the string table that a section's name field refers to, where it does. The name is not looked at.
     pub fn section_name_offset(&self, i: u32) -> Option<usize>
         requires first { 1 ≤ i }
@@ -220,4 +238,11 @@ impl<'a> Object<'a> {
     {
         self.strings
     }
+}
+
+/// Whether the text of a section's name field refers to the string table.
+fn names_an_offset(text: &[u8]) -> bool
+    ensures { result ≡ names_an_offset text.now }
+{
+    !text.is_empty() && text[0] == b'/'
 }

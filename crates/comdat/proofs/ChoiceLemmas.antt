@@ -3,12 +3,12 @@
 use Rattle.std.proofs.Common.{◌≡◌, ℕ, zero, suc, ◌+◌, ◌-◌, ◌<◌, Bool, true, false, cond, not, eqb, ◌&&◌, ◌||◌, List, [], ◌∷◌, length, get_or, take, Option, None, Some, ◌⊎◌, inl, inr, refl, sym, ap, ◌∙◌, subst, add-one, arith}
 use Rattle.std.specs.Prelude.{is_none}
 use Rattle.std.specs.List.{list_all, list_any}
-use Rattle.std.proofs.lemmas.Bool.{false≢true, eqb-true, ne_eqb, and_parts, not-false, or_from}
+use Rattle.std.proofs.lemmas.Bool.{false≢true, eqb-true, ne_eqb, and_parts, and_from, not-false, or_from}
 use Rattle.std.proofs.lemmas.List.{take_all}
 use Rattle.std.proofs.lemmas.List.Folds.{list_all_more}
 use Rattle.link_base.specs.Bytes.{first_below}
 use Rattle.link_base.specs.Refusals.{shown, first_standing}
-use Rattle.link_base.proofs.CallerLemmas.{first_below-found, first_below-none, first_below-more, first_below-some}
+use Rattle.link_base.proofs.CallerLemmas.{first_below-found, first_below-none, first_below-more, first_below-some, first_below-all_fail}
 use Rattle.link_base.proofs.RefusalLemmas.{or_none}
 use Rattle.std.proofs.lemmas.Option.{same_Some}
 use Rattle.comdat.specs.declared.candidate.Candidate.{Candidate}
@@ -219,3 +219,28 @@ pub chosen_at_end : (list : List Candidate) (place greatest : ℕ) (by_size b : 
 chosen_at_end list place greatest by_size b some end none largest is holds =
     chosen_is list greatest (goes_to_end list some (subst (λ (n : ℕ). first_below n (λ k. conflicts (take (k + 1) list)) ≡ None) end none)) (subst (λ (n : ℕ). IsGreatestOf list n greatest) end is)
     ∙ ap (λ (l : Bool). Some (cond l greatest 0)) (ap (list_any is_largest) (sym (take_all place list (omega (arith, end)))) ∙ sym largest ∙ holds)
+
+-- ---- a group of ANY alone
+
+any_taken : (n : ℕ) (list : List Candidate) → are_all_any list ≡ true → are_all_any (take n list) ≡ true
+any_taken zero list all = refl
+any_taken (suc n) [] all = refl
+any_taken (suc n) (first ∷ rest) all =
+    let both = and_parts (is_any first) (are_all_any rest) all in
+    and_from (is_any first) (are_all_any (take n rest)) both.0 (any_taken n rest both.1)
+
+-- it chooses its first
+pub any_chosen : (list : List Candidate) → are_all_any list ≡ true → chosen_place list ≡ Some 0
+unfolding tabled
+any_chosen list all =
+    go (is_alone list) (are_all_any list) (are_same_size list) (are_exact_match list) (goes_by_size list) (greatest_place list) all
+  where
+    go : (alone any same_size exact by_size : Bool) (place : Option ℕ) → any ≡ true → tabled alone any same_size exact by_size place ≡ Some 0
+    go true any same_size exact by_size place all = refl
+    go false true same_size exact by_size place all = refl
+    go false false same_size exact by_size place all = absurd (false≢true all)
+
+-- and does not conflict
+pub any_agree : (list : List Candidate) → are_all_any list ≡ true → conflict_place list ≡ None
+any_agree list all =
+    first_below-all_fail (length list) (λ k. conflicts (take (k + 1) list)) (λ k lt. ap is_none (any_chosen (take (k + 1) list) (any_taken (k + 1) list all)))

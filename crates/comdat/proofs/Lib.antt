@@ -2,6 +2,7 @@ pub mod GreatestLemmas
 pub mod ChoiceLemmas
 pub mod CallerLemmas
 pub mod NameLemmas
+pub mod EntryLemmas
 pub mod NumberingLemmas
 pub mod NotedLemmas
 pub mod ListLemmas

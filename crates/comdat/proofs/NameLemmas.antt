@@ -8,6 +8,3 @@ same_is a b e = (bytes_eq-Decides a b).0 e
 
 pub same_refl : (a : List ℕ) → same_name a a ≡ true
 same_refl a = (bytes_eq-Decides a a).1 refl
-
-pub same_from : (a b : List ℕ) → a ≡ b → same_name a b ≡ true
-same_from a b e = (bytes_eq-Decides a b).1 e

@@ -1,31 +1,35 @@
 -- The numbers of groups, in a loop over sections.
-use Rattle.std.proofs.Common.{◌≡◌, ℕ, zero, suc, ◌+◌, ◌<◌, ◌≤◌, eqb, nat_eq, List, [], ◌∷◌, ◌++◌, length, get_or, set, replicate, refl, sym, ap, ◌∙◌, subst, inl, inr, eq-eqb, length-append, arith}
+use Rattle.std.proofs.Common.{◌≡◌, ℕ, ◌+◌, ◌<◌, ◌≤◌, eqb, nat_eq, List, [], ◌∷◌, ◌++◌, length, get_or, set, refl, sym, ap, ◌∙◌, subst, inl, inr, eq-eqb, length-append, arith}
 use borrow.Author.Count.{below_more}
 use Rattle.std.specs.List.{All, IsDistinct}
 use Rattle.std.proofs.Math.ListN.{length-set}
 use Rattle.std.proofs.lemmas.Bool.{ne_eqb, cases_eq}
-use Rattle.std.proofs.lemmas.List.{get_or_append_left, get_or_push, get_or-set_same, get_or-set_other, length-replicate}
+use Rattle.std.proofs.lemmas.List.{get_or_append_left, get_or_push, get_or-set_same, get_or-set_other, length-map}
 use Rattle.link_base.specs.NameText.{same_name}
+use Rattle.module_view.specs.Module.{ModuleView}
+use Rattle.symbol_names.specs.Interning.{Numbers}
 use Rattle.symbol_names.proofs.NumberLemmas.{same_number}
-use Rattle.comdat.specs.declared.named.Named.{Named}
-use Rattle.comdat.specs.Groups.{no_named, name_at}
-use Rattle.comdat.specs.Numbering.{NO_GROUP, HasNumber, IsFirstOf, AreNumbers}
+use Rattle.comdat.specs.declared.entry.Entry.{Entry}
+use Rattle.comdat.specs.Entries.{no_entry, entry_at, named_by, KeepsEntry}
+use Rattle.comdat.specs.Groups.{Named, name_at}
+use Rattle.comdat.specs.Numbering.{NO_GROUP, IsFirstOf, AreNumbers}
+use Rattle.comdat.proofs.EntryLemmas.{named_at}
 
 -- the number of the name of a section
-abbrev pub number_at : List Named → ℕ → ℕ
-number_at entries k = (get_or entries k no_named).number
+abbrev pub number_at : List Entry → ℕ → ℕ
+number_at entries k = (get_or entries k no_entry).number
 
 -- the group that has a name, by its number
 abbrev pub group_at : List ℕ → ℕ → ℕ
 group_at groups name = get_or groups name NO_GROUP
 
 -- a group has been numbered, and the name of its first section has this number
-pub record HasGroup (entries : List Named) (firsts : List ℕ) (name group : ℕ) : Type 0 where
+pub record HasGroup (entries : List Entry) (firsts : List ℕ) (name group : ℕ) : Type 0 where
   pub within : group < length firsts
   pub named : number_at entries (get_or firsts group 0) ≡ name
 
 -- the groups of the first sections, by the numbers of names
-pub record Grouped (entries : List Named) (count done : ℕ) (groups numbers firsts : List ℕ) : Type 0 where
+pub record Grouped (entries : List Entry) (count done : ℕ) (groups numbers firsts : List ℕ) : Type 0 where
   pub same_length : length numbers ≡ done
   pub long : length groups ≡ count
   pub few : length firsts ≤ NO_GROUP
@@ -33,22 +37,6 @@ pub record Grouped (entries : List Named) (count done : ℕ) (groups numbers fir
   pub within : (k : ℕ) → k < done → get_or numbers k 0 < length firsts
   pub first : (group : ℕ) → group < length firsts → IsFirstOf numbers group (get_or firsts group 0)
   pub held : (name : ℕ) → (group_at groups name ≡ NO_GROUP → ⊥) → HasGroup entries firsts name (group_at groups name)
-
-none_at : (count name : ℕ) → group_at (replicate count NO_GROUP) name ≡ NO_GROUP
-none_at zero name = refl
-none_at (suc n) zero = refl
-none_at (suc n) (suc name) = none_at n name
-
-pub grouped_none : (entries : List Named) (count : ℕ) (groups : List ℕ) → groups ≡ replicate count NO_GROUP → Grouped entries count 0 groups [] []
-grouped_none entries count groups none = record {
-  same_length = refl;
-  long = ap length none ∙ length-replicate count NO_GROUP;
-  few = omega arith;
-  given = λ k lt. absurd (omega arith);
-  within = λ k lt. absurd (omega arith);
-  first = λ group lt. absurd (omega arith);
-  held = λ name some. absurd (some (ap (λ (gs : List ℕ). group_at gs name) none ∙ none_at count name));
-}
 
 first_kept : (numbers : List ℕ) (group first more : ℕ) → IsFirstOf numbers group first → IsFirstOf (numbers ++ more ∷ []) group first
 first_kept numbers group first more is = record {
@@ -60,7 +48,7 @@ first_kept numbers group first more is = record {
 }
 
 -- a section of a name that a group has
-pub grouped_known : (entries : List Named) (count done : ℕ) (groups numbers firsts : List ℕ) → Grouped entries count done groups numbers firsts → (group_at groups (number_at entries done) ≡ NO_GROUP → ⊥) → Grouped entries count (done + 1) groups (numbers ++ group_at groups (number_at entries done) ∷ []) firsts
+pub grouped_known : (entries : List Entry) (count done : ℕ) (groups numbers firsts : List ℕ) → Grouped entries count done groups numbers firsts → (group_at groups (number_at entries done) ≡ NO_GROUP → ⊥) → Grouped entries count (done + 1) groups (numbers ++ group_at groups (number_at entries done) ∷ []) firsts
 grouped_known entries count done groups numbers firsts is some =
     let group = group_at groups (number_at entries done) in
     let more = numbers ++ group ∷ [] in
@@ -80,7 +68,7 @@ grouped_known entries count done groups numbers firsts is some =
     }
 
 -- a section of a new name
-pub grouped_new : (entries : List Named) (count done : ℕ) (groups numbers firsts : List ℕ) → Grouped entries count done groups numbers firsts → number_at entries done < count → group_at groups (number_at entries done) ≡ NO_GROUP → length firsts < NO_GROUP → Grouped entries count (done + 1) (set groups (number_at entries done) (length firsts)) (numbers ++ length firsts ∷ []) (firsts ++ done ∷ [])
+pub grouped_new : (entries : List Entry) (count done : ℕ) (groups numbers firsts : List ℕ) → Grouped entries count done groups numbers firsts → number_at entries done < count → group_at groups (number_at entries done) ≡ NO_GROUP → length firsts < NO_GROUP → Grouped entries count (done + 1) (set groups (number_at entries done) (length firsts)) (numbers ++ length firsts ∷ []) (firsts ++ done ∷ [])
 grouped_new entries count done groups numbers firsts is in_count none few =
     let name = number_at entries done in
     let group = length firsts in
@@ -129,16 +117,23 @@ grouped_new entries count done groups numbers firsts is in_count none few =
       ];
     }
 
-pub to_numbers : (keys : List (List ℕ)) (entries : List Named) (count done : ℕ) (groups numbers firsts : List ℕ) → IsDistinct same_name keys → All (HasNumber keys) entries → Grouped entries count done groups numbers firsts → done ≡ length entries → AreNumbers entries numbers firsts
-to_numbers keys entries count done groups numbers firsts distinct named is all = record {
-  same_length = is.same_length ∙ all;
-  within = λ k lt. is.within k (omega (arith, all));
+pub to_numbers : (keys : List (List ℕ)) (modules : List ModuleView) (entries : List Entry) (count done : ℕ) (groups numbers firsts : List ℕ) → IsDistinct same_name keys → All (KeepsEntry keys modules) entries → Grouped entries count done groups numbers firsts → done ≡ length entries → AreNumbers (named_by modules entries) numbers firsts
+to_numbers keys modules entries count done groups numbers firsts distinct kept is all = record {
+  same_length = is.same_length ∙ all ∙ sym total;
+  within = λ k lt. is.within k (omega (arith, all, total));
   alike = λ j k in_j in_k.
-      alike j k (omega (arith, all)) (omega (arith, all))
-      ∙ sym (same_number keys (number_at entries k) (number_at entries j) (name_at entries k) (name_at entries j) distinct (named k no_named in_k) (named j no_named in_j));
+      alike j k (omega (arith, all, total)) (omega (arith, all, total))
+      ∙ sym (same_number keys (number_at entries k) (number_at entries j) (name_at (named_by modules entries) k) (name_at (named_by modules entries) j) distinct (numbered k (omega (arith, total))) (numbered j (omega (arith, total))));
   first = is.first;
 }
   where
+    total : length (named_by modules entries) ≡ length entries
+    total = length-map entries (entry_at modules)
+
+    numbered : (k : ℕ) → k < length entries → Numbers keys (number_at entries k) (name_at (named_by modules entries) k)
+    numbered k lt =
+        subst (λ (entry : Named). Numbers keys (number_at entries k) entry.name) (sym (named_at modules entries k lt)) (kept k no_entry lt).number
+
     -- the first section of the group of a section has the number of its name
     of_first : (k : ℕ) → k < done → number_at entries (get_or firsts (get_or numbers k 0) 0) ≡ number_at entries k
     of_first k lt =
@@ -158,12 +153,12 @@ to_numbers keys entries count done groups numbers firsts distinct named is all =
 
 -- ---- one more section, as the loop notes it
 
-pub section_known : (entries : List Named) (count done : ℕ) (groups groups' numbers firsts firsts' : List ℕ) → Grouped entries count done groups numbers firsts → groups' ≡ groups → firsts' ≡ firsts → (group_at groups (number_at entries done) ≡ NO_GROUP → ⊥) → Grouped entries count (done + 1) groups' (numbers ++ group_at groups' (number_at entries done) ∷ []) firsts'
+pub section_known : (entries : List Entry) (count done : ℕ) (groups groups' numbers firsts firsts' : List ℕ) → Grouped entries count done groups numbers firsts → groups' ≡ groups → firsts' ≡ firsts → (group_at groups (number_at entries done) ≡ NO_GROUP → ⊥) → Grouped entries count (done + 1) groups' (numbers ++ group_at groups' (number_at entries done) ∷ []) firsts'
 section_known entries count done groups groups' numbers firsts firsts' is same old some =
     subst (λ (gs : List ℕ). Grouped entries count (done + 1) gs (numbers ++ group_at gs (number_at entries done) ∷ []) firsts') (sym same)
     (subst (Grouped entries count (done + 1) groups (numbers ++ group_at groups (number_at entries done) ∷ [])) (sym old) (grouped_known entries count done groups numbers firsts is some))
 
-pub section_new : (entries : List Named) (count done group : ℕ) (groups groups' numbers firsts firsts' : List ℕ) → Grouped entries count done groups numbers firsts → groups' ≡ set groups (number_at entries done) group → firsts' ≡ firsts ++ done ∷ [] → group ≡ length firsts → group < NO_GROUP → number_at entries done < count → group_at groups (number_at entries done) ≡ NO_GROUP → Grouped entries count (done + 1) groups' (numbers ++ group_at groups' (number_at entries done) ∷ []) firsts'
+pub section_new : (entries : List Entry) (count done group : ℕ) (groups groups' numbers firsts firsts' : List ℕ) → Grouped entries count done groups numbers firsts → groups' ≡ set groups (number_at entries done) group → firsts' ≡ firsts ++ done ∷ [] → group ≡ length firsts → group < NO_GROUP → number_at entries done < count → group_at groups (number_at entries done) ≡ NO_GROUP → Grouped entries count (done + 1) groups' (numbers ++ group_at groups' (number_at entries done) ∷ []) firsts'
 section_new entries count done group groups groups' numbers firsts firsts' is noted counted next few in_count none =
     let name = number_at entries done in
     let last : groups' ≡ set groups name (length firsts) = noted ∙ ap (set groups name) next in

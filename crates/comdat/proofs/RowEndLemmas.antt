@@ -1,10 +1,10 @@
 -- The row of a module, by what its sections are chosen: one without COMDAT sections, one without parents, and any other.
-use Rattle.std.proofs.Common.{◌≡◌, ℕ, zero, suc, ◌+◌, ◌-◌, ◌<◌, ◌≤◌, Bool, true, false, cond, ◌&&◌, ◌||◌, List, [], ◌∷◌, ◌++◌, length, get_or, filter, map, Option, None, Some, refl, sym, ap, ◌∙◌, inl, inr, arith}
+use Rattle.std.proofs.Common.{◌≡◌, ℕ, zero, suc, ◌+◌, ◌-◌, ◌<◌, ◌≤◌, Bool, true, false, cond, not, eqb, ◌&&◌, ◌||◌, List, [], ◌∷◌, ◌++◌, length, get_or, filter, map, Option, None, Some, refl, sym, ap, ◌∙◌, inl, inr, arith}
 use Rattle.std.specs.Prelude.{replicate, is_some, nat_le}
 use Rattle.std.specs.List.{range_with_len, list_any}
-use Rattle.std.proofs.lemmas.Bool.{false≢true, cases_Bool, le-leb, and_from}
-use Rattle.std.proofs.lemmas.List.{append-nil, get_or-map}
-use Rattle.std.proofs.lemmas.List.FromFn.{length-map-range_with_len}
+use Rattle.std.proofs.lemmas.Bool.{false≢true, ne_eqb, cases_Bool, le-leb, and_from}
+use Rattle.std.proofs.lemmas.List.{append-nil, ext_get_or, get_or-map, length-map}
+use Rattle.std.proofs.lemmas.List.FromFn.{length-map-range_with_len, get_or-map-range_with_len}
 use Rattle.std.proofs.lemmas.List.Folds.{list_any_at}
 use Rattle.std.proofs.lemmas.Simd.{map-map}
 use Rattle.coff_records.specs.ObjectFile.{section_total}
@@ -12,37 +12,36 @@ use Rattle.coff_aux.specs.declared.comdat.Comdat.{Comdat}
 use Rattle.coff_aux.specs.declared.comdat.ComdatRecord.{ComdatRecord}
 use Rattle.coff_aux.specs.Comdats.{is_section_number, is_comdat, has_comdat, section_symbols_of, said_by_first, comdat_record_of, is_associative, leader_name, comdat_by, comdat_of, parent_in, parents_of}
 use Rattle.coff_aux.specs.Parents.{parent_at}
+use Rattle.module_view.specs.declared.comdat_choice.ComdatChoice.{ComdatChoice}
+use Rattle.module_view.specs.declared.definition.Definition.{Definition}
+use Rattle.module_view.specs.Choices.{AreChoices}
 use Rattle.module_view.proofs.SectionLemmas.{some_section}
 use Rattle.comdat.specs.declared.chosen_by.ChosenBy.{ChosenBy}
 use Rattle.comdat.specs.declared.chosen_by.ChosenBy.TheVariants as by
-use Rattle.comdat.specs.declared.named.Named.{Named}
-use Rattle.comdat.specs.ChosenBy.{is_group, is_child, parent_by, by_parent_or_leader, chosen_by_said, chosen_by, all_chosen_by}
+use Rattle.comdat.specs.Groups.{Named}
+use Rattle.comdat.specs.ChosenBy.{is_group, is_child, parent_by, by_parent_or_leader, chosen_by_said, chosen_by, by_choice, by_choices}
 use Rattle.comdat.specs.Chains.{chain_end}
 use Rattle.comdat.specs.Selection.{goes_by_name, group_name_of, is_free, sections_of, named_sections, entry_in, entries_of, own_flag}
 use Rattle.comdat.proofs.ChainLemmas.{end_here}
 use Rattle.comdat.proofs.OpenedLemmas.{range_alike, parent_count}
-use Rattle.comdat.proofs.RowLemmas.{group_is}
+use Rattle.comdat.proofs.RowLemmas.{group_is, says_at, by_said}
 
--- ---- the list of a module
+-- ---- what is kept of a module
 
--- it is empty where no section is a COMDAT section
-pub none_listed : (bytes : List ℕ) (row : List ChosenBy) → row ≡ all_chosen_by bytes → length row ≡ 0 → has_comdat bytes ≡ false
-none_listed bytes row is none = go (has_comdat bytes) refl
-  where
-    go : (b : Bool) → has_comdat bytes ≡ b → has_comdat bytes ≡ false
-    go false e = e
-    go true e =
-        let all : row ≡ map (chosen_by bytes) (sections_of bytes) = is ∙ ap (λ (b : Bool). cond b (map (chosen_by bytes) (sections_of bytes)) []) e in
-        let empty : section_total bytes ≡ 0 = omega (arith, none, ap length all, length-map-range_with_len (chosen_by bytes) 1 (section_total bytes)) in
-        ap (λ (n : ℕ). list_any (is_comdat bytes) (range_with_len 1 n)) empty
+-- nothing, where no section is a COMDAT section
+pub choices_none : (bytes : List ℕ) (definitions : List Definition) (choices : List (Option ComdatChoice)) → AreChoices bytes definitions choices → length choices ≡ 0 → has_comdat bytes ≡ false
+choices_none bytes definitions choices are none = are.some ∙ ap (λ (n : ℕ). not (eqb n 0)) none
 
--- and else has an entry for each section
-pub all_listed : (bytes : List ℕ) (row : List ChosenBy) → row ≡ all_chosen_by bytes → 0 < length row → row ≡ map (chosen_by bytes) (sections_of bytes)
-all_listed bytes row is some = go (has_comdat bytes) is
-  where
-    go : (b : Bool) → row ≡ cond b (map (chosen_by bytes) (sections_of bytes)) [] → row ≡ map (chosen_by bytes) (sections_of bytes)
-    go true e = e
-    go false e = absurd (omega (arith, some, ap length e))
+-- and else by what each section is chosen
+pub choices_all : (bytes : List ℕ) (definitions : List Definition) (choices : List (Option ComdatChoice)) → AreChoices bytes definitions choices → (length choices ≡ 0 → ⊥) → by_choices choices ≡ map (chosen_by bytes) (sections_of bytes)
+choices_all bytes definitions choices are some =
+    let total : length choices ≡ section_total bytes = are.count (are.some ∙ ap not (ne_eqb (length choices) 0 some)) in
+    ext_get_or by.Itself (by_choices choices) (map (chosen_by bytes) (sections_of bytes)) (length-map choices by_choice ∙ total ∙ sym (length-map-range_with_len (chosen_by bytes) 1 (section_total bytes)))
+    (λ k lt.
+    let within : k < length choices = omega (arith, lt, length-map choices by_choice) in
+    get_or-map by_choice choices k None by.Itself within
+    ∙ by_said bytes definitions (k + 1) (get_or choices k None) (says_at bytes definitions choices k are (omega (arith, within, total))).says
+    ∙ sym (get_or-map-range_with_len (chosen_by bytes) 1 (section_total bytes) k (k + 1) by.Itself (omega (arith, within, total)) (omega arith)))
 
 pub list_length : (bytes : List ℕ) (row : List ChosenBy) → row ≡ map (chosen_by bytes) (sections_of bytes) → length row ≡ section_total bytes
 list_length bytes row is = ap length is ∙ length-map-range_with_len (chosen_by bytes) 1 (section_total bytes)
@@ -99,6 +98,10 @@ parents_listed bytes row is =
     ∙ ap (map (parent_by total)) is
     ∙ map-map (parent_by total) (chosen_by bytes) (sections_of bytes))
     ∙ parents_by bytes
+
+pub parents_of_choices : (bytes : List ℕ) (choices : List (Option ComdatChoice)) → by_choices choices ≡ map (chosen_by bytes) (sections_of bytes) → 0 ∷ map (parent_by (length choices)) (by_choices choices) ≡ parents_of bytes
+parents_of_choices bytes choices is =
+    ap (λ (n : ℕ). 0 ∷ map (parent_by n) (by_choices choices)) (sym (length-map choices by_choice)) ∙ parents_listed bytes (by_choices choices) is
 
 childless : (count : ℕ) (said : ChosenBy) → is_child said ≡ false → parent_by count said ≡ 0
 childless count by.Itself none = refl

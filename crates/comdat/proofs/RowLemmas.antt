@@ -1,15 +1,18 @@
 -- What is said of the sections of a module, in a loop over by what each is chosen.
-use Rattle.std.proofs.Common.{◌≡◌, ℕ, suc, ◌+◌, ◌-◌, ◌<◌, ◌≤◌, Bool, true, false, cond, List, [], ◌∷◌, ◌++◌, length, get_or, drop, filter, map, Option, Some, None, refl, sym, ap, ◌∙◌, drop-cons, add-one, arith}
-use Rattle.std.specs.Prelude.{is_some}
+use Rattle.std.proofs.Common.{◌≡◌, ℕ, suc, ◌+◌, ◌-◌, ◌<◌, ◌≤◌, Bool, true, false, cond, List, [], ◌∷◌, ◌++◌, length, get_or, drop, filter, map, Option, Some, None, refl, sym, ap, subst, ◌∙◌, drop-cons, add-one, arith}
+use Rattle.std.specs.Prelude.{option_map, is_some}
 use Rattle.std.specs.List.{range_with_len}
 use Rattle.std.proofs.lemmas.List.{length-drop, length-append}
 use Rattle.std.proofs.lemmas.List.FromFn.{map-range_with_len_more, length-map-range_with_len, get_or-map-range_with_len}
 use Rattle.coff_aux.specs.declared.comdat.Comdat.{Comdat}
 use Rattle.coff_records.specs.ObjectFile.{section_total}
 use Rattle.coff_aux.specs.Comdats.{comdat_of}
+use Rattle.module_view.specs.declared.comdat_choice.ComdatChoice.{ComdatChoice}
+use Rattle.module_view.specs.declared.definition.Definition.{Definition}
+use Rattle.module_view.specs.Choices.{name_defined, comdat_named, SaysChoice, AreChoices}
 use Rattle.comdat.specs.declared.chosen_by.ChosenBy.{ChosenBy}
 use Rattle.comdat.specs.declared.chosen_by.ChosenBy.TheVariants as by
-use Rattle.comdat.specs.ChosenBy.{is_itself, is_group, by_parent_or_leader, chosen_by_said, chosen_by}
+use Rattle.comdat.specs.ChosenBy.{is_itself, is_group, by_parent_or_leader, chosen_by_said, chosen_by, by_choice}
 use Rattle.comdat.specs.Selection.{group_name_by, group_name_of, goes_by_name, is_free, sections_of, named_sections, own_flag}
 
 -- ---- one section
@@ -33,6 +36,27 @@ itself_is (Some said) = go said.parent said.leader
     go (Some parent) leader = refl
     go None (Some leader) = refl
     go None None = refl
+
+-- ---- what is kept of a section
+
+-- at a place stands what the section says
+pub says_at : (bytes : List ℕ) (definitions : List Definition) (choices : List (Option ComdatChoice)) (k : ℕ) → AreChoices bytes definitions choices → k < section_total bytes → SaysChoice bytes definitions (k + 1) (get_or choices k None)
+says_at bytes definitions choices k are lt =
+    let place : k + 1 - 1 ≡ k = omega arith in
+    subst (λ (n : ℕ). SaysChoice bytes definitions (k + 1) (get_or choices n None)) place (are.each (k + 1) (omega arith) (omega arith))
+
+-- it says by what the section is chosen
+pub by_said : (bytes : List ℕ) (definitions : List Definition) (section : ℕ) (choice : Option ComdatChoice) → option_map (comdat_named definitions) choice ≡ comdat_of bytes section → by_choice choice ≡ chosen_by bytes section
+by_said bytes definitions section choice says = go choice ∙ ap chosen_by_said says
+  where
+    of : (parent leader : Option ℕ) → by_parent_or_leader parent leader ≡ by_parent_or_leader parent (option_map (name_defined definitions) leader)
+    of (Some parent) leader = refl
+    of None (Some leader) = refl
+    of None None = refl
+
+    go : (choice : Option ComdatChoice) → by_choice choice ≡ chosen_by_said (option_map (comdat_named definitions) choice)
+    go None = refl
+    go (Some choice) = of choice.parent choice.leader
 
 -- ---- the sections of a list, in a loop
 

@@ -6,9 +6,8 @@ use Rattle.link_base.specs.Refusals.{first_refusal_below}
 use Rattle.coff_aux.specs.Parents.{ancestor}
 use Rattle.comdat.specs.declared.candidate.Candidate.{Candidate}
 use Rattle.comdat.specs.declared.error.ChooseError.TheVariants as error
-use Rattle.comdat.specs.declared.named.Named.{Named}
 use Rattle.comdat.specs.Choice.{chosen_place, conflict_place}
-use Rattle.comdat.specs.Groups.{is_selected, first_conflict}
+use Rattle.comdat.specs.Groups.{Named, is_selected, first_conflict}
 use Rattle.comdat.specs.Chains.{chain_end}
 
 sized : ℕ → ℕ → Candidate
@@ -53,7 +52,7 @@ one_twice = refl
 -- ---- several groups
 
 under : ℕ → ℕ → Candidate → Named
-under name position candidate = record { name = name ∷ []; number = 0; candidate = record candidate { «module» = position } }
+under name position candidate = record { name = name ∷ []; candidate = record candidate { «module» = position } }
 
 -- `a` of the modules 0 and 1, and `b` of 1 and 2, which is the greater one
 named : List Named

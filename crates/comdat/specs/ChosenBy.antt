@@ -1,12 +1,10 @@
 -- By what each section is chosen. Own.
-use Rattle.std.specs.Prelude.{ℕ, Bool, true, false, if◌then◌else◌, List, [], map, Option, Some, None}
-use Rattle.std.specs.declared.vec.Vec.{Vec}
-use Rattle.std.specs.declared.alloc.Global.{Global}
+use Rattle.std.specs.Prelude.{ℕ, Bool, true, false, if◌then◌else◌, List, map, Option, Some, None}
 use Rattle.coff_aux.specs.declared.comdat.Comdat.{Comdat}
-use Rattle.coff_aux.specs.Comdats.{is_section_number, has_comdat, comdat_of}
+use Rattle.coff_aux.specs.Comdats.{is_section_number, comdat_of}
+use Rattle.module_view.specs.declared.comdat_choice.ComdatChoice.{ComdatChoice}
 use Rattle.comdat.specs.declared.chosen_by.ChosenBy.{ChosenBy}
 use Rattle.comdat.specs.declared.chosen_by.ChosenBy.TheVariants as by
-use Rattle.comdat.specs.Selection.{sections_of}
 
 -- ---- one section
 
@@ -32,7 +30,7 @@ parent_by count by.Group = 0
 parent_by count (by.Parent parent) = if is_section_number count parent then parent else 0
 
 -- by its parent, where it has one, and else by its leader, where it has one
-abbrev pub by_parent_or_leader : Option ℕ → Option (List ℕ) → ChosenBy
+abbrev pub by_parent_or_leader : {A : Type 0} → Option ℕ → Option A → ChosenBy
 by_parent_or_leader (Some parent) leader = by.Parent parent
 by_parent_or_leader None (Some leader) = by.Group
 by_parent_or_leader None None = by.Itself
@@ -44,12 +42,12 @@ chosen_by_said (Some said) = by_parent_or_leader said.parent said.leader
 abbrev pub chosen_by : List ℕ → ℕ → ChosenBy
 chosen_by bytes section = chosen_by_said (comdat_of bytes section)
 
--- ---- the sections of a module
+-- ---- by what is kept of a section
 
--- by their numbers less 1; where none is a COMDAT section there is nothing to say
-abbrev pub all_chosen_by : List ℕ → List ChosenBy
-all_chosen_by bytes = if has_comdat bytes then map (chosen_by bytes) (sections_of bytes) else []
+abbrev pub by_choice : Option ComdatChoice → ChosenBy
+by_choice None = by.Itself
+by_choice (Some choice) = by_parent_or_leader choice.parent choice.leader
 
--- the lists of modules
-abbrev pub listed : Vec ChosenBy Global → List ChosenBy
-listed row = row.items
+-- of all sections of a module
+abbrev pub by_choices : List (Option ComdatChoice) → List ChosenBy
+by_choices choices = map by_choice choices

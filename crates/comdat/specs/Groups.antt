@@ -7,11 +7,15 @@ use Rattle.link_base.specs.Refusals.{first_refusal_below}
 use Rattle.comdat.specs.declared.candidate.Candidate.{Candidate}
 use Rattle.comdat.specs.declared.error.ChooseError.{ChooseError}
 use Rattle.comdat.specs.declared.error.ChooseError.TheVariants as error
-use Rattle.comdat.specs.declared.named.Named.{Named}
 use Rattle.comdat.specs.Choice.{no_candidate, chosen_place, conflict_place}
 
+-- a section and the name that it goes by
+pub record Named : Type 0 where
+  pub name : List ℕ
+  pub candidate : Candidate
+
 abbrev pub no_named : Named
-no_named = record { name = []; number = 0; candidate = no_candidate }
+no_named = record { name = []; candidate = no_candidate }
 
 abbrev pub name_at : List Named → ℕ → List ℕ
 name_at entries k = (slice_index_or entries k no_named).name

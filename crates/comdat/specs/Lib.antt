@@ -4,5 +4,6 @@ pub mod Groups
 pub mod Numbering
 pub mod Chains
 pub mod Selection
+pub mod Entries
 pub mod Plain
 pub mod ChosenBy

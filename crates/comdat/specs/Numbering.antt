@@ -1,20 +1,11 @@
 -- What the passes over the groups say of one another. Own.
-use Rattle.std.specs.Prelude.{◌≡◌, ℕ, ◌<◌, ◌==◌, if◌then◌else◌, List, [], ◌∷◌, length, map, take, slice_index, slice_index_or, Some}
-use Rattle.std.specs.List.{All}
+use Rattle.std.specs.Prelude.{◌≡◌, ℕ, ◌<◌, ◌==◌, List, [], length, map, filter, slice_index, slice_index_or, Some}
+use Rattle.std.specs.List.{range_with_len}
 use Rattle.std.specs.declared.vec.Vec.{Vec}
 use Rattle.std.specs.declared.alloc.Global.{Global}
 use Rattle.link_base.specs.NameText.{same_name}
-use Rattle.symbol_names.specs.Interning.{Numbers}
 use Rattle.comdat.specs.declared.candidate.Candidate.{Candidate}
-use Rattle.comdat.specs.declared.named.Named.{Named}
-use Rattle.comdat.specs.Choice.{no_candidate}
-use Rattle.comdat.specs.Groups.{no_named, name_at, candidate_of, group_of, chosen_of}
-
--- ---- the numbers of names
-
--- a section goes with the number of its name
-abbrev pub HasNumber : List (List ℕ) → Named → Type 0
-HasNumber names entry = Numbers names entry.number entry.name
+use Rattle.comdat.specs.Groups.{Named, no_named, name_at, candidate_of, group_of, chosen_of}
 
 -- ---- the numbers of groups
 
@@ -36,32 +27,32 @@ pub record AreNumbers (entries : List Named) (numbers firsts : List ℕ) : Type 
       (j k : ℕ) → j < length entries → k < length entries → (slice_index numbers j == slice_index numbers k) ≡ same_name (name_at entries j) (name_at entries k)
   pub first : (number : ℕ) → number < length firsts → IsFirstOf numbers number (slice_index firsts number)
 
--- those of a number, in their order
-abbrev pub numbered : ℕ → List ℕ → List Named → List Candidate
-numbered number [] entries = []
-numbered number (n ∷ rest) [] = []
-numbered number (n ∷ rest) (entry ∷ others) =
-    if n == number then entry.candidate ∷ numbered number rest others else numbered number rest others
-
--- the sections at some places
-abbrev pub candidates_at : List Named → List ℕ → List Candidate
-candidates_at entries places = map (λ k. candidate_of (slice_index_or entries k no_named)) places
-
 -- so many lists, each empty
 pub record AreEmpty (count : ℕ) (lists : List (Vec ℕ Global)) : Type 0 where
   pub same_length : length lists ≡ count
   pub each : (number : ℕ) (d : Vec ℕ Global) → number < count → (slice_index_or lists number d).items ≡ []
 
--- the places of the first sections, by their numbers, in their order
-pub record AreLists (entries : List Named) (numbers : List ℕ) (done count : ℕ) (lists : List (Vec ℕ Global)) : Type 0 where
-  pub same_length : length lists ≡ count
-  pub within :
-      (number : ℕ) (d : Vec ℕ Global) → number < count → All (λ k. k < done) (slice_index_or lists number d).items
-  pub each :
-      (number : ℕ) (d : Vec ℕ Global) → number < count → candidates_at entries (slice_index_or lists number d).items ≡ numbered number (take done numbers) (take done entries)
+-- the places of those of the first sections that have a number, in their order
+abbrev pub places_of : List ℕ → ℕ → ℕ → List ℕ
+places_of numbers done number = filter (λ k. slice_index numbers k == number) (range_with_len 0 done)
 
--- each is the chosen one of its group
-pub record AreWinners (entries : List Named) (firsts : List ℕ) (winners : List Candidate) : Type 0 where
+-- those of each number
+pub record AreLists (numbers : List ℕ) (done count : ℕ) (lists : List (Vec ℕ Global)) : Type 0 where
+  pub same_length : length lists ≡ count
+  pub each :
+      (number : ℕ) (d : Vec ℕ Global) → number < count → (slice_index_or lists number d).items ≡ places_of numbers done number
+
+-- ---- the choices
+
+abbrev pub candidate_at : List Named → ℕ → Candidate
+candidate_at entries k = candidate_of (slice_index_or entries k no_named)
+
+-- the sections at some places
+abbrev pub candidates_at : List Named → List ℕ → List Candidate
+candidates_at entries places = map (candidate_at entries) places
+
+-- at each place is the chosen one of the group
+pub record AreWinners (entries : List Named) (firsts winners : List ℕ) : Type 0 where
   pub same_length : length winners ≡ length firsts
   pub each :
-      (number : ℕ) → number < length firsts → chosen_of (group_of entries (name_at entries (slice_index firsts number))) ≡ Some (slice_index_or winners number no_candidate)
+      (number : ℕ) → number < length firsts → chosen_of (group_of entries (name_at entries (slice_index firsts number))) ≡ Some (candidate_at entries (slice_index winners number))

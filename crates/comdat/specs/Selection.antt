@@ -7,8 +7,7 @@ use Rattle.module_view.specs.Module.{ModuleView, module_at}
 use Rattle.coff_aux.specs.declared.comdat.Comdat.{Comdat}
 use Rattle.coff_aux.specs.Comdats.{comdat_of, parents_of}
 use Rattle.comdat.specs.declared.candidate.Candidate.{Candidate}
-use Rattle.comdat.specs.declared.named.Named.{Named}
-use Rattle.comdat.specs.Groups.{is_selected}
+use Rattle.comdat.specs.Groups.{Named, is_selected}
 use Rattle.comdat.specs.Chains.{chain_end}
 
 -- ---- a section
@@ -56,12 +55,10 @@ candidate_in position bytes section =
       body = option_map lent (body_of bytes section);
     }
 
--- the number of the name decides nothing
 abbrev pub entry_in : ℕ → List ℕ → ℕ → Named
 entry_in position bytes section =
     record {
       name = unwrap_or (group_name_of (comdat_of bytes section)) [];
-      number = 0;
       candidate = candidate_in position bytes section;
     }
 

@@ -1,9 +1,10 @@
 //! By what sections are chosen.
 
 ghost use Rattle.std.specs.Prelude.{◌≡◌};
-ghost use Rattle.comdat.specs.ChosenBy.{is_itself, is_group, is_child, parent_by};
+ghost use Rattle.comdat.specs.ChosenBy.{is_itself, is_group, is_child, parent_by, by_choice};
 
 use coff_aux::is_section_number;
+use module_view::ComdatChoice;
 
 /// By what a section is chosen.
 #[derive(Clone, Copy)]
@@ -17,6 +18,20 @@ pub(crate) enum ChosenBy {
 }
 
 impl ChosenBy {
+    /// By what a section is chosen that says this of itself.
+    pub(crate) fn of(choice: &Option<ComdatChoice>) -> ChosenBy
+        ensures { result ≡ by_choice choice.now }
+    {
+        let Some(choice) = choice else {
+            return ChosenBy::Itself;
+        };
+        match (choice.parent, choice.leader) {
+            (Some(parent), _) => ChosenBy::Parent(parent),
+            (None, Some(_)) => ChosenBy::Group,
+            (None, None) => ChosenBy::Itself,
+        }
+    }
+
     /// Whether it is chosen in any case.
     pub(crate) fn is_itself(self) -> bool
         ensures { result ≡ is_itself self }

@@ -1,92 +1,145 @@
 //! The choice in each of several groups.
 
-ghost use Rattle.std.specs.Prelude.{◌≡◌, ◌<◌, None, length, map, OnOk, IfOk, IfErr};
-ghost use Rattle.std.specs.List.{All};
-ghost use Rattle.comdat.specs.Groups.{is_selected, first_conflict, is_same_section, RefusesChoice};
-ghost use Rattle.comdat.specs.Numbering.{HasNumber, AreNumbers, AreLists, AreWinners, candidates_at};
+ghost use Rattle.std.specs.Prelude.{◌≡◌, ◌<◌, ◌==◌, ◌&&◌, None, Some, List, length, map, slice_index, IfOk, OnOk, IfErr};
+ghost use Rattle.std.specs.List.{All, list_all};
+ghost use Rattle.coff_aux.specs.AuxRecords.{COMDAT_SELECT_ANY};
+ghost use Rattle.module_view.specs.Module.{ModuleView};
+ghost use Rattle.comdat.specs.Choice.{conflict_place};
+ghost use Rattle.comdat.specs.Entries.{entry_at, named_by, selection_at, KeepsEntry, IsSection};
+ghost use Rattle.comdat.specs.Groups.{name_at, chosen_of, is_selected, is_same_section, conflict_in, first_conflict, RefusesChoice};
+ghost use Rattle.comdat.specs.Numbering.{candidate_at, candidates_at, AreNumbers, AreLists, AreWinners};
+ghost use Rattle.comdat.specs.Plain.{plain};
 
 use crate::candidate::Candidate;
 use crate::choice::choose;
+use crate::entry::Entry;
 use crate::error::ChooseError;
 use crate::lists::group_lists;
-use crate::named::Named;
 use crate::numbering::{Numbering, number_groups};
 use indexmap::IndexSet;
 use link_base::{Memory, Name};
+use module_view::Module;
 use std::alloc::Global;
+use symbol_names::name_at;
 
 /// For each section whether it is the chosen one of its group.
 pub(crate) fn select<'a>(
     alloc: Global,
+    modules: &[Module<'a>],
     names: &IndexSet<Name<'a>>,
-    entries: &[Named<'a>],
+    entries: &[Entry],
 ) -> Result<Vec<bool>, ChooseError<'a>>
-    requires { All (HasNumber names.now.keys) entries.now }
-    ensures selected { IfOk result (λ flags. flags.items ≡ map (is_selected entries.now) entries.now) }
-    ensures accepted { OnOk result (first_conflict entries.now ≡ None) }
-    ensures refused { IfErr result (RefusesChoice (first_conflict entries.now)) }
+    requires { All (KeepsEntry names.now.keys modules.now) entries.now }
+    ensures selected { IfOk result (λ flags. flags.items
+        ≡ map (is_selected (named_by modules.now entries.now)) (named_by modules.now entries.now)) }
+    ensures accepted { OnOk result (first_conflict (named_by modules.now entries.now) ≡ None) }
+    ensures refused { IfErr result (RefusesChoice (first_conflict (named_by modules.now entries.now))) }
 {
     let numbering = number_groups(alloc, names, entries)?;
-    let lists = group_lists(alloc, entries, &numbering)?;
-    let winners = winners(alloc, entries, &numbering, &lists)?;
+    let lists = group_lists(alloc, &numbering)?;
+    let winners = winners(alloc, modules, names, entries, &numbering, &lists)?;
     let mut flags = Vec::with_capacity(alloc, entries.len())?;
     for (index, entry) in entries.iter().enumerate() {
-        let winner = &winners[numbering.numbers[index]];
-        flags.push(is_same_section(&entry.candidate, winner))?;
+        let winner = winners[numbering.numbers[index]] as usize;
+        flags.push(is_same_section(entry, &entries[winner]))?;
     }
     Ok(flags)
 }
 
-/// The section that each group chooses, by its number.
+/// The place of the section that each group chooses, by its number.
 fn winners<'a>(
     alloc: Global,
-    entries: &[Named<'a>],
+    modules: &[Module<'a>],
+    names: &IndexSet<Name<'a>>,
+    entries: &[Entry],
     numbering: &Numbering,
     lists: &[Vec<u32>],
-) -> Result<Vec<Candidate<'a>>, ChooseError<'a>>
-    requires numbers { AreNumbers entries.now numbering.now.numbers.items numbering.now.firsts.items }
-    requires lists { AreLists entries.now numbering.now.numbers.items (length entries.now) (length numbering.now.firsts.items) lists.now }
-    ensures winners { IfOk result (λ winners. AreWinners entries.now numbering.now.firsts.items winners.items) }
-    ensures accepted { OnOk result (first_conflict entries.now ≡ None) }
-    ensures refused { IfErr result (RefusesChoice (first_conflict entries.now)) }
+) -> Result<Vec<u32>, ChooseError<'a>>
+    requires kept { All (KeepsEntry names.now.keys modules.now) entries.now }
+    requires numbers { AreNumbers (named_by modules.now entries.now) numbering.now.numbers.items numbering.now.firsts.items }
+    requires lists { AreLists numbering.now.numbers.items (length numbering.now.numbers.items) (length numbering.now.firsts.items) lists.now }
+    ensures within { IfOk result (λ winners. All (λ k. k < length entries.now) winners.items) }
+    ensures winners { IfOk result (λ winners. AreWinners (named_by modules.now entries.now) numbering.now.firsts.items winners.items) }
+    ensures accepted { OnOk result (first_conflict (named_by modules.now entries.now) ≡ None) }
+    ensures refused { IfErr result (RefusesChoice (first_conflict (named_by modules.now entries.now))) }
 {
     let mut winners = Vec::with_capacity(alloc, lists.len())?;
     let mut group = Vec::new(alloc);
-    for (number, list) in lists.iter().enumerate() {
-        gather(&mut group, entries, list)?;
-        match choose(&group) {
-            Ok(place) => winners.push(group[place])?,
-            Err(conflict) => {
-                return Err(ChooseError::Conflict {
-                    name: entries[numbering.firsts[number]].name.again(),
-                    first: group[0].module,
-                    second: group[conflict.second].module,
-                });
-            }
-        }
+    for places in lists {
+        let winner = group_winner(&mut group, modules, names, entries, places)?;
+        winners.push(winner)?;
     }
     Ok(winners)
+}
+
+/// The place of the section that a group chooses, which is the first where each is ANY: no size or body is read then.
+fn group_winner<'a>(
+    group: &mut Vec<Candidate<'a>>,
+    modules: &[Module<'a>],
+    names: &IndexSet<Name<'a>>,
+    entries: &[Entry],
+    places: &[u32],
+) -> Result<u32, ChooseError<'a>>
+    requires kept { All (KeepsEntry names.now.keys modules.now) entries.now }
+    requires places { All (λ k. k < length entries.now) places.now }
+    requires some { 0 < length places.now }
+    ensures within { IfOk result (λ winner. winner < length entries.now) }
+    ensures chosen { IfOk result (λ winner. chosen_of (candidates_at (named_by modules.now entries.now) places.now)
+        ≡ Some (candidate_at (named_by modules.now entries.now) winner)) }
+    ensures accepted { OnOk result (conflict_place (candidates_at (named_by modules.now entries.now) places.now) ≡ None) }
+    ensures refused { IfErr result (RefusesChoice (conflict_in (name_at (named_by modules.now entries.now) (slice_index places.now 0))
+        (candidates_at (named_by modules.now entries.now) places.now))) }
+{
+    let first = places[0];
+    if are_all_any(entries, places) {
+        return Ok(first);
+    }
+    gather(group, modules, entries, places)?;
+    match choose(group) {
+        Ok(place) => Ok(places[place]),
+        Err(conflict) => Err(ChooseError::Conflict {
+            name: name_at(names, entries[first as usize].number as usize),
+            first: group[0].module,
+            second: group[conflict.second].module,
+        }),
+    }
+}
+
+/// Whether the sections at these places are all ANY.
+fn are_all_any(entries: &[Entry], places: &[u32]) -> bool
+    requires { All (λ k. k < length entries.now) places.now }
+    ensures { result ≡ list_all (λ k. selection_at entries.now k == COMDAT_SELECT_ANY) places.now }
+{
+    for place in places {
+        if !entries[*place as usize].is_any() {
+            return false;
+        }
+    }
+    true
 }
 
 /// Replaces a list by the sections at these places.
 fn gather<'a>(
     group: &mut Vec<Candidate<'a>>,
-    entries: &[Named<'a>],
+    modules: &[Module<'a>],
+    entries: &[Entry],
     places: &[u32],
 ) -> Result<(), Memory>
-    requires { All (λ k. k < length entries.now) places.now }
-    ensures { OnOk result (group.new.items ≡ candidates_at entries.now places.now) }
+    requires sections { All (IsSection modules.now) entries.now }
+    requires places { All (λ k. k < length entries.now) places.now }
+    ensures { OnOk result (map plain group.new.items ≡ candidates_at (named_by modules.now entries.now) places.now) }
 {
     group.clear();
     for place in places {
-        group.push(entries[*place as usize].candidate)?;
+        group.push(entries[*place as usize].candidate(modules))?;
     }
     Ok(())
 }
 
-/// Whether two candidates are one section.
-fn is_same_section(one: &Candidate<'_>, other: &Candidate<'_>) -> bool
-    ensures { result ≡ is_same_section one.now other.now }
+/// Whether two are one section.
+fn is_same_section(one: &Entry, other: &Entry) -> bool
+    ensures { (modules : List ModuleView) → result
+        ≡ is_same_section (entry_at modules one.now).candidate (entry_at modules other.now).candidate }
 {
     one.module == other.module && one.section == other.section
 }

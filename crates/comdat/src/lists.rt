@@ -1,24 +1,20 @@
 //! The sections of each group.
 
 ghost use Rattle.std.specs.Prelude.{◌≡◌, ◌<◌, length, IfOk};
-ghost use Rattle.comdat.specs.Numbering.{AreNumbers, AreLists, AreEmpty};
+ghost use Rattle.std.specs.List.{All};
+ghost use Rattle.comdat.specs.Numbering.{AreLists, AreEmpty};
 
-use crate::named::Named;
 use crate::numbering::Numbering;
 use link_base::Memory;
 use std::alloc::Global;
 
 /// The places of the sections of each group, by its number, in their order.
-pub(crate) fn group_lists(
-    alloc: Global,
-    entries: &[Named<'_>],
-    numbering: &Numbering,
-) -> Result<Vec<Vec<u32>>, Memory>
-    requires { AreNumbers entries.now numbering.now.numbers.items numbering.now.firsts.items }
-    ensures { IfOk result (λ lists. AreLists entries.now numbering.now.numbers.items (length entries.now) (length numbering.now.firsts.items) lists.items) }
+pub(crate) fn group_lists(alloc: Global, numbering: &Numbering) -> Result<Vec<Vec<u32>>, Memory>
+    requires { All (λ number. number < length numbering.now.firsts.items) numbering.now.numbers.items }
+    ensures { IfOk result (λ lists. AreLists numbering.now.numbers.items (length numbering.now.numbers.items) (length numbering.now.firsts.items) lists.items) }
 {
     let mut lists = empty_lists(alloc, numbering.firsts.len())?;
-    for index in 0..entries.len() {
+    for index in 0..numbering.numbers.len() {
         let number = numbering.numbers[index];
         let place = place_of(index)?;
         lists[number].push(place)?;

@@ -1,10 +1,12 @@
 //! The numbers of groups.
 
-ghost use Rattle.std.specs.Prelude.{◌≡◌, ◌<◌, IfOk};
+ghost use Rattle.std.specs.Prelude.{◌≡◌, ◌<◌, List, length, IfOk};
 ghost use Rattle.std.specs.List.{All};
-ghost use Rattle.comdat.specs.Numbering.{NO_GROUP, HasNumber, AreNumbers};
+ghost use Rattle.module_view.specs.Module.{ModuleView};
+ghost use Rattle.comdat.specs.Entries.{KeepsEntry, named_by};
+ghost use Rattle.comdat.specs.Numbering.{NO_GROUP, AreNumbers};
 
-use crate::named::Named;
+use crate::entry::Entry;
 use indexmap::IndexSet;
 use link_base::{Memory, Name};
 use std::alloc::Global;
@@ -25,10 +27,11 @@ pub(crate) struct Numbering {
 pub(crate) fn number_groups<'a>(
     alloc: Global,
     names: &IndexSet<Name<'a>>,
-    entries: &[Named<'a>],
+    entries: &[Entry],
 ) -> Result<Numbering, Memory>
-    requires { All (HasNumber names.now.keys) entries.now }
-    ensures { IfOk result (λ n. AreNumbers entries.now n.numbers.items n.firsts.items) }
+    requires { All (λ entry. entry.number < length names.now.keys) entries.now }
+    ensures { IfOk result (λ n. (modules : List ModuleView) → All (KeepsEntry names.now.keys modules) entries.now
+        → AreNumbers (named_by modules entries.now) n.numbers.items n.firsts.items) }
 {
     let mut groups = vec![in alloc; NO_GROUP; names.len()]?;
     let mut numbers = Vec::with_capacity(alloc, entries.len())?;

@@ -1,19 +1,21 @@
 //! What is said of the sections of a module, by what each is chosen.
 
-ghost use Rattle.std.specs.Prelude.{◌≡◌, ◌≤◌, ◌<◌, ◌^◌, ◌∷◌, ◌++◌, ℕ, Bool, List, length, map, filter, IfOk, OnOk};
+ghost use Rattle.std.specs.Prelude.{◌≡◌, ◌≤◌, ◌<◌, ◌^◌, ◌∷◌, ◌++◌, ℕ, Bool, List, length, map, filter, IfOk};
 ghost use Rattle.std.specs.List.{list_any};
-ghost use Rattle.comdat.specs.ChosenBy.{chosen_by, is_group, is_child, parent_by};
+ghost use Rattle.comdat.specs.ChosenBy.{chosen_by, is_group, is_child, parent_by, by_choices};
 ghost use Rattle.comdat.specs.Selection.{named_sections, sections_of, own_flag};
 
 use crate::chosen_by::ChosenBy;
 use link_base::Memory;
+use module_view::ComdatChoice;
 use std::alloc::Global;
 
 /// Whether a section is chosen with a parent.
-pub(crate) fn has_child(row: &[ChosenBy]) -> bool
-    ensures { result ≡ list_any is_child row.now }
+pub(crate) fn has_child(choices: &[Option<ComdatChoice>]) -> bool
+    ensures { result ≡ list_any is_child (by_choices choices.now) }
 {
-    for by in row {
+    for choice in choices {
+        let by = ChosenBy::of(choice);
         if by.is_child() {
             return true;
         }
@@ -22,14 +24,15 @@ pub(crate) fn has_child(row: &[ChosenBy]) -> bool
 }
 
 /// The parents of sections, by their numbers from 0 on, 0 where there is none.
-pub(crate) fn parents(alloc: Global, row: &[ChosenBy]) -> Result<Vec<u32>, Memory>
-    requires { length row.now < 2 ^ 32 }
-    ensures { IfOk result (λ parents. parents.items ≡ 0 ∷ map (parent_by (length row.now)) row.now) }
+pub(crate) fn parents(alloc: Global, choices: &[Option<ComdatChoice>]) -> Result<Vec<u32>, Memory>
+    requires { length choices.now < 2 ^ 32 }
+    ensures { IfOk result (λ parents. parents.items ≡ 0 ∷ map (parent_by (length choices.now)) (by_choices choices.now)) }
 {
-    let count = row.len() as u32;
-    let mut parents = Vec::with_capacity(alloc, row.len() + 1)?;
+    let count = choices.len() as u32;
+    let mut parents = Vec::with_capacity(alloc, choices.len() + 1)?;
     parents.push(0)?;
-    for by in row {
+    for choice in choices {
+        let by = ChosenBy::of(choice);
         parents.push(by.parent(count))?;
     }
     Ok(parents)
@@ -39,19 +42,20 @@ pub(crate) fn parents(alloc: Global, row: &[ChosenBy]) -> Result<Vec<u32>, Memor
 /// later modules. The list has an entry for each section that goes by a name.
 pub(crate) fn own_flags<'w>(
     alloc: Global,
-    row: &[ChosenBy],
+    choices: &[Option<ComdatChoice>],
     selected: &'w [bool],
 ) -> Result<(Vec<bool>, &'w [bool]), Memory>
-    requires { length (filter is_group row.now) ≤ length selected.now }
-    ensures count { IfOk result (λ r. length r.0.items ≡ length row.now) }
+    requires { length (filter is_group (by_choices choices.now)) ≤ length selected.now }
+    ensures count { IfOk result (λ r. length r.0.items ≡ length choices.now) }
     ensures flags { IfOk result (λ r. (bytes : List ℕ) (chosen : ℕ → Bool) (later : List Bool)
-        → row.now ≡ map (chosen_by bytes) (sections_of bytes)
+        → by_choices choices.now ≡ map (chosen_by bytes) (sections_of bytes)
         → selected.now ≡ map chosen (named_sections bytes) ++ later
         → (r.0.items ≡ map (own_flag chosen bytes) (sections_of bytes)) × (r.1.now ≡ later)) }
 {
-    let mut flags = Vec::with_capacity(alloc, row.len())?;
+    let mut flags = Vec::with_capacity(alloc, choices.len())?;
     let mut rest = selected;
-    for by in row {
+    for choice in choices {
+        let by = ChosenBy::of(choice);
         if by.is_group() {
             flags.push(rest[0])?;
             rest = &rest[1..];

@@ -1,143 +1,127 @@
-//! What the sections of modules say of themselves. Each COMDAT section is asked once, and no other.
+//! The sections of modules that go by a name: one walk over what each module keeps of its COMDAT sections.
 
-ghost use Rattle.std.specs.Prelude.{◌≡◌, ◌+◌, ◌≤◌, ◌++◌, ◌∷◌, [], if◌then◌else◌, ℕ, List, length, map, IfOk, OnOk};
-ghost use Rattle.std.specs.List.{All, AllZip, range_with_len};
+ghost use Rattle.std.specs.Prelude.{◌≡◌, ◌≤◌, ◌<◌, ◌++◌, ◌∷◌, [], if◌then◌else◌, ℕ, List, length, map, IfOk, OnOk};
+ghost use Rattle.std.specs.List.{All, AllZip};
+ghost use Rattle.std.specs.Option.{IfSome};
 ghost use Rattle.link_base.specs.Limits as limit;
 ghost use Rattle.coff_records.specs.ObjectFile.{section_total};
-ghost use Rattle.module_view.specs.Module.{module_at};
+ghost use Rattle.module_view.specs.Choices.{SaysChoice};
+ghost use Rattle.module_view.specs.Module.{ModuleView, module_at};
 ghost use Rattle.module_view.specs.ImportModule.{module_definitions};
+ghost use Rattle.module_view.specs.Opening.{IsOpened};
 ghost use Rattle.symbol_names.specs.Interning.{NotesDefinition, NotesModule};
 ghost use Rattle.symbol_names.specs.Kept.{noted_view};
-ghost use Rattle.comdat.specs.ChosenBy.{chosen_by, all_chosen_by, listed};
+ghost use Rattle.comdat.specs.Entries.{IsSectionOf, KeepsEntries};
+ghost use Rattle.comdat.specs.Groups.{Named};
 ghost use Rattle.comdat.specs.Selection.{goes_by_name, entry_in, entries_of, all_entries};
-ghost use Rattle.comdat.specs.Plain.{plain_entry};
-ghost use Rattle.comdat.specs.Numbering.{HasNumber};
 
-use crate::candidate::Candidate;
-use crate::chosen_by::ChosenBy;
-use crate::named::Named;
-use coff_object::Object;
+use crate::entry::Entry;
 use indexmap::IndexSet;
 use link_base::{Memory, Name};
 use module_view::{ComdatChoice, Module};
 use std::alloc::Global;
 use symbol_names::{ModuleNames, NotedDefinition};
 
-/// What the sections of modules say.
-#[derive(Drop)]
-pub(crate) struct Sections<'a> {
-    /// The COMDAT sections that go by a name, in the order of the modules and of their sections.
-    pub(crate) entries: Vec<Named<'a>>,
-    /// By what each section of a module is chosen. A module without a COMDAT section has an empty list.
-    pub(crate) rows: Vec<Vec<ChosenBy>>,
-}
-
-/// Reads the sections of all modules, of each of which is noted what it defines, by the numbers of names.
+/// Reads the sections of all modules that go by a name, in the order of the modules and of their sections. Of each module is
+/// noted what it defines, by the numbers of names.
 pub(crate) fn read_sections<'a>(
     alloc: Global,
     modules: &[Module<'a>],
     names: &IndexSet<Name<'a>>,
     noted: &[ModuleNames<'a>],
-) -> Result<Sections<'a>, Memory>
+) -> Result<Vec<Entry>, Memory>
     requires few { length modules.now ≤ limit.MODULE_LIMIT }
     requires modules { map noted_view noted.now ≡ modules.now }
     requires noted { All (NotesModule names.now.keys) noted.now }
-    ensures entries { IfOk result (λ sections. map plain_entry sections.entries.items ≡ all_entries modules.now) }
-    ensures numbers { IfOk result (λ sections. All (HasNumber names.now.keys) sections.entries.items) }
-    ensures rows { IfOk result (λ sections. map listed sections.rows.items
-        ≡ map (λ k. all_chosen_by (module_at modules.now k).bytes) (range_with_len 0 (length modules.now))) }
+    ensures { IfOk result (λ entries. KeepsEntries names.now.keys modules.now (all_entries modules.now) entries.items) }
 {
     let mut entries = Vec::new(alloc);
-    let mut rows = Vec::with_capacity(alloc, modules.len())?;
     for position in 0..modules.len() {
         let definitions = &noted[position].definitions;
-        let row = read_module(
-            alloc,
+        read_module(
             &mut entries,
             position as u32,
             &modules[position],
             definitions,
         )?;
-        rows.push(row)?;
     }
-    Ok(Sections { entries, rows })
+    Ok(entries)
 }
 
-/// Reads those of the module at a position, and appends those that go by a name, with the number that is noted of the
-/// definition of the leader.
-fn read_module<'a>(
-    alloc: Global,
-    entries: &mut Vec<Named<'a>>,
+/// Reads those of the module at a position, and appends those that go by a name.
+fn read_module(
+    entries: &mut Vec<Entry>,
     position: u32,
-    module: &Module<'a>,
+    module: &Module<'_>,
     noted: &[NotedDefinition],
-) -> Result<Vec<ChosenBy>, Memory>
+) -> Result<(), Memory>
     requires { length noted.now ≡ length (module_definitions «module».now) }
-    ensures entries { OnOk result (map plain_entry entries.new.items
-        ≡ map plain_entry entries.old.items ++ entries_of position «module».now.bytes) }
-    ensures numbers { OnOk result ((keys : List (List ℕ)) → AllZip (NotesDefinition keys) (module_definitions «module».now) noted.now
-        → All (HasNumber keys) entries.old.items → All (HasNumber keys) entries.new.items) }
-    ensures row { IfOk result (λ row. row.items ≡ all_chosen_by «module».now.bytes) }
+    ensures { OnOk result ((names : List (List ℕ)) (modules : List ModuleView) (named : List Named)
+        → position < length modules
+        → module_at modules position ≡ «module».now
+        → AllZip (NotesDefinition names) (module_definitions «module».now) noted.now
+        → KeepsEntries names modules named entries.old.items
+        → KeepsEntries names modules (named ++ entries_of position «module».now.bytes) entries.new.items) }
 {
-    let mut row = Vec::new(alloc);
-    if !module.has_comdat() {
-        return Ok(row);
+    let choices = module.comdat_choices();
+    if choices.is_empty() {
+        return Ok(());
     }
-    let Some(object) = module.object() else {
-        return Ok(row);
-    };
-    row.reserve(object.section_count() as usize)?;
-    for index in 0..object.section_count() {
-        let by = read_section(entries, position, module, object, noted, index + 1)?;
-        row.push(by)?;
+    for index in 0..section_count(module) {
+        read_section(
+            entries,
+            position,
+            index + 1,
+            &choices[index as usize],
+            noted,
+        )?;
     }
-    Ok(row)
+    Ok(())
 }
 
-/// By what a section is chosen. It is appended, where it goes by a name.
-#[tactic(auto, unfolding(coff_aux::specs::Comdats::comdat_of, coff_aux::specs::Comdats::comdat_record_of))]
-fn read_section<'a>(
-    entries: &mut Vec<Named<'a>>,
+/// Appends a section, where it goes by a name, with the number that is noted of the definition of its leader.
+fn read_section(
+    entries: &mut Vec<Entry>,
     position: u32,
-    module: &Module<'a>,
-    object: &Object<'a>,
-    noted: &[NotedDefinition],
     section: u32,
-) -> Result<ChosenBy, Memory>
-    requires object { object.now ≡ «module».now.bytes }
-    requires first { 1 ≤ section }
-    requires last { section ≤ section_total object.now }
-    requires noted { length noted.now ≡ length (module_definitions «module».now) }
-    ensures entries { OnOk result (map plain_entry entries.new.items ≡ map plain_entry entries.old.items
-        ++ (if goes_by_name «module».now.bytes section then entry_in position «module».now.bytes section ∷ [] else [])) }
-    ensures numbers { OnOk result ((keys : List (List ℕ)) → AllZip (NotesDefinition keys) (module_definitions «module».now) noted.now
-        → All (HasNumber keys) entries.old.items → All (HasNumber keys) entries.new.items) }
-    ensures by { IfOk result (λ by. by ≡ chosen_by «module».now.bytes section) }
+    choice: &Option<ComdatChoice>,
+    noted: &[NotedDefinition],
+) -> Result<(), Memory>
+    requires { IfSome choice.now (λ said. IfSome said.leader (λ k. k < length noted.now)) }
+    ensures { OnOk result ((names : List (List ℕ)) (modules : List ModuleView) (named : List Named) (view : ModuleView)
+        → IsSectionOf modules position view section
+        → SaysChoice view.bytes (module_definitions view) section choice.now
+        → AllZip (NotesDefinition names) (module_definitions view) noted.now
+        → KeepsEntries names modules named entries.old.items
+        → KeepsEntries names modules
+        (named ++ (if goes_by_name view.bytes section then entry_in position view.bytes section ∷ [] else []))
+        entries.new.items) }
 {
-    let Some(choice) = module.comdat_choice(section) else {
-        return Ok(ChosenBy::Itself);
+    let Some(choice) = choice else {
+        return Ok(());
     };
-    let ComdatChoice {
-        selection,
-        leader,
-        parent,
-    } = choice;
-    if let Some(parent) = parent {
-        return Ok(ChosenBy::Parent(parent));
+    if choice.parent.is_some() {
+        return Ok(());
     }
-    let Some(leader) = leader else {
-        return Ok(ChosenBy::Itself);
+    let Some(leader) = choice.leader else {
+        return Ok(());
     };
-    entries.push(Named {
-        name: module.definitions()[leader as usize].name.again(),
+    entries.push(Entry {
         number: noted[leader as usize].name,
-        candidate: Candidate {
-            module: position,
-            section,
-            selection,
-            size: object.section_size(section),
-            body: object.section_body(section),
-        },
+        module: position,
+        section,
+        selection: choice.selection,
     })?;
-    Ok(ChosenBy::Group)
+    Ok(())
+}
+
+/// How many sections a module has.
+pub(crate) fn section_count(module: &Module<'_>) -> u32
+    ensures count { result ≡ section_total «module».now.bytes }
+    ensures opened { IsOpened «module».now }
+{
+    match module.object() {
+        Some(object) => object.section_count(),
+        None => 0,
+    }
 }

@@ -1,37 +1,32 @@
 //! Which sections of a link are chosen.
 
 ghost use Rattle.std.specs.Prelude.{◌≡◌, ◌≤◌, ◌++◌, ℕ, Bool, List, None, length, map, IfOk, OnOk, IfErr};
-ghost use Rattle.std.specs.List.{All, range_with_len};
+ghost use Rattle.std.specs.List.{All};
 ghost use Rattle.link_base.specs.Limits as limit;
-ghost use Rattle.coff_records.specs.ObjectFile.{section_total};
 ghost use Rattle.coff_aux.specs.Comdats.{parents_of};
-ghost use Rattle.module_view.specs.Module.{module_at};
-ghost use Rattle.module_view.specs.Opening.{IsOpened};
 ghost use Rattle.comdat.specs.Chains.{chain_end};
-ghost use Rattle.comdat.specs.ChosenBy.{all_chosen_by, listed};
 ghost use Rattle.comdat.specs.Groups.{is_selected, first_conflict, RefusesChoice};
 ghost use Rattle.comdat.specs.Selection.{named_sections, sections_of, own_flag, all_entries, chosen_sections};
 ghost use Rattle.symbol_names.specs.Interning.{NotesModule};
-ghost use Rattle.symbol_names.specs.Kept.{rows_of, noted_view};
+ghost use Rattle.symbol_names.specs.Kept.{row_flags, rows_of, noted_view};
 
 use crate::chains::follow_chains;
-use crate::chosen_by::ChosenBy;
 use crate::error::ChooseError;
 use crate::groups::select;
 use crate::rows::{has_child, own_flags, parents};
-use crate::sections::read_sections;
+use crate::sections::{read_sections, section_count};
 use indexmap::IndexSet;
 use link_base::{Memory, Name};
 use module_view::Module;
 use std::alloc::Global;
-use symbol_names::{Chosen, ModuleNames};
+use symbol_names::{Chosen, ChosenRow, ModuleNames};
 
 /// Which sections of the modules are chosen. Each COMDAT section goes by the name of its leader, the second symbol of the
 /// section, where that is external, and of all that go by one name one is chosen, as `choose` says. An associative section
 /// is chosen where the section at the end of its chain of parents is. One that is no COMDAT section is chosen, and so is one
 /// with neither leader nor parent. The first group that conflicts is told, in the order of the first sections of groups.
 /// (PE Format, "COMDAT Sections (Object Only)".) Names go by the numbers that are noted of what the modules define: none is
-/// read or hashed.
+/// read or hashed. Sizes and contents are read only of groups that are not all ANY.
 pub fn choose_all<'a>(
     alloc: Global,
     modules: &[Module<'a>],
@@ -45,27 +40,21 @@ pub fn choose_all<'a>(
     ensures accepted { OnOk result (first_conflict (all_entries modules.now) ≡ None) }
     ensures refused { IfErr result (RefusesChoice (first_conflict (all_entries modules.now))) }
 {
-    let sections = read_sections(alloc, modules, names, noted)?;
-    let selected = select(alloc, names, &sections.entries)?;
-    let rows = chosen_rows(alloc, modules, &sections.rows, &selected)?;
+    let entries = read_sections(alloc, modules, names, noted)?;
+    let selected = select(alloc, modules, names, &entries)?;
+    let rows = chosen_rows(alloc, modules, &selected)?;
     Ok(rows)
 }
 
-/// The sections of each module, by what each is chosen by, and by what is said of all that go by a name.
-fn chosen_rows(
-    alloc: Global,
-    modules: &[Module<'_>],
-    rows: &[Vec<ChosenBy>],
-    selected: &[bool],
-) -> Result<Chosen, Memory>
-    requires rows { map listed rows.now ≡ map (λ k. all_chosen_by (module_at modules.now k).bytes) (range_with_len 0 (length modules.now)) }
-    requires selected { selected.now ≡ map (is_selected (all_entries modules.now)) (all_entries modules.now) }
+/// The sections of each module, by what is said of all that go by a name.
+fn chosen_rows(alloc: Global, modules: &[Module<'_>], selected: &[bool]) -> Result<Chosen, Memory>
+    requires { selected.now ≡ map (is_selected (all_entries modules.now)) (all_entries modules.now) }
     ensures { IfOk result (λ chosen. rows_of chosen.items ≡ chosen_sections modules.now) }
 {
     let mut rest = selected;
     let mut chosen = Vec::with_capacity(alloc, modules.len())?;
     for position in 0..modules.len() {
-        let (row, later) = chosen_row(alloc, &modules[position], &rows[position], rest)?;
+        let (row, later) = chosen_row(alloc, &modules[position], rest)?;
         chosen.push(row)?;
         rest = later;
     }
@@ -77,37 +66,24 @@ fn chosen_rows(
 fn chosen_row<'w>(
     alloc: Global,
     module: &Module<'_>,
-    row: &[ChosenBy],
     selected: &'w [bool],
-) -> Result<(Vec<bool>, &'w [bool]), Memory>
-    requires row { row.now ≡ all_chosen_by «module».now.bytes }
-    requires room { length (named_sections «module».now.bytes) ≤ length selected.now }
+) -> Result<(ChosenRow, &'w [bool]), Memory>
+    requires { length (named_sections «module».now.bytes) ≤ length selected.now }
     ensures { IfOk result (λ r. (chosen : ℕ → Bool) (later : List Bool)
         → selected.now ≡ map chosen (named_sections «module».now.bytes) ++ later
-        → (r.0.items ≡ map (λ section. own_flag chosen «module».now.bytes (chain_end (parents_of «module».now.bytes) section)) (sections_of «module».now.bytes))
+        → (row_flags r.0 ≡ map (λ section. own_flag chosen «module».now.bytes (chain_end (parents_of «module».now.bytes) section)) (sections_of «module».now.bytes))
         × (r.1.now ≡ later)) }
 {
     let count = section_count(module);
-    if row.is_empty() {
-        let flags = vec![in alloc; true; count as usize]?;
-        return Ok((flags, selected));
+    let choices = module.comdat_choices();
+    if choices.is_empty() {
+        return Ok((ChosenRow::All(count), selected));
     }
-    let (own, later) = own_flags(alloc, row, selected)?;
-    if !has_child(row) {
-        return Ok((own, later));
+    let (own, later) = own_flags(alloc, choices, selected)?;
+    if !has_child(choices) {
+        return Ok((ChosenRow::Said(own), later));
     }
-    let parents = parents(alloc, row)?;
+    let parents = parents(alloc, choices)?;
     let flags = follow_chains(alloc, &parents, &own)?;
-    Ok((flags, later))
-}
-
-/// How many sections a module has.
-fn section_count(module: &Module<'_>) -> u32
-    ensures count { result ≡ section_total «module».now.bytes }
-    ensures opened { IsOpened «module».now }
-{
-    match module.object() {
-        Some(object) => object.section_count(),
-        None => 0,
-    }
+    Ok((ChosenRow::Said(flags), later))
 }

@@ -14,6 +14,7 @@ mod module_rows;
 mod piece_rows;
 mod placed_publics;
 mod rvas;
+mod slot_publics;
 
 pub use contribution_rows::contributions;
 pub use kept_places::kept_publics;

@@ -1,14 +1,15 @@
 //! Where the public symbols of a link stand: the names that its modules define for others.
 
 ghost use Rattle.std.specs.Prelude.{◌≡◌, ◌<◌, ◌≤◌, ◌^◌, ◌++◌, [], length, map, filter_map, option_map, IfOk, OnOk};
-ghost use Rattle.std.specs.List.{cons_option, enumerate_from};
+ghost use Rattle.std.specs.List.{cons_option};
 ghost use Rattle.link_base.specs.Limits.{MODULE_LIMIT};
 ghost use Rattle.coff_records.specs.ObjectFile.{symbol_entries};
 ghost use Rattle.section_group.specs.BarePieces.{bare};
 ghost use Rattle.link_pieces.specs.PieceIndex.{IsPieceIndex};
 ghost use Rattle.link_pieces.specs.Pieces.{link_pieces};
-ghost use Rattle.debug_rows.specs.Publics.{symbol_piece, own_piece, public_at, symbol_public, made_public, common_public, slot_public, module_publics, publics_of};
+ghost use Rattle.debug_rows.specs.Publics.{symbol_piece, own_piece, public_at, symbol_public, made_public, common_public, module_publics, publics_of};
 
+use crate::slot_publics::push_slots;
 use coff_object::{Object, SymbolRecord};
 use link_base::pe_format::{SYM_CLASS_EXTERNAL, SYM_UNDEFINED};
 use link_base::{Memory, Name};
@@ -16,7 +17,6 @@ use link_pieces::{LinkNames, PieceIndex};
 use module_view::{Common, Definition, Module, Place};
 use section_group::Piece;
 use std::alloc::Global;
-use synthetic_sections::FIRST_LOCAL_SLOT;
 
 /// The type of a symbol that is a function (PE Format, "Type Representation").
 const FUNCTION: u16 = 0x20;
@@ -221,7 +221,7 @@ fn push_definition<'a>(
 }
 
 /// Appends that of a name at the start of a piece, where there is one.
-fn push_at<'a>(
+pub(crate) fn push_at<'a>(
     publics: &mut Vec<PublicPlace<'a>>,
     name: &Name<'a>,
     module: u32,
@@ -263,49 +263,4 @@ fn push_commons<'a>(
         )?;
     }
     Ok(())
-}
-
-/// Appends those of the local slots among these pieces.
-fn push_slots<'a>(
-    publics: &mut Vec<PublicPlace<'a>>,
-    names: &LinkNames<'a>,
-    index: &PieceIndex<'a>,
-    modules: u32,
-    pieces: &[Piece<'a>],
-) -> Result<(), Memory>
-    requires indexed { IsPieceIndex names.now index.now }
-    requires modules { modules ≡ length names.now.modules }
-    requires few { length pieces.now < 2 ^ 32 }
-    ensures { OnOk result (publics.new.items ≡ publics.old.items ++ filter_map (slot_public names.now) (enumerate_from 0 (map bare pieces.now))) }
-{
-    for (k, piece) in pieces.iter().enumerate() {
-        push_slot(publics, names, index, modules, k as u32, piece)?;
-    }
-    Ok(())
-}
-
-/// Appends that of the piece of an index, where it is a local slot.
-fn push_slot<'a>(
-    publics: &mut Vec<PublicPlace<'a>>,
-    names: &LinkNames<'a>,
-    index: &PieceIndex<'a>,
-    modules: u32,
-    k: u32,
-    piece: &Piece<'a>,
-) -> Result<(), Memory>
-    requires indexed { IsPieceIndex names.now index.now }
-    requires modules { modules ≡ length names.now.modules }
-    ensures { OnOk result (publics.new.items ≡ publics.old.items ++ cons_option (slot_public names.now (k, bare piece.now)) []) }
-{
-    if piece.module != modules || piece.number < FIRST_LOCAL_SLOT {
-        return Ok(());
-    }
-    let target = index.slot_name(piece.number);
-    push_at(
-        publics,
-        &Name::import(target.rest()),
-        modules,
-        false,
-        Some(k),
-    )
 }

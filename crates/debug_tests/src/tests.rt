@@ -1,3 +1,4 @@
+mod contributions;
 mod maps;
 mod modules;
 mod publics;

@@ -1,6 +1,7 @@
 pub mod NameLemmas
 pub mod NumberLemmas
 pub mod PlaceLemmas
+pub mod PlainLemmas
 pub mod AttributeLemmas
 pub mod TextLemmas
 pub mod WordLemmas

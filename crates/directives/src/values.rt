@@ -1,10 +1,12 @@
 //! The value of each directive.
 
-ghost use Rattle.std.specs.Prelude.{◌≡◌, option_map, option_and_then};
+ghost use Rattle.std.specs.Prelude.{◌≡◌, ◌≤◌, false, length, option_map, option_and_then};
 ghost use Rattle.std.specs.Option.{option_copied};
 ghost use Rattle.directives.specs.Said.{said};
 ghost use Rattle.directives.specs.Said as says;
-ghost use Rattle.directives.specs.Text.{is_comma, is_equals};
+ghost use Rattle.link_base.specs.Bytes.{is_nul};
+ghost use Rattle.link_base.specs.Limits.{NAME_LIMIT};
+ghost use Rattle.directives.specs.Text.{is_comma, is_equals, is_quote, has};
 ghost use Rattle.directives.specs.Form.{pair};
 ghost use Rattle.directives.specs.FormView.{two_lists};
 ghost use Rattle.directives.specs.ExportValue.{export_value};
@@ -15,7 +17,7 @@ use crate::form::{pair, whole};
 use crate::item::Directive;
 use crate::names::{Listed, directive_named};
 use crate::number::decimal_up_to;
-use crate::text::{is_name, is_text};
+use crate::text::{is_name, is_short_and_plain, is_text, split_at_byte};
 use link_base::Name;
 use std::str;
 
@@ -49,6 +51,9 @@ pub(crate) fn listed_value(listed: Listed, value: &[u8]) -> Option<Directive<'_>
 fn name_of(value: &[u8]) -> Option<&[u8]>
     ensures { option_copied result ≡ name_of value.now }
 {
+    if is_short_and_plain(value) {
+        return (!value.is_empty()).then_some(value);
+    }
     let text = whole(value)?;
     is_name(text).then_some(text)
 }
@@ -58,8 +63,22 @@ fn name_of(value: &[u8]) -> Option<&[u8]>
 fn names_of(value: &[u8]) -> Option<(&[u8], &[u8])>
     ensures { option_map two_lists result ≡ names_of value.now }
 {
+    if is_short_and_plain(value) {
+        return plain_names(value);
+    }
     let (left, right) = pair(value, b'=')?;
     (is_name(left) && is_name(right)).then_some((left, right))
+}
+
+/// The same, of a value that is short and plain.
+fn plain_names(value: &[u8]) -> Option<(&[u8], &[u8])>
+    requires short { length value.now ≤ NAME_LIMIT }
+    requires quote { has is_quote value.now ≡ false }
+    requires nul { has is_nul value.now ≡ false }
+    ensures { option_map two_lists result ≡ names_of value.now }
+{
+    let (left, right) = split_at_byte(value, b'=')?;
+    (!left.is_empty() && !right.is_empty()).then_some((left, right))
 }
 
 /// A common's name, and the power of two that it is aligned to, at most 13.
@@ -112,8 +131,28 @@ fn export(value: &[u8]) -> Option<Directive<'_>>
 fn fail_if_mismatch(value: &[u8]) -> Option<Directive<'_>>
     ensures { option_map said result ≡ option_and_then mismatch_said (pair is_equals value.now) }
 {
+    if is_short_and_plain(value) {
+        return plain_mismatch(value);
+    }
     let (key, value) = pair(value, b'=')?;
     if !(is_name(key) && is_text(value)) {
+        return None;
+    }
+    Some(Directive::FailIfMismatch {
+        key: Name::of(key),
+        value: Name::of(value),
+    })
+}
+
+/// The same, of a value that is short and plain.
+fn plain_mismatch(value: &[u8]) -> Option<Directive<'_>>
+    requires short { length value.now ≤ NAME_LIMIT }
+    requires quote { has is_quote value.now ≡ false }
+    requires nul { has is_nul value.now ≡ false }
+    ensures { option_map said result ≡ option_and_then mismatch_said (pair is_equals value.now) }
+{
+    let (key, value) = split_at_byte(value, b'=')?;
+    if key.is_empty() {
         return None;
     }
     Some(Directive::FailIfMismatch {

@@ -198,6 +198,7 @@ fn table_of<'a>(
 {
     let words = asked_words(alloc, options)?;
     let mut table = SymbolTable::new(alloc, &words, &options.alternates)?;
+    table.reserve(modules.len())?;
     for module in modules {
         table.add_module(module)?;
     }

@@ -121,7 +121,7 @@ pub enum Fault<'a> {
     ImageTooLarge {
         size: u64,
     },
-    /// The image may not stand at the base that the command line gives.
+    /// The image may not stand at the base that it prefers.
     BaseRange {
         base: u64,
     },
@@ -175,7 +175,7 @@ pub enum Fault<'a> {
     NoSymbol {
         name: Name<'a>,
     },
-    /// The bytes leave the image, whose end they pass at this RVA.
+    /// The bytes would end at this RVA, which is behind the end of the image.
     LengthRange {
         end: u64,
     },

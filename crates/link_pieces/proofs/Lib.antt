@@ -4,6 +4,7 @@ pub mod PieceLemmas
 pub mod CallerLemmas
 pub mod IndexLemmas
 mod SlotLemmas
+pub mod StandLemmas
 pub mod LinkerLemmas
 pub mod TableLemmas
 mod LinkerRowLemmas

@@ -1,10 +1,11 @@
 -- What a name means in a link, of each group of whose COMDAT sections one is chosen. Own.
-use Rattle.std.specs.Prelude.{ℕ, Bool, List, Result}
+use Rattle.std.specs.Prelude.{◌≡◌, ℕ, Bool, true, List, Result}
 use Rattle.link_pieces.specs.LinkParts.{LinkParts, names_in}
 use Rattle.symbol_table.specs.declared.meaning.Meaning.{Meaning}
 use Rattle.symbol_table.specs.declared.meaning.NoMeaning.{NoMeaning}
 use Rattle.symbol_names.specs.Lists.{is_chosen_in}
 use Rattle.symbol_table.specs.Resolution.{meaning_of}
+use Rattle.symbol_table.specs.Meant.{is_standing}
 use Rattle.comdat.specs.Selection.{chosen_sections}
 
 abbrev pub name_meaning : LinkParts → List ℕ → Result Meaning NoMeaning
@@ -13,3 +14,7 @@ name_meaning link name = meaning_of (names_in link) (chosen_sections link.module
 -- a section of the module at a position takes part in the link
 abbrev pub takes_part : LinkParts → ℕ → ℕ → Bool
 takes_part link position section = is_chosen_in (chosen_sections link.modules) position section
+
+-- a name means something that is no slot that has to be made
+abbrev pub StandsIn : LinkParts → List ℕ → Type 0
+StandsIn link name = is_standing (name_meaning link name) ≡ true

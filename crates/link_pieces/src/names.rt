@@ -1,6 +1,7 @@
 //! What names mean in the modules of a link.
 
-ghost use Rattle.std.specs.Prelude.{◌≡◌, ◌≤◌, None, Some, map, length, IfOk, OnOk, IfErr};
+ghost use Rattle.std.specs.Prelude.{◌≡◌, ◌≤◌, true, None, Some, map, length, IfOk, OnOk, IfErr};
+ghost use Rattle.std.specs.List.{All};
 ghost use Rattle.link_base.specs.Limits.{MODULE_LIMIT};
 ghost use Rattle.link_base.specs.Refusals.{RefusesFor};
 ghost use Rattle.coff_records.specs.ObjectFile.{symbol_at, name_in};
@@ -8,7 +9,8 @@ ghost use Rattle.module_view.specs.Module.{module_at};
 ghost use Rattle.symbol_names.specs.Kept.{rows_of};
 ghost use Rattle.comdat.specs.Selection.{chosen_sections};
 ghost use Rattle.link_pieces.specs.LinkParts.{parts_of};
-ghost use Rattle.link_pieces.specs.NameMeaning.{name_meaning, takes_part};
+ghost use Rattle.link_pieces.specs.LocalSlots.{modules_asked};
+ghost use Rattle.link_pieces.specs.NameMeaning.{name_meaning, takes_part, StandsIn};
 ghost use Rattle.link_pieces.specs.ChoiceFaults.{conflict_fault, clash_fault};
 
 use coff_object::SymbolRecord;
@@ -64,6 +66,14 @@ impl<'a> LinkNames<'a> {
         ensures { result.now ≡ self.now.resources }
     {
         &self.resources
+    }
+
+    /// Whether each name that a module asks for means something that stands already: it is no slot that has to be made. Where the
+    /// answer is no, some name does not, which nothing need ask for.
+    pub fn all_stand(&self) -> bool
+        ensures { result ≡ true → All (StandsIn self.now) (modules_asked self.now) }
+    {
+        self.names.all_stand()
     }
 
     /// What a name means.

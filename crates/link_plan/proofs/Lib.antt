@@ -9,3 +9,4 @@ pub mod NearLemmas
 pub mod LaidLemmas
 pub mod PublicLemmas
 pub mod PlanningLemmas
+mod StandingNameLemmas

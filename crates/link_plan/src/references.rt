@@ -22,7 +22,8 @@ use symbol_names::asked_name;
 use symbol_table::NoMeaning;
 
 /// That each name that a symbol of a module stands for, or a directive of it asks for, means something, and notes the slots
-/// that they mean. The first that means nothing is refused.
+/// that they mean. The first that means nothing is refused. Where all names mean something that stands already, none is asked
+/// for.
 pub(crate) fn check_references<'a>(
     names: &LinkNames<'a>,
     modules: &[Module<'a>],
@@ -34,6 +35,9 @@ pub(crate) fn check_references<'a>(
     ensures refused { IfErr result (RefusesFor (references_fault names.now)) }
     ensures slots { OnOk result (slots.new.keys ≡ with_meant names.now slots.old.keys (modules_asked names.now)) }
 {
+    if names.all_stand() {
+        return Ok(());
+    }
     for position in 0..modules.len() {
         check_module(names, &modules[position], position as u32, slots)?;
     }

@@ -20,6 +20,7 @@ use link_image::build;
 use link_plan::{LinkPlan, plan};
 use link_words::Options;
 use std::alloc::Global;
+use std::mem;
 use std::thread::Threads;
 
 /// Links what the options name, with the inputs in this arena.
@@ -42,7 +43,12 @@ pub(crate) fn link<'a, R: Threads + Sync, F: Files, G: Gate>(
 {
     let mut inputs = Inputs::new(arena);
     match plan(rt, alloc, files, &mut inputs, options, gate) {
-        Ok(plan) => link_planned(rt, alloc, files, options, &plan, gate),
+        Ok(plan) => {
+            let answer = link_planned(rt, alloc, files, options, &plan, gate);
+            // The program ends, and the system takes back at once what would be freed module by module.
+            mem::forget(plan);
+            answer
+        }
         Err(Stop::Fault(fault)) => refused(alloc, &fault),
         Err(Stop::Read(name)) => read_failed(alloc, &name),
         Err(Stop::Memory) => Err(Memory),

@@ -48,10 +48,10 @@ unfolding has_resources number_at big_object_class is_big_object header_size sec
 no_resources = refl
 
 -- it has no lists
-pub nothing_kept : (bytes object : List ℕ) → bytes ≡ no_object → object ≡ no_object → KeepsLists bytes object [] [] [] [] [] [] [] [] false
+pub nothing_kept : (bytes object : List ℕ) → bytes ≡ no_object → object ≡ no_object → KeepsLists bytes object [] [] [] [] [] [] [] false
 unfolding definitions_of references_of weaks_of commons_of starts_symbol
 nothing_kept bytes object nothing same =
-    subst (λ (bs : List ℕ). KeepsLists bs object [] [] [] [] [] [] [] [] false) (sym nothing)
+    subst (λ (bs : List ℕ). KeepsLists bs object [] [] [] [] [] [] [] false) (sym nothing)
     record {
       opened = nothing_opens;
       viewed = same;
@@ -60,7 +60,7 @@ nothing_kept bytes object nothing same =
       weak = rw no_symbols refl;
       common = rw no_symbols refl;
       started = λ some. absurd cc;
-      comdats = none_kept no_object [] [] no_comdat refl refl;
+      comdats = none_kept no_object [] [] no_comdat refl;
       said_are = no_directives;
       resources_are = no_resources;
     }

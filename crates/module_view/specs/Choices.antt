@@ -1,18 +1,17 @@
 -- What a COMDAT section says of itself, with its leader by its place among definitions, and what is kept of it (PE Format, "COMDAT Sections (Object
 -- Only)"; that the place stands for the name is own).
-use Rattle.std.specs.Prelude.{◌≡◌, ℕ, ◌<◌, ◌-◌, ◌==◌, true, not, List, [], length, slice_index_or, Option, None, option_map}
+use Rattle.std.specs.Prelude.{◌≡◌, ℕ, ◌<◌, ◌≤◌, ◌-◌, ◌==◌, true, not, List, [], length, slice_index_or, Option, None, option_map}
 use Rattle.std.specs.Option.{IfSome, MatchOption}
 use Rattle.std.specs.List.{All, AllPairs}
 use Rattle.coff_records.specs.ObjectFile.{section_total}
 use Rattle.coff_aux.specs.declared.comdat.Comdat.{Comdat}
 use Rattle.coff_aux.specs.declared.comdat.ComdatRecord.{ComdatRecord}
 use Rattle.coff_aux.specs.declared.comdat.SectionSymbols.{SectionSymbols}
-use Rattle.coff_aux.specs.Comdats.{is_section_number, is_comdat, has_comdat, section_symbols_of}
-use Rattle.coff_aux.specs.Steps.{no_symbols, KeepsRecords}
+use Rattle.coff_aux.specs.Comdats.{has_comdat, parent_said, comdat_of}
+use Rattle.coff_aux.specs.Steps.{no_symbols}
 use Rattle.module_view.specs.declared.comdat_choice.ComdatChoice.{ComdatChoice}
 use Rattle.module_view.specs.declared.definition.Definition.{Definition}
 use Rattle.module_view.specs.declared.definition.Place.TheVariants as place
-use Rattle.module_view.specs.SymbolLists.{definitions_of}
 
 -- ---- definitions by their places in a list
 
@@ -57,15 +56,30 @@ IsPlaceOf definitions symbol place =
 abbrev pub IsLeaderOf : List Definition → Option ℕ → Option ℕ → Type 0
 IsLeaderOf definitions second leader = MatchOption second (leader ≡ None) (λ symbol. IsPlaceOf definitions symbol leader)
 
--- those of sections with these first two symbols, each at its place
-abbrev pub AreLeaders : List Definition → List SectionSymbols → List (Option ℕ) → Type 0
-AreLeaders definitions symbols leaders =
-    (k : ℕ) → k < length symbols
-    → IsLeaderOf definitions (slice_index_or symbols k no_symbols).second (slice_index_or leaders k None)
+-- what a section says that has a record and this second symbol
+pub record IsChoice (definitions : List Definition) (said : ComdatRecord) (second : Option ℕ) (choice : ComdatChoice) : Type 0 where
+  pub selection_is : choice.selection ≡ said.selection
+  pub leads : IsLeaderOf definitions second choice.leader
+  pub parent_is : choice.parent ≡ parent_said said
 
--- what each says of itself, and its leader; nothing where no section is a COMDAT
-pub record KeepsComdats (bytes : List ℕ) (records : List (Option ComdatRecord)) (leaders : List (Option ℕ)) : Type 0 where
-  pub some : has_comdat bytes ≡ not (length records == 0)
-  pub says : KeepsRecords bytes records
-  pub leads : (section : ℕ) → is_section_number (section_total bytes) section ≡ true → is_comdat bytes section ≡ true
-      → IsLeaderOf (definitions_of bytes) (section_symbols_of bytes section).second (slice_index_or leaders (section - 1) None)
+-- of one without a record there is nothing
+abbrev pub IsChoiceBy : List Definition → Option ComdatRecord → Option ℕ → Option ComdatChoice → Type 0
+IsChoiceBy definitions said second choice =
+    MatchOption said (choice ≡ None) (λ one. MatchOption choice ⊥ (IsChoice definitions one second))
+
+-- those of sections with these records and first two symbols, each at its place
+pub record AreChoicesBy (definitions : List Definition) (records : List (Option ComdatRecord)) (symbols : List SectionSymbols) (choices : List (Option ComdatChoice)) : Type 0 where
+  pub count : length choices ≡ length records
+  pub each : (k : ℕ) → k < length records
+      → IsChoiceBy definitions (slice_index_or records k None) (slice_index_or symbols k no_symbols).second (slice_index_or choices k None)
+
+-- what a section says as a COMDAT, none where it is none
+pub record SaysChoice (bytes : List ℕ) (definitions : List Definition) (section : ℕ) (choice : Option ComdatChoice) : Type 0 where
+  pub says : option_map (comdat_named definitions) choice ≡ comdat_of bytes section
+  pub leads : IfSome choice (HasLeaderAmong definitions)
+
+-- what all sections say, by their numbers less 1; nothing where none is a COMDAT
+pub record AreChoices (bytes : List ℕ) (definitions : List Definition) (choices : List (Option ComdatChoice)) : Type 0 where
+  pub some : has_comdat bytes ≡ not (length choices == 0)
+  pub count : has_comdat bytes ≡ true → length choices ≡ section_total bytes
+  pub each : (section : ℕ) → 1 ≤ section → section ≤ section_total bytes → SaysChoice bytes definitions section (slice_index_or choices (section - 1) None)

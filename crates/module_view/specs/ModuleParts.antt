@@ -1,6 +1,6 @@
 -- What a module keeps beside its bytes. Own.
 use Rattle.std.specs.Prelude.{◌≡◌, ℕ, Bool, false, List, [], map, Option, None, Some}
-use Rattle.coff_aux.specs.declared.comdat.ComdatRecord.{ComdatRecord}
+use Rattle.module_view.specs.declared.comdat_choice.ComdatChoice.{ComdatChoice}
 use Rattle.module_view.specs.declared.input_module.Origin.{Origin}
 use Rattle.module_view.specs.declared.input_module.Content.{Content}
 use Rattle.module_view.specs.declared.input_module.Content.TheVariants as content
@@ -8,7 +8,7 @@ use Rattle.module_view.specs.declared.definition.Definition.{Definition}
 use Rattle.module_view.specs.declared.definition.Common.{Common}
 use Rattle.module_view.specs.declared.reference.Reference.{Reference}
 use Rattle.module_view.specs.declared.reference.Weak.{Weak}
-use Rattle.module_view.specs.Choices.{KeepsComdats}
+use Rattle.module_view.specs.Choices.{AreChoices}
 use Rattle.module_view.specs.Module.{ModuleView}
 use Rattle.short_import.specs.declared.import.Import.{Import}
 use Rattle.module_view.specs.ImportModule.{file_view}
@@ -35,7 +35,7 @@ imported_by (content.Object parts) = None
 imported_by (content.Import import) = Some import
 
 -- the bytes open, and the object and the lists are those of the bytes
-pub record KeepsLists (bytes object : List ℕ) (definitions : List Definition) (references : List Reference) (weaks : List Weak) (commons : List Common) (starts : List Bool) (records : List (Option ComdatRecord)) (leaders : List (Option ℕ)) (directives : List Directive) (resources : Bool) : Type 0 where
+pub record KeepsLists (bytes object : List ℕ) (definitions : List Definition) (references : List Reference) (weaks : List Weak) (commons : List Common) (starts : List Bool) (choices : List (Option ComdatChoice)) (directives : List Directive) (resources : Bool) : Type 0 where
   pub opened : opening_error bytes ≡ None
   pub viewed : object ≡ bytes
   pub defined : definitions ≡ definitions_of bytes
@@ -43,12 +43,12 @@ pub record KeepsLists (bytes object : List ℕ) (definitions : List Definition) 
   pub weak : weaks ≡ weaks_of bytes
   pub common : commons ≡ commons_of bytes
   pub started : KeepsStarts bytes weaks starts
-  pub comdats : KeepsComdats bytes records leaders
+  pub comdats : AreChoices bytes definitions choices
   pub said_are : map said directives ≡ module_directives bytes
   pub resources_are : resources ≡ has_resources bytes
 
 -- those that were read, or none where a short import goes as the object
 abbrev pub KeepsContent : List ℕ → List ℕ → Content → Type 0
 KeepsContent bytes object (content.Object parts) =
-    KeepsLists bytes object parts.lists.definitions.items parts.lists.references.items parts.lists.weaks.items parts.lists.commons.items parts.lists.starts.items parts.comdats.records.items parts.comdats.leaders.items parts.directives.items parts.has_resources
-KeepsContent bytes object (content.Import import) = KeepsLists bytes object [] [] [] [] [] [] [] [] false
+    KeepsLists bytes object parts.lists.definitions.items parts.lists.references.items parts.lists.weaks.items parts.lists.commons.items parts.lists.starts.items parts.comdats.items parts.directives.items parts.has_resources
+KeepsContent bytes object (content.Import import) = KeepsLists bytes object [] [] [] [] [] [] [] false

@@ -6,13 +6,13 @@ ghost use Rattle.coff_records.specs.ObjectFile.{starts_symbol, symbol_entries};
 ghost use Rattle.coff_object.specs.ObjectFaults.{object_fault, first_of};
 ghost use Rattle.coff_aux.specs.Comdats.{has_comdat};
 ghost use Rattle.coff_aux.specs.AuxFaults.{aux_fault, is_bad_weak};
-ghost use Rattle.module_view.specs.Choices.{KeepsComdats};
+ghost use Rattle.module_view.specs.Choices.{AreChoices};
 ghost use Rattle.module_view.specs.SymbolLists.{definitions_of, weaks_of};
 ghost use Rattle.module_view.specs.Steps.{KeepsStarts};
 ghost use Rattle.module_view.specs.declared.error.ModuleError.TheVariants as error;
 ghost use Rattle.module_view.specs.Opening.{RefusesToOpen};
 
-use crate::comdat_choice::{ComdatLists, leaders_of};
+use crate::comdat_choice::{ComdatChoice, choices_of};
 use crate::error::ModuleError;
 use crate::reference::Weak;
 use crate::symbols::SymbolLists;
@@ -21,21 +21,21 @@ use coff_object::{ObjError, Object};
 use link_base::ObjFault;
 use std::alloc::Global;
 
-/// Judges the auxiliary records of weak externals and of COMDAT sections, where there are any. It gives what is kept of those
-/// sections.
+/// Judges the auxiliary records of weak externals and of COMDAT sections, where there are any. It gives what those sections
+/// say.
 pub(crate) fn judge_aux(
     alloc: Global,
     object: &Object<'_>,
     lists: &SymbolLists<'_>,
     any_comdat: bool,
-) -> Result<ComdatLists, ModuleError>
+) -> Result<Vec<Option<ComdatChoice>>, ModuleError>
     requires sound { object_fault object.now ≡ None }
     requires short { length object.now < 2 ^ 32 }
     requires definitions { lists.now.definitions.items ≡ definitions_of object.now }
     requires weaks { lists.now.weaks.items ≡ weaks_of object.now }
     requires starts { KeepsStarts object.now lists.now.weaks.items lists.now.starts.items }
     requires comdat { any_comdat ≡ has_comdat object.now }
-    ensures comdats { IfOk result (λ comdats. KeepsComdats object.now comdats.records.items comdats.leaders.items) }
+    ensures comdats { IfOk result (λ choices. AreChoices object.now (definitions_of object.now) choices.items) }
     ensures accepted { OnOk result (aux_fault object.now ≡ None) }
     ensures refused { IfErr result (RefusesToOpen (option_map error.Object (aux_fault object.now))) }
 {
@@ -43,27 +43,16 @@ pub(crate) fn judge_aux(
         return Err(aux_error(index));
     }
     if !any_comdat {
-        return Ok(no_comdats(alloc));
+        return Ok(Vec::new(alloc));
     }
     let symbols = section_symbols(alloc, object)?;
     let records = comdat_records(alloc, object, &symbols)?;
     match record_fault(alloc, object.record_count(), &records)? {
         Some(error) => Err(ModuleError::Object(error)),
         None => {
-            let leaders = leaders_of(alloc, &symbols, &lists.definitions)?;
-            Ok(ComdatLists { records, leaders })
+            let choices = choices_of(alloc, &records, &symbols, &lists.definitions)?;
+            Ok(choices)
         }
-    }
-}
-
-/// What is kept where no section is a COMDAT section.
-fn no_comdats(alloc: Global) -> ComdatLists
-    ensures records { result.records.items ≡ [] }
-    ensures leaders { result.leaders.items ≡ [] }
-{
-    ComdatLists {
-        records: Vec::new(alloc),
-        leaders: Vec::new(alloc),
     }
 }
 

@@ -1,11 +1,11 @@
 //! What COMDAT sections say of themselves, as it is kept of a module, with their leaders by their places among its definitions.
 
-ghost use Rattle.std.specs.Prelude.{◌≡◌, ◌<◌, None, length, slice_index_or, option_map, IfSome, IfOk};
+ghost use Rattle.std.specs.Prelude.{◌≡◌, ◌<◌, List, length, option_map, IfSome, IfOk};
 ghost use Rattle.coff_aux.specs.Comdats.{has_comdat, comdat_of};
-ghost use Rattle.module_view.specs.Choices.{name_defined, comdat_named, HasLeaderAmong, AscendBySymbol, IsPlaceOf, IsLeaderOf, AreLeaders, KeepsComdats};
+ghost use Rattle.module_view.specs.Choices.{name_defined, comdat_named, HasLeaderAmong, AscendBySymbol, IsPlaceOf, IsLeaderOf, IsChoice, AreChoicesBy, AreChoices};
 ghost use Rattle.module_view.specs.ImportModule.{module_definitions};
 ghost use Rattle.module_view.specs.Opening.{IsOpened};
-ghost use Rattle.module_view.specs.SymbolLists.{definitions_of};
+ghost use Rattle.module_view.specs.declared.definition.Definition.{Definition};
 
 use crate::definition::Definition;
 use crate::input_module::{Content, Module};
@@ -24,23 +24,16 @@ pub struct ComdatChoice {
     pub parent: Option<u32>,
 }
 
-/// What is kept of the COMDAT sections of an object, by the numbers of sections less 1: nothing where no section is one.
-#[derive(Drop)]
-pub(crate) struct ComdatLists {
-    /// What each says of itself.
-    pub(crate) records: Vec<Option<ComdatRecord>>,
-    /// The place of its leader among the definitions.
-    pub(crate) leaders: Vec<Option<u32>>,
-}
-
 impl<'a> Module<'a> {
-    /// Whether some section is a COMDAT section.
-    pub fn has_comdat(&self) -> bool
-        ensures { result ≡ has_comdat self.now.bytes }
+    /// What each section says of itself as a COMDAT section, by the numbers of sections less 1; nothing at all where none is
+    /// one.
+    pub fn comdat_choices(&self) -> &[Option<ComdatChoice>]
+        ensures choices { AreChoices self.now.bytes (module_definitions self.now) result.now }
+        ensures opened { IsOpened self.now }
     {
         match &self.content {
-            Content::Object(parts) => !parts.comdats.records.is_empty(),
-            Content::Import(_) => false,
+            Content::Object(parts) => &parts.comdats,
+            Content::Import(_) => &[],
         }
     }
 
@@ -63,17 +56,7 @@ impl<'a> Module<'a> {
         ensures leader { IfSome result (HasLeaderAmong (module_definitions self.now)) }
         ensures opened { IsOpened self.now }
     {
-        match &self.content {
-            Content::Object(parts) => {
-                choice_at(
-                    &self.object,
-                    &parts.comdats.records,
-                    &parts.comdats.leaders,
-                    i,
-                )
-            }
-            Content::Import(_) => choice_at(&self.object, &[], &[], i),
-        }
+        choice_at(&self.object, self.comdat_choices(), i)
     }
 }
 
@@ -81,40 +64,19 @@ impl<'a> Module<'a> {
 #[tactic(auto, unfolding(coff_aux::specs::Comdats::comdat_of))]
 fn choice_at(
     object: &Object<'_>,
-    records: &[Option<ComdatRecord>],
-    leaders: &[Option<u32>],
+    choices: &[Option<ComdatChoice>],
     number: u32,
 ) -> Option<ComdatChoice>
-    requires { KeepsComdats object.now records.now leaders.now }
-    ensures comdat { option_map (comdat_named (definitions_of object.now)) result ≡ comdat_of object.now number }
-    ensures leader { IfSome result (HasLeaderAmong (definitions_of object.now)) }
+    ensures comdat { (definitions : List Definition) → AreChoices object.now definitions choices.now
+        → option_map (comdat_named definitions) result ≡ comdat_of object.now number }
+    ensures leader { (definitions : List Definition) → AreChoices object.now definitions choices.now
+        → IfSome result (HasLeaderAmong definitions) }
 {
     if !is_section_number(object.section_count(), number) {
         return None;
     }
-    let place = number as usize - 1;
-    let said = record_at(records, place)?;
-    Some(ComdatChoice {
-        selection: said.selection,
-        leader: leader_at(leaders, place),
-        parent: parent_said(&said),
-    })
-}
-
-fn record_at(records: &[Option<ComdatRecord>], place: usize) -> Option<ComdatRecord>
-    ensures { result ≡ slice_index_or records.now place None }
-{
-    match records.get(place) {
-        Some(said) => *said,
-        None => None,
-    }
-}
-
-fn leader_at(leaders: &[Option<u32>], place: usize) -> Option<u32>
-    ensures { result ≡ slice_index_or leaders.now place None }
-{
-    match leaders.get(place) {
-        Some(leader) => *leader,
+    match choices.get(number as usize - 1) {
+        Some(choice) => *choice,
         None => None,
     }
 }
@@ -130,26 +92,48 @@ fn leader_name<'a>(definitions: &[Definition<'a>], leader: Option<u32>) -> Optio
     }
 }
 
-// ---- the leaders
+// ---- what is kept
 
-/// The place of each section's leader among the definitions, which stand in the order of their symbols: none where the section
-/// has no second symbol, or that is not external.
-pub(crate) fn leaders_of(
+/// What each section says that records speak of, with the place of its leader among the definitions, which stand in the order
+/// of their symbols: no leader where the section has no second symbol, or that is not external.
+pub(crate) fn choices_of(
     alloc: Global,
+    records: &[Option<ComdatRecord>],
     symbols: &[SectionSymbols],
     definitions: &[Definition<'_>],
-) -> Result<Vec<Option<u32>>, Memory>
-    requires { AscendBySymbol definitions.now }
-    ensures { IfOk result (λ leaders. AreLeaders definitions.now symbols.now leaders.items) }
+) -> Result<Vec<Option<ComdatChoice>>, Memory>
+    requires order { AscendBySymbol definitions.now }
+    requires count { length symbols.now ≡ length records.now }
+    ensures { IfOk result (λ choices. AreChoicesBy definitions.now records.now symbols.now choices.items) }
 {
-    let mut leaders = Vec::with_capacity(alloc, symbols.len())?;
+    let mut choices = Vec::with_capacity(alloc, records.len())?;
     let mut next = 0;
-    for place in 0..symbols.len() {
-        let leader = leader_place(definitions, symbols[place].second, next);
-        next = place_after(leader, next);
-        leaders.push(leader)?;
+    for place in 0..records.len() {
+        let choice = match &records[place] {
+            Some(said) => Some(choice_of(definitions, said, symbols[place].second, next)),
+            None => None,
+        };
+        next = place_after(&choice, next);
+        choices.push(choice)?;
     }
-    Ok(leaders)
+    Ok(choices)
+}
+
+/// What a section says that has this second symbol.
+fn choice_of(
+    definitions: &[Definition<'_>],
+    said: &ComdatRecord,
+    second: Option<u32>,
+    next: usize,
+) -> ComdatChoice
+    requires { AscendBySymbol definitions.now }
+    ensures { IsChoice definitions.now said.now second result }
+{
+    ComdatChoice {
+        selection: said.selection,
+        leader: leader_place(definitions, second, next),
+        parent: parent_said(said),
+    }
 }
 
 /// The place of a leader among the definitions, where it is one of them.
@@ -163,11 +147,16 @@ fn leader_place(definitions: &[Definition<'_>], second: Option<u32>, next: usize
     }
 }
 
-/// The place after that of a leader, or the same one where there is no leader.
-fn place_after(leader: Option<u32>, next: usize) -> usize {
-    match leader {
-        Some(place) => place as usize + 1,
-        None => next,
+/// The place after that of the leader, or the same one where there is no leader.
+fn place_after(choice: &Option<ComdatChoice>, next: usize) -> usize {
+    match choice {
+        Some(
+            ComdatChoice {
+                leader: Some(place),
+                ..
+            },
+        ) => *place as usize + 1,
+        _ => next,
     }
 }
 

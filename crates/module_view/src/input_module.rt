@@ -1,6 +1,6 @@
 //! A module, as its lists beside a view of its bytes.
 
-ghost use Rattle.std.specs.Prelude.{◌≡◌, Some, map};
+ghost use Rattle.std.specs.Prelude.{◌≡◌, [], Some, map, IfSome};
 ghost use Rattle.std.specs.Option.{option_copied};
 ghost use Rattle.coff_records.specs.ObjectFile.{starts_symbol};
 ghost use Rattle.module_view.specs.ImportModule.{module_definitions};
@@ -11,7 +11,7 @@ ghost use Rattle.module_view.specs.Opening.{IsOpened};
 ghost use Rattle.module_view.specs.Resources.{has_resources};
 ghost use Rattle.module_view.specs.Steps.{KeepsStarts};
 
-use crate::comdat_choice::ComdatLists;
+use crate::comdat_choice::ComdatChoice;
 use crate::definition::{Common, Definition};
 use crate::open_import::OpenImport;
 use crate::reference::{Reference, Weak};
@@ -50,7 +50,8 @@ pub(crate) enum Content<'a> {
 #[derive(Drop)]
 pub(crate) struct ObjectLists<'a> {
     pub(crate) lists: SymbolLists<'a>,
-    pub(crate) comdats: ComdatLists,
+    /// What each section says of itself as a COMDAT section, by the numbers of sections less 1: nothing where none is one.
+    pub(crate) comdats: Vec<Option<ComdatChoice>>,
     pub(crate) directives: Vec<Directive<'a>>,
     /// One of the sections holds resources.
     pub(crate) has_resources: bool,
@@ -109,9 +110,10 @@ impl<'a> Module<'a> {
         }
     }
 
-    /// An equal short import, where it is one.
+    /// An equal short import, where it is one. Then the object has no symbol that defines a name.
     pub fn import_again(&self) -> Option<Import<'a>>
-        ensures { result ≡ self.now.imported }
+        ensures imported { result ≡ self.now.imported }
+        ensures alone { IfSome result (λ import. definitions_of self.now.bytes ≡ []) }
     {
         match &self.content {
             Content::Object(_) => None,

@@ -1,9 +1,9 @@
 //! What one pass over the sections of an object shows.
 
-ghost use Rattle.std.specs.Prelude.{◌≡◌, ◌≤◌, false, None, Some, IfOk, OnOk, IfErr};
+ghost use Rattle.std.specs.Prelude.{◌≡◌, ◌≤◌, true, false, None, Some, IfOk, OnOk, IfErr};
 ghost use Rattle.link_base.specs.Bytes.{has_flag};
 ghost use Rattle.link_base.specs.PeFormat.{SCN_LNK_COMDAT};
-ghost use Rattle.section_rules.specs.SoughtNames.{is_linker_section};
+ghost use Rattle.section_rules.specs.SoughtNames.{is_linker_section, BeginsOtherwise};
 ghost use Rattle.coff_records.specs.ObjectFile.{section_total, section_name_of, string_table};
 ghost use Rattle.coff_aux.specs.Comdats.{is_comdat, has_comdat};
 ghost use Rattle.std.specs.List.{list_any};
@@ -17,7 +17,7 @@ use coff_aux::is_comdat;
 use coff_object::{LongTexts, Object};
 use link_base::Kind;
 use section_rules::{
-    LINKER_NAME_START, NAME_START, is_linker_section, is_resources, may_be_sought,
+    LINKER_NAME_START, NAME_START, begins_sought, is_linker_section, is_resources, may_be_sought,
 };
 
 /// What a section shows.
@@ -79,9 +79,39 @@ pub(crate) fn judge_sections(
     })
 }
 
-/// What a section shows: of one whose name is too long no more than that. Most names begin otherwise than those that are
-/// looked for, and are not read.
+/// What a section shows: of one whose name is too long no more than that. Most names stand in the section's header and begin
+/// otherwise than those that are looked for.
 fn section_form(object: &Object<'_>, texts: &LongTexts<'_>, number: u32) -> SectionForm
+    requires table { texts.now ≡ string_table object.now }
+    requires first { 1 ≤ number }
+    requires last { number ≤ section_total object.now }
+    ensures linker { result.is_linker ≡ is_linker_section (section_name_of object.now number) }
+    ensures long { result.is_long ≡ is_long (section_name_of object.now number) }
+    ensures comdat { result.is_long ≡ false → result.is_comdat ≡ is_comdat object.now number }
+    ensures directives { result.is_long ≡ false → result.holds_directives ≡ holds_directives object.now number }
+    ensures resources { result.is_long ≡ false → result.holds_resources ≡ holds_resources object.now number }
+{
+    if is_plain(object, number) {
+        return plain_form(object.section_flags(number));
+    }
+    named_form(object, texts, number)
+}
+
+/// Whether a section's name stands in its header and is none that is looked for.
+fn is_plain(object: &Object<'_>, number: u32) -> bool
+    requires first { 1 ≤ number }
+    requires last { number ≤ section_total object.now }
+    ensures short { result ≡ true → is_long (section_name_of object.now number) ≡ false }
+    ensures otherwise { result ≡ true → BeginsOtherwise (section_name_of object.now number) }
+{
+    match object.section_short_name(number) {
+        Some(name) => !begins_sought(name),
+        None => false,
+    }
+}
+
+/// What a section shows, whatever its name is. One that begins otherwise than those that are looked for is not read.
+fn named_form(object: &Object<'_>, texts: &LongTexts<'_>, number: u32) -> SectionForm
     requires table { texts.now ≡ string_table object.now }
     requires first { 1 ≤ number }
     requires last { number ≤ section_total object.now }

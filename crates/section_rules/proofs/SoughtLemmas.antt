@@ -35,6 +35,19 @@ by_start : (name text : List ℕ) → length text ≡ 3 → begins (take 3 name)
 by_start name text three none =
     sym (ap (pointwise nat_eq text) (ap (λ (n : ℕ). take n (take 3 name)) three ∙ take-take 3 3 name (omega arith) ∙ ap (λ (n : ℕ). take n name) (sym three))) ∙ none
 
+started : (name text : List ℕ) → length text ≡ 3 → begins name text ≡ false → begins (take 3 name) text ≡ false
+started name text three none =
+    ap (pointwise nat_eq text) (ap (λ (n : ℕ). take n (take 3 name)) three ∙ take-take 3 3 name (omega arith) ∙ ap (λ (n : ℕ). take n name) (sym three)) ∙ none
+
+-- a whole name tells no more than its first bytes
+pub otherwise_start : (name : List ℕ) → BeginsOtherwise name → BeginsOtherwise (take 3 name)
+otherwise_start name whole = record {
+  directives = started name (codes ".dr") refl whole.directives;
+  imports = started name (codes ".id") refl whole.imports;
+  relocations = started name (codes ".re") refl whole.relocations;
+  resources = started name (codes ".rs") refl whole.resources;
+}
+
 pub no_linker : (name : List ℕ) → BeginsOtherwise (take 3 name) → is_linker_section name ≡ false
 unfolding is_linker_section
 no_linker name start =

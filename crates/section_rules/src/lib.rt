@@ -11,5 +11,5 @@ mod sought_names;
 pub use base_name::has_base_name;
 pub use placed_section::comes_in;
 pub use sought_names::{
-    LINKER_NAME_START, NAME_START, is_linker_section, is_resources, may_be_sought,
+    LINKER_NAME_START, NAME_START, begins_sought, is_linker_section, is_resources, may_be_sought,
 };

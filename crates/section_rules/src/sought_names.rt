@@ -43,10 +43,13 @@ fn begins_import_table(name: &Name<'_>) -> bool
 pub fn may_be_sought(start: &Name<'_>) -> bool
     ensures { result ≡ false → BeginsOtherwise start.now }
 {
-    if start.is_import() {
-        return true;
-    }
-    let text = start.rest();
+    start.is_import() || begins_sought(start.rest())
+}
+
+/// The same of the bytes of a name, or of its first bytes.
+pub fn begins_sought(text: &[u8]) -> bool
+    ensures { result ≡ false → BeginsOtherwise text.now }
+{
     begins_so(text, b'd', b'r')
         || begins_so(text, b'i', b'd')
         || begins_so(text, b'r', b'e')

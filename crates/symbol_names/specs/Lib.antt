@@ -7,3 +7,4 @@ pub mod References
 pub mod Interning
 pub mod Rests
 pub mod Kept
+pub mod Flags

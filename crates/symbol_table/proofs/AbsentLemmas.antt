@@ -68,7 +68,7 @@ zip_left {X} R P (x ∷ xs) (y ∷ ys) zip each = go (zip_left R P xs ys zip.1 e
     go later zero d lt = each x y zip.0
     go later (suc k) d lt = later k d (omega arith)
 
-module_noted : (names : List (List ℕ)) (kept : List ModuleNames) (k : ℕ) → All (NotesModule names) kept → k < length kept → (noted : ModuleNames) × (NotesModule names noted × (module_at (map noted_view kept) k ≡ noted_view noted))
+pub module_noted : (names : List (List ℕ)) (kept : List ModuleNames) (k : ℕ) → All (NotesModule names) kept → k < length kept → (noted : ModuleNames) × (NotesModule names noted × (module_at (map noted_view kept) k ≡ noted_view noted))
 module_noted names [] k all lt = absurd (omega arith)
 module_noted names (m ∷ kept) zero all lt = (m, (all 0 m (omega arith), refl))
 module_noted names (m ∷ kept) (suc k) all lt = module_noted names kept k (λ j d below. all (suc j) d (omega arith)) (omega arith)

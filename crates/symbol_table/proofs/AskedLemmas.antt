@@ -21,7 +21,8 @@ use Rattle.symbol_names.specs.References.{Asked, all_asked}
 use Rattle.symbol_table.specs.OpenNames.{asks_for, is_provided, is_open_name, nothing_asked, asked_at, is_open_at}
 use Rattle.symbol_names.specs.Interning.{Numbers, NotesDefinition, NotesCommon, NotesAsked, NotesModule}
 use Rattle.symbol_names.specs.Kept.{noted_view}
-use Rattle.symbol_table.specs.AskedParts.{names_definition, names_common, seeks, kept_definitions, kept_commons, flag_of}
+use Rattle.symbol_names.specs.Flags.{names_definition, names_common, seeks, flag_of}
+use Rattle.symbol_table.specs.AskedParts.{kept_definitions, kept_commons}
 use Rattle.symbol_table.specs.TableParts.{link_view, KeepsTable}
 use Rattle.symbol_names.proofs.NumberLemmas.{same_number, zip_at, zip_length}
 use Rattle.symbol_table.proofs.PassLemmas.{item_at, noted_at, each_first, each_first_more, each_first_all}

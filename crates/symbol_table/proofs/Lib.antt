@@ -8,6 +8,7 @@ pub mod GreatestLemmas
 pub mod LinkLemmas
 pub mod LinkerNameLemmas
 pub mod LiveLemmas
+pub mod MeantLemmas
 pub mod PassLemmas
 pub mod WeakLemmas
 pub mod TableLemmas

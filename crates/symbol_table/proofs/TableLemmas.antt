@@ -19,7 +19,8 @@ use Rattle.symbol_names.specs.declared.noted.ModuleNames.{ModuleNames}
 use Rattle.symbol_table.specs.Resolution.{Step, Ends, Leads, step}
 use Rattle.symbol_names.specs.Interning.{Numbers, KeepsNumbers, NotesDefinition, NotesCommon, NotesAlternate, NotesWeak, NotesAsked, NotesLists, NotesModule, AreRecords}
 use Rattle.symbol_names.specs.References.{Asked, asked_by_name, asked_by, all_asked}
-use Rattle.symbol_table.specs.AskedParts.{names_definition, names_common, seeks, kept_definitions, kept_commons, flag_of, KeepsParts, AddsLists, AreWithin}
+use Rattle.symbol_names.specs.Flags.{names_definition, names_common, seeks, flag_of}
+use Rattle.symbol_table.specs.AskedParts.{kept_definitions, kept_commons, KeepsParts, AddsLists, AreWithin}
 use Rattle.symbol_table.specs.declared.lives.FirstLive.{FirstLive}
 use Rattle.symbol_table.specs.declared.greatest.GreatestCommon.{GreatestCommon}
 use Rattle.symbol_table.specs.declared.first_weak.FirstWeak.{FirstWeak}
@@ -35,9 +36,10 @@ use Rattle.symbol_names.specs.Lists.{of_all, live_definitions, all_commons, all_
 use Rattle.symbol_names.specs.Kept.{noted_view}
 use Rattle.symbol_table.specs.Passes.{AreFirst, TellsGreatest, TellsWeaks, TellsAlternates}
 use Rattle.symbol_table.specs.Links.{IsStep, no_link, link_at, LeadsBelow, AreSteps}
-use Rattle.symbol_table.specs.TableParts.{link_view, KeepsLink, KeepsTable}
+use Rattle.symbol_table.specs.TableParts.{link_view, IsOfOneKind, IsNumbered, KeepsLink, KeepsTable}
 use Rattle.symbol_names.proofs.NumberLemmas.{number_within, definition_kept, common_kept, weak_kept, alternate_kept, asked_kept, records_kept, asked_within, zip_map, zip_append, zip_right}
 use Rattle.symbol_table.proofs.PassLemmas.{of_all_push}
+use Rattle.symbol_table.proofs.AbsentLemmas.{zip_left}
 
 -- ---- a table whose names grow
 
@@ -56,17 +58,19 @@ keeps_grow before after given kept grown is = record {
   modules = record {
     noted = All-weaker (NotesModule before) (NotesModule after) (λ m noted. noted_grows before after m grown noted) kept is.modules.noted;
     opened = is.modules.opened;
+    alone = is.modules.alone;
     few = is.modules.few;
   };
 }
 
-pub keeps_push : (names : List (List ℕ)) (given : GivenNames) (kept now : List ModuleNames) (noted : ModuleNames) → KeepsLink names given kept → length kept < MODULE_LIMIT → NotesModule names noted → IsOpened (noted_view noted) → now ≡ kept ++ noted ∷ [] → KeepsLink names given now
-keeps_push names given kept now noted is room there opened same =
+pub keeps_push : (names : List (List ℕ)) (given : GivenNames) (kept now : List ModuleNames) (noted : ModuleNames) → KeepsLink names given kept → length kept < MODULE_LIMIT → NotesModule names noted → IsOpened (noted_view noted) → IsOfOneKind (noted_view noted) → now ≡ kept ++ noted ∷ [] → KeepsLink names given now
+keeps_push names given kept now noted is room there opened alone same =
     subst (KeepsLink names given) (sym same) (record {
       alternates = is.alternates;
       modules = record {
         noted = All-push (NotesModule names) kept noted is.modules.noted there;
         opened = subst (All IsOpened) (sym (map-append noted_view kept (noted ∷ []))) (All-push IsOpened (map noted_view kept) (noted_view noted) is.modules.opened opened);
+        alone = subst (All IsOfOneKind) (sym (map-append noted_view kept (noted ∷ []))) (All-push IsOfOneKind (map noted_view kept) (noted_view noted) is.modules.alone alone);
         few = omega (arith, length-append kept (noted ∷ []));
       };
     })
@@ -102,7 +106,7 @@ table_begins before names given kept asked words grown distinct none same altern
       distinct = distinct;
       whole = record {
         alternates = zip_map (NotesAlternate before) (NotesAlternate names) given.pairs.items given.noted.items (alternate_kept before names grown) alternates;
-        modules = record { noted = All-nil (NotesModule names); opened = All-nil IsOpened; few = omega arith };
+        modules = record { noted = All-nil (NotesModule names); opened = All-nil IsOpened; alone = All-nil IsOfOneKind; few = omega arith };
       };
       asked_for = record {
         list = subst (λ (asked_for : List Asked). AllZip (NotesAsked names) asked_for asked.list.items)
@@ -124,11 +128,11 @@ by_pairs false true false d = refl
 by_pairs false false c d = refl
 
 -- what a module provides and asks for is added
-pub table_push : (names : List (List ℕ)) (given : GivenNames) (kept now : List ModuleNames) (noted : ModuleNames) (lists : NotedLists) (asked after : AskedNames) → KeepsTable names given kept asked → length kept < MODULE_LIMIT → NotesModule names noted → IsOpened (noted_view noted) → AllZip (NotesAsked names) (asked_by 0 noted.bytes.now) lists.asked.items → noted.definitions.items ≡ lists.definitions.items → noted.commons.items ≡ lists.commons.items → AddsLists lists asked after → now ≡ kept ++ noted ∷ [] → KeepsTable names given now after
-table_push names given kept now noted lists asked after is room notes opened asks definitions commons added same =
+pub table_push : (names : List (List ℕ)) (given : GivenNames) (kept now : List ModuleNames) (noted : ModuleNames) (lists : NotedLists) (asked after : AskedNames) → KeepsTable names given kept asked → length kept < MODULE_LIMIT → NotesModule names noted → IsOpened (noted_view noted) → IsOfOneKind (noted_view noted) → AllZip (NotesAsked names) (asked_by 0 noted.bytes.now) lists.asked.items → noted.definitions.items ≡ lists.definitions.items → noted.commons.items ≡ lists.commons.items → AddsLists lists asked after → now ≡ kept ++ noted ∷ [] → KeepsTable names given now after
+table_push names given kept now noted lists asked after is room notes opened alone asks definitions commons added same =
     subst (λ (ms : List ModuleNames). KeepsTable names given ms after) (sym same) (record {
       distinct = is.distinct;
-      whole = keeps_push names given kept (kept ++ noted ∷ []) noted is.whole room notes opened refl;
+      whole = keeps_push names given kept (kept ++ noted ∷ []) noted is.whole room notes opened alone refl;
       asked_for = record {
         list =
             subst (AllZip (NotesAsked names) (all_asked (link_view given (kept ++ noted ∷ [])))) (sym added.list)
@@ -156,6 +160,11 @@ table_push names given kept now noted lists asked after is room notes opened ask
   where
     words : List Asked
     words = map asked_by_name given.words.items
+
+-- each name that was asked for has a number, also among more names
+pub asked_numbered : (before after : List (List ℕ)) (given : GivenNames) (kept : List ModuleNames) (asked : AskedNames) → KeepsNumbers before after → KeepsTable before given kept asked → All (IsNumbered after) (all_asked (link_view given kept))
+asked_numbered before after given kept asked grown is =
+    zip_left (NotesAsked before) (IsNumbered after) (all_asked (link_view given kept)) asked.list.items is.asked_for.list (λ a n notes. (n.name, grown n.name a.name notes.named))
 
 -- ---- the lists of a module
 

@@ -1,26 +1,15 @@
 -- What a table of names keeps of the names that a link asks for, and of those that its modules provide. Own.
-use Rattle.std.specs.Prelude.{◌≡◌, ◌<◌, ◌++◌, ◌||◌, ◌&&◌, ℕ, Bool, false, nat_eq, List, slice_index_or}
+use Rattle.std.specs.Prelude.{◌≡◌, ◌<◌, ◌++◌, ◌||◌, ℕ, List}
 use Rattle.std.specs.List.{All, AllZip, list_any, flat_map}
 use Rattle.symbol_table.specs.declared.asked.AskedNames.{AskedNames}
 use Rattle.symbol_names.specs.declared.noted.ModuleNames.{ModuleNames}
-use Rattle.symbol_names.specs.declared.noted.NotedAsked.{NotedAsked}
 use Rattle.symbol_names.specs.declared.noted.NotedCommon.{NotedCommon}
 use Rattle.symbol_names.specs.declared.noted.NotedDefinition.{NotedDefinition}
 use Rattle.symbol_names.specs.declared.noted.NotedLists.{NotedLists}
 use Rattle.symbol_names.specs.LinkView.{LinkView}
 use Rattle.symbol_names.specs.References.{all_asked}
+use Rattle.symbol_names.specs.Flags.{names_definition, names_common, seeks, flag_of, SameFlags}
 use Rattle.symbol_names.specs.Interning.{NotesAsked}
-
--- ---- by number
-
-abbrev pub names_definition : ℕ → NotedDefinition → Bool
-names_definition number noted = nat_eq noted.name number
-
-abbrev pub names_common : ℕ → NotedCommon → Bool
-names_common number noted = nat_eq noted.name number
-
-abbrev pub seeks : ℕ → NotedAsked → Bool
-seeks number noted = noted.search && nat_eq noted.name number
 
 -- what all modules define, and what they share
 abbrev pub kept_definitions : ModuleNames → List NotedDefinition
@@ -28,9 +17,6 @@ kept_definitions kept = kept.definitions.items
 
 abbrev pub kept_commons : ModuleNames → List NotedCommon
 kept_commons kept = kept.commons.items
-
-abbrev pub flag_of : List Bool → ℕ → Bool
-flag_of flags number = slice_index_or flags number false
 
 -- ---- the parts
 
@@ -42,9 +28,6 @@ pub record KeepsAsked (names : List (List ℕ)) (link : LinkView) (kept : List M
   pub sought : (number : ℕ) → flag_of asked.sought.items number ≡ list_any (seeks number) asked.list.items
 
 -- ---- steps
-
-abbrev pub SameFlags : List Bool → List Bool → Type 0
-SameFlags before after = (number : ℕ) → flag_of after number ≡ flag_of before number
 
 pub record KeepsParts (before after : AskedNames) : Type 0 where
   pub list : after.list.items ≡ before.list.items

@@ -6,3 +6,4 @@ pub mod Passes
 pub mod Links
 pub mod AskedParts
 pub mod TableParts
+pub mod Meant

@@ -6,13 +6,14 @@ ghost use Rattle.link_base.specs.NameText.{same_name};
 ghost use Rattle.symbol_table.specs.LinkerNames.{linker_meaning};
 ghost use Rattle.symbol_names.specs.References.{asked_by_name};
 ghost use Rattle.symbol_names.specs.Interning.{Numbers, KeepsNumbers, NotesAsked};
-ghost use Rattle.symbol_table.specs.AskedParts.{seeks, flag_of, KeepsParts, AddsLists, AreWithin};
+ghost use Rattle.symbol_names.specs.Flags.{seeks, flag_of};
+ghost use Rattle.symbol_table.specs.AskedParts.{KeepsParts, AddsLists, AreWithin};
 
-use crate::flags::{flag_at, grow, mark_commons, mark_definitions, mark_sought};
 use crate::linker_names::linker_meaning;
 use indexmap::IndexSet;
 use link_base::{Memory, Name};
 use std::alloc::Global;
+use symbol_names::flags::{flag_at, grow, mark_commons, mark_definitions, mark_sought};
 use symbol_names::{NotedAsked, NotedLists, name_at, note_words};
 
 /// The names that a link asks for, in order, and flags by the numbers of all names.

@@ -22,7 +22,7 @@ use indexmap::IndexSet;
 use link_base::{Memory, Name};
 use module_view::Place;
 use std::alloc::Global;
-use symbol_names::{NotedDefault, is_chosen, name_at};
+use symbol_names::{ChosenRow, NotedDefault, is_chosen, name_at};
 
 /// Where a name leads.
 #[derive(Drop)]
@@ -41,7 +41,7 @@ pub(crate) fn links<'a>(
     commons: &[Option<GreatestCommon>],
     weaks: &[Option<FirstWeak>],
     alternates: &[Option<u32>],
-    chosen: &[Vec<bool>],
+    chosen: &[ChosenRow],
 ) -> Result<Vec<Link<'a>>, Memory>
     requires long { length firsts.now ≡ length names.now.keys }
     requires rests { HasRests names.now.keys }
@@ -78,7 +78,7 @@ fn link_of<'a>(
     own: Option<Meaning<'a>>,
     weak: Option<FirstWeak>,
     alternate: Option<u32>,
-    chosen: &[Vec<bool>],
+    chosen: &[ChosenRow],
     slot: Link<'a>,
 ) -> Link<'a>
     ensures { (names : List (List ℕ)) (name : List ℕ) (entry : Option Said) (pair : Option (List ℕ × List ℕ))
@@ -134,7 +134,7 @@ fn meaning_at<'a>(module: u32, place: Place) -> Meaning<'a>
 }
 
 /// Where a name leads by its first weak external.
-fn weak_link<'a>(weak: FirstWeak, chosen: &[Vec<bool>]) -> Link<'a>
+fn weak_link<'a>(weak: FirstWeak, chosen: &[ChosenRow]) -> Link<'a>
     ensures { (names : List (List ℕ)) (entry : Said) → KeepsSaid names entry weak
         → IsStep names (default_step (rows_of chosen.now) entry.«module» entry.default) result }
 {
@@ -190,7 +190,7 @@ fn place_meaning<'a>(
     module: u32,
     section: u32,
     value: u32,
-    chosen: &[Vec<bool>],
+    chosen: &[ChosenRow],
 ) -> Result<Meaning<'a>, NoMeaning>
     ensures { result ≡ place_meaning (rows_of chosen.now) «module» section value }
 {

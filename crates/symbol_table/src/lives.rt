@@ -15,7 +15,7 @@ use indexmap::IndexSet;
 use link_base::{Memory, Name};
 use module_view::Place;
 use std::alloc::Global;
-use symbol_names::{ModuleNames, NotedDefinition, is_live_at, name_at};
+use symbol_names::{ChosenRow, ModuleNames, NotedDefinition, is_live_at, name_at};
 
 /// The first live definition of a name.
 #[derive(Clone, Copy)]
@@ -36,7 +36,7 @@ pub(crate) fn live_definitions<'a>(
     alloc: Global,
     names: &IndexSet<Name<'a>>,
     modules: &[ModuleNames<'a>],
-    chosen: &[Vec<bool>],
+    chosen: &[ChosenRow],
 ) -> Result<Lives<'a>, Memory>
     requires few { length modules.now < 2 ^ 32 }
     requires noted { All (NotesModule names.now.keys) modules.now }
@@ -65,7 +65,7 @@ fn note_lives<'a>(
     names: &IndexSet<Name<'a>>,
     position: u32,
     module: &ModuleNames<'a>,
-    chosen: &[Vec<bool>],
+    chosen: &[ChosenRow],
 )
     requires distinct { IsDistinct same_name names.now.keys }
     requires long { length lives.old.firsts.items ≡ length names.now.keys }

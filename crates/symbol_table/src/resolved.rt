@@ -1,12 +1,14 @@
 //! What names mean.
 
-ghost use Rattle.std.specs.Prelude.{◌≡◌};
+ghost use Rattle.std.specs.Prelude.{◌≡◌, true};
 ghost use Rattle.std.specs.List.{All};
 ghost use Rattle.coff_records.specs.ObjectFile.{symbol_at, name_in};
 ghost use Rattle.module_view.specs.Module.{module_at};
 ghost use Rattle.module_view.specs.Opening.{IsOpened};
 ghost use Rattle.symbol_names.specs.Lists.{is_chosen_in};
 ghost use Rattle.symbol_table.specs.Clash.{clash_of};
+ghost use Rattle.symbol_table.specs.Links.{end_of};
+ghost use Rattle.symbol_table.specs.Meant.{is_standing, AllStand};
 ghost use Rattle.symbol_table.specs.Resolution.{meaning_of};
 
 use crate::chains::{end_of, slot_of};
@@ -65,6 +67,19 @@ impl<'a> ResolvedNames<'a> {
         }
     }
 
+    /// Whether each name that is asked for, and each that a symbol defines, means something that stands already: it is no slot
+    /// that has to be made. Where the answer is no, some name of the table does not, which nothing need ask for.
+    pub fn all_stand(&self) -> bool
+        ensures { result ≡ true → AllStand self.now.link self.now.chosen }
+    {
+        for link in &self.links {
+            if !is_standing(link) {
+                return false;
+            }
+        }
+        true
+    }
+
     /// What a name means: its first live definition, its greatest common, what the linker means by it, what its first weak
     /// external does by default, or what the name does that its first alternate stands for. A name that begins with the import
     /// prefix and has none of these is that of a slot that points to what the name after the prefix means.
@@ -100,5 +115,15 @@ impl<'a> ResolvedNames<'a> {
             Some(number) => end_of(&self.links[number as usize]),
             None => self.resolve(symbol.name()),
         }
+    }
+}
+
+/// Whether a link says a meaning, which is no slot that has to be made.
+fn is_standing(link: &Link<'_>) -> bool
+    ensures { result ≡ is_standing (end_of link.now) }
+{
+    match link {
+        Link::Ends(Ok(meaning)) => !matches!(meaning, Meaning::LocalSlot(_)),
+        Link::Ends(Err(_)) | Link::Leads { .. } => false,
     }
 }

@@ -1,12 +1,14 @@
 //! What names mean once sections are chosen, each by its number.
 
 ghost use Rattle.std.specs.Prelude.{◌≡◌, length, map, IfOk};
+ghost use Rattle.std.specs.List.{All};
+ghost use Rattle.symbol_names.specs.References.{all_asked};
 ghost use Rattle.symbol_names.specs.Kept.{rows_of, noted_view};
 ghost use Rattle.symbol_names.specs.Lists.{live_definitions};
 ghost use Rattle.symbol_names.specs.Rests.{HasRests};
 ghost use Rattle.symbol_table.specs.Links.{AreSteps};
 ghost use Rattle.symbol_table.specs.Passes.{AreFirst};
-ghost use Rattle.symbol_table.specs.TableParts.{link_view, KeepsLink, KeepsMeanings};
+ghost use Rattle.symbol_table.specs.TableParts.{link_view, KeepsLink, IsNumbered, KeepsMeanings};
 
 use crate::chains::settle;
 use crate::first_alternate::first_alternates;
@@ -18,7 +20,7 @@ use crate::meaning::Clash;
 use indexmap::IndexSet;
 use link_base::{Memory, Name};
 use std::alloc::Global;
-use symbol_names::{GivenNames, ModuleNames};
+use symbol_names::{ChosenRow, GivenNames, ModuleNames};
 
 /// What each name means, and the first clash of two definitions.
 #[derive(Drop)]
@@ -33,10 +35,11 @@ pub(crate) fn settled<'a>(
     names: &IndexSet<Name<'a>>,
     given: &GivenNames<'a>,
     modules: &[ModuleNames<'a>],
-    chosen: &[Vec<bool>],
+    chosen: &[ChosenRow],
 ) -> Result<SettledLinks<'a>, Memory>
     requires rests { HasRests names.now.keys }
     requires kept { KeepsLink names.now.keys given.now modules.now }
+    requires asked { All (IsNumbered names.now.keys) (all_asked (link_view given.now modules.now)) }
     ensures { IfOk result (λ settled. KeepsMeanings names.now.keys given.now modules.now (rows_of chosen.now) settled.links.items settled.clash) }
 {
     let lives = live_definitions(alloc, names, modules, chosen)?;
@@ -54,7 +57,7 @@ fn links_of<'a>(
     names: &IndexSet<Name<'a>>,
     given: &GivenNames<'a>,
     modules: &[ModuleNames<'a>],
-    chosen: &[Vec<bool>],
+    chosen: &[ChosenRow],
     firsts: &[Option<FirstLive>],
 ) -> Result<Vec<Link<'a>>, Memory>
     requires rests { HasRests names.now.keys }

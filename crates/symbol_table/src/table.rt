@@ -72,6 +72,15 @@ impl<'a> SymbolTable<'a> {
         })
     }
 
+    /// Room for so many more modules, each with a name.
+    pub fn reserve(&mut self, count: usize) -> Result<(), Memory>
+        ensures { self.new ≡ self.old }
+    {
+        self.modules.reserve(count)?;
+        self.names.reserve(count)?;
+        Ok(())
+    }
+
     /// Adds a module after those that were added, and gives its position. Where memory is wanting, the table stays as it
     /// was.
     pub fn add_module(&mut self, module: &Module<'a>) -> Result<u32, Memory>

@@ -1,78 +1,49 @@
-use Rattle.std.proofs.Common.{◌≡◌, ◌<◌, length, get_or, Some, sym, ap, ◌∙◌, arith, rules}
-use Rattle.std.proofs.lemmas.List.{get_or_read, get_or_default}
-use Rattle.comdat.specs.declared.candidate.Candidate.{Candidate}
-use Rattle.comdat.specs.declared.named.Named.{Named}
-use Rattle.comdat.specs.Choice.{no_candidate, conflict_place, chosen_place}
-use Rattle.comdat.specs.Groups.{no_named, name_at, module_in}
-use Rattle.comdat.proofs.ChoiceLemmas.{place_within, second_within}
-use Rattle.comdat.proofs.GroupLemmas.{gathered_at, winners_more, none_conflicts, conflict_told, to_winners}
+use Rattle.std.proofs.Common.{◌<◌, [], ◌∷◌, ℕ, length, sym, subst, arith}
+use Rattle.std.specs.List.{All}
+use Rattle.std.proofs.lemmas.List.{length-map}
+use Rattle.std.proofs.lemmas.List.Elements.{All-append, All-cons, All-nil}
+use Rattle.std.proofs.lemmas.Result.{err_from_is_err_and}
+use Rattle.comdat.specs.Entries.{entry_at, named_by}
+use Rattle.comdat.specs.Numbering.{candidates_at}
+use Rattle.comdat.proofs.GroupLemmas.{list_at, refused_at, winners_more, none_conflicts}
 use Rattle.comdat.proofs.groups.winners.Goals as goal
 
-pub choose-requires : goal.choose-requires
-choose-requires c =
-    let list = gathered_at c.args.entries.now c.args.numbering.now.numbers.items c.args.numbering.now.firsts.items c.loop-number.number c.args.lists.now c.index-lists-number.result c.deref.result.now c.gather.new.group.items c.requires.numbers c.requires.lists c.loop-number-test.true c.index-lists-number.is c.deref.ensures.value c.in_ok-gather.ensures in
-    omega (arith, list.some, ap length c.deref-in-loop-number.ensures.value)
+pub group_winner-requires-clause-places : goal.group_winner-requires-clause-places
+group_winner-requires-clause-places c =
+    let numbering = c.args.numbering.now in
+    let list = list_at (named_by c.args.modules.now c.args.entries.now) numbering.numbers.items numbering.firsts.items c.loop-places.places-index c.args.lists.now c.places-item.result c.deref.result.now c.requires.numbers c.requires.lists c.loop-places-test.true c.places-item.is c.deref.ensures.value in
+    subst (λ (n : ℕ). All (λ k. k < n) c.deref.result.now) (length-map c.args.entries.now (entry_at c.args.modules.now)) list.within
 
-pub index-requires : goal.index-requires
-index-requires c =
-    let list = gathered_at c.args.entries.now c.args.numbering.now.numbers.items c.args.numbering.now.firsts.items c.loop-number.number c.args.lists.now c.index-lists-number.result c.deref.result.now c.gather.new.group.items c.requires.numbers c.requires.lists c.loop-number-test.true c.index-lists-number.is c.deref.ensures.value c.in_ok-gather.ensures in
-    let chosen = c.in-Ok.ensures.chosen in
-    let within = place_within c.deref-in-loop-number.result.now c.in-Ok.place (omega (arith, list.some, ap length c.deref-in-loop-number.ensures.value)) chosen in
-    omega (arith, within, c.deref-in-loop-number.ensures.len)
+pub group_winner-requires-clause-some : goal.group_winner-requires-clause-some
+group_winner-requires-clause-some c =
+    let numbering = c.args.numbering.now in
+    (list_at (named_by c.args.modules.now c.args.entries.now) numbering.numbers.items numbering.firsts.items c.loop-places.places-index c.args.lists.now c.places-item.result c.deref.result.now c.requires.numbers c.requires.lists c.loop-places-test.true c.places-item.is c.deref.ensures.value).some
 
-pub offset_bounds-entries-index : goal.offset_bounds-entries-index
-offset_bounds-entries-index c =
-    let list = gathered_at c.args.entries.now c.args.numbering.now.numbers.items c.args.numbering.now.firsts.items c.loop-number.number c.args.lists.now c.index-lists-number.result c.deref.result.now c.gather.new.group.items c.requires.numbers c.requires.lists c.loop-number-test.true c.index-lists-number.is c.deref.ensures.value c.in_ok-gather.ensures in
-    let at = c.index-in-Err.result.now in
-    let first = get_or_read c.args.numbering.now.firsts.items c.loop-number.number at list.lt c.index-in-Err.ensures 0 in
-    let within : at < length c.args.entries.now = omega (arith, list.first_within, first) in
-    search rules
+pub returns-in_err-winner-clause-refused : goal.returns-in_err-winner-clause-refused
+returns-in_err-winner-clause-refused c =
+    let named = named_by c.args.modules.now c.args.entries.now in
+    let numbering = c.args.numbering.now in
+    let number = c.loop-places.places-index in
+    let list = list_at named numbering.numbers.items numbering.firsts.items number c.args.lists.now c.places-item.result c.deref.result.now c.requires.numbers c.requires.lists c.loop-places-test.true c.places-item.is c.deref.ensures.value in
+    let given = err_from_is_err_and c.from_residual-in_err-winner.result c.from_residual-in_err-winner.ensures.1 in
+    let refused = refused_at named numbering.numbers.items numbering.firsts.items number c.loop-places.winners.items c.deref.result.now c.in_err-winner.field-0.0 c.requires.numbers c.loop-places.invariant.winners list c.in_err-winner.ensures.refused in
+    rw (given.1, given.2) refused
 
-pub index-requires-in-Err-2 : goal.index-requires-in-Err-2
-index-requires-in-Err-2 c =
-    let list = gathered_at c.args.entries.now c.args.numbering.now.numbers.items c.args.numbering.now.firsts.items c.loop-number.number c.args.lists.now c.index-lists-number.result c.deref.result.now c.gather.new.group.items c.requires.numbers c.requires.lists c.loop-number-test.true c.index-lists-number.is c.deref.ensures.value c.in_ok-gather.ensures in
-    omega (arith, list.some, c.deref-in-loop-number.ensures.len, ap length c.deref-in-loop-number.ensures.value)
-
-pub index-requires-in-Err-3 : goal.index-requires-in-Err-3
-index-requires-in-Err-3 c =
-    omega (arith, second_within c.deref-in-loop-number.result.now c.in-Err.conflict.second c.in-Err.ensures.conflict, c.deref-in-loop-number.ensures.len)
-
-pub returns-in-Err-clause-refused : goal.returns-in-Err-clause-refused
-returns-in-Err-clause-refused c =
-    let entries = c.args.entries.now in
-    let numbers = c.args.numbering.now.numbers.items in
-    let firsts = c.args.numbering.now.firsts.items in
-    let number = c.loop-number.number in
-    let list = gathered_at entries numbers firsts number c.args.lists.now c.index-lists-number.result c.deref.result.now c.gather.new.group.items c.requires.numbers c.requires.lists c.loop-number-test.true c.index-lists-number.is c.deref.ensures.value c.in_ok-gather.ensures in
-    let items = c.gather.new.group.items in
-    let second = c.in-Err.conflict.second in
-    let at = c.index-in-Err.result.now in
-    let first = get_or_read firsts number at list.lt c.index-in-Err.ensures 0 in
-    let within : at < length entries = omega (arith, list.first_within, first) in
-    let named : c.again.result ≡ name_at entries (get_or firsts number 0) =
-    c.again.ensures ∙ ap (λ (e : Named). e.name) (get_or_default entries at c.index-entries-index.result no_named within) ∙ ap (name_at entries) first in
-    let told : conflict_place items ≡ Some second = ap conflict_place (sym c.deref-in-loop-number.ensures.value) ∙ c.in-Err.ensures.conflict in
-    let one : c.index-in-Err-2.result.now.«module» ≡ module_in items 0 =
-    ap (λ (e : Candidate). e.«module») (get_or_read items 0 c.index-in-Err-2.result.now list.some c.index-in-Err-2.ensures no_candidate) in
-    let other : c.index-in-Err-3.result.now.«module» ≡ module_in items second =
-    ap (λ (e : Candidate). e.«module») (get_or_read items second c.index-in-Err-3.result.now (second_within items second told) c.index-in-Err-3.ensures no_candidate) in
-    rw (named, one, other) (conflict_told entries numbers firsts number c.loop-number.winners.items items second c.requires.numbers c.loop-number.invariant list.lt list.is told)
-
-pub loop-number-preserved : goal.loop-number-preserved
-loop-number-preserved c =
-    let entries = c.args.entries.now in
-    let firsts = c.args.numbering.now.firsts.items in
-    let list = gathered_at entries c.args.numbering.now.numbers.items firsts c.loop-number.number c.args.lists.now c.index-lists-number.result c.deref.result.now c.gather.new.group.items c.requires.numbers c.requires.lists c.loop-number-test.true c.index-lists-number.is c.deref.ensures.value c.in_ok-gather.ensures in
-    let items = c.gather.new.group.items in
-    let same = c.deref-in-loop-number.ensures.value in
-    let chosen : chosen_place items ≡ Some c.in-Ok.place = ap chosen_place (sym same) ∙ c.in-Ok.ensures.chosen in
-    let agreed = ap conflict_place (sym same) ∙ c.in-Ok.ensures.accepted in
-    winners_more entries firsts c.loop-number.number c.loop-number.winners.items c.push.new.self.items items c.in-Ok.place c.index.result.now c.loop-number.invariant list.is list.some chosen agreed (get_or_read items c.in-Ok.place c.index.result.now (place_within items c.in-Ok.place list.some chosen) c.index.ensures no_candidate) c.in_ok-push-in-Ok.ensures.items
+pub loop-places-preserved : goal.loop-places-preserved
+loop-places-preserved c =
+    let named = named_by c.args.modules.now c.args.entries.now in
+    let numbering = c.args.numbering.now in
+    let number = c.loop-places.places-index in
+    let winners = c.loop-places.winners.items in
+    let winner = c.in_ok-winner.winner in
+    let before = c.loop-places.invariant in
+    let list = list_at named numbering.numbers.items numbering.firsts.items number c.args.lists.now c.places-item.result c.deref.result.now c.requires.numbers c.requires.lists c.loop-places-test.true c.places-item.is c.deref.ensures.value in
+    let Within : ℕ → Type 0 = λ k. k < length c.args.entries.now in
+    record {
+      within = subst (All Within) (sym c.in_ok-push.ensures.items) (All-append Within winners (winner ∷ []) before.within (All-cons Within winner [] c.in_ok-winner.ensures.within (All-nil Within)));
+      winners = winners_more named numbering.firsts.items number winners c.push.new.self.items (candidates_at named c.deref.result.now) winner before.winners list.is c.in_ok-winner.ensures.chosen c.in_ok-winner.ensures.accepted c.in_ok-push.ensures.items;
+    }
 
 pub returns-clause-accepted : goal.returns-clause-accepted
 returns-clause-accepted c =
-    none_conflicts c.args.entries.now c.args.numbering.now.numbers.items c.args.numbering.now.firsts.items c.loop-number.number c.loop-number.winners.items c.requires.numbers c.loop-number.invariant (omega (arith, c.requires.lists.same_length))
-
-pub returns-clause-winners : goal.returns-clause-winners
-returns-clause-winners c =
-    to_winners c.args.entries.now c.args.numbering.now.firsts.items c.loop-number.number c.loop-number.winners.items c.loop-number.invariant (omega (arith, c.requires.lists.same_length))
+    none_conflicts (named_by c.args.modules.now c.args.entries.now) c.args.numbering.now.numbers.items c.args.numbering.now.firsts.items c.loop-places.places-index c.loop-places.winners.items c.requires.numbers c.loop-places.invariant.winners (omega (arith, c.requires.lists.same_length))

@@ -5,12 +5,11 @@ use Rattle.comdat.proofs.lists.group_lists.Goals as goal
 
 pub loop-index-preserved : goal.loop-index-preserved
 loop-index-preserved c =
-    let entries = c.args.entries.now in
     let numbers = c.args.numbering.now.numbers.items in
     let count = length c.args.numbering.now.firsts.items in
     let done = c.loop-index.index in
     let at = c.index-number.result.now in
-    let in_numbers : done < length numbers = omega (arith, c.requires.same_length, c.loop-index-test.true) in
-    let is_at = sym (get_or_read numbers done at in_numbers c.index-number.ensures 0) in
-    let within : at < count = subst (λ (n : ℕ). n < count) is_at (c.requires.within done c.loop-index-test.true) in
-    lists_more entries numbers done count at c.in_ok-place.place c.loop-index.lists.items c.index_mut.result.now c.push.new.self c.loop-index.invariant in_numbers c.loop-index-test.true is_at within c.index_mut.ensures.value c.in_ok-place.ensures c.in_ok-push.ensures.items
+    let lt : done < length numbers = omega arith in
+    let is_at = sym (get_or_read numbers done at lt c.index-number.ensures 0) in
+    let within : at < count = subst (λ (n : ℕ). n < count) is_at (c.requires done 0 lt) in
+    lists_more numbers done count at c.in_ok-place.place c.loop-index.lists.items c.index_mut.result.now c.push.new.self c.loop-index.invariant is_at within c.index_mut.ensures.value c.in_ok-place.ensures c.in_ok-push.ensures.items

@@ -1,22 +1,15 @@
-use Rattle.std.proofs.Common.{◌≡◌, ◌<◌, ℕ, List, Option, length, get_or, subst, sym, ap, ◌∙◌}
-use Rattle.std.specs.List.{All}
-use Rattle.std.specs.Option.{IfSome}
-use Rattle.module_view.specs.declared.definition.Definition.{Definition}
+use Rattle.std.proofs.Common.{◌≡◌, ℕ, false, Option, Some, None, refl, sym, subst, ◌∙◌}
+use Rattle.std.specs.Prelude.{is_some}
+use Rattle.module_view.specs.Choices.{SaysChoice}
 use Rattle.module_view.specs.ImportModule.{module_definitions}
-use Rattle.symbol_names.specs.Interning.{Numbers}
-use Rattle.comdat.specs.Numbering.{HasNumber}
-use Rattle.comdat.proofs.NotedLemmas.{noted_number, numbers_more}
+use Rattle.comdat.proofs.EntryLemmas.{one_kept}
 use Rattle.comdat.proofs.sections.read_section.Goals as goal
 
-pub returns-clause-numbers : goal.returns-clause-numbers
-returns-clause-numbers c = λ keys zipped old.
-    let leader = c.in-Some-leader.leader in
-    let definitions = module_definitions c.args.«module».now in
-    let definition = c.index-definitions-leader.result in
-    let within : leader < length definitions =
-    subst (λ (o : Option ℕ). IfSome o (λ k. k < length definitions)) c.in-Some-leader.is c.in-Some.ensures.leader in
-    let read : definition ≡ get_or definitions leader definition =
-    c.index-definitions-leader.is ∙ ap (λ (ds : List Definition). get_or ds leader definition) c.definitions.ensures.definitions in
-    let named : c.again.result ≡ definition.name = c.again.ensures ∙ ap (λ (d : Definition). d.name) (sym c.index-definitions-leader.is) in
-    subst (All (HasNumber keys)) (sym c.in_ok-push.ensures.items)
-    (numbers_more keys c.args.entries.now.items _ old (subst (Numbers keys _) (sym named) (noted_number keys definitions c.args.noted.now leader definition _ zipped within read)))
+none : (o : Option ℕ) → is_some o ≡ false → o ≡ None
+none None fails = refl
+none (Some n) fails = absurd cc
+
+pub returns : goal.returns
+returns c = λ names modules named view at is zipped kept.
+    let said = subst (SaysChoice view.bytes (module_definitions view) c.args.section) c.in-Some.is is in
+    one_kept names modules named c.args.entries.now.items c.push.new.self.items c.args.position c.args.section c.in-Some-leader.leader view c.in-Some.choice c.args.noted.now _ at said zipped (none c.in-Some.choice.parent (sym c.is_some.ensures ∙ c.if-is_some.false)) c.in-Some-leader.is c.in_ok-push.ensures.items kept

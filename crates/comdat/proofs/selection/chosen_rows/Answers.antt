@@ -1,11 +1,9 @@
-use Rattle.std.proofs.Common.{◌≡◌, ◌<◌, ◌+◌, Bool, List, [], ◌∷◌, ◌++◌, ℕ, length, get_or, map, sym, ap, ◌∙◌, arith}
+use Rattle.std.proofs.Common.{◌≡◌, ◌+◌, Bool, List, [], ◌∷◌, ◌++◌, map, sym, ap, ◌∙◌, arith}
 use Rattle.std.specs.List.{range_with_len}
-use Rattle.std.proofs.lemmas.List.{get_or_default, get_or-map, length-map, map-append}
-use Rattle.std.proofs.lemmas.List.FromFn.{length-map-range_with_len, get_or-map-range_with_len, map-range_with_len_more}
+use Rattle.std.proofs.lemmas.List.{get_or_default, map-append}
+use Rattle.std.proofs.lemmas.List.FromFn.{map-range_with_len_more}
 use Rattle.coff_aux.specs.Comdats.{parents_of}
 use Rattle.module_view.specs.Module.{ModuleView, no_module, module_at}
-use Rattle.comdat.specs.declared.chosen_by.ChosenBy.{ChosenBy}
-use Rattle.comdat.specs.ChosenBy.{all_chosen_by, listed}
 use Rattle.comdat.specs.Chains.{chain_end}
 use Rattle.comdat.specs.Selection.{named_sections, sections_of, own_flag, is_chosen_of_group, chosen_row}
 use Rattle.symbol_names.specs.Kept.{row_flags}
@@ -14,13 +12,9 @@ use Rattle.comdat.proofs.selection.chosen_rows.Goals as goal
 
 pub loop-position-init : goal.loop-position-init
 loop-position-init c = record {
-  rest = told_first c.args.modules.now c.args.selected.now c.requires.selected;
+  rest = told_first c.args.modules.now c.args.selected.now c.requires;
   chosen = ap (map row_flags) c.in_ok-chosen.ensures.items;
 }
-
-pub bounds-rows-position : goal.bounds-rows-position
-bounds-rows-position c =
-    omega (arith, c.loop-position-test.true, length-map c.args.rows.now listed, ap length c.requires.rows, length-map-range_with_len (λ k. all_chosen_by (module_at c.args.modules.now k).bytes) 0 (length c.args.modules.now))
 
 pub chosen_row-requires : goal.chosen_row-requires
 chosen_row-requires c =
@@ -28,19 +22,7 @@ chosen_row-requires c =
     let k = c.loop-position.position in
     let m = c.index-modules-position.result in
     let read : m ≡ module_at modules k = c.index-modules-position.is ∙ get_or_default modules k m no_module c.loop-position-test.true in
-    let rows = c.args.rows.now in
-    let row_of : ℕ → List ChosenBy = λ n. all_chosen_by (module_at modules n).bytes in
-    let lt : k < length rows = omega (arith, c.loop-position-test.true, length-map rows listed, ap length c.requires.rows, length-map-range_with_len row_of 0 (length modules)) in
-    record {
-      row =
-          c.deref.ensures.value
-          ∙ ap listed c.index-rows-position.is
-          ∙ sym (get_or-map listed rows k c.index-rows-position.result [] lt)
-          ∙ ap (λ (lists : List (List ChosenBy)). get_or lists k []) c.requires.rows
-          ∙ get_or-map-range_with_len row_of 0 (length modules) k k [] c.loop-position-test.true (omega arith)
-          ∙ ap (λ (v : ModuleView). all_chosen_by v.bytes) (sym read);
-      room = told_room modules k c.loop-position.rest.now m c.loop-position-test.true c.loop-position.invariant.rest read;
-    }
+    told_room modules k c.loop-position.rest.now m c.loop-position-test.true c.loop-position.invariant.rest read
 
 pub loop-position-preserved : goal.loop-position-preserved
 loop-position-preserved c =
@@ -51,13 +33,13 @@ loop-position-preserved c =
     let read : m ≡ module_at modules k = c.index-modules-position.is ∙ get_or_default modules k m no_module c.loop-position-test.true in
     let chosen = is_chosen_of_group modules k in
     let told = c.in_ok-row.ensures chosen (told_from modules (k + 1)) (before.rest ∙ told_next modules k c.loop-position-test.true ∙ ap (λ (v : ModuleView). map chosen (named_sections v.bytes) ++ told_from modules (k + 1)) (sym read)) in
-    let row : c.in_ok-row.row.items ≡ chosen_row modules k =
+    let row : row_flags c.in_ok-row.row ≡ chosen_row modules k =
     told.0 ∙ ap (λ (v : ModuleView). map (λ section. own_flag chosen v.bytes (chain_end (parents_of v.bytes) section)) (sections_of v.bytes)) read in
     record {
       rest = told.1;
       chosen =
           ap (map row_flags) c.in_ok-push.ensures.items ∙ map-append row_flags c.loop-position.chosen.items (c.in_ok-row.row ∷ [])
-          ∙ ap (λ (rows : List (List Bool)). rows ++ c.in_ok-row.row.items ∷ []) before.chosen
+          ∙ ap (λ (rows : List (List Bool)). rows ++ row_flags c.in_ok-row.row ∷ []) before.chosen
           ∙ ap (λ (flags : List Bool). map (chosen_row modules) (range_with_len 0 k) ++ flags ∷ []) row
           ∙ sym (map-range_with_len_more (chosen_row modules) 0 k k (omega arith));
     }

@@ -9,7 +9,14 @@ use Rattle.link_pieces.specs.LocalSlots.{names_asked, with_meant}
 use Rattle.link_plan.specs.References.{references_fault_at}
 use Rattle.link_fields.proofs.StandingLemmas.{refuses_at}
 use Rattle.link_plan.proofs.ReferenceLemmas.{module_here, bytes_here, meant_module}
+use Rattle.link_plan.proofs.StandingNameLemmas.{no_references_fault, no_more_meant}
 use Rattle.link_plan.proofs.references.check_references.Goals as goal
+
+pub returns-then-all_stand-clause-accepted : goal.returns-then-all_stand-clause-accepted
+returns-then-all_stand-clause-accepted c = no_references_fault c.args.names.now (c.all_stand.ensures c.if-all_stand.true)
+
+pub returns-then-all_stand-clause-slots : goal.returns-then-all_stand-clause-slots
+returns-then-all_stand-clause-slots c = no_more_meant c.args.names.now c.args.slots.now.keys (c.all_stand.ensures c.if-all_stand.true)
 
 pub loop-position-init : goal.loop-position-init
 unfolding first_refusal_below

@@ -6,22 +6,22 @@ use Rattle.linker_program.specs.Outcome.{LinkOutcome}
 use Rattle.linker_program.proofs.StepLemmas.{if_unplanned, if_planned, on_left_planned, if_read_failed, on_nothing, on_unread}
 use Rattle.linker_program.proofs.link.link.Goals as goal
 
-pub link_planned-requires-clause-planned : goal.link_planned-requires-clause-planned
-link_planned-requires-clause-planned g c κs within = c.in-Ok.ensures.planned
+pub link_planned-answer-requires-clause-planned : goal.link_planned-answer-requires-clause-planned
+link_planned-answer-requires-clause-planned g c κs within = c.in-Ok.ensures.planned
 
 pub returns-in-Ok-clause-answered : goal.returns-in-Ok-clause-answered
 returns-in-Ok-clause-answered g c =
     let before = files_of g.F.Files.store g.F.Files.read_faults g.F.Files.write_faults c.args.files.now in
     let later = files_of g.F.Files.store g.F.Files.read_faults g.F.Files.write_faults c.plan.new.files in
-    let after = files_of g.F.Files.store g.F.Files.read_faults g.F.Files.write_faults c.link_planned.new.files in
-    if_planned c.link_planned.result (options_said c.args.options.now) before later after c.in-Ok.plan c.in-Ok.ensures c.link_planned.ensures.answered
+    let after = files_of g.F.Files.store g.F.Files.read_faults g.F.Files.write_faults c.link_planned-answer.new.files in
+    if_planned c.link_planned-answer.result (options_said c.args.options.now) before later after c.in-Ok.plan c.in-Ok.ensures c.link_planned-answer.ensures.answered
 
 pub returns-in-Ok-clause-memory : goal.returns-in-Ok-clause-memory
 returns-in-Ok-clause-memory g c =
     let before = files_of g.F.Files.store g.F.Files.read_faults g.F.Files.write_faults c.args.files.now in
     let later = files_of g.F.Files.store g.F.Files.read_faults g.F.Files.write_faults c.plan.new.files in
-    let after = files_of g.F.Files.store g.F.Files.read_faults g.F.Files.write_faults c.link_planned.new.files in
-    on_left_planned c.link_planned.result (options_said c.args.options.now) before later after c.in-Ok.plan c.in-Ok.ensures c.link_planned.ensures.memory
+    let after = files_of g.F.Files.store g.F.Files.read_faults g.F.Files.write_faults c.link_planned-answer.new.files in
+    on_left_planned c.link_planned-answer.result (options_said c.args.options.now) before later after c.in-Ok.plan c.in-Ok.ensures c.link_planned-answer.ensures.memory
 
 pub returns-in-Err-Fault-clause-answered : goal.returns-in-Err-Fault-clause-answered
 returns-in-Err-Fault-clause-answered g c =

@@ -12,6 +12,7 @@ use Rattle.coff_aux.specs.Comdats.{comdat_record_of}
 use Rattle.module_view.specs.Opening.{RefusesToOpen}
 use Rattle.coff_aux.specs.Steps.{all_comdat_records, record_fault}
 use Rattle.coff_aux.proofs.CallerLemmas.{weak_stands, fault_by_records, no_comdat_fault}
+use Rattle.module_view.specs.SymbolLists.{definitions_of}
 use Rattle.module_view.specs.Choices.{AscendBySymbol}
 use Rattle.module_view.proofs.DefinitionLemmas.{definitions_ascend}
 use Rattle.module_view.proofs.ChoiceLemmas.{none_kept, all_kept}
@@ -24,7 +25,7 @@ returns-in-Some-clause-refused c =
 
 pub returns-then-not-any_comdat-clause-comdats : goal.returns-then-not-any_comdat-clause-comdats
 returns-then-not-any_comdat-clause-comdats c =
-    none_kept c.args.object.now c.no_comdats.result.records.items c.no_comdats.result.leaders.items (sym c.requires.comdat ∙ c.if-not-any_comdat.true) c.no_comdats.ensures.records c.no_comdats.ensures.leaders
+    none_kept c.args.object.now (definitions_of c.args.object.now) c.new.result.items (sym c.requires.comdat ∙ c.if-not-any_comdat.true) c.new.ensures.items
 
 pub returns-then-not-any_comdat-clause-accepted : goal.returns-then-not-any_comdat-clause-accepted
 returns-then-not-any_comdat-clause-accepted c =
@@ -48,13 +49,13 @@ returns-in-Some-2-clause-refused c =
     let bytes = c.args.object.now in
     ap (option_map error.Object) (by_read bytes c.record_count.result c.deref-4.result.now (sym c.in_default.ensures) c.record_count.ensures (c.deref-4.ensures.value ∙ c.in_ok-records.ensures) ∙ sym c.in_ok-error.ensures ∙ c.in-Some-2.is)
 
-pub leaders_of-requires : goal.leaders_of-requires
-leaders_of-requires c =
-    subst AscendBySymbol (sym (c.deref-in-None-2.ensures.value ∙ c.requires.definitions)) (definitions_ascend c.args.object.now)
+pub choices_of-requires-clause-order : goal.choices_of-requires-clause-order
+choices_of-requires-clause-order c =
+    subst AscendBySymbol (sym (c.deref-in-None-3.ensures.value ∙ c.requires.definitions)) (definitions_ascend c.args.object.now)
 
 pub returns-clause-comdats : goal.returns-clause-comdats
 returns-clause-comdats c =
-    all_kept c.args.object.now c.deref-in-None.result.now c.in_ok-records.records.items c.in_ok-leaders-in-None.leaders.items c.deref-in-None-2.result.now (sym c.requires.comdat ∙ c.if-not-any_comdat.false) (c.deref-in-None.ensures.value ∙ c.in_ok-symbols.ensures) c.in_ok-records.ensures (c.deref-in-None-2.ensures.value ∙ c.requires.definitions) c.in_ok-leaders-in-None.ensures
+    all_kept c.args.object.now c.deref-in-None-2.result.now c.deref-in-None.result.now c.in_ok-choices-in-None.choices.items c.deref-in-None-3.result.now (sym c.requires.comdat ∙ c.if-not-any_comdat.false) (c.deref-in-None-2.ensures.value ∙ c.in_ok-symbols.ensures) (c.deref-in-None.ensures.value ∙ c.in_ok-records.ensures) (c.deref-in-None-3.ensures.value ∙ c.requires.definitions) c.in_ok-choices-in-None.ensures
 
 pub returns-clause-accepted : goal.returns-clause-accepted
 returns-clause-accepted c =

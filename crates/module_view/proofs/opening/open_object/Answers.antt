@@ -2,11 +2,12 @@ use Rattle.std.proofs.Common.{ℕ, List, subst, sym, ap, ◌∙◌}
 use Rattle.std.specs.Prelude.{option_map}
 use Rattle.link_base.specs.declared.kinds.form.Kind.TheVariants as form
 use Rattle.coff_records.specs.ObjectFile.{starts_symbol}
+use Rattle.module_view.specs.declared.definition.Definition.{Definition}
 use Rattle.module_view.specs.declared.error.ModuleError.TheVariants as error
 use Rattle.module_view.specs.SymbolLists.{definitions_of, references_of, weaks_of, commons_of}
 use Rattle.coff_aux.specs.AuxFaults.{aux_fault}
 use Rattle.module_view.specs.ModuleDirectives.{module_directives, bad_directive}
-use Rattle.module_view.specs.Choices.{KeepsComdats}
+use Rattle.module_view.specs.Choices.{AreChoices}
 use Rattle.module_view.specs.Opening.{RefusesToOpen, unsupported, has_long_symbol_name, directive_error}
 use Rattle.module_view.specs.Steps.{section_form}
 use Rattle.module_view.specs.Resources.{has_resources}
@@ -57,7 +58,7 @@ invariant_of-result c =
       weak = lists.weaks ∙ ap weaks_of same;
       common = lists.commons ∙ ap commons_of same;
       started = λ some j. lists.starts some j ∙ ap (λ (bytes : List ℕ). starts_symbol bytes j) same;
-      comdats = subst (λ (bytes : List ℕ). KeepsComdats bytes c.in-Ok-judge_aux.comdats.records.items c.in-Ok-judge_aux.comdats.leaders.items) same c.in-Ok-judge_aux.ensures.comdats;
+      comdats = subst (λ (ds : List Definition). AreChoices c.args.bytes.now ds c.in-Ok-judge_aux.comdats.items) (sym (lists.definitions ∙ ap definitions_of same)) (subst (λ (bytes : List ℕ). AreChoices bytes (definitions_of bytes) c.in-Ok-judge_aux.comdats.items) same c.in-Ok-judge_aux.ensures.comdats);
       said_are = listed;
       resources_are = c.in-Ok-judge_sections.ensures.resources ∙ ap has_resources same;
     }

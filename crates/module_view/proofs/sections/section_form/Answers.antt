@@ -1,22 +1,18 @@
-use Rattle.std.proofs.Common.{take, sym, ap, subst, ◌∙◌, lit≤}
+use Rattle.std.proofs.Common.{take, sym, ◌∙◌}
 use Rattle.coff_records.specs.ObjectFile.{section_name_of}
-use Rattle.section_rules.specs.SoughtNames.{is_linker_section, BeginsOtherwise}
-use Rattle.section_rules.proofs.SoughtLemmas.{is_linker_section-take, no_linker, no_resources}
+use Rattle.section_rules.specs.SoughtNames.{BeginsOtherwise}
+use Rattle.section_rules.proofs.SoughtLemmas.{otherwise_start, no_linker, no_resources}
 use Rattle.module_view.proofs.sections.section_form.Goals as goal
-
-pub returns-then-is_long_section-clause-linker : goal.returns-then-is_long_section-clause-linker
-returns-then-is_long_section-clause-linker c =
-    c.is_linker_section.ensures ∙ ap is_linker_section c.section_name_start-name.ensures ∙ is_linker_section-take 7 _ (lit≤ tt)
 
 -- the name is none that is looked for
 otherwise : (c : goal.After-plain_form) → BeginsOtherwise (take 3 (section_name_of c.args.object.now c.args.number))
 otherwise c =
-    subst BeginsOtherwise c.section_name_start.ensures (c.may_be_sought.ensures c.if-not-may_be_sought.true)
+    otherwise_start (section_name_of c.args.object.now c.args.number) (c.is_plain.ensures.otherwise c.if-is_plain.true)
 
-pub returns-then-not-may_be_sought-clause-linker : goal.returns-then-not-may_be_sought-clause-linker
-returns-then-not-may_be_sought-clause-linker c =
+pub returns-then-is_plain-clause-linker : goal.returns-then-is_plain-clause-linker
+returns-then-is_plain-clause-linker c =
     c.plain_form.ensures.linker ∙ sym (no_linker (section_name_of c.args.object.now c.args.number) (otherwise c))
 
-pub returns-then-not-may_be_sought-clause-resources : goal.returns-then-not-may_be_sought-clause-resources
-returns-then-not-may_be_sought-clause-resources c short =
+pub returns-then-is_plain-clause-resources : goal.returns-then-is_plain-clause-resources
+returns-then-is_plain-clause-resources c short =
     c.plain_form.ensures.resources ∙ sym (no_resources (section_name_of c.args.object.now c.args.number) (otherwise c))

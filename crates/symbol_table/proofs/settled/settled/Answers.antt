@@ -25,6 +25,7 @@ settle-requires-clause-long c = c.in_ok-links.ensures.long
 pub returns : goal.returns
 returns c = record {
   whole = c.requires.kept;
+  asked = c.requires.asked;
   meant = c.in_ok-settle.ensures (link_view c.args.given.now c.args.modules.now) (rows_of c.args.chosen.now) c.in_ok-links.ensures;
   clash_is = c.in_ok-lives.ensures.clash_is;
 }

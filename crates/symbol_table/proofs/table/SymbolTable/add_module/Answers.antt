@@ -1,5 +1,7 @@
-use Rattle.std.proofs.Common.{ℕ, List, length, refl, sym, ap, ◌∙◌, subst, arith}
+use Rattle.std.proofs.Common.{◌≡◌, [], ℕ, List, length, refl, sym, ap, ◌∙◌, subst, arith}
 use Rattle.std.specs.List.{AllZip}
+use Rattle.std.specs.Option.{IfSome}
+use Rattle.module_view.specs.SymbolLists.{definitions_of}
 use Rattle.std.proofs.lemmas.List.{length-map}
 use Rattle.module_view.specs.Opening.{opening_error}
 use Rattle.symbol_names.specs.declared.noted.ModuleNames.{ModuleNames}
@@ -46,7 +48,8 @@ invariant_of-self-2 c =
     let grown = subst (λ (ms : List ModuleNames). KeepsTable names given ms c.self.inside.asked) (sym c.reserve.ensures.items) (table_grows _ _ _ _ _ c.note_lists-noted.ensures.kept c.len-count.ensures.unique c.self.invariant) in
     table_push names given c.reserve.new.self.items c.push.new.self.items _ lists c.self.inside.asked c.add_lists.new.asked grown
     (omega (arith, c.requires, ap (λ (v : LinkView). length v.modules) c.self.view_is, length-map kept noted_view, ap length c.reserve.ensures.items))
-    (notes_module names _ c.args.«module».now c.bytes.ensures.bytes c.import_again.ensures notes.definitions notes.commons notes.weaks notes.alternates notes.records)
+    (notes_module names _ c.args.«module».now c.bytes.ensures.bytes c.import_again.ensures.imported notes.definitions notes.commons notes.weaks notes.alternates notes.records)
     (ap opening_error c.bytes.ensures.bytes ∙ c.bytes.ensures.opened)
+    (subst (λ (b : List ℕ). IfSome c.import_again.result (λ import. definitions_of b ≡ [])) (sym c.bytes.ensures.bytes) c.import_again.ensures.alone)
     (subst (λ (b : List ℕ). AllZip (NotesAsked names) (asked_by 0 b) lists.asked.items) (sym c.bytes.ensures.bytes) notes.asked)
     refl refl c.in_ok-add_lists.ensures.added c.in_ok-push.ensures.items

@@ -2,7 +2,7 @@ use Rattle.std.proofs.Common.{sym, ap, ◌∙◌}
 use Rattle.std.specs.Prelude.{is_some}
 use Rattle.symbol_names.specs.LinkView.{LinkView}
 use Rattle.symbol_table.specs.OpenNames.{is_provided}
-use Rattle.symbol_table.specs.AskedParts.{flag_of}
+use Rattle.symbol_names.specs.Flags.{flag_of}
 use Rattle.symbol_table.proofs.AbsentLemmas.{position_numbers, position_absent}
 use Rattle.symbol_table.proofs.AskedLemmas.{provided_is, absent_provided}
 use Rattle.symbol_table.proofs.table.SymbolTable.provided.Goals as goal
