@@ -1,18 +1,17 @@
 -- The first two symbols of a section, and what its COMDAT record says.
-use Rattle.std.proofs.Common.{◌≡◌, ℕ, zero, suc, ◌+◌, ◌-◌, ◌<◌, ◌≤◌, inl, inr, ℤ, pos, negsuc, Bool, true, false, cond, ◌||◌, eqb, List, [], ◌∷◌, length, filter, replicate, get_or, Option, Some, None, refl, sym, ap, ◌∙◌, arith}
+use Rattle.std.proofs.Common.{◌≡◌, ℕ, zero, suc, ◌+◌, ◌-◌, ◌<◌, ◌≤◌, inl, inr, ℤ, pos, negsuc, Bool, true, false, cond, ◌||◌, eqb, List, [], ◌∷◌, length, map, filter, replicate, get_or, Option, Some, None, refl, sym, ap, ◌∙◌, arith}
 use Rattle.std.specs.Prelude.{IfSome}
 use Rattle.std.specs.List.{list_any, range_with_len}
 use Rattle.std.specs.Ordering.{int_eq}
 use Rattle.std.proofs.lemmas.Bool.{cases_lt, false≢true}
 use Rattle.std.proofs.lemmas.Bool.Decides.{eqb_tells, leb_tells, Decides-int_eq}
-use Rattle.std.proofs.lemmas.List.{ext_get_or, length-set, get_or-set_same, get_or-set_other}
+use Rattle.std.proofs.lemmas.List.{ext_get_or, length-map, get_or-map, length-set, get_or-set_same, get_or-set_other}
 use Rattle.std.proofs.lemmas.List.Folds.{list_any_at}
 use Rattle.std.proofs.lemmas.List.FromFn.{get_or-map-range_with_len, length-map-range_with_len, get_or-range_with_len, length-range_with_len}
 use Rattle.coff_records.specs.ObjectFile.{section_total, starts_symbol, SymbolEntry, section_number_in, section_of_number, symbol_entries}
-use Rattle.coff_aux.specs.declared.comdat.ComdatRecord.{ComdatRecord}
-use Rattle.coff_aux.specs.declared.comdat.SectionSymbols.{SectionSymbols}
-use Rattle.coff_aux.specs.Comdats.{stands_in, first_two, section_symbols_of, is_section_number, is_comdat, has_comdat, comdat_record_of}
-use Rattle.coff_aux.specs.Steps.{all_section_symbols, all_comdat_records, no_symbols, with_symbol, noted_symbols, noted_at}
+use Rattle.coff_aux.specs.declared.comdat.NotedSymbols.{NotedSymbols}
+use Rattle.coff_aux.specs.Comdats.{SectionSymbols, stands_in, first_two, section_symbols_of, is_section_number, is_comdat, has_comdat, comdat_record_of}
+use Rattle.coff_aux.specs.Steps.{symbols_noted, all_section_symbols, no_symbols, with_symbol, noted_symbols, noted_at}
 use Rattle.coff_aux.proofs.StartLemmas.{starts_among}
 
 -- ---- the symbols of a section start at records
@@ -174,6 +173,19 @@ all_noted symbols bytes entries count none each =
     ext_get_or no_symbols symbols (all_section_symbols bytes) (count ∙ sym (length-map-range_with_len (section_symbols_of bytes) 1 (section_total bytes)))
     (λ k lt. noted_all symbols bytes k entries none (each k lt) ∙ sym (get_or-map-range_with_len (section_symbols_of bytes) 1 (section_total bytes) k (k + 1) no_symbols (omega (arith, count)) (omega arith)))
 
+-- what is noted of a section
+pub noted_count : (bytes : List ℕ) (symbols : List NotedSymbols) → map symbols_noted symbols ≡ all_section_symbols bytes → length symbols ≡ section_total bytes
+noted_count bytes symbols noted =
+    sym (length-map symbols symbols_noted)
+    ∙ ap (λ (xs : List SectionSymbols). length xs) noted
+    ∙ length-map-range_with_len (section_symbols_of bytes) 1 (section_total bytes)
+
+pub noted_there : (bytes : List ℕ) (symbols : List NotedSymbols) → map symbols_noted symbols ≡ all_section_symbols bytes → (k : ℕ) (d : NotedSymbols) → k < section_total bytes → symbols_noted (get_or symbols k d) ≡ section_symbols_of bytes (k + 1)
+noted_there bytes symbols noted k d within =
+    sym (get_or-map symbols_noted symbols k d no_symbols (omega (arith, noted_count bytes symbols noted)))
+    ∙ ap (λ (xs : List SectionSymbols). get_or xs k no_symbols) noted
+    ∙ get_or-map-range_with_len (section_symbols_of bytes) 1 (section_total bytes) k (k + 1) no_symbols within (omega arith)
+
 -- ---- the numbers of sections
 
 pub section_within : (count section : ℕ) → is_section_number count section ≡ true → (1 ≤ section) × (section ≤ count)
@@ -204,9 +216,9 @@ no_records bytes none k lt = none_said bytes (k + 1) (no_comdat bytes (k + 1) no
 
 -- ---- some section is one
 
-pub some_said : (bytes : List ℕ) (records : List (Option ComdatRecord)) → has_comdat bytes ≡ true → records ≡ all_comdat_records bytes → 0 < length records
-some_said bytes records some is = elim (cases_lt 0 (section_total bytes)) [
-  | inl lt ↦ omega (arith, ap (λ (xs : List (Option ComdatRecord)). length xs) is, length-map-range_with_len (comdat_record_of bytes) 1 (section_total bytes), lt)
+pub some_section : (bytes : List ℕ) → has_comdat bytes ≡ true → 0 < section_total bytes
+some_section bytes some = elim (cases_lt 0 (section_total bytes)) [
+  | inl lt ↦ lt
   | inr none ↦ absurd (let h = sym (ap (λ (n : ℕ). list_any (is_comdat bytes) (range_with_len 1 n)) (zero_total none)) ∙ some in cc)
 ]
   where

@@ -6,12 +6,15 @@ use Rattle.std.proofs.Math.ListN.{get_or-map}
 use Rattle.std.proofs.lemmas.Bool.{and_from, and_left, and_right, and_cases, and_parts, or_parts, cond_both, le-leb, eq-eqb, not-false, not_from_true, cases_lt, false≢true}
 use Rattle.std.proofs.lemmas.List.{get_or_past}
 use Rattle.link_base.proofs.CallerLemmas.{first_below-all_fail}
+use Rattle.coff_records.specs.ObjectFile.{section_total, record_total, symbol_entries}
+use Rattle.coff_object.specs.ObjectFaults.{first_of}
 use Rattle.coff_aux.specs.declared.comdat.ComdatRecord.{ComdatRecord}
 use Rattle.coff_aux.specs.Comdats.{is_section_number, is_associative, parent_in}
 use Rattle.coff_aux.specs.Parents.{parent_at, ancestor, comes_back}
-use Rattle.coff_aux.specs.AuxFaults.{fails_of, lacks_symbol, has_no_selection, has_no_parent}
-use Rattle.coff_aux.specs.Steps.{is_out_of_order, parents_in, first_record, parent_place_in, record_fault}
+use Rattle.coff_aux.specs.AuxFaults.{is_bad_weak, fails_of, lacks_symbol, has_no_selection, has_no_parent, aux_fault}
+use Rattle.coff_aux.specs.Steps.{all_comdat_records, is_out_of_order, StandInOrder, parents_in, first_record, parent_place_in, record_fault}
 use Rattle.coff_aux.proofs.ComdatLemmas.{section_within}
+use Rattle.coff_aux.proofs.RecordLemmas.{record_at, record_count, fault_by_records}
 
 -- ---- one record
 
@@ -84,7 +87,7 @@ none_first : (records : List (Option ComdatRecord)) (fails : ComdatRecord → Bo
 none_first records fails each =
     ap (option_map (λ (k : ℕ). k + 1)) (first_below-all_fail (length records) (λ k. fails_of fails (get_or records k None)) each)
 
-pub no_fault_in_order : (records : List (Option ComdatRecord)) → AreInOrder records → (symbol_records : ℕ) → record_fault symbol_records records ≡ None
+no_fault_in_order : (records : List (Option ComdatRecord)) → AreInOrder records → (symbol_records : ℕ) → record_fault symbol_records records ≡ None
 unfolding parent_place_in record_fault
 no_fault_in_order records are symbol_records =
     let count = length records in
@@ -95,3 +98,10 @@ no_fault_in_order records are symbol_records =
     let missing = none_first records (has_no_parent count) (λ k lt. parent_among k count (get_or records k None) (omega arith) (each k lt).parent) in
     let circle = first_below-all_fail (length parents) (comes_back parents) (chain_ends parents (low_parents records are)) in
     rw (symbol, selection, missing, circle) refl
+
+pub in_order_fault : (bytes : List ℕ) → StandInOrder bytes → first_of (is_bad_weak bytes) (symbol_entries bytes) ≡ None → aux_fault bytes ≡ None
+in_order_fault bytes are weak =
+    fault_by_records bytes weak
+    ∙ no_fault_in_order (all_comdat_records bytes) (λ k lt.
+    let within : k < section_total bytes = omega (arith, record_count bytes, lt) in
+    ap (fails_of (is_out_of_order k)) (record_at bytes k within) ∙ are k within) (record_total bytes)

@@ -39,11 +39,11 @@ below_same zero test other same = refl
 below_same (suc n) test other same =
     rw (below_same n test other (λ k lt. same k (omega arith)), same n (omega arith)) refl
 
-record_at : (bytes : List ℕ) (k : ℕ) → k < section_total bytes → get_or (all_comdat_records bytes) k None ≡ comdat_record_of bytes (k + 1)
+pub record_at : (bytes : List ℕ) (k : ℕ) → k < section_total bytes → get_or (all_comdat_records bytes) k None ≡ comdat_record_of bytes (k + 1)
 record_at bytes k lt =
     get_or-map-range_with_len (comdat_record_of bytes) 1 (section_total bytes) k (k + 1) None lt (omega arith)
 
-record_count : (bytes : List ℕ) → length (all_comdat_records bytes) ≡ section_total bytes
+pub record_count : (bytes : List ℕ) → length (all_comdat_records bytes) ≡ section_total bytes
 record_count bytes = length-map-range_with_len (comdat_record_of bytes) 1 (section_total bytes)
 
 first_by_records : (bytes : List ℕ) (fails : ComdatRecord → Bool) → first_record (all_comdat_records bytes) fails ≡ first_comdat bytes fails

@@ -8,7 +8,6 @@ use Rattle.link_base.specs.PeFormat.{SCN_LNK_COMDAT, SYM_CLASS_EXTERNAL, SYM_CLA
 use Rattle.coff_records.specs.ObjectFile.{section_total, flags_of, SymbolEntry, section_number_in, symbol_name_of, symbol_class_of, aux_total_of, symbol_entries}
 use Rattle.coff_aux.specs.declared.comdat.Comdat.{Comdat}
 use Rattle.coff_aux.specs.declared.comdat.ComdatRecord.{ComdatRecord}
-use Rattle.coff_aux.specs.declared.comdat.SectionSymbols.{SectionSymbols}
 use Rattle.coff_aux.specs.AuxRecords.{COMDAT_SELECT_ASSOCIATIVE, first_aux, said_by, selection_in, associated_in}
 
 -- sections have numbers from 1
@@ -20,7 +19,12 @@ is_section_number count number = nat_le 1 number && nat_le number count
 unfoldable pub stands_in : ℕ → SymbolEntry → Bool
 stands_in section entry = int_eq (section_number_in entry.1) (pos section)
 
--- the records of the first two of some symbols
+-- the records of the first two symbols of a section
+pub record SectionSymbols : Type 0 where
+  pub first : Option ℕ
+  pub second : Option ℕ
+
+-- those of the first two of some symbols
 abbrev pub first_two : List SymbolEntry → SectionSymbols
 first_two [] = record { first = None; second = None }
 first_two (one ∷ []) = record { first = Some one.0; second = None }

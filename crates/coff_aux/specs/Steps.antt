@@ -1,5 +1,5 @@
 -- What the passes over symbols and over sections say of an object. It decides nothing.
-use Rattle.std.specs.Prelude.{◌≡◌, ℕ, zero, suc, ◌+◌, ◌-◌, ℤ, Bool, true, false, ◌||◌, List, [], ◌∷◌, length, map, slice_index_or, slice_set, Option, Some, None, option_map}
+use Rattle.std.specs.Prelude.{◌≡◌, ℕ, zero, suc, ◌+◌, ◌<◌, ℤ, Bool, false, ◌||◌, ◌==◌, if◌then◌else◌, List, [], ◌∷◌, length, map, slice_index_or, slice_set, Option, Some, None, option_map}
 use Rattle.std.specs.Borrow.{Bor}
 use Rattle.std.specs.List.{range_with_len}
 use Rattle.link_base.specs.Bytes.{first_below}
@@ -9,8 +9,8 @@ use Rattle.coff_records.specs.ObjectFile.{section_total, section_of_number, star
 use Rattle.coff_object.specs.ObjectFaults.{least_place, row}
 use Rattle.coff_object.specs.declared.error.ObjError.{ObjError}
 use Rattle.coff_aux.specs.declared.comdat.ComdatRecord.{ComdatRecord}
-use Rattle.coff_aux.specs.declared.comdat.SectionSymbols.{SectionSymbols}
-use Rattle.coff_aux.specs.Comdats.{is_section_number, section_symbols_of, comdat_record_of, parent_in}
+use Rattle.coff_aux.specs.declared.comdat.NotedSymbols.{NotedSymbols}
+use Rattle.coff_aux.specs.Comdats.{SectionSymbols, section_symbols_of, comdat_record_of, parent_in}
 use Rattle.coff_aux.specs.Parents.{comes_back}
 use Rattle.coff_aux.specs.AuxFaults.{fails_of, lacks_symbol, has_no_selection, has_no_parent}
 
@@ -19,6 +19,17 @@ use Rattle.coff_aux.specs.AuxFaults.{fails_of, lacks_symbol, has_no_selection, h
 -- those of all sections, by their numbers from 1
 abbrev pub all_section_symbols : List ℕ → List SectionSymbols
 all_section_symbols bytes = map (section_symbols_of bytes) (range_with_len 1 (section_total bytes))
+
+-- stands where no symbol is noted
+abbrev pub NO_SYMBOL : ℕ
+NO_SYMBOL = 4294967295
+
+-- the symbols that numbers note
+abbrev pub symbol_noted : ℕ → Option ℕ
+symbol_noted number = if number == NO_SYMBOL then None else Some number
+
+abbrev pub symbols_noted : NotedSymbols → SectionSymbols
+symbols_noted noted = record { first = symbol_noted noted.first; second = symbol_noted noted.second }
 
 -- after one more symbol
 abbrev pub no_symbols : SectionSymbols
@@ -61,6 +72,11 @@ first_record records fails =
 -- it lacks a symbol or a selection, or is selected with none of so many sections before it
 abbrev pub is_out_of_order : ℕ → ComdatRecord → Bool
 is_out_of_order before said = lacks_symbol said || (has_no_selection said || has_no_parent before said)
+
+-- none of an object's sections is
+abbrev pub StandInOrder : List ℕ → Type 0
+StandInOrder bytes =
+    (k : ℕ) → k < section_total bytes → fails_of (is_out_of_order k) (comdat_record_of bytes (k + 1)) ≡ false
 
 -- what the code answers of what a section says is what a test says of it
 abbrev pub DecidesRecords : (Bor ComdatRecord → Bool → Type 0) → (ComdatRecord → Bool) → Type 0

@@ -11,11 +11,14 @@ pub struct Comdat<'a> {
     pub parent: Option<u32>,
 }
 
-/// The records of the first two symbols of a section.
+/// Stands where no symbol is noted. None has it as its index.
+pub const NO_SYMBOL: u32 = u32::MAX;
+
+/// The records of the first two symbols of a section, `NO_SYMBOL` where there is none.
 #[derive(Clone, Copy)]
-pub struct SectionSymbols {
-    pub first: Option<u32>,
-    pub second: Option<u32>,
+pub struct NotedSymbols {
+    pub first: u32,
+    pub second: u32,
 }
 
 /// What the section symbol of a COMDAT section says.

@@ -1,30 +1,31 @@
 //! What COMDAT sections say of themselves, read by one pass over the symbols of an object.
 
-ghost use Rattle.std.specs.Prelude.{◌≡◌, ◌<◌, ◌≤◌, ◌^◌, true, length, IfSome, IfOk};
+ghost use Rattle.std.specs.Prelude.{◌≡◌, ◌<◌, ◌≤◌, ◌^◌, true, length, map, IfSome, IfOk};
 ghost use Rattle.link_base.specs.Bytes.{has_flag};
 ghost use Rattle.link_base.specs.PeFormat.{SCN_LNK_COMDAT};
-ghost use Rattle.coff_records.specs.ObjectFile.{section_total, starts_symbol};
+ghost use Rattle.coff_records.specs.ObjectFile.{section_total, record_total, starts_symbol};
 ghost use Rattle.coff_aux.specs.Comdats.{section_symbols_of, said_by_symbol, said_by_first, comdat_record_of, is_associative, is_section_number, parent_in, parent_said};
-ghost use Rattle.coff_aux.specs.Steps.{all_section_symbols, all_comdat_records, parents_in, with_symbol, noted_symbols};
+ghost use Rattle.coff_aux.specs.Steps.{NO_SYMBOL, symbol_noted, symbols_noted, all_section_symbols, all_comdat_records, parents_in, with_symbol, noted_symbols};
 
 use crate::aux_records::{COMDAT_SELECT_ASSOCIATIVE, associated_in, first_aux, selection_in};
-use crate::comdat::{ComdatRecord, SectionSymbols};
+use crate::comdat::{ComdatRecord, NO_SYMBOL, NotedSymbols};
 use coff_object::Object;
 use link_base::Memory;
 use link_base::pe_format::{SCN_LNK_COMDAT, SYM_CLASS_STATIC, SYM_UNDEFINED};
 use std::alloc::Global;
 
 /// Of a section without symbols.
-const NO_SYMBOLS: SectionSymbols = SectionSymbols {
-    first: None,
-    second: None,
+const NO_SYMBOLS: NotedSymbols = NotedSymbols {
+    first: NO_SYMBOL,
+    second: NO_SYMBOL,
 };
 
 // ---- the symbols of a section
 
 /// The first two symbols of each section.
-pub fn section_symbols(alloc: Global, object: &Object<'_>) -> Result<Vec<SectionSymbols>, Memory>
-    ensures { IfOk result (λ symbols. symbols.items ≡ all_section_symbols object.now) }
+pub fn section_symbols(alloc: Global, object: &Object<'_>) -> Result<Vec<NotedSymbols>, Memory>
+    requires { record_total object.now < 2 ^ 32 }
+    ensures { IfOk result (λ symbols. map symbols_noted symbols.items ≡ all_section_symbols object.now) }
 {
     let mut symbols = vec![in alloc; NO_SYMBOLS; object.section_count() as usize]?;
     for (index, symbol) in object.symbols() {
@@ -35,36 +36,33 @@ pub fn section_symbols(alloc: Global, object: &Object<'_>) -> Result<Vec<Section
 
 /// Notes a symbol of a section, where the number is that of one.
 #[tactic(auto, unfolding(crate::specs::Steps::noted_symbols))]
-fn note_symbol(symbols: &mut Vec<SectionSymbols>, section: i32, index: u32)
-    ensures { symbols.new.items ≡ noted_symbols symbols.old.items section index }
+fn note_symbol(symbols: &mut Vec<NotedSymbols>, section: i32, index: u32)
+    requires { index < NO_SYMBOL }
+    ensures { map symbols_noted symbols.new.items ≡ noted_symbols (map symbols_noted symbols.old.items) section index }
 {
     if section <= SYM_UNDEFINED {
         return;
     }
     let place = section as usize - 1;
     if place < symbols.len() {
-        symbols[place] = with_symbol(symbols[place], index);
+        note_one(&mut symbols[place], index);
     }
 }
 
-/// The first two symbols of a section, after one more.
+/// Notes one more symbol of a section, where it is one of the first two.
 #[tactic(auto, unfolding(crate::specs::Steps::with_symbol))]
-fn with_symbol(noted: SectionSymbols, index: u32) -> SectionSymbols
-    ensures { result ≡ with_symbol noted index }
+fn note_one(noted: &mut NotedSymbols, index: u32)
+    requires { index < NO_SYMBOL }
+    ensures { symbols_noted noted.new ≡ with_symbol (symbols_noted noted.old) index }
 {
-    if noted.first.is_none() {
-        return SectionSymbols {
-            first: Some(index),
-            second: None,
+    if noted.first == NO_SYMBOL {
+        *noted = NotedSymbols {
+            first: index,
+            second: NO_SYMBOL,
         };
+    } else if noted.second == NO_SYMBOL {
+        noted.second = index;
     }
-    if noted.second.is_none() {
-        return SectionSymbols {
-            first: noted.first,
-            second: Some(index),
-        };
-    }
-    noted
 }
 
 // ---- what they say
@@ -77,12 +75,12 @@ pub fn is_comdat(flags: u32) -> bool
 }
 
 /// What each COMDAT section says of itself, by the sections' numbers from 1.
-pub fn comdat_records(
+pub(crate) fn comdat_records(
     alloc: Global,
     object: &Object<'_>,
-    symbols: &[SectionSymbols],
+    symbols: &[NotedSymbols],
 ) -> Result<Vec<Option<ComdatRecord>>, Memory>
-    requires { symbols.now ≡ all_section_symbols object.now }
+    requires { map symbols_noted symbols.now ≡ all_section_symbols object.now }
     ensures { IfOk result (λ records. records.items ≡ all_comdat_records object.now) }
 {
     let mut records = Vec::new(alloc);
@@ -96,10 +94,10 @@ pub fn comdat_records(
 
 /// What a section with this section symbol says of itself, where it is a COMDAT.
 #[tactic(auto, unfolding(crate::specs::Comdats::comdat_record_of))]
-fn comdat_record(object: &Object<'_>, number: u32, first: Option<u32>) -> Option<ComdatRecord>
+pub fn comdat_record(object: &Object<'_>, number: u32, first: u32) -> Option<ComdatRecord>
     requires low { 1 ≤ number }
     requires high { number ≤ section_total object.now }
-    requires symbol { first ≡ (section_symbols_of object.now number).first }
+    requires symbol { symbol_noted first ≡ (section_symbols_of object.now number).first }
     ensures { result ≡ comdat_record_of object.now number }
 {
     if is_comdat(object.section_flags(number)) {
@@ -110,17 +108,18 @@ fn comdat_record(object: &Object<'_>, number: u32, first: Option<u32>) -> Option
 }
 
 /// What the section symbol of a section says of it: nothing, where there is none.
-fn said_by_first(object: &Object<'_>, first: Option<u32>) -> ComdatRecord
-    requires { IfSome first (λ symbol. starts_symbol object.now symbol ≡ true) }
-    ensures { result ≡ said_by_first object.now first }
+fn said_by_first(object: &Object<'_>, first: u32) -> ComdatRecord
+    requires { IfSome (symbol_noted first) (λ symbol. starts_symbol object.now symbol ≡ true) }
+    ensures { result ≡ said_by_first object.now (symbol_noted first) }
 {
-    match first {
-        Some(symbol) => said_by_symbol(object, symbol),
-        None => ComdatRecord {
+    if first == NO_SYMBOL {
+        ComdatRecord {
             has_symbol: false,
             selection: 0,
             associated: 0,
-        },
+        }
+    } else {
+        said_by_symbol(object, first)
     }
 }
 

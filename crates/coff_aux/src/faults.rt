@@ -1,21 +1,36 @@
 //! What is wrong with COMDAT sections, by what they say of themselves.
 
-ghost use Rattle.std.specs.Prelude.{◌≡◌, ◌<◌, ◌≤◌, ◌+◌, ◌-◌, ◌^◌, ℕ, Bool, true, None, length, IfSome, IfOk};
+ghost use Rattle.std.specs.Prelude.{◌≡◌, ◌<◌, ◌≤◌, ◌+◌, ◌-◌, ◌^◌, Bool, length, map, IfSome, IfOk};
+ghost use Rattle.coff_records.specs.ObjectFile.{section_total, record_total};
 ghost use Rattle.coff_object.specs.ObjectFaults.{least_place};
 ghost use Rattle.coff_aux.specs.AuxFaults.{lacks_symbol, has_no_selection, has_no_parent};
-ghost use Rattle.coff_aux.specs.Steps.{is_out_of_order, first_record, parent_place_in, record_fault, DecidesRecords};
+ghost use Rattle.coff_aux.specs.Steps.{symbols_noted, all_section_symbols, all_comdat_records, is_out_of_order, first_record, parent_place_in, record_fault, DecidesRecords};
 
 use crate::aux_records::{COMDAT_SELECT_LARGEST, COMDAT_SELECT_NODUPLICATES};
-use crate::comdat::ComdatRecord;
-use crate::comdats::{is_associative, is_section_number, parents_of};
+use crate::comdat::{ComdatRecord, NotedSymbols};
+use crate::comdats::{comdat_records, is_associative, is_section_number, parents_of};
 use crate::parents::first_circle;
-use coff_object::ObjError;
+use coff_object::{ObjError, Object};
 use link_base::{Memory, ObjFault};
 use std::alloc::Global;
 
+/// What is wrong with the COMDAT sections of an object with these symbols of its sections.
+pub fn comdat_fault(
+    alloc: Global,
+    object: &Object<'_>,
+    symbols: &[NotedSymbols],
+) -> Result<Option<ObjError>, Memory>
+    requires noted { map symbols_noted symbols.now ≡ all_section_symbols object.now }
+    requires few { record_total object.now + section_total object.now < 2 ^ 32 - 1 }
+    ensures { IfOk result (λ fault. fault ≡ record_fault (record_total object.now) (all_comdat_records object.now)) }
+{
+    let records = comdat_records(alloc, object, symbols)?;
+    record_fault(alloc, object.record_count(), &records)
+}
+
 /// What is wrong with the COMDAT sections of an object with so many symbol records.
 #[tactic(auto, unfolding(crate::specs::Steps::record_fault))]
-pub fn record_fault(
+fn record_fault(
     alloc: Global,
     symbol_records: u32,
     records: &[Option<ComdatRecord>],
@@ -23,9 +38,6 @@ pub fn record_fault(
     requires { symbol_records + length records.now < 2 ^ 32 - 1 }
     ensures { IfOk result (λ fault. fault ≡ record_fault symbol_records records.now) }
 {
-    if are_in_order(records) {
-        return Ok(None);
-    }
     if let Some(section) = first_record(records, |said| lacks_symbol(said)) {
         return Ok(Some(ObjError {
             kind: ObjFault::Aux,
@@ -47,24 +59,9 @@ pub fn record_fault(
     }
 }
 
-/// Whether each COMDAT section has a symbol and a selection, and each parent stands before its children: then no chain of
-/// parents comes back, and nothing is wrong. Nearly all objects are so, and one walk tells it.
-fn are_in_order(records: &[Option<ComdatRecord>]) -> bool
-    requires { length records.now < 2 ^ 32 - 1 }
-    ensures { result ≡ true → (symbol_records : ℕ) → record_fault symbol_records records.now ≡ None }
-{
-    for index in 0..records.len() as u32 {
-        if let Some(said) = &records[index as usize] {
-            if is_out_of_order(index, said) {
-                return false;
-            }
-        }
-    }
-    true
-}
-
-/// Whether it lacks a symbol or a selection, or is selected with none of so many sections before it.
-fn is_out_of_order(before: u32, said: &ComdatRecord) -> bool
+/// Whether it lacks a symbol or a selection, or is selected with none of so many sections before it. Where no section of an
+/// object does, as of nearly all objects, no chain of parents comes back, and nothing is wrong.
+pub fn is_out_of_order(before: u32, said: &ComdatRecord) -> bool
     ensures { result ≡ is_out_of_order before said.now }
 {
     lacks_symbol(said) || has_no_selection(said) || has_no_parent(before, said)

@@ -15,9 +15,9 @@ mod starts;
 mod weaks;
 
 pub use aux_records::{characteristics_in, first_aux, tag_in};
-pub use comdat::{Comdat, ComdatRecord, SectionSymbols};
-pub use comdats::{comdat_records, is_comdat, is_section_number, parent_said, section_symbols};
-pub use faults::record_fault;
+pub use comdat::{Comdat, ComdatRecord, NO_SYMBOL, NotedSymbols};
+pub use comdats::{comdat_record, is_comdat, is_section_number, parent_said, section_symbols};
+pub use faults::{comdat_fault, is_out_of_order};
 pub use laws::circles_come_twice;
 pub use starts::{is_start, symbol_starts};
 pub use weaks::first_bad_weak;

@@ -1,9 +1,11 @@
 //! An object file, as a view of its bytes.
 
-ghost use Rattle.std.specs.Prelude.{◌≡◌, ◌<◌, ◌≤◌, ◌^◌, length, take, IfSome, IfOk, OnOk, IfErr, is_ok, is_none, true, None, Some};
+ghost use Rattle.std.specs.Prelude.{◌≡◌, ◌<◌, ◌≤◌, ◌^◌, length, take, IfOk, OnOk, IfErr, is_ok, is_none, true, false, None, Some};
+ghost use Rattle.std.specs.List.{before_first};
 ghost use Rattle.std.specs.Option.{option_copied};
+ghost use Rattle.link_base.specs.Bytes.{is_nul};
 ghost use Rattle.coff_records.specs.SectionHeader.{names_an_offset};
-ghost use Rattle.coff_records.specs.ObjectFile.{section_total, section_name_of, name_offset_of, raw_size_of, flags_of, alignment_of, body_of, relocation_total, relocation_of, relocations_of, record_total, symbol_size, string_table, starts_symbol, symbol_at, symbol_name_of, symbol_value_of, symbol_section_of, symbol_kind_of, symbol_class_of, aux_total_of, aux_record, symbol_entries};
+ghost use Rattle.coff_records.specs.ObjectFile.{section_total, section_name_of, name_field_of, name_offset_of, raw_size_of, flags_of, alignment_of, body_of, relocation_total, relocation_of, relocations_of, record_total, symbol_size, string_table, starts_symbol, symbol_at, symbol_name_of, symbol_value_of, symbol_section_of, symbol_kind_of, symbol_class_of, aux_total_of, aux_record, symbol_entries};
 ghost use Rattle.coff_object.specs.ObjectFaults.{object_fault};
 
 use crate::error::ObjError;
@@ -126,21 +128,16 @@ impl<'a> Object<'a> {
         section_name_start(self.strings, &header, limit)
     }
 
-    /// The name of a section, where it stands in its header: one that begins with a slash there is in the string table.
-    #[tactic(auto, unfolding(coff_records::specs::SectionHeader::section_name_in))]
-    pub fn section_short_name(&self, i: u32) -> Option<&'a [u8]>
+    /// The name field of a section. Where it does not begin with a slash, the name stands in it, before its first NUL.
+    #[tactic(auto, using(coff_records::proofs::CallerLemmas::name_in_field))]
+    pub fn section_name_field(&self, i: u32) -> &'a [u8]
         requires first { 1 ≤ i }
         requires last { i ≤ section_total self.now }
-        ensures name { IfSome result (λ name. name.now ≡ section_name_of self.now i) }
-        ensures short { IfSome result (λ name. length name.now ≤ 8) }
+        ensures field { result.now ≡ name_field_of self.now i }
+        ensures len { length result.now ≡ 8 }
+        ensures name { names_an_offset result.now ≡ false → section_name_of self.now i ≡ before_first is_nul result.now }
     {
-        let header = self.file.section_header(i);
-        let text = header.short_name();
-        if names_an_offset(text) {
-            None
-        } else {
-            Some(text)
-        }
+        self.file.section_header(i).name_field()
     }
 
     /// The offset in the string table that a section's name field refers to, where it does. The name is not looked at.
@@ -238,11 +235,4 @@ impl<'a> Object<'a> {
     {
         self.strings
     }
-}
-
-/// Whether the text of a section's name field refers to the string table.
-fn names_an_offset(text: &[u8]) -> bool
-    ensures { result ≡ names_an_offset text.now }
-{
-    !text.is_empty() && text[0] == b'/'
 }

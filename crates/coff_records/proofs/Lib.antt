@@ -5,4 +5,5 @@ pub mod WholeLemmas
 pub mod SymbolsLemmas
 pub mod PlaceLemmas
 pub mod RelocationLemmas
+pub mod NameFieldLemmas
 pub mod CallerLemmas

@@ -7,7 +7,7 @@ use Rattle.link_base.specs.PeFormat.{SIZEOF_SECTION_HEADER, SIZEOF_RELOCATION}
 use Rattle.coff_records.specs.declared.relocation.Relocation.{Relocation}
 pub use Rattle.coff_records.specs.ObjectHeader.{is_big_object, machine_of, section_total, section_headers_offset, symbols_offset, record_total, symbol_size}
 pub use Rattle.coff_records.specs.StringTable.{string_table, text_in, is_long_text}
-pub use Rattle.coff_records.specs.SectionHeader.{size_in, data_offset_in, flags_in, short_name_in, name_offset, section_name_in, alignment_value, alignment_of, is_uninitialised_in}
+pub use Rattle.coff_records.specs.SectionHeader.{size_in, data_offset_in, flags_in, name_field_in, short_name_in, name_offset, section_name_in, alignment_value, alignment_of, is_uninitialised_in}
 pub use Rattle.coff_records.specs.Relocations.{relocations_place, relocation_count_in, relocation_at, relocations_from}
 pub use Rattle.coff_records.specs.SymbolRecord.{SymbolView, long_name_offset_in, name_in, value_in, section_number_in, section_of_number, kind_in, class_in, aux_count_in}
 
@@ -20,6 +20,9 @@ section_at file section =
 
 abbrev pub section_name_of : List ℕ → ℕ → List ℕ
 section_name_of file section = section_name_in (string_table file) (section_at file section)
+
+abbrev pub name_field_of : List ℕ → ℕ → List ℕ
+name_field_of file section = name_field_in (section_at file section)
 
 -- the offset in the string table that its name field refers to, where it does
 abbrev pub name_offset_of : List ℕ → ℕ → Option ℕ

@@ -26,9 +26,13 @@ flags_in header = u32_at header SECTION_CHARACTERISTICS
 
 -- ---- its name
 
+-- its name field
+abbrev pub name_field_in : List ℕ → List ℕ
+name_field_in header = bytes_at header 0 SIZEOF_SHORT_NAME
+
 -- the text of a name field: it ends at its first NUL
 unfoldable pub short_name_in : List ℕ → List ℕ
-short_name_in header = before_first is_nul (bytes_at header 0 SIZEOF_SHORT_NAME)
+short_name_in header = before_first is_nul (name_field_in header)
 
 -- a section's name that begins with a slash stands in the string table, at the decimal number after it
 abbrev pub names_an_offset : List ℕ → Bool

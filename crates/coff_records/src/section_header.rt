@@ -1,7 +1,7 @@
 //! Section headers (PE Format, "Section Table (Section Headers)").
 
 ghost use Rattle.std.specs.Prelude.{◌≡◌, ◌≤◌, length};
-ghost use Rattle.coff_records.specs.SectionHeader.{size_in, data_offset_in, relocations_offset_in, relocation_field_in, flags_in, short_name_in, is_uninitialised_in, has_overflow_count_in};
+ghost use Rattle.coff_records.specs.SectionHeader.{size_in, data_offset_in, relocations_offset_in, relocation_field_in, flags_in, name_field_in, short_name_in, is_uninitialised_in, has_overflow_count_in};
 
 use crate::offsets::{
     SECTION_CHARACTERISTICS, SECTION_NUMBER_OF_RELOCATIONS, SECTION_POINTER_TO_RAW_DATA,
@@ -74,13 +74,21 @@ impl<'a> SectionHeader<'a> {
         u32_in(self.bytes, SECTION_CHARACTERISTICS)
     }
 
+    /// The name field, with the NULs that fill it up.
+    pub fn name_field(&self) -> &'a [u8]
+        ensures field { result.now ≡ name_field_in self.now }
+        ensures len { length result.now ≡ SIZEOF_SHORT_NAME }
+    {
+        slice_in(self.bytes, 0, SIZEOF_SHORT_NAME)
+    }
+
     /// The text of the name field, up to its first NUL.
     #[tactic(auto, unfolding(crate::specs::SectionHeader::short_name_in))]
     pub fn short_name(&self) -> &'a [u8]
         ensures text { result.now ≡ short_name_in self.now }
         ensures short { length result.now ≤ SIZEOF_SHORT_NAME }
     {
-        before_nul(slice_in(self.bytes, 0, SIZEOF_SHORT_NAME))
+        before_nul(self.name_field())
     }
 
     /// Whether the section has no data in the file.

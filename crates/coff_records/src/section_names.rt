@@ -25,7 +25,7 @@ pub fn section_name<'a>(strings: &'a [u8], header: &SectionHeader<'a>) -> Name<'
 }
 
 /// The first bytes of a section's name, at most `limit`.
-#[tactic(auto, unfolding(crate::specs::SectionHeader::section_name_in, crate::specs::SectionHeader::lacks_section_name))]
+#[tactic(auto, using(crate::proofs::NameFieldLemmas::field_tells), unfolding(crate::specs::SectionHeader::section_name_in, crate::specs::SectionHeader::lacks_section_name))]
 pub fn section_name_start<'a>(
     strings: &'a [u8],
     header: &SectionHeader<'a>,
@@ -34,27 +34,25 @@ pub fn section_name_start<'a>(
     requires { lacks_section_name strings.now header.now ≡ false }
     ensures { result ≡ take limit (section_name_in strings.now header.now) }
 {
-    let text = header.short_name();
-    if names_an_offset(text) {
-        Name::of(long_name_start(strings, text, limit))
+    if names_an_offset(header.name_field()) {
+        Name::of(long_name_start(strings, header.short_name(), limit))
     } else {
-        Name::of(first_bytes(text, limit))
+        Name::of(first_bytes(header.short_name(), limit))
     }
 }
 
 /// Whether a section's name refers to a text that is not in the string table.
-#[tactic(auto, unfolding(crate::specs::SectionHeader::lacks_section_name))]
+#[tactic(auto, using(crate::proofs::NameFieldLemmas::field_tells), unfolding(crate::specs::SectionHeader::lacks_section_name))]
 pub fn lacks_section_name(strings: &[u8], header: &SectionHeader<'_>, texts_end: usize) -> bool
     requires { EndsTexts strings.now texts_end }
     ensures { result ≡ lacks_section_name strings.now header.now }
 {
-    let text = header.short_name();
-    names_an_offset(text) && !has_long_name(strings, text, texts_end)
+    names_an_offset(header.name_field()) && !has_long_name(strings, header.short_name(), texts_end)
 }
 
 // ---- the text of a name field
 
-/// Whether the text of a section's name field refers to the string table.
+/// Whether a section's name field, or its text, refers to the string table: the first byte tells.
 fn names_an_offset(text: &[u8]) -> bool
     ensures { result ≡ names_an_offset text.now }
 {

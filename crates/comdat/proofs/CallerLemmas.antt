@@ -1,16 +1,15 @@
 -- What callers may cite: conflicts are closed, and where a chain ends.
-use Rattle.std.proofs.Common.{◌≡◌, ◌≤◌, ℕ, zero, suc, Bool, true, false, not, ◌&&◌, Option, None, Some, List, [], ◌∷◌, ◌++◌, get_or, refl, sym, ap, ◌∙◌, arith}
+use Rattle.std.proofs.Common.{◌≡◌, ◌≤◌, ℕ, Bool, true, false, not, ◌&&◌, Option, None, Some, List, [], ◌∷◌, ◌++◌, refl, sym, ap, ◌∙◌, arith}
 use Rattle.std.specs.Prelude.{is_none}
 use Rattle.std.specs.Option.{option_and_then}
-use Rattle.std.proofs.lemmas.List.FromFn.{get_or-map-range_with_len}
 use Rattle.coff_records.specs.ObjectFile.{section_total}
 use Rattle.coff_aux.specs.declared.comdat.Comdat.{Comdat}
 use Rattle.coff_aux.specs.Comdats.{comdat_of, parents_of}
 use Rattle.comdat.specs.Chains.{chain_end}
-use Rattle.comdat.specs.ChosenBy.{parent_by, by_parent_or_leader, chosen_by_said, chosen_by}
+use Rattle.comdat.specs.ChosenBy.{parent_by, by_parent_or_leader, chosen_by_said}
 use Rattle.comdat.proofs.ChainLemmas.{end_here}
 use Rattle.comdat.proofs.OpenedLemmas.{parent_count}
-use Rattle.comdat.proofs.RowEndLemmas.{parents_by}
+use Rattle.comdat.proofs.RowEndLemmas.{parent_is}
 use Rattle.std.specs.List.{list_all}
 use Rattle.std.proofs.lemmas.Bool.{not-true, false≢true}
 use Rattle.std.proofs.lemmas.List.Folds.{list_all-append}
@@ -40,10 +39,6 @@ own_parent count (Some said) own = go said.parent said.leader own
 
 -- a section without a parent is the end of its chain
 pub own_end : (bytes : List ℕ) (section : ℕ) → 1 ≤ section → section ≤ section_total bytes → is_none (option_and_then (λ comdat. comdat.parent) (comdat_of bytes section)) ≡ true → chain_end (parents_of bytes) section ≡ section
-own_end bytes zero first last own = absurd (omega arith)
-own_end bytes (suc k) first last own =
-    let parent = λ (n : ℕ). parent_by (section_total bytes) (chosen_by bytes n) in
-    end_here (parents_of bytes) (suc k) (omega (arith, last, parent_count bytes))
-    (ap (λ (parents : List ℕ). get_or parents (suc k) 0) (sym (parents_by bytes))
-    ∙ get_or-map-range_with_len parent 1 (section_total bytes) k (suc k) 0 (omega arith) (omega arith)
-    ∙ own_parent (section_total bytes) (comdat_of bytes (suc k)) own)
+own_end bytes section first last own =
+    end_here (parents_of bytes) section (omega (arith, last, parent_count bytes))
+    (parent_is bytes section first (omega (arith, last)) ∙ own_parent (section_total bytes) (comdat_of bytes section) own)

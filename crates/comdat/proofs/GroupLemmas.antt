@@ -80,7 +80,7 @@ winners_more entries firsts done winners more list winner are is chosen agreed p
 
 -- ---- conflicts
 
-none_below : {A : Type 0} (n : ℕ) (f : ℕ → Option A) → ((k : ℕ) → k < n → f k ≡ None) → first_refusal_below n f ≡ None
+pub none_below : {A : Type 0} (n : ℕ) (f : ℕ → Option A) → ((k : ℕ) → k < n → f k ≡ None) → first_refusal_below n f ≡ None
 unfolding first_refusal_below
 none_below zero f none = refl
 none_below (suc n) f none = rw (none_below n f (λ k lt. none k (omega arith)), none n (omega arith)) refl

@@ -117,22 +117,23 @@ grouped_new entries count done groups numbers firsts is in_count none few =
       ];
     }
 
+-- what is kept of a section has the number of its name
+pub numbered_at : (keys : List (List ℕ)) (modules : List ModuleView) (entries : List Entry) (k : ℕ) → All (KeepsEntry keys modules) entries → k < length entries → Numbers keys (number_at entries k) (name_at (named_by modules entries) k)
+numbered_at keys modules entries k kept lt =
+    subst (λ (entry : Named). Numbers keys (number_at entries k) entry.name) (sym (named_at modules entries k lt)) (kept k no_entry lt).number
+
 pub to_numbers : (keys : List (List ℕ)) (modules : List ModuleView) (entries : List Entry) (count done : ℕ) (groups numbers firsts : List ℕ) → IsDistinct same_name keys → All (KeepsEntry keys modules) entries → Grouped entries count done groups numbers firsts → done ≡ length entries → AreNumbers (named_by modules entries) numbers firsts
 to_numbers keys modules entries count done groups numbers firsts distinct kept is all = record {
   same_length = is.same_length ∙ all ∙ sym total;
   within = λ k lt. is.within k (omega (arith, all, total));
   alike = λ j k in_j in_k.
       alike j k (omega (arith, all, total)) (omega (arith, all, total))
-      ∙ sym (same_number keys (number_at entries k) (number_at entries j) (name_at (named_by modules entries) k) (name_at (named_by modules entries) j) distinct (numbered k (omega (arith, total))) (numbered j (omega (arith, total))));
+      ∙ sym (same_number keys (number_at entries k) (number_at entries j) (name_at (named_by modules entries) k) (name_at (named_by modules entries) j) distinct (numbered_at keys modules entries k kept (omega (arith, total))) (numbered_at keys modules entries j kept (omega (arith, total))));
   first = is.first;
 }
   where
     total : length (named_by modules entries) ≡ length entries
     total = length-map entries (entry_at modules)
-
-    numbered : (k : ℕ) → k < length entries → Numbers keys (number_at entries k) (name_at (named_by modules entries) k)
-    numbered k lt =
-        subst (λ (entry : Named). Numbers keys (number_at entries k) entry.name) (sym (named_at modules entries k lt)) (kept k no_entry lt).number
 
     -- the first section of the group of a section has the number of its name
     of_first : (k : ℕ) → k < done → number_at entries (get_or firsts (get_or numbers k 0) 0) ≡ number_at entries k

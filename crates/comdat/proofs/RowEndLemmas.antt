@@ -1,11 +1,10 @@
--- The row of a module, by what its sections are chosen: one without COMDAT sections, one without parents, and any other.
-use Rattle.std.proofs.Common.{◌≡◌, ℕ, zero, suc, ◌+◌, ◌-◌, ◌<◌, ◌≤◌, Bool, true, false, cond, not, eqb, ◌&&◌, ◌||◌, List, [], ◌∷◌, ◌++◌, length, get_or, filter, map, Option, None, Some, refl, sym, ap, ◌∙◌, inl, inr, arith}
+-- The row of a module, by what its sections are chosen, and of one without COMDAT sections.
+use Rattle.std.proofs.Common.{◌≡◌, ℕ, zero, suc, ◌+◌, ◌-◌, ◌<◌, ◌≤◌, Bool, true, false, cond, not, eqb, ◌&&◌, List, [], ◌∷◌, ◌++◌, length, get_or, filter, map, Option, None, Some, refl, sym, ap, ◌∙◌, inl, inr, arith}
 use Rattle.std.specs.Prelude.{replicate, is_some, nat_le}
-use Rattle.std.specs.List.{range_with_len, list_any}
+use Rattle.std.specs.List.{range_with_len}
 use Rattle.std.proofs.lemmas.Bool.{false≢true, ne_eqb, cases_Bool, le-leb, and_from}
 use Rattle.std.proofs.lemmas.List.{append-nil, ext_get_or, get_or-map, length-map}
 use Rattle.std.proofs.lemmas.List.FromFn.{length-map-range_with_len, get_or-map-range_with_len}
-use Rattle.std.proofs.lemmas.List.Folds.{list_any_at}
 use Rattle.std.proofs.lemmas.Simd.{map-map}
 use Rattle.coff_records.specs.ObjectFile.{section_total}
 use Rattle.coff_aux.specs.declared.comdat.Comdat.{Comdat}
@@ -19,7 +18,7 @@ use Rattle.module_view.proofs.SectionLemmas.{some_section}
 use Rattle.comdat.specs.declared.chosen_by.ChosenBy.{ChosenBy}
 use Rattle.comdat.specs.declared.chosen_by.ChosenBy.TheVariants as by
 use Rattle.comdat.specs.Groups.{Named}
-use Rattle.comdat.specs.ChosenBy.{is_group, is_child, parent_by, by_parent_or_leader, chosen_by_said, chosen_by, by_choice, by_choices}
+use Rattle.comdat.specs.ChosenBy.{is_group, parent_by, by_parent_or_leader, chosen_by_said, chosen_by, by_choice, by_choices}
 use Rattle.comdat.specs.Chains.{chain_end}
 use Rattle.comdat.specs.Selection.{goes_by_name, group_name_of, is_free, sections_of, named_sections, entry_in, entries_of, own_flag}
 use Rattle.comdat.proofs.ChainLemmas.{end_here}
@@ -79,7 +78,7 @@ parent_same bytes section within =
     go leader None = refl
     go leader (Some said) = by_parent (section_total bytes) said.associated (is_associative said) leader
 
-is_number : (count section : ℕ) → 1 ≤ section → section < 1 + count → is_section_number count section ≡ true
+pub is_number : (count section : ℕ) → 1 ≤ section → section < 1 + count → is_section_number count section ≡ true
 is_number count section low high =
     and_from (nat_le 1 section) (nat_le section count) (le-leb 1 section low) (le-leb section count (omega arith))
 
@@ -103,24 +102,14 @@ pub parents_of_choices : (bytes : List ℕ) (choices : List (Option ComdatChoice
 parents_of_choices bytes choices is =
     ap (λ (n : ℕ). 0 ∷ map (parent_by n) (by_choices choices)) (sym (length-map choices by_choice)) ∙ parents_listed bytes (by_choices choices) is
 
-childless : (count : ℕ) (said : ChosenBy) → is_child said ≡ false → parent_by count said ≡ 0
-childless count by.Itself none = refl
-childless count by.Group none = refl
-childless count (by.Parent parent) none = absurd (false≢true (sym none))
+-- the parent of a section, by what it is chosen
+pub parent_is : (bytes : List ℕ) (section : ℕ) → 1 ≤ section → section < 1 + section_total bytes → parent_at (parents_of bytes) section ≡ parent_by (section_total bytes) (chosen_by bytes section)
+parent_is bytes zero low high = absurd (omega arith)
+parent_is bytes (suc k) low high =
+    ap (λ (parents : List ℕ). get_or parents (suc k) 0) (sym (parents_by bytes))
+    ∙ get_or-map-range_with_len (λ section. parent_by (section_total bytes) (chosen_by bytes section)) 1 (section_total bytes) k (suc k) 0 (omega arith) (omega arith)
 
--- where none is chosen with a parent, no section has one
-pub no_parents : (bytes : List ℕ) (row : List ChosenBy) → row ≡ map (chosen_by bytes) (sections_of bytes) → list_any is_child row ≡ false → (section : ℕ) → 1 ≤ section → section < 1 + section_total bytes → parent_at (parents_of bytes) section ≡ 0
-no_parents bytes row is none zero low high = absurd (omega arith)
-no_parents bytes row is none (suc k) low high =
-    let within : k < length row = omega (arith, high, list_length bytes row is) in
-    ap (λ (parents : List ℕ). get_or parents (suc k) 0) (sym (parents_listed bytes row is))
-    ∙ get_or-map (parent_by (length row)) row k by.Itself 0 within
-    ∙ childless (length row) (get_or row k by.Itself) (elim (cases_Bool (is_child (get_or row k by.Itself))) [
-      | inl holds ↦ absurd (false≢true (sym none ∙ list_any_at is_child row k by.Itself within holds))
-      | inr fails ↦ fails
-    ])
-
--- and each section is the end of its chain
+-- where none has a parent, each section is the end of its chain
 pub ends_here : (bytes : List ℕ) (flag : ℕ → Bool) → ((section : ℕ) → 1 ≤ section → section < 1 + section_total bytes → parent_at (parents_of bytes) section ≡ 0) → map (λ section. flag (chain_end (parents_of bytes) section)) (sections_of bytes) ≡ map flag (sections_of bytes)
 ends_here bytes flag none =
     range_alike (λ section. flag (chain_end (parents_of bytes) section)) flag 1 (section_total bytes) (λ k low high. ap flag (end_here (parents_of bytes) k (omega (arith, high, parent_count bytes)) (none k low high)))
@@ -159,21 +148,13 @@ all_true : (flag : ℕ → Bool) (a n : ℕ) → ((k : ℕ) → a ≤ k → k < 
 all_true flag a zero holds = refl
 all_true flag a (suc n) holds = λ i. sym (holds a (omega arith) (omega arith)) i ∷ all_true flag (a + 1) n (λ k low high. holds k (omega arith) (omega arith)) i
 
-no_child : (test : ChosenBy → Bool) (said : ℕ → ChosenBy) (a n : ℕ) → ((k : ℕ) → a ≤ k → k < a + n → test (said k) ≡ false) → list_any test (map said (range_with_len a n)) ≡ false
-no_child test said a zero fails = refl
-no_child test said a (suc n) fails =
-    let first = fails a (omega arith) (omega arith) in
-    let rest = no_child test said (a + 1) n (λ k low high. fails k (omega arith) (omega arith)) in
-    λ i. first i || rest i
-
 -- all of its sections are chosen, and none goes by a name
 pub all_chosen : (bytes : List ℕ) (count : ℕ) (flags selected : List Bool) (chosen : ℕ → Bool) (later : List Bool) → has_comdat bytes ≡ false → count ≡ section_total bytes → flags ≡ replicate count true → selected ≡ map chosen (named_sections bytes) ++ later → (flags ≡ map (λ section. own_flag chosen bytes (chain_end (parents_of bytes) section)) (sections_of bytes)) × (selected ≡ later)
 all_chosen bytes count flags selected chosen later none total are told =
-    let total_is = section_total bytes in
-    let childless_all = no_child is_child (chosen_by bytes) 1 total_is (λ k low high. ap (λ (said : Option Comdat). is_child (chosen_by_said said)) (none_is bytes k none low high)) in (
+    let total_is = section_total bytes in (
       are ∙ ap (λ (n : ℕ). replicate n true) total
           ∙ all_true (own_flag chosen bytes) 1 total_is (λ k low high.
           ap (λ (said : Option Comdat). cond (is_some (group_name_of said)) (chosen k) (is_free said)) (none_is bytes k none low high))
-          ∙ sym (ends_here bytes (own_flag chosen bytes) (no_parents bytes (map (chosen_by bytes) (sections_of bytes)) refl childless_all)),
+          ∙ sym (ends_here bytes (own_flag chosen bytes) (λ k low high. parent_is bytes k low high ∙ ap (λ (said : Option Comdat). parent_by total_is (chosen_by_said said)) (none_is bytes k none low high))),
       told ∙ ap (λ (sections : List ℕ). map chosen sections ++ later) (none_named bytes none),
     )

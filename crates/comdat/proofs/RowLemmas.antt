@@ -68,7 +68,7 @@ pub left_all : (bytes : List ℕ) → left bytes (section_total bytes) 0 ≡ nam
 unfolding left
 left_all bytes = ap (λ (n : ℕ). filter (goes_by_name bytes) (range_with_len 1 n)) (omega arith)
 
-left_next : (bytes : List ℕ) (total done : ℕ) (b : Bool) → done < total → goes_by_name bytes (done + 1) ≡ b → left bytes total done ≡ cond b ((done + 1) ∷ left bytes total (done + 1)) (left bytes total (done + 1))
+pub left_next : (bytes : List ℕ) (total done : ℕ) (b : Bool) → done < total → goes_by_name bytes (done + 1) ≡ b → left bytes total done ≡ cond b ((done + 1) ∷ left bytes total (done + 1)) (left bytes total (done + 1))
 unfolding left
 left_next bytes total done b lt goes =
     ap (λ (n : ℕ). filter (goes_by_name bytes) (range_with_len (done + 1) n)) (one_less total done lt)
@@ -77,11 +77,21 @@ left_next bytes total done b lt goes =
     one_less : (total done : ℕ) → done < total → total - done ≡ suc (total - (done + 1))
     one_less total done lt = omega (arith, lt)
 
+pub left_none : (bytes : List ℕ) (total done : ℕ) → total ≤ done → left bytes total done ≡ []
+unfolding left
+left_none bytes total done le =
+    let none : total - done ≡ 0 = omega (arith, le) in
+    ap (λ (n : ℕ). filter (goes_by_name bytes) (range_with_len (done + 1) n)) none
+
 -- the number of those of a list, from a place on, that go by a name
 pub group_count : List ChosenBy → ℕ → ℕ
 group_count row done = length (filter is_group (drop done row))
 
-count_next : (row : List ChosenBy) (done : ℕ) (here : ChosenBy) (b : Bool) → done < length row → here ≡ get_or row done by.Itself → is_group here ≡ b → group_count row done ≡ cond b (group_count row (done + 1) + 1) (group_count row (done + 1))
+pub count_all : (row : List ChosenBy) → group_count row 0 ≡ length (filter is_group row)
+unfolding group_count
+count_all row = refl
+
+pub count_next : (row : List ChosenBy) (done : ℕ) (here : ChosenBy) (b : Bool) → done < length row → here ≡ get_or row done by.Itself → is_group here ≡ b → group_count row done ≡ cond b (group_count row (done + 1) + 1) (group_count row (done + 1))
 unfolding group_count
 count_next row done here b lt is group =
     let rest = filter is_group (drop (suc done) row) in
@@ -108,18 +118,20 @@ row_none row selected flags room none = record {
 }
 
 -- the section at a place of the list
-record IsHere (row : List ChosenBy) (done : ℕ) (here : ChosenBy) (bytes : List ℕ) : Type 0 where
-  within : done < section_total bytes
-  group : is_group here ≡ goes_by_name bytes (done + 1)
-  itself : is_itself here ≡ is_free (comdat_of bytes (done + 1))
+pub record IsHere (row : List ChosenBy) (done : ℕ) (here : ChosenBy) (bytes : List ℕ) : Type 0 where
+  pub within : done < section_total bytes
+  pub said : here ≡ chosen_by bytes (done + 1)
+  pub group : is_group here ≡ goes_by_name bytes (done + 1)
+  pub itself : is_itself here ≡ is_free (comdat_of bytes (done + 1))
 
-is_here : (row : List ChosenBy) (done : ℕ) (here : ChosenBy) (bytes : List ℕ) → done < length row → here ≡ get_or row done by.Itself → row ≡ map (chosen_by bytes) (sections_of bytes) → IsHere row done here bytes
+pub is_here : (row : List ChosenBy) (done : ℕ) (here : ChosenBy) (bytes : List ℕ) → done < length row → here ≡ get_or row done by.Itself → row ≡ map (chosen_by bytes) (sections_of bytes) → IsHere row done here bytes
 is_here row done here bytes lt is all =
     let within : done < section_total bytes = omega (arith, ap length all, length-map-range_with_len (chosen_by bytes) 1 (section_total bytes)) in
     let said : here ≡ chosen_by bytes (done + 1) =
     is ∙ ap (λ (r : List ChosenBy). get_or r done by.Itself) all ∙ get_or-map-range_with_len (chosen_by bytes) 1 (section_total bytes) done (done + 1) by.Itself within (omega arith) in
     record {
       within = within;
+      said = said;
       group = ap is_group said ∙ group_is (comdat_of bytes (done + 1));
       itself = ap is_itself said ∙ itself_is (comdat_of bytes (done + 1));
     }
@@ -161,12 +173,10 @@ row_other row selected rest flags more flag done here before lt is group itself 
 
 -- all sections were seen
 pub row_all : (row : List ChosenBy) (selected rest flags : List Bool) (done : ℕ) (bytes : List ℕ) (chosen : ℕ → Bool) (later : List Bool) → RowSoFar row selected rest flags done → done ≡ length row → row ≡ map (chosen_by bytes) (sections_of bytes) → selected ≡ map chosen (named_sections bytes) ++ later → (flags ≡ map (own_flag chosen bytes) (sections_of bytes)) × (rest ≡ later)
-unfolding left
 row_all row selected rest flags done bytes chosen later is end all e =
     let told = is.told bytes chosen later all e in
     let total : done ≡ section_total bytes = end ∙ ap length all ∙ length-map-range_with_len (chosen_by bytes) 1 (section_total bytes) in
-    let none : section_total bytes - done ≡ 0 = omega (arith, total) in
-    (told.0 ∙ ap (λ (n : ℕ). map (own_flag chosen bytes) (range_with_len 1 n)) total, told.1 ∙ ap (λ (n : ℕ). map chosen (filter (goes_by_name bytes) (range_with_len (done + 1) n)) ++ later) none)
+    (told.0 ∙ ap (λ (n : ℕ). map (own_flag chosen bytes) (range_with_len 1 n)) total, told.1 ∙ ap (λ (s : List ℕ). map chosen s ++ later) (left_none bytes (section_total bytes) done (omega (arith, total))))
 
 -- the next section has an entry
 pub has_next : (row : List ChosenBy) (selected rest flags : List Bool) (done : ℕ) (here : ChosenBy) → RowSoFar row selected rest flags done → done < length row → here ≡ get_or row done by.Itself → is_group here ≡ true → 0 < length rest

@@ -18,11 +18,6 @@ is_group by.Itself = false
 is_group by.Group = true
 is_group (by.Parent parent) = false
 
-abbrev pub is_child : ChosenBy → Bool
-is_child by.Itself = false
-is_child by.Group = false
-is_child (by.Parent parent) = true
-
 -- its parent, 0 where it has none, and where that is no section
 abbrev pub parent_by : ℕ → ChosenBy → ℕ
 parent_by count by.Itself = 0

@@ -1,11 +1,11 @@
 -- What is kept of the sections that go by a name. Own.
-use Rattle.std.specs.Prelude.{◌≡◌, ℕ, ◌<◌, ◌≤◌, List, length, map, slice_index_or}
+use Rattle.std.specs.Prelude.{◌≡◌, ℕ, ◌<◌, ◌≤◌, false, List, length, map, slice_index_or}
 use Rattle.std.specs.List.{All}
 use Rattle.coff_records.specs.ObjectFile.{section_total}
 use Rattle.module_view.specs.Module.{ModuleView, module_at}
 use Rattle.symbol_names.specs.Interning.{Numbers}
 use Rattle.comdat.specs.declared.entry.Entry.{Entry}
-use Rattle.comdat.specs.Groups.{Named}
+use Rattle.comdat.specs.Groups.{Named, is_same_section}
 use Rattle.comdat.specs.Selection.{entry_in}
 
 abbrev pub no_entry : Entry
@@ -44,3 +44,7 @@ pub record IsSectionOf (modules : List ModuleView) (position : ℕ) (view : Modu
   pub is : module_at modules position ≡ view
   pub first : 1 ≤ section
   pub last : section ≤ section_total view.bytes
+
+-- two are not one section
+abbrev pub AreApart : Named → Named → Type 0
+AreApart one other = is_same_section other.candidate one.candidate ≡ false

@@ -1,11 +1,18 @@
 -- What the passes over the groups say of one another. Own.
-use Rattle.std.specs.Prelude.{◌≡◌, ℕ, ◌<◌, ◌==◌, List, [], length, map, filter, slice_index, slice_index_or, Some}
+use Rattle.std.specs.Prelude.{◌≡◌, ℕ, ◌<◌, ◌==◌, Bool, is_none, List, [], length, map, filter, slice_index, slice_index_or, Some}
 use Rattle.std.specs.List.{range_with_len}
 use Rattle.std.specs.declared.vec.Vec.{Vec}
 use Rattle.std.specs.declared.alloc.Global.{Global}
+use Rattle.link_base.specs.Bytes.{first_below}
 use Rattle.link_base.specs.NameText.{same_name}
 use Rattle.comdat.specs.declared.candidate.Candidate.{Candidate}
 use Rattle.comdat.specs.Groups.{Named, no_named, name_at, candidate_of, group_of, chosen_of}
+
+-- ---- the first of each name
+
+-- no section before it has its name
+abbrev pub is_first : List Named → ℕ → Bool
+is_first entries k = is_none (first_below k (λ j. same_name (name_at entries j) (name_at entries k)))
 
 -- ---- the numbers of groups
 

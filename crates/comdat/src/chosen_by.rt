@@ -1,7 +1,7 @@
 //! By what sections are chosen.
 
 ghost use Rattle.std.specs.Prelude.{◌≡◌};
-ghost use Rattle.comdat.specs.ChosenBy.{is_itself, is_group, is_child, parent_by, by_choice};
+ghost use Rattle.comdat.specs.ChosenBy.{is_itself, is_group, parent_by, by_choice};
 
 use coff_aux::is_section_number;
 use module_view::ComdatChoice;
@@ -44,13 +44,6 @@ impl ChosenBy {
         ensures { result ≡ is_group self }
     {
         matches!(self, ChosenBy::Group)
-    }
-
-    /// Whether it goes by a parent.
-    pub(crate) fn is_child(self) -> bool
-        ensures { result ≡ is_child self }
-    {
-        matches!(self, ChosenBy::Parent(_))
     }
 
     /// Its parent among this many sections, 0 where it has none.

@@ -1,11 +1,11 @@
 //! The choice in each of several groups.
 
 ghost use Rattle.std.specs.Prelude.{◌≡◌, ◌<◌, ◌==◌, ◌&&◌, None, Some, List, length, map, slice_index, IfOk, OnOk, IfErr};
-ghost use Rattle.std.specs.List.{All, list_all};
+ghost use Rattle.std.specs.List.{All, AllPairs, list_all};
 ghost use Rattle.coff_aux.specs.AuxRecords.{COMDAT_SELECT_ANY};
 ghost use Rattle.module_view.specs.Module.{ModuleView};
 ghost use Rattle.comdat.specs.Choice.{conflict_place};
-ghost use Rattle.comdat.specs.Entries.{entry_at, named_by, selection_at, KeepsEntry, IsSection};
+ghost use Rattle.comdat.specs.Entries.{entry_at, named_by, selection_at, KeepsEntry, IsSection, AreApart};
 ghost use Rattle.comdat.specs.Groups.{name_at, chosen_of, is_selected, is_same_section, conflict_in, first_conflict, RefusesChoice};
 ghost use Rattle.comdat.specs.Numbering.{candidate_at, candidates_at, AreNumbers, AreLists, AreWinners};
 ghost use Rattle.comdat.specs.Plain.{plain};
@@ -14,6 +14,7 @@ use crate::candidate::Candidate;
 use crate::choice::choose;
 use crate::entry::Entry;
 use crate::error::ChooseError;
+use crate::firsts::firsts_of_any;
 use crate::lists::group_lists;
 use crate::numbering::{Numbering, number_groups};
 use indexmap::IndexSet;
@@ -22,19 +23,24 @@ use module_view::Module;
 use std::alloc::Global;
 use symbol_names::name_at;
 
-/// For each section whether it is the chosen one of its group.
+/// For each section whether it is the chosen one of its group. Where all sections are ANY, that is the first of its name.
 pub(crate) fn select<'a>(
     alloc: Global,
     modules: &[Module<'a>],
     names: &IndexSet<Name<'a>>,
     entries: &[Entry],
 ) -> Result<Vec<bool>, ChooseError<'a>>
-    requires { All (KeepsEntry names.now.keys modules.now) entries.now }
+    requires kept { All (KeepsEntry names.now.keys modules.now) entries.now }
+    requires apart { AllPairs AreApart (named_by modules.now entries.now) }
     ensures selected { IfOk result (λ flags. flags.items
         ≡ map (is_selected (named_by modules.now entries.now)) (named_by modules.now entries.now)) }
     ensures accepted { OnOk result (first_conflict (named_by modules.now entries.now) ≡ None) }
     ensures refused { IfErr result (RefusesChoice (first_conflict (named_by modules.now entries.now))) }
 {
+    let firsts = firsts_of_any(alloc, names, entries)?;
+    if let Some(flags) = firsts {
+        return Ok(flags);
+    }
     let numbering = number_groups(alloc, names, entries)?;
     let lists = group_lists(alloc, &numbering)?;
     let winners = winners(alloc, modules, names, entries, &numbering, &lists)?;

@@ -13,6 +13,7 @@ mod chosen_by;
 mod ends;
 mod entry;
 mod error;
+mod firsts;
 mod groups;
 mod lists;
 mod numbering;

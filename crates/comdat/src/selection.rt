@@ -13,7 +13,7 @@ ghost use Rattle.symbol_names.specs.Kept.{row_flags, rows_of, noted_view};
 use crate::chains::follow_chains;
 use crate::error::ChooseError;
 use crate::groups::select;
-use crate::rows::{has_child, own_flags, parents};
+use crate::rows::{flags_in_order, own_flags, parents};
 use crate::sections::{read_sections, section_count};
 use indexmap::IndexSet;
 use link_base::{Memory, Name};
@@ -62,7 +62,7 @@ fn chosen_rows(alloc: Global, modules: &[Module<'_>], selected: &[bool]) -> Resu
 }
 
 /// The sections of a module, and what is said of those of later modules. The list has an entry for each section that goes
-/// by a name. Where no section is a COMDAT section, all are chosen; where none has a parent, no chain is followed.
+/// by a name. Where no section is a COMDAT section, all are chosen; where each parent stands before, no chain is followed.
 fn chosen_row<'w>(
     alloc: Global,
     module: &Module<'_>,
@@ -79,10 +79,11 @@ fn chosen_row<'w>(
     if choices.is_empty() {
         return Ok((ChosenRow::All(count), selected));
     }
-    let (own, later) = own_flags(alloc, choices, selected)?;
-    if !has_child(choices) {
-        return Ok((ChosenRow::Said(own), later));
+    let in_order = flags_in_order(alloc, choices, selected)?;
+    if let Some((flags, later)) = in_order {
+        return Ok((ChosenRow::Said(flags), later));
     }
+    let (own, later) = own_flags(alloc, choices, selected)?;
     let parents = parents(alloc, choices)?;
     let flags = follow_chains(alloc, &parents, &own)?;
     Ok((ChosenRow::Said(flags), later))

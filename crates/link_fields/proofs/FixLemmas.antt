@@ -1,5 +1,5 @@
 -- The relocations of a section, one after the other.
-use Rattle.std.proofs.Common.{◌≡◌, ℕ, ◌+◌, List, [], ◌∷◌, ◌++◌, length, get_or, Option, None, Result, refl, sym, ap, ◌∙◌, append_assoc}
+use Rattle.std.proofs.Common.{◌≡◌, ℕ, ◌+◌, List, [], ◌∷◌, ◌++◌, length, Option, Result, refl, sym, ap, ◌∙◌, append_assoc}
 use Rattle.std.specs.List.{range_with_len}
 use Rattle.std.proofs.lemmas.List.{length-map}
 use Rattle.std.proofs.lemmas.List.FromFn.{length-range_with_len}
@@ -10,7 +10,7 @@ use Rattle.coff_records.specs.Relocations.{relocations_from}
 use Rattle.relocate.specs.declared.fix.Fix.{Fix}
 use Rattle.relocate.specs.declared.fix.Target.{Target}
 use Rattle.link_pieces.specs.LinkParts.{LinkParts}
-use Rattle.link_fields.specs.Targets.{AreTargets}
+use Rattle.link_fields.specs.Targets.{record_target}
 use Rattle.link_fields.specs.Fixes.{fix_of, fixes_from, section_fixes}
 
 abbrev with_target : ℕ → Relocation → Option (Result Target TargetFault) → Fix
@@ -35,9 +35,8 @@ no_more link position bytes index rest now whole none sum =
     ap (λ (rs : List Relocation). now ++ fixes_from link position bytes index rs) (sym none) ∙ sum
 
 -- a relocation as it was read
-pub fix_read : (link : LinkParts) (position : ℕ) (bytes : List ℕ) (targets : List (Option (Result Target TargetFault))) (index : ℕ) (relocation : Relocation) (target : Option (Result Target TargetFault)) → AreTargets link position bytes targets → target ≡ get_or targets relocation.symbol None → record { index = index; at = relocation.at; kind = relocation.kind; target = target } ≡ fix_of link position bytes index relocation
-fix_read link position bytes targets index relocation target are read =
-    ap (with_target index relocation) (read ∙ are relocation.symbol)
+pub fix_read : (link : LinkParts) (position : ℕ) (bytes : List ℕ) (index : ℕ) (relocation : Relocation) (target : Option (Result Target TargetFault)) → target ≡ record_target link position bytes relocation.symbol → record { index = index; at = relocation.at; kind = relocation.kind; target = target } ≡ fix_of link position bytes index relocation
+fix_read link position bytes index relocation target read = ap (with_target index relocation) read
 
 pub no_relocations : (link : LinkParts) (position : ℕ) (bytes : List ℕ) (section : ℕ) → relocation_total bytes section ≡ 0 → section_fixes link position bytes section ≡ []
 unfolding fixes_from relocations_from

@@ -1,12 +1,16 @@
 -- What the symbols of an object mean, one symbol more at a time.
-use Rattle.std.proofs.Common.{◌≡◌, ℕ, zero, suc, ◌<◌, Bool, true, false, cond, eqb, List, ◌∷◌, length, get_or, set, replicate, Option, Some, None, option_map, inl, inr, refl, sym, ap, ◌∙◌, arith}
-use Rattle.std.specs.List.{find}
+use Rattle.std.proofs.Common.{◌≡◌, ℕ, zero, suc, ◌<◌, Bool, true, false, ◌||◌, cond, eqb, List, [], ◌∷◌, length, map, get_or, set, replicate, Option, Some, None, option_map, Result, Ok, Err, inl, inr, refl, sym, ap, ◌∙◌, arith}
+use Rattle.std.specs.List.{find, list_any}
 use Rattle.std.specs.Option.{option_or}
+use Rattle.std.specs.Result.{result_ok}
 use Rattle.std.proofs.lemmas.Bool.Decides.{eqb_tells}
 use Rattle.std.proofs.lemmas.List.{get_or-set_same, get_or-set_other}
 use Rattle.link_base.proofs.RefusalLemmas.{or_none}
-use Rattle.coff_records.specs.ObjectFile.{SymbolEntry}
-use Rattle.link_fields.specs.Targets.{is_record}
+use Rattle.coff_records.specs.ObjectFile.{SymbolEntry, symbols_of, symbol_entry, symbol_entries, starts_symbol}
+use Rattle.link_pieces.specs.LinkParts.{LinkParts}
+use Rattle.symbol_table.specs.declared.meaning.Meaning.{Meaning}
+use Rattle.symbol_table.specs.declared.meaning.NoMeaning.{NoMeaning}
+use Rattle.link_fields.specs.Targets.{is_record, known_target, meant_target}
 
 -- a place of a list that is set, where nothing stood there
 pub put_first : {A : Type 0} (row : List (Option A)) (at other : ℕ) (x : A) → at < length row → get_or row at None ≡ None → get_or (set row at (Some x)) other None ≡ option_or (get_or row other None) (cond (eqb at other) (Some x) None)
@@ -54,3 +58,22 @@ noted_more f before after entry at old new whole is noted was =
     ∙ grown f (eqb entry.0 at) old entry (find (is_record at) after)
     ∙ ap (λ (es : List SymbolEntry). option_or old (option_map f (find (is_record at) es))) (sym is)
     ∙ was
+
+-- the symbol that starts at a record is the one that is found there
+pub found_start : (bytes : List ℕ) (at : ℕ) → starts_symbol bytes at ≡ true → find (is_record at) (symbol_entries bytes) ≡ Some (symbol_entry bytes at)
+unfolding starts_symbol
+found_start bytes at starts = among (symbols_of bytes) starts
+  where
+    among : (indexes : List ℕ) → list_any (λ start. eqb start at) indexes ≡ true → find (is_record at) (map (symbol_entry bytes) indexes) ≡ Some (symbol_entry bytes at)
+    among [] e = absurd cc
+    among (first ∷ later) e =
+        elim (eqb_tells first at) [
+          | inl here ↦ rw here.0 (ap (λ i. Some (symbol_entry bytes i)) here.1)
+          | inr apart ↦
+              rw apart.0 (among later (sym (ap (λ b. b || list_any (λ start. eqb start at) later) apart.0) ∙ e))
+        ]
+
+-- a name means to a relocation what is known of its meaning
+pub known_is : (link : LinkParts) (meaning : Result Meaning NoMeaning) → known_target link (result_ok meaning) ≡ meant_target link meaning
+known_is link (Ok meant) = refl
+known_is link (Err none) = refl

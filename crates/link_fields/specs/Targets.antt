@@ -52,15 +52,24 @@ own_target link position section value =
 
 -- ---- a name
 
--- what a meaning is to a relocation; that a name means nothing is refused before
+-- what a meaning is to a relocation
+abbrev pub meaning_target : LinkParts → Meaning → Result Target TargetFault
+meaning_target link (meaning.Section position section value) = section_target link position section value
+meaning_target link (meaning.Common position symbol) = common_target link position symbol
+meaning_target link (meaning.Absolute value) = Ok (target.Absolute value)
+meaning_target link meaning.ImageBase = Ok target.ImageBase
+meaning_target link (meaning.Slot position) = import_target link position
+meaning_target link (meaning.Thunk position) = thunk_target link position
+meaning_target link (meaning.LocalSlot name) = slot_target link name
+
+-- the same, or that there is none
+abbrev pub known_target : LinkParts → Option Meaning → Result Target TargetFault
+known_target link (Some meant) = meaning_target link meant
+known_target link None = Err fault.NoSection
+
+-- what a name's meaning is to a relocation; that it means nothing is refused before
 abbrev pub meant_target : LinkParts → Result Meaning NoMeaning → Result Target TargetFault
-meant_target link (Ok (meaning.Section position section value)) = section_target link position section value
-meant_target link (Ok (meaning.Common position symbol)) = common_target link position symbol
-meant_target link (Ok (meaning.Absolute value)) = Ok (target.Absolute value)
-meant_target link (Ok meaning.ImageBase) = Ok target.ImageBase
-meant_target link (Ok (meaning.Slot position)) = import_target link position
-meant_target link (Ok (meaning.Thunk position)) = thunk_target link position
-meant_target link (Ok (meaning.LocalSlot name)) = slot_target link name
+meant_target link (Ok meant) = meaning_target link meant
 meant_target link (Err none) = Err fault.NoSection
 
 -- ---- the piece of a target, or behind the pieces the import

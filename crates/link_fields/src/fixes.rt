@@ -5,11 +5,11 @@ ghost use Rattle.coff_records.specs.ObjectFile.{section_total};
 ghost use Rattle.module_view.specs.Module.{module_at};
 ghost use Rattle.link_pieces.specs.LinkParts.{LinkParts};
 ghost use Rattle.link_pieces.specs.PieceIndex.{IsPieceIndex};
-ghost use Rattle.link_fields.specs.Targets.{AreTargets};
+ghost use Rattle.link_fields.specs.Targets.{record_target, AreTargets};
 ghost use Rattle.link_fields.specs.Fixes.{section_fixes, linker_fixes};
 ghost use Rattle.link_fields.specs.Steps.{HoldsTargets};
 
-use crate::targets::{RecordTarget, import_target, meant_target, read_targets};
+use crate::targets::{RecordTarget, import_target, meant_target, noted_target, read_targets};
 use coff_object::Object;
 use link_base::Memory;
 use link_pieces::{LinkNames, PieceIndex};
@@ -17,11 +17,42 @@ use relocate::Fix;
 use std::alloc::Global;
 use synthetic_sections::{FIRST_LOCAL_SLOT, FIRST_THUNK, slot_field, thunk_field};
 
-/// What the symbols of one module mean, by its position: the module whose relocations were read last.
+/// What the symbols of one module mean, by its position: the module whose symbols were read last.
 #[derive(Drop)]
 pub(crate) struct LastTargets {
-    pub(crate) position: Option<u32>,
-    pub(crate) targets: Vec<RecordTarget>,
+    position: Option<u32>,
+    targets: Vec<RecordTarget>,
+    /// The module whose relocations were looked up by names last, and how many these were.
+    by_names: (u32, u32),
+}
+
+impl LastTargets {
+    /// Of no module yet.
+    pub(crate) fn none(alloc: Global) -> LastTargets
+        ensures { result.position ≡ None }
+    {
+        LastTargets {
+            position: None,
+            targets: Vec::new(alloc),
+            by_names: (0, 0),
+        }
+    }
+
+    /// Whether to look up so many more relocations of the module at a position by names: its symbols, whose records are so many,
+    /// were not read, and the relocations looked up are at most half of these. Then reading all symbols would take longer.
+    fn are_few(&mut self, position: u32, count: u32, records: u32) -> bool
+        ensures position { self.new.position ≡ self.old.position }
+        ensures targets { self.new.targets ≡ self.old.targets }
+    {
+        if self.position == Some(position) {
+            return false;
+        }
+        let (counted, before) = self.by_names;
+        let before = if counted == position { before } else { 0 };
+        let looked_up = count.saturating_add(before);
+        self.by_names = (position, looked_up);
+        looked_up <= records / 2
+    }
 }
 
 /// The relocations of a section of the module at a position.
@@ -42,11 +73,70 @@ pub(crate) fn section_fixes<'a>(
     ensures fixes { IfOk result (λ fixes. fixes.items ≡ section_fixes names.now position object.now section) }
     ensures held { OnOk result (HoldsTargets names.now last.new.position last.new.targets.items) }
 {
-    if object.relocation_count(section) == 0 {
+    let count = object.relocation_count(section);
+    if count == 0 {
         return Ok(Vec::new(alloc));
+    }
+    if last.are_few(position, count, object.record_count()) {
+        return fixes_by_names(alloc, last, names, index, object, position, section);
     }
     read_last(last, names, index, object, position)?;
     fixes_by(alloc, object, section, &last.targets)
+}
+
+/// The relocations of a section of the module at a position, each looked up by the name of its symbol.
+fn fixes_by_names<'a>(
+    alloc: Global,
+    last: &mut LastTargets,
+    names: &LinkNames<'a>,
+    index: &PieceIndex<'a>,
+    object: &Object<'a>,
+    position: u32,
+    section: u32,
+) -> Result<Vec<Fix>, Memory>
+    requires indexed { IsPieceIndex names.now index.now }
+    requires held { HoldsTargets names.now last.old.position last.old.targets.items }
+    requires here { object.now ≡ (module_at names.now.modules position).bytes }
+    requires first { 1 ≤ section }
+    requires last { section ≤ section_total object.now }
+    ensures fixes { IfOk result (λ fixes. fixes.items ≡ section_fixes names.now position object.now section) }
+    ensures held { OnOk result (HoldsTargets names.now last.new.position last.new.targets.items) }
+{
+    let mut fixes = Vec::with_capacity(alloc, object.relocation_count(section) as usize)?;
+    let mut number = 0;
+    for relocation in object.relocations(section) {
+        let target = record_target(last, names, index, object, position, relocation.symbol)?;
+        fixes.push(Fix {
+            index: number,
+            at: relocation.at,
+            kind: relocation.kind,
+            target,
+        })?;
+        number += 1;
+    }
+    Ok(fixes)
+}
+
+/// What a record of the module at a position means. All symbols of the module are read where it is not noted of this one.
+fn record_target<'a>(
+    last: &mut LastTargets,
+    names: &LinkNames<'a>,
+    index: &PieceIndex<'a>,
+    object: &Object<'a>,
+    position: u32,
+    at: u32,
+) -> Result<RecordTarget, Memory>
+    requires indexed { IsPieceIndex names.now index.now }
+    requires held { HoldsTargets names.now last.old.position last.old.targets.items }
+    requires here { object.now ≡ (module_at names.now.modules position).bytes }
+    ensures target { IfOk result (λ target. target ≡ record_target names.now position object.now at) }
+    ensures held { OnOk result (HoldsTargets names.now last.new.position last.new.targets.items) }
+{
+    if let Some(target) = noted_target(names, index, object, position, at) {
+        return Ok(Some(target));
+    }
+    read_last(last, names, index, object, position)?;
+    Ok(*target_at(&last.targets, at))
 }
 
 /// The field of a piece that the linker makes, by the number of the piece: of a jump the slot that it goes through, of a local slot the
@@ -118,7 +208,7 @@ fn fixes_by(
     Ok(fixes)
 }
 
-/// What a record means.
+/// What a list says that a record means.
 fn target_at(targets: &[RecordTarget], at: u32) -> &RecordTarget
     ensures { result.now ≡ slice_index_or targets.now at None }
 {

@@ -53,10 +53,7 @@ pub fn judge_pieces<'a>(
 {
     let mut fixups = Vec::with_capacity(alloc, pieces.len() + TABLES)?;
     let mut edges = Vec::new(alloc);
-    let mut last = LastTargets {
-        position: None,
-        targets: Vec::new(alloc),
-    };
+    let mut last = LastTargets::none(alloc);
     for k in 0..pieces.len() {
         let piece = &pieces[k];
         let fixes = read_fixes(alloc, &mut last, names, index, modules, piece)?;

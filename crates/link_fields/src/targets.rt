@@ -1,12 +1,12 @@
 //! What the symbols of an object mean to its relocations.
 
-ghost use Rattle.std.specs.Prelude.{◌≡◌, ◌==◌, ◌<◌, ℕ, List, None, Some, Err, length, slice_index_or, replicate, OnOk, if◌then◌else◌};
-ghost use Rattle.std.specs.Option.{option_or};
+ghost use Rattle.std.specs.Prelude.{◌≡◌, ◌==◌, ◌<◌, ℕ, List, None, Some, Err, length, slice_index_or, replicate, IfSome, OnOk, if◌then◌else◌};
+ghost use Rattle.std.specs.Option.{option_copied, option_or};
 ghost use Rattle.coff_records.specs.ObjectFile.{symbol_at};
 ghost use Rattle.module_view.specs.Module.{module_at};
 ghost use Rattle.link_pieces.specs.LinkParts.{LinkParts};
 ghost use Rattle.link_pieces.specs.PieceIndex.{IsPieceIndex};
-ghost use Rattle.link_fields.specs.Targets.{section_target, common_target, import_target, thunk_target, slot_target, own_target, meant_target, has_meaning, local_target, symbol_target, AreTargets};
+ghost use Rattle.link_fields.specs.Targets.{section_target, common_target, import_target, thunk_target, slot_target, own_target, meaning_target, known_target, meant_target, has_meaning, local_target, symbol_target, record_target, AreTargets};
 
 use coff_object::{Object, SymbolRecord};
 use link_base::pe_format::{
@@ -91,7 +91,47 @@ fn has_meaning(symbol: &SymbolRecord<'_>) -> bool
     symbol.section() != SYM_DEBUG
 }
 
-/// What a meaning is to a relocation.
+/// What a record of the module at a position means, where it is noted which name its symbol has: nothing else of the module is
+/// read then.
+pub(crate) fn noted_target<'a>(
+    names: &LinkNames<'a>,
+    index: &PieceIndex<'a>,
+    object: &Object<'a>,
+    position: u32,
+    at: u32,
+) -> Option<Result<Target, TargetFault>>
+    requires indexed { IsPieceIndex names.now index.now }
+    requires here { object.now ≡ (module_at names.now.modules position).bytes }
+    ensures { IfSome result (λ target. record_target names.now position object.now at ≡ Some target) }
+{
+    let meant = names.noted_meaning(position, at)?;
+    if !has_meaning(&object.symbol_record(at)) {
+        return None;
+    }
+    Some(known_target(index, meant))
+}
+
+/// What a meaning is to a relocation, or that there is none.
+fn known_target<'a>(
+    index: &PieceIndex<'a>,
+    meant: Option<&Meaning<'a>>,
+) -> Result<Target, TargetFault>
+    ensures { (link : LinkParts) → IsPieceIndex link index.now → result ≡ known_target link (option_copied meant.entry) }
+{
+    match meant {
+        Some(
+            Meaning::Section {
+                module,
+                section,
+                value,
+            },
+        ) => section_target(index, *module, *section, *value),
+        Some(meaning) => meaning_target(index, meaning),
+        None => Err(TargetFault::NoSection),
+    }
+}
+
+/// What a meaning is to a relocation, or why there is none.
 pub fn meant_target<'a>(
     index: &PieceIndex<'a>,
     meaning: Result<Meaning<'a>, NoMeaning>,
@@ -99,20 +139,27 @@ pub fn meant_target<'a>(
     ensures { (link : LinkParts) → IsPieceIndex link index.now → result ≡ meant_target link meaning.entry }
 {
     match meaning {
-        Ok(
-            Meaning::Section {
-                module,
-                section,
-                value,
-            },
-        ) => section_target(index, module, section, value),
-        Ok(Meaning::Common { module, symbol }) => common_target(index, module, symbol),
-        Ok(Meaning::Absolute(value)) => Ok(Target::Absolute(value)),
-        Ok(Meaning::ImageBase) => Ok(Target::ImageBase),
-        Ok(Meaning::Slot { module }) => import_target(index, module),
-        Ok(Meaning::Thunk { module }) => thunk_target(index, module),
-        Ok(Meaning::LocalSlot(name)) => slot_target(index, &name),
+        Ok(meaning) => meaning_target(index, &meaning),
         Err(_) => Err(TargetFault::NoSection),
+    }
+}
+
+/// What a meaning is to a relocation.
+fn meaning_target<'a>(index: &PieceIndex<'a>, meaning: &Meaning<'a>) -> Result<Target, TargetFault>
+    ensures { (link : LinkParts) → IsPieceIndex link index.now → result ≡ meaning_target link meaning.now }
+{
+    match meaning {
+        Meaning::Section {
+            module,
+            section,
+            value,
+        } => section_target(index, *module, *section, *value),
+        Meaning::Common { module, symbol } => common_target(index, *module, *symbol),
+        Meaning::Absolute(value) => Ok(Target::Absolute(*value)),
+        Meaning::ImageBase => Ok(Target::ImageBase),
+        Meaning::Slot { module } => import_target(index, *module),
+        Meaning::Thunk { module } => thunk_target(index, *module),
+        Meaning::LocalSlot(name) => slot_target(index, name),
     }
 }
 

@@ -25,6 +25,8 @@ pub struct HostFiles<'a, R: rt::Files> {
     system: &'a R,
     read_faults: u64,
     write_faults: u64,
+    /// Takes what is read of a long file, before it is appended.
+    piece: [u8; PIECE],
 }
 
 impl<'a, R: rt::Files> Model for HostFiles<'a, R> {
@@ -44,6 +46,7 @@ impl<'a, R: rt::Files> HostFiles<'a, R> {
             system,
             read_faults: 0,
             write_faults: 0,
+            piece: [0; PIECE],
         }
     }
 }
@@ -63,7 +66,7 @@ impl<'a, R: rt::Files> Files for HostFiles<'a, R> {
         name: &str,
         limit: u64,
     ) -> Result<Vec<u8, A>, FileError> {
-        match read_file(self.system, alloc, name, limit) {
+        match read_file(self.system, &mut self.piece, alloc, name, limit) {
             Err(FileError::Fault) => {
                 self.read_faults += 1;
                 Err(FileError::Fault)
@@ -87,6 +90,7 @@ impl<'a, R: rt::Files> Files for HostFiles<'a, R> {
 /// large.
 fn read_file<R: rt::Files, A: Allocator>(
     system: &R,
+    piece: &mut [u8; PIECE],
     alloc: A,
     name: &str,
     limit: u64,
@@ -104,7 +108,7 @@ fn read_file<R: rt::Files, A: Allocator>(
     if len > limit {
         return Err(FileError::TooLarge);
     }
-    read_rest(alloc, file, len, limit)
+    read_rest(alloc, piece, file, len, limit)
 }
 
 /// The length of a file that stands at its start, and stands there again afterwards. Seeking its end costs less than its
@@ -125,6 +129,7 @@ fn len_of<F: Seek + OpenFile>(file: &mut F, limit: u64) -> io::Result<u64>
 /// first of those. Room for `len` bytes, and one to see the end, is taken at once.
 fn read_rest<F: Read, A: Allocator>(
     alloc: A,
+    piece: &mut [u8; PIECE],
     file: F,
     len: u64,
     limit: u64,
@@ -135,7 +140,7 @@ where
 {
     let mut bytes = Vec::with_capacity(alloc, len.saturating_add(1) as usize)?;
     let mut file = file.take(limit.saturating_add(1));
-    match append_rest(&mut bytes, &mut file, len) {
+    match append_rest(&mut bytes, &mut file, piece, len) {
         Ok(()) => {}
         Err(error) => return Err(read_error(&error)),
     }
@@ -149,24 +154,28 @@ where
 fn append_rest<F: Read, A: Allocator>(
     bytes: &mut Vec<u8, A>,
     file: &mut F,
+    piece: &mut [u8; PIECE],
     len: u64,
 ) -> io::Result<()>
     ensures { OnOk result (IfSome (F.remaining file.old) (λ rest. bytes.new.items ≡ bytes.old.items ++ rest)) }
 {
     if len >= PIECE as u64 {
-        return append_pieces(bytes, file);
+        return append_pieces(bytes, file, piece);
     }
     file.read_to_end(bytes)?;
     Ok(())
 }
 
-/// Appends all that the reader has left, piece by piece: only the room of one is cleared, and only once.
-fn append_pieces<F: Read, A: Allocator>(bytes: &mut Vec<u8, A>, file: &mut F) -> io::Result<()>
+/// Appends all that the reader has left, piece by piece, through the room for one, which is not cleared.
+fn append_pieces<F: Read, A: Allocator>(
+    bytes: &mut Vec<u8, A>,
+    file: &mut F,
+    piece: &mut [u8; PIECE],
+) -> io::Result<()>
     ensures { OnOk result (IfSome (F.remaining file.old) (λ rest. bytes.new.items ≡ bytes.old.items ++ rest)) }
 {
-    let mut piece = [0u8; PIECE];
     for _ in 0..u64::MAX {
-        let count = read_some(file, &mut piece)?;
+        let count = read_some(file, piece)?;
         if count == 0 {
             return Ok(());
         }

@@ -1,6 +1,6 @@
 //! What names mean in the modules of a link.
 
-ghost use Rattle.std.specs.Prelude.{◌≡◌, ◌≤◌, true, None, Some, map, length, IfOk, OnOk, IfErr};
+ghost use Rattle.std.specs.Prelude.{◌≡◌, ◌≤◌, true, None, Some, map, length, IfSome, IfOk, OnOk, IfErr};
 ghost use Rattle.std.specs.List.{All};
 ghost use Rattle.link_base.specs.Limits.{MODULE_LIMIT};
 ghost use Rattle.link_base.specs.Refusals.{RefusesFor};
@@ -10,7 +10,7 @@ ghost use Rattle.symbol_names.specs.Kept.{rows_of};
 ghost use Rattle.comdat.specs.Selection.{chosen_sections};
 ghost use Rattle.link_pieces.specs.LinkParts.{parts_of};
 ghost use Rattle.link_pieces.specs.LocalSlots.{modules_asked};
-ghost use Rattle.link_pieces.specs.NameMeaning.{name_meaning, takes_part, StandsIn};
+ghost use Rattle.link_pieces.specs.NameMeaning.{name_meaning, MeansNoted, takes_part, StandsIn};
 ghost use Rattle.link_pieces.specs.ChoiceFaults.{conflict_fault, clash_fault};
 
 use coff_object::SymbolRecord;
@@ -81,6 +81,14 @@ impl<'a> LinkNames<'a> {
         ensures { result ≡ name_meaning self.now name.entry }
     {
         self.names.resolve(name)
+    }
+
+    /// What the name of the symbol at a record means, by the position of its module, where its number is noted: nothing within,
+    /// where it means nothing.
+    pub fn noted_meaning(&self, module: u32, index: u32) -> Option<Option<&Meaning<'a>>>
+        ensures { IfSome result (λ meant. MeansNoted self.now «module» index meant) }
+    {
+        self.names.noted_meaning(module, index)
     }
 
     /// What the name of a symbol means, by the position of its module and its record.

@@ -1,16 +1,15 @@
 -- What a section says of itself as a COMDAT section, by the place of its leader, and what is kept of it.
-use Rattle.std.proofs.Common.{◌≡◌, ℕ, ◌-◌, ◌<◌, ◌≤◌, true, false, not, List, [], length, get_or, Option, Some, None, refl, sym, ap, subst, ◌∙◌, arith}
+use Rattle.std.proofs.Common.{◌≡◌, ℕ, ◌+◌, ◌-◌, ◌<◌, ◌≤◌, true, false, not, List, [], ◌∷◌, ◌++◌, length, get_or, inl, inr, Option, Some, None, refl, sym, ap, subst, ◌∙◌, arith}
 use Rattle.std.specs.Prelude.{option_map, nat_le}
 use Rattle.std.specs.Option.{IfSome, MatchOption}
-use Rattle.std.proofs.lemmas.Bool.{eq-eqb, ne_eqb, false≢true, le-leb, and_from}
-use Rattle.std.proofs.lemmas.List.FromFn.{get_or-map-range_with_len, length-map-range_with_len}
+use Rattle.std.proofs.Math.ListN.{get_or-append}
+use Rattle.std.proofs.Math.Seq.{get_or-append_seam}
+use Rattle.std.proofs.lemmas.Bool.{cases_lt, eq-eqb, ne_eqb, false≢true, le-leb, and_from}
 use Rattle.coff_records.specs.ObjectFile.{section_total, symbol_name_of, symbol_class_of}
 use Rattle.coff_aux.specs.declared.comdat.Comdat.{Comdat}
 use Rattle.coff_aux.specs.declared.comdat.ComdatRecord.{ComdatRecord}
-use Rattle.coff_aux.specs.declared.comdat.SectionSymbols.{SectionSymbols}
 use Rattle.coff_aux.specs.Comdats.{is_section_number, is_comdat, has_comdat, comdat_of, section_symbols_of, comdat_record_of, leader_name, parent_said, comdat_by}
-use Rattle.coff_aux.specs.Steps.{no_symbols, all_section_symbols, all_comdat_records}
-use Rattle.coff_aux.proofs.CallerLemmas.{some_said, no_comdat}
+use Rattle.coff_aux.proofs.CallerLemmas.{some_section, no_comdat}
 use Rattle.module_view.specs.declared.comdat_choice.ComdatChoice.{ComdatChoice}
 use Rattle.module_view.specs.declared.definition.Definition.{Definition}
 use Rattle.module_view.specs.SymbolLists.{definitions_of}
@@ -95,29 +94,42 @@ nothing_kept_of bytes definitions others are = record {
   each = λ section first last. record { says = (are.each section first last).says; leads = tt };
 }
 
-pub all_kept : (bytes : List ℕ) (symbols : List SectionSymbols) (records : List (Option ComdatRecord)) (choices : List (Option ComdatChoice)) (definitions : List Definition) → has_comdat bytes ≡ true → symbols ≡ all_section_symbols bytes → records ≡ all_comdat_records bytes → definitions ≡ definitions_of bytes → AreChoicesBy definitions records symbols choices → AreChoices bytes (definitions_of bytes) choices
-all_kept bytes symbols records choices definitions some noted read defined made = record {
-  some = some ∙ sym (ap not (ne_eqb (length choices) 0 (λ empty. absurd (omega (arith, empty, made.count, some_said bytes records some read)))));
-  count = λ some. made.count ∙ count;
+pub all_kept : (bytes : List ℕ) (choices : List (Option ComdatChoice)) (definitions : List Definition) → has_comdat bytes ≡ true → definitions ≡ definitions_of bytes → AreChoicesBy bytes definitions choices → AreChoices bytes (definitions_of bytes) choices
+all_kept bytes choices definitions some defined made = record {
+  some = some ∙ sym (ap not (ne_eqb (length choices) 0 (λ empty. absurd (omega (arith, empty, made.count, some_section bytes some)))));
+  count = λ some. made.count;
   each = choice_of;
 }
   where
-    noted_at : (section : ℕ) → 1 ≤ section → section ≤ section_total bytes → get_or symbols (section - 1) no_symbols ≡ section_symbols_of bytes section
-    noted_at section low high =
-        ap (λ (xs : List SectionSymbols). get_or xs (section - 1) no_symbols) noted
-        ∙ get_or-map-range_with_len (section_symbols_of bytes) 1 (section_total bytes) (section - 1) section no_symbols (omega arith) (omega arith)
-
-    read_at : (section : ℕ) → 1 ≤ section → section ≤ section_total bytes → get_or records (section - 1) None ≡ comdat_record_of bytes section
-    read_at section low high =
-        ap (λ (xs : List (Option ComdatRecord)). get_or xs (section - 1) None) read
-        ∙ get_or-map-range_with_len (comdat_record_of bytes) 1 (section_total bytes) (section - 1) section None (omega arith) (omega arith)
-
-    count : length records ≡ section_total bytes
-    count = ap (λ (xs : List (Option ComdatRecord)). length xs) read ∙ length-map-range_with_len (comdat_record_of bytes) 1 (section_total bytes)
+    made_at : (section : ℕ) → 1 ≤ section → section ≤ section_total bytes → IsChoiceBy definitions (comdat_record_of bytes section) (section_symbols_of bytes section).second (get_or choices (section - 1) None)
+    made_at section low high =
+        let next : section - 1 + 1 ≡ section = omega arith in
+        subst (λ (s : ℕ). IsChoiceBy definitions (comdat_record_of bytes s) (section_symbols_of bytes s).second (get_or choices (section - 1) None)) next (made.each (section - 1) (omega arith))
 
     choice_of : (section : ℕ) → 1 ≤ section → section ≤ section_total bytes → SaysChoice bytes (definitions_of bytes) section (get_or choices (section - 1) None)
     choice_of section low high =
-        choice_by bytes section (get_or records (section - 1) None) (get_or choices (section - 1) None) (sym (read_at section low high)) low high
-        (subst (λ (ds : List Definition). IsChoiceBy ds (get_or records (section - 1) None) (section_symbols_of bytes section).second (get_or choices (section - 1) None)) defined
-        (subst (λ (s : SectionSymbols). IsChoiceBy definitions (get_or records (section - 1) None) s.second (get_or choices (section - 1) None)) (noted_at section low high)
-        (made.each (section - 1) (omega (arith, count)))))
+        choice_by bytes section (comdat_record_of bytes section) (get_or choices (section - 1) None) refl low high
+        (subst (λ (ds : List Definition). IsChoiceBy ds (comdat_record_of bytes section) (section_symbols_of bytes section).second (get_or choices (section - 1) None)) defined (made_at section low high))
+
+-- ---- one more section in a loop over all
+
+pub all_more : (P : ℕ → Type 0) (n : ℕ) → ((k : ℕ) → k < n → P k) → P n → (k : ℕ) → k < n + 1 → P k
+all_more P n before last k lt = elim (cases_lt k n) [
+  | inl low ↦ before k low
+  | inr high ↦ subst P (let same : n ≡ k = omega arith in same) last
+]
+
+pub choices_more : (Q : ℕ → Option ComdatChoice → Type 0) (choices now : List (Option ComdatChoice)) (choice : Option ComdatChoice) (n : ℕ) → length choices ≡ n → now ≡ choices ++ choice ∷ [] → ((k : ℕ) → k < n → Q k (get_or choices k None)) → Q n choice → (k : ℕ) → k < n + 1 → Q k (get_or now k None)
+choices_more Q choices now choice n count grown made last =
+    all_more (λ k. Q k (get_or now k None)) n
+    (λ k lt. subst (Q k) (sym (ap (λ (xs : List (Option ComdatChoice)). get_or xs k None) grown ∙ get_or-append choices (choice ∷ []) None k (omega (arith, count, lt)))) (made k lt))
+    (subst (Q n) (sym (ap (λ (xs : List (Option ComdatChoice)). get_or xs n None) grown ∙ ap (λ (k : ℕ). get_or (choices ++ choice ∷ []) k None) (sym count) ∙ get_or-append_seam choices choice [] None)) last)
+
+pub some_made : (definitions : List Definition) (record_there : Option ComdatRecord) (said : ComdatRecord) (noted second : Option ℕ) (choice : ComdatChoice) → record_there ≡ Some said → noted ≡ second → IsChoice definitions said noted choice → IsChoiceBy definitions record_there second (Some choice)
+some_made definitions record_there said noted second choice is same made =
+    subst (λ (one : Option ComdatRecord). IsChoiceBy definitions one second (Some choice)) (sym is)
+    (subst (λ (o : Option ℕ). IsChoice definitions said o choice) same made)
+
+pub none_made : (definitions : List Definition) (record_there : Option ComdatRecord) (second : Option ℕ) → record_there ≡ None → IsChoiceBy definitions record_there second None
+none_made definitions record_there second is =
+    subst (λ (one : Option ComdatRecord). IsChoiceBy definitions one second None) (sym is) refl

@@ -1,14 +1,12 @@
 -- What a COMDAT section says of itself, with its leader by its place among definitions, and what is kept of it (PE Format, "COMDAT Sections (Object
 -- Only)"; that the place stands for the name is own).
-use Rattle.std.specs.Prelude.{◌≡◌, ℕ, ◌<◌, ◌≤◌, ◌-◌, ◌==◌, true, not, List, [], length, slice_index_or, Option, None, option_map}
+use Rattle.std.specs.Prelude.{◌≡◌, ℕ, ◌<◌, ◌≤◌, ◌+◌, ◌-◌, ◌==◌, true, not, List, [], length, slice_index_or, Option, None, option_map}
 use Rattle.std.specs.Option.{IfSome, MatchOption}
 use Rattle.std.specs.List.{All, AllPairs}
 use Rattle.coff_records.specs.ObjectFile.{section_total}
 use Rattle.coff_aux.specs.declared.comdat.Comdat.{Comdat}
 use Rattle.coff_aux.specs.declared.comdat.ComdatRecord.{ComdatRecord}
-use Rattle.coff_aux.specs.declared.comdat.SectionSymbols.{SectionSymbols}
-use Rattle.coff_aux.specs.Comdats.{has_comdat, parent_said, comdat_of}
-use Rattle.coff_aux.specs.Steps.{no_symbols}
+use Rattle.coff_aux.specs.Comdats.{section_symbols_of, has_comdat, comdat_record_of, parent_said, comdat_of}
 use Rattle.module_view.specs.declared.comdat_choice.ComdatChoice.{ComdatChoice}
 use Rattle.module_view.specs.declared.definition.Definition.{Definition}
 use Rattle.module_view.specs.declared.definition.Place.TheVariants as place
@@ -67,11 +65,11 @@ abbrev pub IsChoiceBy : List Definition → Option ComdatRecord → Option ℕ �
 IsChoiceBy definitions said second choice =
     MatchOption said (choice ≡ None) (λ one. MatchOption choice ⊥ (IsChoice definitions one second))
 
--- those of sections with these records and first two symbols, each at its place
-pub record AreChoicesBy (definitions : List Definition) (records : List (Option ComdatRecord)) (symbols : List SectionSymbols) (choices : List (Option ComdatChoice)) : Type 0 where
-  pub count : length choices ≡ length records
-  pub each : (k : ℕ) → k < length records
-      → IsChoiceBy definitions (slice_index_or records k None) (slice_index_or symbols k no_symbols).second (slice_index_or choices k None)
+-- those of the sections of an object, each at its place
+pub record AreChoicesBy (bytes : List ℕ) (definitions : List Definition) (choices : List (Option ComdatChoice)) : Type 0 where
+  pub count : length choices ≡ section_total bytes
+  pub each : (k : ℕ) → k < section_total bytes
+      → IsChoiceBy definitions (comdat_record_of bytes (k + 1)) (section_symbols_of bytes (k + 1)).second (slice_index_or choices k None)
 
 -- what a section says as a COMDAT, none where it is none
 pub record SaysChoice (bytes : List ℕ) (definitions : List Definition) (section : ℕ) (choice : Option ComdatChoice) : Type 0 where

@@ -13,12 +13,6 @@ use Rattle.module_view.specs.declared.reference.Reference.{Reference}
 use Rattle.module_view.specs.declared.reference.Weak.{Weak}
 use Rattle.coff_aux.specs.AuxRecords.{WEAK_EXTERN_SEARCH_LIBRARY, first_aux, said_by, tag_in, characteristics_in}
 
--- ---- names that other modules can use
-
--- an external name: defined, undefined or weak
-abbrev pub is_external_name : SymbolView → Bool
-is_external_name symbol = (class_in symbol == SYM_CLASS_EXTERNAL) || (class_in symbol == SYM_CLASS_WEAK_EXTERNAL)
-
 -- ---- definitions
 
 -- it has a value, and stands in no section

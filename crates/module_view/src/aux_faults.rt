@@ -1,6 +1,6 @@
 //! What is wrong with the auxiliary records of an object.
 
-ghost use Rattle.std.specs.Prelude.{◌≡◌, ◌<◌, ◌^◌, [], ℕ, false, None, length, slice_index_or, option_map, IfOk, OnOk, IfErr};
+ghost use Rattle.std.specs.Prelude.{◌≡◌, ◌<◌, ◌^◌, None, length, option_map, IfOk, OnOk, IfErr};
 ghost use Rattle.link_base.specs.declared.kinds.object.ObjFault.TheVariants as kind;
 ghost use Rattle.coff_records.specs.ObjectFile.{starts_symbol, symbol_entries};
 ghost use Rattle.coff_object.specs.ObjectFaults.{object_fault, first_of};
@@ -12,11 +12,11 @@ ghost use Rattle.module_view.specs.Steps.{KeepsStarts};
 ghost use Rattle.module_view.specs.declared.error.ModuleError.TheVariants as error;
 ghost use Rattle.module_view.specs.Opening.{RefusesToOpen};
 
-use crate::comdat_choice::{ComdatChoice, choices_of};
+use crate::comdat_choice::{ComdatChoice, choices_in_order, choices_of};
 use crate::error::ModuleError;
 use crate::reference::Weak;
 use crate::symbols::SymbolLists;
-use coff_aux::{comdat_records, first_bad_weak, record_fault, section_symbols};
+use coff_aux::{comdat_fault, first_bad_weak, section_symbols};
 use coff_object::{ObjError, Object};
 use link_base::ObjFault;
 use std::alloc::Global;
@@ -46,11 +46,13 @@ pub(crate) fn judge_aux(
         return Ok(Vec::new(alloc));
     }
     let symbols = section_symbols(alloc, object)?;
-    let records = comdat_records(alloc, object, &symbols)?;
-    match record_fault(alloc, object.record_count(), &records)? {
+    if let Some(choices) = choices_in_order(alloc, object, &symbols, &lists.definitions)? {
+        return Ok(choices);
+    }
+    match comdat_fault(alloc, object, &symbols)? {
         Some(error) => Err(ModuleError::Object(error)),
         None => {
-            let choices = choices_of(alloc, &records, &symbols, &lists.definitions)?;
+            let choices = choices_of(alloc, object, &symbols, &lists.definitions)?;
             Ok(choices)
         }
     }

@@ -1,7 +1,8 @@
 //! What COMDAT sections say of themselves, as it is kept of a module, with their leaders by their places among its definitions.
 
-ghost use Rattle.std.specs.Prelude.{◌≡◌, ◌<◌, List, length, option_map, IfSome, IfOk};
-ghost use Rattle.coff_aux.specs.Comdats.{has_comdat, comdat_of};
+ghost use Rattle.std.specs.Prelude.{◌≡◌, ◌<◌, List, length, map, option_map, IfSome, IfOk};
+ghost use Rattle.coff_aux.specs.Comdats.{comdat_of};
+ghost use Rattle.coff_aux.specs.Steps.{symbol_noted, symbols_noted, all_section_symbols, StandInOrder};
 ghost use Rattle.module_view.specs.Choices.{name_defined, comdat_named, HasLeaderAmong, AscendBySymbol, IsPlaceOf, IsLeaderOf, IsChoice, AreChoicesBy, AreChoices};
 ghost use Rattle.module_view.specs.ImportModule.{module_definitions};
 ghost use Rattle.module_view.specs.Opening.{IsOpened};
@@ -9,7 +10,10 @@ ghost use Rattle.module_view.specs.declared.definition.Definition.{Definition};
 
 use crate::definition::Definition;
 use crate::input_module::{Content, Module};
-use coff_aux::{Comdat, ComdatRecord, SectionSymbols, is_section_number, parent_said};
+use coff_aux::{
+    Comdat, ComdatRecord, NO_SYMBOL, NotedSymbols, comdat_record, is_out_of_order,
+    is_section_number, parent_said,
+};
 use coff_object::Object;
 use link_base::{Memory, Name};
 use std::alloc::Global;
@@ -94,26 +98,57 @@ fn leader_name<'a>(definitions: &[Definition<'a>], leader: Option<u32>) -> Optio
 
 // ---- what is kept
 
-/// What each section says that records speak of, with the place of its leader among the definitions, which stand in the order
-/// of their symbols: no leader where the section has no second symbol, or that is not external.
+/// What each section of an object says, with the place of its leader among the definitions, which stand in the order of their
+/// symbols: no leader where the section has no second symbol, or that is not external. There is no answer where a COMDAT
+/// section lacks a symbol or a selection, or does not stand behind its parent.
+pub(crate) fn choices_in_order(
+    alloc: Global,
+    object: &Object<'_>,
+    symbols: &[NotedSymbols],
+    definitions: &[Definition<'_>],
+) -> Result<Option<Vec<Option<ComdatChoice>>>, Memory>
+    requires order { AscendBySymbol definitions.now }
+    requires noted { map symbols_noted symbols.now ≡ all_section_symbols object.now }
+    ensures choices { IfOk result (λ found. IfSome found (λ choices. AreChoicesBy object.now definitions.now choices.items)) }
+    ensures order { IfOk result (λ found. IfSome found (λ _. StandInOrder object.now)) }
+{
+    let mut choices = Vec::with_capacity(alloc, symbols.len())?;
+    let mut next = 0;
+    for index in 0..object.section_count() {
+        let noted = &symbols[index as usize];
+        match comdat_record(object, index + 1, noted.first) {
+            Some(said) => {
+                if is_out_of_order(index, &said) {
+                    return Ok(None);
+                }
+                let choice = choice_of(definitions, &said, noted.second, next);
+                next = place_after(choice.leader, next);
+                choices.push(Some(choice))?;
+            }
+            None => choices.push(None)?,
+        }
+    }
+    Ok(Some(choices))
+}
+
+/// The same in any order, with an answer for each object.
 pub(crate) fn choices_of(
     alloc: Global,
-    records: &[Option<ComdatRecord>],
-    symbols: &[SectionSymbols],
+    object: &Object<'_>,
+    symbols: &[NotedSymbols],
     definitions: &[Definition<'_>],
 ) -> Result<Vec<Option<ComdatChoice>>, Memory>
     requires order { AscendBySymbol definitions.now }
-    requires count { length symbols.now ≡ length records.now }
-    ensures { IfOk result (λ choices. AreChoicesBy definitions.now records.now symbols.now choices.items) }
+    requires noted { map symbols_noted symbols.now ≡ all_section_symbols object.now }
+    ensures { IfOk result (λ choices. AreChoicesBy object.now definitions.now choices.items) }
 {
-    let mut choices = Vec::with_capacity(alloc, records.len())?;
-    let mut next = 0;
-    for place in 0..records.len() {
-        let choice = match &records[place] {
-            Some(said) => Some(choice_of(definitions, said, symbols[place].second, next)),
+    let mut choices = Vec::with_capacity(alloc, symbols.len())?;
+    for index in 0..object.section_count() {
+        let noted = &symbols[index as usize];
+        let choice = match comdat_record(object, index + 1, noted.first) {
+            Some(said) => Some(choice_of(definitions, &said, noted.second, 0)),
             None => None,
         };
-        next = place_after(&choice, next);
         choices.push(choice)?;
     }
     Ok(choices)
@@ -123,11 +158,11 @@ pub(crate) fn choices_of(
 fn choice_of(
     definitions: &[Definition<'_>],
     said: &ComdatRecord,
-    second: Option<u32>,
+    second: u32,
     next: usize,
 ) -> ComdatChoice
     requires { AscendBySymbol definitions.now }
-    ensures { IsChoice definitions.now said.now second result }
+    ensures { IsChoice definitions.now said.now (symbol_noted second) result }
 {
     ComdatChoice {
         selection: said.selection,
@@ -136,38 +171,34 @@ fn choice_of(
     }
 }
 
-/// The place of a leader among the definitions, where it is one of them.
-fn leader_place(definitions: &[Definition<'_>], second: Option<u32>, next: usize) -> Option<u32>
+/// The place of a leader among the definitions, where it is one of them. It is looked for at the next place first, where it
+/// mostly is.
+fn leader_place(definitions: &[Definition<'_>], second: u32, next: usize) -> Option<u32>
     requires { AscendBySymbol definitions.now }
-    ensures { IsLeaderOf definitions.now second result }
+    ensures { IsLeaderOf definitions.now (symbol_noted second) result }
 {
-    match second {
-        Some(symbol) => place_of_symbol(definitions, symbol, next),
-        None => None,
+    if second == NO_SYMBOL {
+        return None;
     }
+    if next < definitions.len() && definitions[next].symbol == second {
+        return Some(next as u32);
+    }
+    place_of_symbol(definitions, second)
 }
 
 /// The place after that of the leader, or the same one where there is no leader.
-fn place_after(choice: &Option<ComdatChoice>, next: usize) -> usize {
-    match choice {
-        Some(
-            ComdatChoice {
-                leader: Some(place),
-                ..
-            },
-        ) => *place as usize + 1,
-        _ => next,
+fn place_after(leader: Option<u32>, next: usize) -> usize {
+    match leader {
+        Some(place) => place as usize + 1,
+        None => next,
     }
 }
 
-/// The place of the definition of a symbol. It is looked for at the next place first, where it mostly is.
-fn place_of_symbol(definitions: &[Definition<'_>], symbol: u32, next: usize) -> Option<u32>
+/// The place of the definition of a symbol.
+fn place_of_symbol(definitions: &[Definition<'_>], symbol: u32) -> Option<u32>
     requires { AscendBySymbol definitions.now }
     ensures { IsPlaceOf definitions.now symbol result }
 {
-    if next < definitions.len() && definitions[next].symbol == symbol {
-        return Some(next as u32);
-    }
     match definitions.binary_search_by_key(&symbol, |definition| definition.symbol) {
         Ok(place) => Some(place as u32),
         Err(_) => None,

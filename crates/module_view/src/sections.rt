@@ -1,16 +1,14 @@
 //! What one pass over the sections of an object shows.
 
-ghost use Rattle.std.specs.Prelude.{◌≡◌, ◌≤◌, true, false, None, Some, IfOk, OnOk, IfErr};
-ghost use Rattle.link_base.specs.Bytes.{has_flag};
-ghost use Rattle.link_base.specs.PeFormat.{SCN_LNK_COMDAT};
-ghost use Rattle.section_rules.specs.SoughtNames.{is_linker_section, BeginsOtherwise};
+ghost use Rattle.std.specs.Prelude.{◌≡◌, ◌≤◌, take, true, false, None, Some, IfOk, OnOk, IfErr};
+ghost use Rattle.section_rules.specs.SoughtNames.{BeginsOtherwise};
 ghost use Rattle.coff_records.specs.ObjectFile.{section_total, section_name_of, string_table};
-ghost use Rattle.coff_aux.specs.Comdats.{is_comdat, has_comdat};
+ghost use Rattle.coff_aux.specs.Comdats.{has_comdat};
 ghost use Rattle.std.specs.List.{list_any};
 ghost use Rattle.module_view.specs.ModuleDirectives.{sections_in, holds_directives};
-ghost use Rattle.module_view.specs.Resources.{holds_resources, has_resources};
+ghost use Rattle.module_view.specs.Resources.{has_resources};
 ghost use Rattle.module_view.specs.Opening.{is_long};
-ghost use Rattle.module_view.specs.Steps.{section_form};
+ghost use Rattle.module_view.specs.Steps.{section_form, Shows};
 
 use crate::directive_list::holds_directives;
 use coff_aux::is_comdat;
@@ -60,7 +58,12 @@ pub(crate) fn judge_sections(
     let mut has_directives = false;
     let mut has_resources = false;
     for index in 0..object.section_count() {
-        let form = section_form(object, texts, index + 1);
+        let number = index + 1;
+        if is_plain(object, number) {
+            has_comdat |= is_comdat(object.section_flags(number));
+            continue;
+        }
+        let form = section_form(object, texts, number);
         if form.is_linker {
             return Err(Kind::LinkerSection);
         }
@@ -79,47 +82,24 @@ pub(crate) fn judge_sections(
     })
 }
 
-/// What a section shows: of one whose name is too long no more than that. Most names stand in the section's header and begin
-/// otherwise than those that are looked for.
-fn section_form(object: &Object<'_>, texts: &LongTexts<'_>, number: u32) -> SectionForm
-    requires table { texts.now ≡ string_table object.now }
-    requires first { 1 ≤ number }
-    requires last { number ≤ section_total object.now }
-    ensures linker { result.is_linker ≡ is_linker_section (section_name_of object.now number) }
-    ensures long { result.is_long ≡ is_long (section_name_of object.now number) }
-    ensures comdat { result.is_long ≡ false → result.is_comdat ≡ is_comdat object.now number }
-    ensures directives { result.is_long ≡ false → result.holds_directives ≡ holds_directives object.now number }
-    ensures resources { result.is_long ≡ false → result.holds_resources ≡ holds_resources object.now number }
-{
-    if is_plain(object, number) {
-        return plain_form(object.section_flags(number));
-    }
-    named_form(object, texts, number)
-}
-
-/// Whether a section's name stands in its header and is none that is looked for.
+/// Whether a section's name stands in its header and is none that is looked for, as most are: its first bytes tell.
 fn is_plain(object: &Object<'_>, number: u32) -> bool
     requires first { 1 ≤ number }
     requires last { number ≤ section_total object.now }
     ensures short { result ≡ true → is_long (section_name_of object.now number) ≡ false }
     ensures otherwise { result ≡ true → BeginsOtherwise (section_name_of object.now number) }
 {
-    match object.section_short_name(number) {
-        Some(name) => !begins_sought(name),
-        None => false,
-    }
+    let field = object.section_name_field(number);
+    field[0] != b'/' && !begins_sought(field)
 }
 
-/// What a section shows, whatever its name is. One that begins otherwise than those that are looked for is not read.
-fn named_form(object: &Object<'_>, texts: &LongTexts<'_>, number: u32) -> SectionForm
+/// What a section shows, of one whose name is too long no more than that. A name that begins otherwise than those that are
+/// looked for is not read.
+fn section_form(object: &Object<'_>, texts: &LongTexts<'_>, number: u32) -> SectionForm
     requires table { texts.now ≡ string_table object.now }
     requires first { 1 ≤ number }
     requires last { number ≤ section_total object.now }
-    ensures linker { result.is_linker ≡ is_linker_section (section_name_of object.now number) }
-    ensures long { result.is_long ≡ is_long (section_name_of object.now number) }
-    ensures comdat { result.is_long ≡ false → result.is_comdat ≡ is_comdat object.now number }
-    ensures directives { result.is_long ≡ false → result.holds_directives ≡ holds_directives object.now number }
-    ensures resources { result.is_long ≡ false → result.holds_resources ≡ holds_resources object.now number }
+    ensures { Shows object.now number result }
 {
     if texts.is_long_section(object, number) {
         let name = object.section_name_start(number, LINKER_NAME_START);
@@ -132,7 +112,7 @@ fn named_form(object: &Object<'_>, texts: &LongTexts<'_>, number: u32) -> Sectio
         };
     }
     if !may_be_sought(&object.section_name_start(number, NAME_START)) {
-        return plain_form(object.section_flags(number));
+        return plain_form(object, number);
     }
     let section = object.section(number);
     SectionForm {
@@ -144,18 +124,18 @@ fn named_form(object: &Object<'_>, texts: &LongTexts<'_>, number: u32) -> Sectio
     }
 }
 
-/// What a section shows whose name is none that is looked for.
-fn plain_form(flags: u32) -> SectionForm
-    ensures linker { result.is_linker ≡ false }
-    ensures long { result.is_long ≡ false }
-    ensures comdat { result.is_comdat ≡ has_flag flags SCN_LNK_COMDAT }
-    ensures directives { result.holds_directives ≡ false }
-    ensures resources { result.holds_resources ≡ false }
+/// What a section shows whose name is not too long, and none that is looked for.
+fn plain_form(object: &Object<'_>, number: u32) -> SectionForm
+    requires first { 1 ≤ number }
+    requires last { number ≤ section_total object.now }
+    requires short { is_long (section_name_of object.now number) ≡ false }
+    requires otherwise { BeginsOtherwise (take NAME_START (section_name_of object.now number)) }
+    ensures { Shows object.now number result }
 {
     SectionForm {
         is_linker: false,
         is_long: false,
-        is_comdat: is_comdat(flags),
+        is_comdat: is_comdat(object.section_flags(number)),
         holds_directives: false,
         holds_resources: false,
     }

@@ -1,12 +1,12 @@
 //! The lists that one pass over the symbols of an object makes.
 
-ghost use Rattle.std.specs.Prelude.{◌≡◌, ◌<◌, ◌≤◌, ◌||◌, ◌++◌, ◌∷◌, [], ℕ, true, false, not, None, Some, length, slice_index_or, IfSome, IfOk, OnOk, IfErr, if◌then◌else◌};
+ghost use Rattle.std.specs.Prelude.{◌≡◌, ◌≤◌, ◌++◌, ◌∷◌, [], true, false, Some, length, is_some, IfSome, IfOk, OnOk, IfErr, if◌then◌else◌};
 ghost use Rattle.std.specs.Option.{option_copied};
 ghost use Rattle.link_base.specs.PeFormat as pe;
 ghost use Rattle.link_base.specs.declared.kinds.form.Kind.TheVariants as form;
 ghost use Rattle.coff_records.specs.ObjectFile.{name_in, starts_symbol, string_table, symbol_at};
 ghost use Rattle.coff_aux.specs.AuxRecords.{said_by, tag_in, characteristics_in};
-ghost use Rattle.module_view.specs.SymbolLists.{is_external_name, is_definition, place_of, definition_of, definitions_of, is_weak, weak_of, weaks_of, is_common, common_of, commons_of, is_undefined, is_reference, asks_for_search, reference_of, references_of};
+ghost use Rattle.module_view.specs.SymbolLists.{is_definition, place_of, definition_of, definitions_of, is_weak, weak_of, weaks_of, is_common, common_of, commons_of, is_undefined, is_reference, reference_of, references_of};
 ghost use Rattle.module_view.specs.Steps.{KeepsStarts};
 ghost use Rattle.module_view.specs.Opening.{unsupported, has_long_symbol_name, RefusesToOpen};
 
@@ -48,7 +48,7 @@ pub(crate) fn read_symbols<'a>(
     ensures accepted { OnOk result (has_long_symbol_name object.now ≡ false) }
     ensures refused { IfErr result (RefusesToOpen (unsupported (has_long_symbol_name object.now) form.LongName)) }
 {
-    let mut lists = no_lists(alloc);
+    let mut lists = no_lists(alloc, object.section_count() as usize)?;
     for (index, symbol) in object.symbols() {
         if texts.is_long_symbol(&symbol) {
             return Err(ModuleError::Unsupported(Kind::LongName));
@@ -62,23 +62,24 @@ pub(crate) fn read_symbols<'a>(
     Ok(lists)
 }
 
-/// The lists of no symbols.
-fn no_lists<'a>(alloc: Global) -> SymbolLists<'a>
-    ensures definitions { result.definitions.items ≡ [] }
-    ensures references { result.references.items ≡ [] }
-    ensures weaks { result.weaks.items ≡ [] }
-    ensures commons { result.commons.items ≡ [] }
+/// The lists of no symbols, with room for so many definitions.
+fn no_lists<'a>(alloc: Global, count: usize) -> Result<SymbolLists<'a>, Memory>
+    ensures definitions { IfOk result (λ lists. lists.definitions.items ≡ []) }
+    ensures references { IfOk result (λ lists. lists.references.items ≡ []) }
+    ensures weaks { IfOk result (λ lists. lists.weaks.items ≡ []) }
+    ensures commons { IfOk result (λ lists. lists.commons.items ≡ []) }
 {
-    SymbolLists {
-        definitions: Vec::new(alloc),
+    let definitions = Vec::with_capacity(alloc, count)?;
+    Ok(SymbolLists {
+        definitions,
         references: Vec::new(alloc),
         weaks: Vec::new(alloc),
         commons: Vec::new(alloc),
         starts: Vec::new(alloc),
-    }
+    })
 }
 
-/// Notes what a symbol is. Its name is read once, and only where its class or its section asks for it.
+/// Notes what a symbol is. Its name is read only where its class and its section ask for it.
 fn note_symbol<'a>(
     lists: &mut SymbolLists<'a>,
     object: &Object<'a>,
@@ -96,52 +97,37 @@ fn note_symbol<'a>(
     ensures commons { OnOk result (lists.new.commons.items ≡ lists.old.commons.items
         ++ (if is_common symbol.now then common_of (index, symbol.now) ∷ [] else [])) }
 {
-    if !is_external_name(symbol) {
+    if let Some(place) = definition_place(symbol) {
+        push_definition(&mut lists.definitions, index, symbol, place)?;
         return Ok(());
     }
-    let name = symbol.name();
-    push_definition(&mut lists.definitions, index, symbol, &name)?;
-    push_reference(&mut lists.references, object, index, symbol, &name)?;
-    push_weak(&mut lists.weaks, object, index, symbol, &name)?;
-    push_common(&mut lists.commons, index, symbol, &name)?;
+    if is_undefined(symbol) {
+        push_undefined(&mut lists.references, index, symbol)?;
+        return Ok(());
+    }
+    if is_common(symbol) {
+        push_common(&mut lists.commons, index, symbol)?;
+        return Ok(());
+    }
+    if is_weak(symbol) {
+        push_weak(
+            &mut lists.references,
+            &mut lists.weaks,
+            object,
+            index,
+            symbol,
+        )?;
+    }
     Ok(())
-}
-
-/// Whether a symbol is external or weak.
-fn is_external_name(symbol: &SymbolRecord<'_>) -> bool
-    ensures { result ≡ is_external_name symbol.now }
-{
-    let class = symbol.class();
-    class == SYM_CLASS_EXTERNAL || class == SYM_CLASS_WEAK_EXTERNAL
 }
 
 // ---- definitions
 
-/// Appends a symbol, where it is a definition.
-fn push_definition<'a>(
-    definitions: &mut Vec<Definition<'a>>,
-    index: u32,
-    symbol: &SymbolRecord<'a>,
-    name: &Name<'a>,
-) -> Result<(), Memory>
-    requires { name.now ≡ name_in symbol.now }
-    ensures { OnOk result (definitions.new.items ≡ definitions.old.items
-        ++ (if is_definition symbol.now then definition_of (index, symbol.now) ∷ [] else [])) }
-{
-    if let Some(place) = definition_place(symbol) {
-        definitions.push(Definition {
-            name: name.again(),
-            symbol: index,
-            place,
-        })?;
-    }
-    Ok(())
-}
-
 /// Where a symbol stands, where it is a definition.
 #[tactic(auto, unfolding(crate::specs::SymbolLists::is_definition))]
 fn definition_place(symbol: &SymbolRecord<'_>) -> Option<Place>
-    ensures { result ≡ (if is_definition symbol.now then Some (place_of symbol.now) else None) }
+    ensures some { IfSome result (λ place. place ≡ place_of symbol.now) }
+    ensures is { is_some result ≡ is_definition symbol.now }
 {
     if symbol.class() != SYM_CLASS_EXTERNAL {
         return None;
@@ -159,39 +145,25 @@ fn definition_place(symbol: &SymbolRecord<'_>) -> Option<Place>
     None
 }
 
-// ---- references
-
-/// Appends a symbol, where it is a reference.
-fn push_reference<'a>(
-    references: &mut Vec<Reference<'a>>,
-    object: &Object<'a>,
+/// Appends a definition that stands at a place.
+fn push_definition<'a>(
+    definitions: &mut Vec<Definition<'a>>,
     index: u32,
     symbol: &SymbolRecord<'a>,
-    name: &Name<'a>,
+    place: Place,
 ) -> Result<(), Memory>
-    requires start { starts_symbol object.now index ≡ true }
-    requires symbol { symbol.now ≡ symbol_at object.now index }
-    requires name { name.now ≡ name_in symbol.now }
-    ensures { OnOk result (references.new.items ≡ references.old.items
-        ++ (if is_reference symbol.now then reference_of object.now (index, symbol.now) ∷ [] else [])) }
+    requires { place ≡ place_of symbol.now }
+    ensures { OnOk result (definitions.new.items ≡ definitions.old.items ++ definition_of (index, symbol.now) ∷ []) }
 {
-    if is_reference(symbol) {
-        references.push(Reference {
-            name: name.again(),
-            symbol: index,
-            search: asks_for_search(object, index, symbol),
-        })?;
-    }
+    definitions.push(Definition {
+        name: symbol.name(),
+        symbol: index,
+        place,
+    })?;
     Ok(())
 }
 
-/// Whether a symbol is undefined, and no common, or is a weak external.
-#[tactic(auto, unfolding(crate::specs::SymbolLists::is_reference))]
-fn is_reference(symbol: &SymbolRecord<'_>) -> bool
-    ensures { result ≡ is_reference symbol.now }
-{
-    is_undefined(symbol) || is_weak(symbol)
-}
+// ---- undefined symbols
 
 /// Whether a symbol is external and undefined, and no common.
 #[tactic(auto, unfolding(crate::specs::SymbolLists::is_undefined))]
@@ -201,48 +173,59 @@ fn is_undefined(symbol: &SymbolRecord<'_>) -> bool
     symbol.class() == SYM_CLASS_EXTERNAL && symbol.section() == SYM_UNDEFINED && symbol.value() == 0
 }
 
-/// Whether libraries are searched for the name of a reference.
-#[tactic(auto, unfolding(crate::specs::SymbolLists::asks_for_search))]
-fn asks_for_search(object: &Object<'_>, index: u32, symbol: &SymbolRecord<'_>) -> bool
-    requires start { starts_symbol object.now index ≡ true }
-    requires symbol { symbol.now ≡ symbol_at object.now index }
-    ensures { result ≡ asks_for_search object.now (index, symbol.now) }
+/// Appends the reference of an undefined symbol: libraries are searched for its name.
+fn push_undefined<'a>(
+    references: &mut Vec<Reference<'a>>,
+    index: u32,
+    symbol: &SymbolRecord<'a>,
+) -> Result<(), Memory>
+    ensures { OnOk result (references.new.items ≡ references.old.items
+        ++ record { name = name_in symbol.now; symbol = index; search = true } ∷ []) }
 {
-    !is_weak(symbol)
-        || characteristics_said(first_aux(object, index, symbol.aux()))
-            == WEAK_EXTERN_SEARCH_LIBRARY
+    references.push(Reference {
+        name: symbol.name(),
+        symbol: index,
+        search: true,
+    })?;
+    Ok(())
 }
 
 // ---- weak externals
-
-/// Appends a symbol, where it is a weak external.
-fn push_weak<'a>(
-    weaks: &mut Vec<Weak<'a>>,
-    object: &Object<'a>,
-    index: u32,
-    symbol: &SymbolRecord<'a>,
-    name: &Name<'a>,
-) -> Result<(), Memory>
-    requires start { starts_symbol object.now index ≡ true }
-    requires symbol { symbol.now ≡ symbol_at object.now index }
-    requires name { name.now ≡ name_in symbol.now }
-    ensures { OnOk result (weaks.new.items ≡ weaks.old.items
-        ++ (if is_weak symbol.now then weak_of object.now (index, symbol.now) ∷ [] else [])) }
-{
-    if is_weak(symbol) {
-        weaks.push(Weak {
-            name: name.again(),
-            symbol: index,
-            tag: tag_said(first_aux(object, index, symbol.aux())),
-        })?;
-    }
-    Ok(())
-}
 
 fn is_weak(symbol: &SymbolRecord<'_>) -> bool
     ensures { result ≡ is_weak symbol.now }
 {
     symbol.class() == SYM_CLASS_WEAK_EXTERNAL
+}
+
+/// Appends a weak external, and the reference that it is.
+#[tactic(auto, unfolding(crate::specs::SymbolLists::asks_for_search))]
+fn push_weak<'a>(
+    references: &mut Vec<Reference<'a>>,
+    weaks: &mut Vec<Weak<'a>>,
+    object: &Object<'a>,
+    index: u32,
+    symbol: &SymbolRecord<'a>,
+) -> Result<(), Memory>
+    requires start { starts_symbol object.now index ≡ true }
+    requires symbol { symbol.now ≡ symbol_at object.now index }
+    requires weak { is_weak symbol.now ≡ true }
+    ensures references { OnOk result (references.new.items ≡ references.old.items ++ reference_of object.now (index, symbol.now) ∷ []) }
+    ensures weaks { OnOk result (weaks.new.items ≡ weaks.old.items ++ weak_of object.now (index, symbol.now) ∷ []) }
+{
+    let name = symbol.name();
+    let aux = first_aux(object, index, symbol.aux());
+    references.push(Reference {
+        name: name.again(),
+        symbol: index,
+        search: characteristics_said(aux) == WEAK_EXTERN_SEARCH_LIBRARY,
+    })?;
+    weaks.push(Weak {
+        name,
+        symbol: index,
+        tag: tag_said(aux),
+    })?;
+    Ok(())
 }
 
 /// The record of the symbol that a weak external means, 0 without an auxiliary record.
@@ -269,31 +252,26 @@ fn characteristics_said(aux: Option<&[u8]>) -> u32
 
 // ---- commons
 
-/// Appends a symbol, where it is a common.
-fn push_common<'a>(
-    commons: &mut Vec<Common<'a>>,
-    index: u32,
-    symbol: &SymbolRecord<'a>,
-    name: &Name<'a>,
-) -> Result<(), Memory>
-    requires { name.now ≡ name_in symbol.now }
-    ensures { OnOk result (commons.new.items ≡ commons.old.items
-        ++ (if is_common symbol.now then common_of (index, symbol.now) ∷ [] else [])) }
-{
-    if is_common(symbol) {
-        commons.push(Common {
-            name: name.again(),
-            symbol: index,
-            size: symbol.value(),
-        })?;
-    }
-    Ok(())
-}
-
 /// Whether a symbol is a common: external, in no section, and with a size as its value.
 #[tactic(auto, unfolding(crate::specs::SymbolLists::is_common))]
 fn is_common(symbol: &SymbolRecord<'_>) -> bool
     ensures { result ≡ is_common symbol.now }
 {
     symbol.class() == SYM_CLASS_EXTERNAL && symbol.section() == SYM_UNDEFINED && symbol.value() != 0
+}
+
+/// Appends a common.
+fn push_common<'a>(
+    commons: &mut Vec<Common<'a>>,
+    index: u32,
+    symbol: &SymbolRecord<'a>,
+) -> Result<(), Memory>
+    ensures { OnOk result (commons.new.items ≡ commons.old.items ++ common_of (index, symbol.now) ∷ []) }
+{
+    commons.push(Common {
+        name: symbol.name(),
+        symbol: index,
+        size: symbol.value(),
+    })?;
+    Ok(())
 }

@@ -1,13 +1,14 @@
 -- What the first bytes of a section's name tell.
 use Rattle.std.proofs.Common.{◌≡◌, ℕ, zero, suc, ◌<◌, ◌≤◌, Bool, false, ◌&&◌, ◌||◌, List, [], ◌∷◌, length, take, nat_eq, refl, sym, ap, ◌∙◌, arith}
 use Rattle.std.specs.Prelude.{codes}
+use Rattle.std.specs.List.{before_first}
 use lib.Pointwise.{pointwise}
 use Rattle.std.proofs.lemmas.List.{take-take}
 use Rattle.link_base.specs.NameText.{same_name, begins}
 use Rattle.link_base.specs.SectionName.{base_name, is_cut}
 use Rattle.coff_records.proofs.CallerLemmas.{before_first-take}
 use Rattle.section_rules.specs.SoughtNames.{is_linker_section, is_resources, BeginsOtherwise}
-use Rattle.section_rules.proofs.BaseNameLemmas.{not_begun, not_front, not_same}
+use Rattle.section_rules.proofs.BaseNameLemmas.{not_begun, not_before, not_front, not_same}
 
 -- ---- the first bytes of a name
 
@@ -46,6 +47,15 @@ otherwise_start name whole = record {
   imports = started name (codes ".id") refl whole.imports;
   relocations = started name (codes ".re") refl whole.relocations;
   resources = started name (codes ".rs") refl whole.resources;
+}
+
+-- what stands before the first byte that passes a test begins otherwise where the whole does
+pub otherwise_before : (test : ℕ → Bool) (name : List ℕ) → BeginsOtherwise name → BeginsOtherwise (before_first test name)
+otherwise_before test name whole = record {
+  directives = not_before test name (codes ".dr") whole.directives;
+  imports = not_before test name (codes ".id") whole.imports;
+  relocations = not_before test name (codes ".re") whole.relocations;
+  resources = not_before test name (codes ".rs") whole.resources;
 }
 
 pub no_linker : (name : List ℕ) → BeginsOtherwise (take 3 name) → is_linker_section name ≡ false

@@ -1,7 +1,6 @@
 //! The names of sections that are looked for, beside those of code and data.
 
-ghost use Rattle.std.specs.Prelude.{◌≡◌, ◌∷◌, [], false, codes};
-ghost use Rattle.std.specs.Str.{byte};
+ghost use Rattle.std.specs.Prelude.{◌≡◌, false, true, codes};
 ghost use Rattle.link_base.specs.NameText.{begins};
 ghost use Rattle.section_rules.specs.SoughtNames.{is_linker_section, is_resources, BeginsOtherwise};
 
@@ -46,19 +45,18 @@ pub fn may_be_sought(start: &Name<'_>) -> bool
     start.is_import() || begins_sought(start.rest())
 }
 
-/// The same of the bytes of a name, or of its first bytes.
+/// Whether the bytes of a name, or its first bytes, begin as those of one that is looked for. The second byte mostly tells.
 pub fn begins_sought(text: &[u8]) -> bool
-    ensures { result ≡ false → BeginsOtherwise text.now }
+    ensures other { result ≡ false → BeginsOtherwise text.now }
+    ensures sought { result ≡ true → BeginsOtherwise text.now → ⊥ }
 {
-    begins_so(text, b'd', b'r')
-        || begins_so(text, b'i', b'd')
-        || begins_so(text, b'r', b'e')
-        || begins_so(text, b'r', b's')
-}
-
-/// Whether a text begins with a dot and these two bytes.
-fn begins_so(text: &[u8], second: u8, third: u8) -> bool
-    ensures { result ≡ begins text.now (byte "." ∷ second ∷ third ∷ []) }
-{
-    text.len() >= NAME_START && text[0] == b'.' && text[1] == second && text[2] == third
+    if text.len() < NAME_START || text[0] != b'.' {
+        return false;
+    }
+    match text[1] {
+        b'd' => text[2] == b'r',
+        b'i' => text[2] == b'd',
+        b'r' => text[2] == b'e' || text[2] == b's',
+        _ => false,
+    }
 }

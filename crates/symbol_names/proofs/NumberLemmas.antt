@@ -158,4 +158,5 @@ pub asked_kept : (before after : List (List ℕ)) → KeepsNumbers before after 
 asked_kept before after kept asked noted is = record { named = kept _ _ is.named; search_is = is.search_is }
 
 pub records_kept : (before after : List (List ℕ)) → KeepsNumbers before after → (bytes records : List ℕ) → AreRecords before bytes records → AreRecords after bytes records
-records_kept before after kept bytes records are = λ symbol lt. kept _ _ (are symbol lt)
+records_kept before after kept bytes records are =
+    λ symbol lt. record { starts = (are symbol lt).starts; named = kept _ _ (are symbol lt).named }

@@ -1,7 +1,7 @@
 -- Names by numbers. Own.
-use Rattle.std.specs.Prelude.{◌≡◌, ◌<◌, ℕ, nat_lt, if◌then◌else◌, List, slice_get, slice_index_or, Option, Some, None}
+use Rattle.std.specs.Prelude.{◌≡◌, ◌<◌, ℕ, nat_lt, true, if◌then◌else◌, List, slice_get, slice_index_or, Option, Some, None}
 use Rattle.std.specs.List.{AllZip}
-use Rattle.coff_records.specs.ObjectFile.{symbol_name_of}
+use Rattle.coff_records.specs.ObjectFile.{starts_symbol, symbol_name_of}
 use Rattle.module_view.specs.Module.{ModuleView}
 use Rattle.module_view.specs.ImportModule.{definitions_with, module_definitions}
 use Rattle.module_view.specs.SymbolLists.{commons_of, weaks_of}
@@ -73,14 +73,20 @@ NO_NUMBER = 4294967295
 abbrev pub known_number : ℕ → Option ℕ
 known_number number = if nat_lt number NO_NUMBER then Some number else None
 
--- the symbol at a record has this name
-abbrev pub IsNamedSo : List ℕ → ℕ → List ℕ → Type 0
-IsNamedSo bytes symbol name = name ≡ symbol_name_of bytes symbol
+-- a symbol starts at a record, and has this name
+pub record IsNamedSo (bytes : List ℕ) (symbol : ℕ) (name : List ℕ) : Type 0 where
+  pub starts : starts_symbol bytes symbol ≡ true
+  pub name_is : name ≡ symbol_name_of bytes symbol
 
--- a number that is noted at a record is that of the name of its symbol
+-- a symbol starts at a record, and its name has the number
+pub record NumbersSymbol (names : List (List ℕ)) (bytes : List ℕ) (symbol number : ℕ) : Type 0 where
+  pub starts : starts_symbol bytes symbol ≡ true
+  pub named : Numbers names number (symbol_name_of bytes symbol)
+
+-- a number that is noted at a record is that of its symbol's name
 abbrev pub AreRecords : List (List ℕ) → List ℕ → List ℕ → Type 0
 AreRecords names bytes records =
-    (symbol : ℕ) → slice_index_or records symbol NO_NUMBER < NO_NUMBER → Numbers names (slice_index_or records symbol NO_NUMBER) (symbol_name_of bytes symbol)
+    (symbol : ℕ) → slice_index_or records symbol NO_NUMBER < NO_NUMBER → NumbersSymbol names bytes symbol (slice_index_or records symbol NO_NUMBER)
 
 -- ---- a module
 

@@ -1,8 +1,7 @@
 //! How names get numbers.
 
 ghost use Rattle.std.specs.Prelude.{◌≡◌, ◌<◌, ℕ, List, length, IfOk, OnOk};
-ghost use Rattle.coff_records.specs.ObjectFile.{symbol_name_of};
-ghost use Rattle.symbol_names.specs.Interning.{NO_NUMBER, Numbers, KeepsNumbers, AreRecords};
+ghost use Rattle.symbol_names.specs.Interning.{NO_NUMBER, Numbers, KeepsNumbers, AreRecords, IsNamedSo};
 
 use crate::records::{NO_NUMBER, note_record};
 use indexmap::IndexSet;
@@ -30,7 +29,7 @@ pub(crate) fn number_symbol<'a>(
 ) -> Result<u32, Memory>
     ensures kept { KeepsNumbers names.old.keys names.new.keys }
     ensures numbered { IfOk result (λ number. Numbers names.new.keys number name.now) }
-    ensures records { OnOk result ((bytes : List ℕ) → name.now ≡ symbol_name_of bytes symbol
+    ensures records { OnOk result ((bytes : List ℕ) → IsNamedSo bytes symbol name.now
         → AreRecords names.old.keys bytes records.old.items → AreRecords names.new.keys bytes records.new.items) }
 {
     let number = number_of(names, name)?;

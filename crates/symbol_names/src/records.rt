@@ -2,9 +2,8 @@
 
 ghost use Rattle.std.specs.Prelude.{◌≡◌, ◌<◌, ℕ, List, map, slice_index_or, IfOk, IfSome};
 ghost use Rattle.std.specs.List.{All};
-ghost use Rattle.coff_records.specs.ObjectFile.{symbol_name_of};
 ghost use Rattle.module_view.specs.Module.{module_at};
-ghost use Rattle.symbol_names.specs.Interning.{NO_NUMBER, Numbers, AreRecords, NotesModule, known_number};
+ghost use Rattle.symbol_names.specs.Interning.{NO_NUMBER, NumbersSymbol, AreRecords, NotesModule, known_number};
 ghost use Rattle.symbol_names.specs.Kept.{noted_view};
 
 use crate::noted::ModuleNames;
@@ -24,7 +23,7 @@ pub(crate) fn no_records(alloc: Global, count: u32) -> Result<Vec<u32>, Memory>
 
 /// Notes the number of the name of a symbol at its record.
 pub(crate) fn note_record(records: &mut Vec<u32>, symbol: u32, number: u32)
-    ensures { (names : List (List ℕ)) (bytes : List ℕ) → Numbers names number (symbol_name_of bytes symbol)
+    ensures { (names : List (List ℕ)) (bytes : List ℕ) → NumbersSymbol names bytes symbol number
         → AreRecords names bytes records.old.items → AreRecords names bytes records.new.items }
 {
     if (symbol as usize) < records.len() {
@@ -35,7 +34,7 @@ pub(crate) fn note_record(records: &mut Vec<u32>, symbol: u32, number: u32)
 /// The number of the name of a symbol, by the position of its module and its record, where one is noted.
 pub fn noted_number(modules: &[ModuleNames<'_>], module: u32, index: u32) -> Option<u32>
     ensures { IfSome result (λ number. (names : List (List ℕ)) → All (NotesModule names) modules.now
-        → Numbers names number (symbol_name_of (module_at (map noted_view modules.now) «module»).bytes index)) }
+        → NumbersSymbol names (module_at (map noted_view modules.now) «module»).bytes index number) }
 {
     match modules.get(module as usize) {
         Some(noted) => number_at(&noted.records, index),

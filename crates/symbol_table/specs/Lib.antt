@@ -7,3 +7,4 @@ pub mod Links
 pub mod AskedParts
 pub mod TableParts
 pub mod Meant
+pub mod SymbolMeaning

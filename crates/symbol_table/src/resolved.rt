@@ -1,6 +1,8 @@
 //! What names mean.
 
-ghost use Rattle.std.specs.Prelude.{◌≡◌, true};
+ghost use Rattle.std.specs.Prelude.{◌≡◌, true, IfSome};
+ghost use Rattle.std.specs.Option.{option_copied};
+ghost use Rattle.std.specs.Result.{result_ok};
 ghost use Rattle.std.specs.List.{All};
 ghost use Rattle.coff_records.specs.ObjectFile.{symbol_at, name_in};
 ghost use Rattle.module_view.specs.Module.{module_at};
@@ -10,6 +12,7 @@ ghost use Rattle.symbol_table.specs.Clash.{clash_of};
 ghost use Rattle.symbol_table.specs.Links.{end_of};
 ghost use Rattle.symbol_table.specs.Meant.{is_standing, AllStand};
 ghost use Rattle.symbol_table.specs.Resolution.{meaning_of};
+ghost use Rattle.symbol_table.specs.SymbolMeaning.{MeansSymbol};
 
 use crate::chains::{end_of, slot_of};
 use crate::link::Link;
@@ -100,6 +103,15 @@ impl<'a> ResolvedNames<'a> {
         slot_of(rest.again(), self.resolve(rest))
     }
 
+    /// What the name of the symbol at a record means, by the position of its module, where its number is noted: nothing within,
+    /// where it means nothing. No name is read.
+    pub fn noted_meaning(&self, module: u32, index: u32) -> Option<Option<&Meaning<'a>>>
+        ensures { IfSome result (λ meant. MeansSymbol self.now (module_at self.now.link.modules «module»).bytes index meant) }
+    {
+        let number = noted_number(&self.modules, module, index)?;
+        Some(meaning_in(&self.links[number as usize]))
+    }
+
     /// What the name of a symbol means, by the position of its module and its record.
     pub fn resolve_symbol(
         &self,
@@ -115,6 +127,16 @@ impl<'a> ResolvedNames<'a> {
             Some(number) => end_of(&self.links[number as usize]),
             None => self.resolve(symbol.name()),
         }
+    }
+}
+
+/// The meaning that a link says, where it says one.
+fn meaning_in<'l, 'a>(link: &'l Link<'a>) -> Option<&'l Meaning<'a>>
+    ensures { option_copied result ≡ result_ok (end_of link.now) }
+{
+    match link {
+        Link::Ends(Ok(meaning)) => Some(meaning),
+        Link::Ends(Err(_)) | Link::Leads { .. } => None,
     }
 }
 

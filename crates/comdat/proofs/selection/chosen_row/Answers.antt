@@ -8,9 +8,9 @@ use Rattle.module_view.specs.ImportModule.{module_definitions}
 use Rattle.coff_aux.specs.Parents.{AreParents, comes_back}
 use Rattle.comdat.specs.ChosenBy.{by_choices}
 use Rattle.comdat.specs.Chains.{at_chain_end}
-use Rattle.comdat.specs.Selection.{own_flag}
 use Rattle.comdat.proofs.OpenedLemmas.{ends, parents_are, flags_at_ends}
-use Rattle.comdat.proofs.RowEndLemmas.{choices_none, choices_all, group_total, parents_of_choices, no_parents, ends_here, all_chosen}
+use Rattle.comdat.proofs.OrderLemmas.{if_some}
+use Rattle.comdat.proofs.RowEndLemmas.{choices_none, choices_all, group_total, parents_of_choices, all_chosen}
 use Rattle.comdat.proofs.selection.chosen_row.Goals as goal
 
 pub returns-then-is_empty : goal.returns-then-is_empty
@@ -20,6 +20,13 @@ returns-then-is_empty c = λ chosen later is.
     let none = choices_none bytes (module_definitions c.args.«module».now) choices c.comdat_choices-choices.ensures.choices (eqb-true (length choices) 0 (sym c.is_empty.ensures ∙ c.if-is_empty.true)) in
     all_chosen bytes c.section_count-count.result (replicate c.section_count-count.result true) c.args.selected.now chosen later none c.section_count-count.ensures.count refl is
 
+pub flags_in_order-requires : goal.flags_in_order-requires
+flags_in_order-requires c =
+    let bytes = c.args.«module».now.bytes in
+    let choices = c.comdat_choices-choices.result.now in
+    let all = choices_all bytes (module_definitions c.args.«module».now) choices c.comdat_choices-choices.ensures.choices (eqb-false (length choices) 0 (sym c.is_empty.ensures ∙ c.if-is_empty.false)) in
+    omega (arith, c.requires, group_total bytes (by_choices choices) all)
+
 pub own_flags-requires : goal.own_flags-requires
 own_flags-requires c =
     let bytes = c.args.«module».now.bytes in
@@ -27,13 +34,12 @@ own_flags-requires c =
     let all = choices_all bytes (module_definitions c.args.«module».now) choices c.comdat_choices-choices.ensures.choices (eqb-false (length choices) 0 (sym c.is_empty.ensures ∙ c.if-is_empty.false)) in
     omega (arith, c.requires, group_total bytes (by_choices choices) all)
 
-pub returns-then-not-has_child : goal.returns-then-not-has_child
-returns-then-not-has_child c = λ chosen later is.
+pub returns-in-Some : goal.returns-in-Some
+returns-in-Some c = λ chosen later is.
     let bytes = c.args.«module».now.bytes in
     let choices = c.comdat_choices-choices.result.now in
     let all = choices_all bytes (module_definitions c.args.«module».now) choices c.comdat_choices-choices.ensures.choices (eqb-false (length choices) 0 (sym c.is_empty.ensures ∙ c.if-is_empty.false)) in
-    let told = c.in_ok-own.ensures.flags bytes chosen later all is in
-    (told.0 ∙ sym (ends_here bytes (own_flag chosen bytes) (no_parents bytes (by_choices choices) all (sym c.has_child.ensures ∙ c.if-not-has_child.true))), told.1)
+    if_some _ c.in-Some.is c.in_ok-in_order.ensures bytes chosen later all (ends bytes c.section_count-count.ensures.opened) is
 
 pub follow_chains-requires-clause-parents : goal.follow_chains-requires-clause-parents
 follow_chains-requires-clause-parents c =

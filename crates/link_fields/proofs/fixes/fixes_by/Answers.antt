@@ -30,7 +30,7 @@ loop-relocation-preserved c =
       fixes = λ link position are.
           fixes_more link position bytes c.loop-relocation.index before c.next.new.self c.in-Some.relocation c.loop-relocation.fixes.items c.push.new.self.items _ steps
           (c.loop-relocation.invariant.fixes link position are)
-          (c.in_ok-push.ensures.items ∙ ap (λ (fix : Fix). c.loop-relocation.fixes.items ++ fix ∷ []) (fix_read link position bytes c.args.targets.now c.loop-relocation.index c.in-Some.relocation _ are c.target_at.ensures));
+          (c.in_ok-push.ensures.items ∙ ap (λ (fix : Fix). c.loop-relocation.fixes.items ++ fix ∷ []) (fix_read link position bytes c.loop-relocation.index c.in-Some.relocation _ (c.target_at.ensures ∙ are c.in-Some.relocation.symbol)));
     }
 
 pub returns : goal.returns

@@ -1,4 +1,4 @@
-use Rattle.std.proofs.Common.{ℕ, length, refl, sym, ap, ◌∙◌, arith}
+use Rattle.std.proofs.Common.{ℕ, Option, length, refl, sym, ap, subst, ◌∙◌, arith}
 use Rattle.std.specs.List.{flat_map, range_with_len}
 use Rattle.std.proofs.lemmas.List.{length-map}
 use Rattle.section_group.specs.BarePieces.{bare}
@@ -6,13 +6,15 @@ use Rattle.link_base.specs.Refusals.{first_refusal_below}
 use Rattle.link_base.proofs.RefusalLemmas.{first_refusal_below-more}
 use Rattle.link_pieces.specs.Pieces.{link_pieces}
 use Rattle.link_fields.specs.Fixes.{piece_fault, edges_of, field_edges}
+use Rattle.link_fields.specs.Steps.{HoldsTargets}
 use Rattle.link_fields.proofs.JudgeLemmas.{read_piece, fault_read, fields_none, fields_more, edges_more, refuses_found}
 use Rattle.link_fields.proofs.judge.judge_pieces.Goals as goal
 
 pub loop-k-init : goal.loop-k-init
 unfolding first_refusal_below
 loop-k-init c = record {
-  held = tt;
+  held =
+      subst (λ (position : Option ℕ). HoldsTargets c.args.names.now position c.none-last.result.targets.items) (sym c.none-last.ensures) tt;
   fields = fields_none c.args.names.now c.in_ok-fixups.fixups.items c.in_ok-fixups.ensures.items;
   edges = c.new-edges.ensures.items;
   none = refl;

@@ -1,19 +1,15 @@
-use Rattle.std.proofs.Common.{◌≡◌, ℕ, List, Option, None, length, subst, sym, ap, ◌∙◌, arith}
-use Rattle.std.specs.Prelude.{option_map}
-use Rattle.std.proofs.lemmas.List.FromFn.{length-map-range_with_len}
-use Rattle.coff_records.specs.ObjectFile.{section_total, record_total, symbol_entries}
-use Rattle.coff_object.specs.ObjectFaults.{first_of}
+use Rattle.std.proofs.Common.{Vec, Global, Option, subst, sym, ap, ◌∙◌, arith}
+use Rattle.std.specs.Prelude.{option_map, IfSome}
 use Rattle.coff_object.proofs.CallerLemmas.{records_fit, headers_fit}
-use Rattle.coff_aux.specs.declared.comdat.ComdatRecord.{ComdatRecord}
 use Rattle.module_view.specs.declared.error.ModuleError.{ModuleError}
 use Rattle.module_view.specs.declared.error.ModuleError.TheVariants as error
-use Rattle.coff_aux.specs.AuxFaults.{is_bad_weak, aux_fault}
-use Rattle.coff_aux.specs.Comdats.{comdat_record_of}
+use Rattle.coff_aux.specs.AuxFaults.{aux_fault}
+use Rattle.coff_aux.specs.Steps.{StandInOrder}
+use Rattle.module_view.specs.declared.comdat_choice.ComdatChoice.{ComdatChoice}
 use Rattle.module_view.specs.Opening.{RefusesToOpen}
-use Rattle.coff_aux.specs.Steps.{all_comdat_records, record_fault}
-use Rattle.coff_aux.proofs.CallerLemmas.{weak_stands, fault_by_records, no_comdat_fault}
+use Rattle.coff_aux.proofs.CallerLemmas.{weak_stands, no_comdat_fault, fault_by_records, in_order_fault}
 use Rattle.module_view.specs.SymbolLists.{definitions_of}
-use Rattle.module_view.specs.Choices.{AscendBySymbol}
+use Rattle.module_view.specs.Choices.{AscendBySymbol, AreChoicesBy}
 use Rattle.module_view.proofs.DefinitionLemmas.{definitions_ascend}
 use Rattle.module_view.proofs.ChoiceLemmas.{none_kept, all_kept}
 use Rattle.module_view.proofs.aux_faults.judge_aux.Goals as goal
@@ -31,33 +27,40 @@ pub returns-then-not-any_comdat-clause-accepted : goal.returns-then-not-any_comd
 returns-then-not-any_comdat-clause-accepted c =
     no_comdat_fault c.args.object.now (sym c.requires.comdat ∙ c.if-not-any_comdat.true) (sym c.in_default.ensures)
 
-pub record_fault-requires : goal.record_fault-requires
-record_fault-requires c =
-    let bytes = c.args.object.now in
-    let count = ap (λ (xs : List (Option ComdatRecord)). length xs) (c.deref-4.ensures.value ∙ c.in_ok-records.ensures) ∙ length-map-range_with_len (comdat_record_of bytes) 1 (section_total bytes) in
-    omega (arith, count, c.record_count.ensures, records_fit bytes c.requires.sound, headers_fit bytes c.requires.sound, c.requires.short)
+pub section_symbols-requires : goal.section_symbols-requires
+section_symbols-requires c =
+    omega (arith, records_fit c.args.object.now c.requires.sound, c.requires.short)
 
--- the fault is told by the records that were read
-by_read : (bytes : List ℕ) (symbols : ℕ) (records : List (Option ComdatRecord)) → first_of (is_bad_weak bytes) (symbol_entries bytes) ≡ None → symbols ≡ record_total bytes → records ≡ all_comdat_records bytes → aux_fault bytes ≡ record_fault symbols records
-by_read bytes symbols records none count read =
-    fault_by_records bytes none
-    ∙ ap (λ (n : ℕ). record_fault n (all_comdat_records bytes)) (sym count)
-    ∙ ap (record_fault symbols) (sym read)
+pub choices_in_order-requires-clause-order : goal.choices_in_order-requires-clause-order
+choices_in_order-requires-clause-order c =
+    subst AscendBySymbol (sym (c.deref-4.ensures.value ∙ c.requires.definitions)) (definitions_ascend c.args.object.now)
 
-pub returns-in-Some-2-clause-refused : goal.returns-in-Some-2-clause-refused
-returns-in-Some-2-clause-refused c =
-    let bytes = c.args.object.now in
-    ap (option_map error.Object) (by_read bytes c.record_count.result c.deref-4.result.now (sym c.in_default.ensures) c.record_count.ensures (c.deref-4.ensures.value ∙ c.in_ok-records.ensures) ∙ sym c.in_ok-error.ensures ∙ c.in-Some-2.is)
+pub returns-in-Some-2-clause-comdats : goal.returns-in-Some-2-clause-comdats
+returns-in-Some-2-clause-comdats c =
+    let made = subst (λ (found : Option (Vec (Option ComdatChoice) Global)). IfSome found (λ choices. AreChoicesBy c.args.object.now c.deref-4.result.now choices.items)) c.in-Some-2.is c.in_ok-choices.ensures.choices in
+    all_kept c.args.object.now c.in-Some-2.choices.items c.deref-4.result.now (sym c.requires.comdat ∙ c.if-not-any_comdat.false) (c.deref-4.ensures.value ∙ c.requires.definitions) made
+
+pub returns-in-Some-2-clause-accepted : goal.returns-in-Some-2-clause-accepted
+returns-in-Some-2-clause-accepted c =
+    let ordered = subst (λ (found : Option (Vec (Option ComdatChoice) Global)). IfSome found (λ _. StandInOrder c.args.object.now)) c.in-Some-2.is c.in_ok-choices.ensures.order in
+    in_order_fault c.args.object.now ordered (sym c.in_default.ensures)
+
+pub comdat_fault-requires-clause-few : goal.comdat_fault-requires-clause-few
+comdat_fault-requires-clause-few c =
+    omega (arith, records_fit c.args.object.now c.requires.sound, headers_fit c.args.object.now c.requires.sound, c.requires.short)
+
+pub returns-in-Some-3-clause-refused : goal.returns-in-Some-3-clause-refused
+returns-in-Some-3-clause-refused c =
+    ap (option_map error.Object) (fault_by_records c.args.object.now (sym c.in_default.ensures) ∙ sym c.in_ok-error.ensures ∙ c.in-Some-3.is)
 
 pub choices_of-requires-clause-order : goal.choices_of-requires-clause-order
 choices_of-requires-clause-order c =
-    subst AscendBySymbol (sym (c.deref-in-None-3.ensures.value ∙ c.requires.definitions)) (definitions_ascend c.args.object.now)
+    subst AscendBySymbol (sym (c.deref-in-None-2.ensures.value ∙ c.requires.definitions)) (definitions_ascend c.args.object.now)
 
 pub returns-clause-comdats : goal.returns-clause-comdats
 returns-clause-comdats c =
-    all_kept c.args.object.now c.deref-in-None-2.result.now c.deref-in-None.result.now c.in_ok-choices-in-None.choices.items c.deref-in-None-3.result.now (sym c.requires.comdat ∙ c.if-not-any_comdat.false) (c.deref-in-None-2.ensures.value ∙ c.in_ok-symbols.ensures) (c.deref-in-None.ensures.value ∙ c.in_ok-records.ensures) (c.deref-in-None-3.ensures.value ∙ c.requires.definitions) c.in_ok-choices-in-None.ensures
+    all_kept c.args.object.now c.in_ok-choices-in-None.choices.items c.deref-in-None-2.result.now (sym c.requires.comdat ∙ c.if-not-any_comdat.false) (c.deref-in-None-2.ensures.value ∙ c.requires.definitions) c.in_ok-choices-in-None.ensures
 
 pub returns-clause-accepted : goal.returns-clause-accepted
 returns-clause-accepted c =
-    let bytes = c.args.object.now in
-    by_read bytes c.record_count.result c.deref-4.result.now (sym c.in_default.ensures) c.record_count.ensures (c.deref-4.ensures.value ∙ c.in_ok-records.ensures) ∙ sym c.in_ok-error.ensures ∙ c.in-None.is
+    fault_by_records c.args.object.now (sym c.in_default.ensures) ∙ sym c.in_ok-error.ensures ∙ c.in-None.is

@@ -1,18 +1,18 @@
-use Rattle.std.proofs.Common.{take, sym, ◌∙◌}
-use Rattle.coff_records.specs.ObjectFile.{section_name_of}
-use Rattle.section_rules.specs.SoughtNames.{BeginsOtherwise}
-use Rattle.section_rules.proofs.SoughtLemmas.{otherwise_start, no_linker, no_resources}
+use Rattle.std.proofs.Common.{sym, ap, subst, ◌∙◌, lit≤}
+use Rattle.std.proofs.lemmas.Bool.{false≢true}
+use Rattle.section_rules.specs.SoughtNames.{is_linker_section, BeginsOtherwise}
+use Rattle.section_rules.proofs.SoughtLemmas.{is_linker_section-take}
 use Rattle.module_view.proofs.sections.section_form.Goals as goal
 
--- the name is none that is looked for
-otherwise : (c : goal.After-plain_form) → BeginsOtherwise (take 3 (section_name_of c.args.object.now c.args.number))
-otherwise c =
-    otherwise_start (section_name_of c.args.object.now c.args.number) (c.is_plain.ensures.otherwise c.if-is_plain.true)
+pub returns-then-is_long_section : goal.returns-then-is_long_section
+returns-then-is_long_section c = record {
+  linker = c.is_linker_section.ensures ∙ ap is_linker_section c.section_name_start-name.ensures ∙ is_linker_section-take 7 _ (lit≤ tt);
+  long = sym c.if-is_long_section.true ∙ c.is_long_section.ensures;
+  comdat = λ short. absurd (false≢true (sym short));
+  directives = λ short. absurd (false≢true (sym short));
+  resources = λ short. absurd (false≢true (sym short));
+}
 
-pub returns-then-is_plain-clause-linker : goal.returns-then-is_plain-clause-linker
-returns-then-is_plain-clause-linker c =
-    c.plain_form.ensures.linker ∙ sym (no_linker (section_name_of c.args.object.now c.args.number) (otherwise c))
-
-pub returns-then-is_plain-clause-resources : goal.returns-then-is_plain-clause-resources
-returns-then-is_plain-clause-resources c short =
-    c.plain_form.ensures.resources ∙ sym (no_resources (section_name_of c.args.object.now c.args.number) (otherwise c))
+pub plain_form-requires-clause-otherwise : goal.plain_form-requires-clause-otherwise
+plain_form-requires-clause-otherwise c =
+    subst BeginsOtherwise c.section_name_start.ensures (c.may_be_sought.ensures c.if-not-may_be_sought.true)

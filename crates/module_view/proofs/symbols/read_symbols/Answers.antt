@@ -30,10 +30,10 @@ loop-index-init c =
       ends = tt;
       left = symbols_left-all bytes entries all;
       long = ap (list_any (λ (entry : SymbolEntry). is_long (name_in entry.1))) all;
-      definitions = ap (λ (ds : List Definition). ds ++ definitions_in entries) c.no_lists-lists.ensures.definitions ∙ ap definitions_in all;
-      references = ap (λ (rs : List Reference). rs ++ map (reference_of bytes) (filter refers entries)) c.no_lists-lists.ensures.references ∙ ap (λ (es : List SymbolEntry). map (reference_of bytes) (filter refers es)) all;
-      weaks = ap (λ (ws : List Weak). ws ++ map (weak_of bytes) (filter weak_entry entries)) c.no_lists-lists.ensures.weaks ∙ ap (λ (es : List SymbolEntry). map (weak_of bytes) (filter weak_entry es)) all;
-      commons = ap (λ (cs : List Common). cs ++ commons_in entries) c.no_lists-lists.ensures.commons ∙ ap commons_in all;
+      definitions = ap (λ (ds : List Definition). ds ++ definitions_in entries) c.in_ok-lists.ensures.definitions ∙ ap definitions_in all;
+      references = ap (λ (rs : List Reference). rs ++ map (reference_of bytes) (filter refers entries)) c.in_ok-lists.ensures.references ∙ ap (λ (es : List SymbolEntry). map (reference_of bytes) (filter refers es)) all;
+      weaks = ap (λ (ws : List Weak). ws ++ map (weak_of bytes) (filter weak_entry entries)) c.in_ok-lists.ensures.weaks ∙ ap (λ (es : List SymbolEntry). map (weak_of bytes) (filter weak_entry es)) all;
+      commons = ap (λ (cs : List Common). cs ++ commons_in entries) c.in_ok-lists.ensures.commons ∙ ap commons_in all;
     }
 
 pub is_long_symbol-requires : goal.is_long_symbol-requires

@@ -17,7 +17,7 @@ pub index-requires : goal.index-requires
 index-requires c =
     let names = c.self.inside.names.keys in
     let number = c.in-Some.number in
-    let numbered = c.in-Some.ensures names (subst (All (NotesModule names)) (sym c.deref.ensures.value) c.self.invariant.whole.modules.noted) in
+    let numbered = (c.in-Some.ensures names (subst (All (NotesModule names)) (sym c.deref.ensures.value) c.self.invariant.whole.modules.noted)).named in
     omega (arith, number_within names number _ numbered, c.self.invariant.meant.long)
 
 pub returns-in-Some-clause-meaning : goal.returns-in-Some-clause-meaning
@@ -31,7 +31,7 @@ returns-in-Some-clause-meaning c =
     let name = symbol_name_of (module_at (map noted_view kept) position).bytes index in
     let numbered : Numbers names number name =
     subst (λ (ms : List ModuleNames). Numbers names number (symbol_name_of (module_at (map noted_view ms) position).bytes index)) c.deref.ensures.value
-    (c.in-Some.ensures names (subst (All (NotesModule names)) (sym c.deref.ensures.value) c.self.invariant.whole.modules.noted)) in
+    (c.in-Some.ensures names (subst (All (NotesModule names)) (sym c.deref.ensures.value) c.self.invariant.whole.modules.noted)).named in
     c.end_of.ensures ∙ ap end_of (get_or_read c.self.inside.links.items number c.index.result.now (omega (arith, number_within names number name numbered, c.self.invariant.meant.long)) c.index.ensures no_link)
     ∙ sym (settles_means (link_view c.self.inside.given kept) chosen name _ (c.self.invariant.meant.each number name numbered))
     ∙ ap (λ (v : ResolvedView). meaning_of v.link v.chosen (symbol_name_of (module_at v.link.modules position).bytes index)) c.self.view_is
