@@ -9,7 +9,7 @@ ghost use Rattle.address_fields.specs.AddressFields.{base_field, Fits, fields_of
 use base_reloc::BaseField;
 use link_base::Memory;
 use link_base::pe_format::REL_AMD64_ADDR64;
-use relocate::{Fix, Fixups, is_based};
+use relocate::{Fix, Fixups, PackedFix, is_based};
 use section_group::OutSection;
 use std::alloc::Global;
 
@@ -23,7 +23,7 @@ pub fn hold_address(fixes: &[Fixups]) -> bool
 fn holds_address(fixups: &Fixups) -> bool
     ensures { result ≡ list_any is_based fixups.now }
 {
-    fixups.fixes().iter().any(|fix| is_based(fix))
+    fixups.fixes().iter().any(|fix| is_based(&fix.unpacked()))
 }
 
 /// The fields that hold addresses, section by section and piece by piece. `rvas` and `fixes` have the RVA and the fields of
@@ -66,12 +66,12 @@ fn push_section_fields(
 }
 
 /// Appends those of a piece at an RVA.
-fn push_fields(fields: &mut Vec<BaseField>, rva: u32, fixes: &[Fix]) -> Result<(), Memory>
+fn push_fields(fields: &mut Vec<BaseField>, rva: u32, fixes: &[PackedFix]) -> Result<(), Memory>
     requires { All (λ fix. rva + fix.at < 2 ^ 32) fixes.now }
     ensures { OnOk result (fields.new.items ≡ fields.old.items ++ fields_of rva fixes.now) }
 {
     for fix in fixes {
-        push_field(fields, rva, fix)?;
+        push_field(fields, rva, &fix.unpacked())?;
     }
     Ok(())
 }

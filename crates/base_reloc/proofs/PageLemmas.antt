@@ -227,10 +227,10 @@ pub block_is_written : (fields : List BaseField) (d : BaseField) (page : ℕ) �
 block_is_written [] d page some e = absurd (omega arith)
 block_is_written (field ∷ others) d page some e = ap (λ (k : ℕ). block_bytes k (block_words (field ∷ others))) e
 
-flat : (old page size entries filler : List ℕ) → ((old ++ (page ++ (size ++ []))) ++ entries) ++ filler ≡ old ++ (page ++ (size ++ (entries ++ filler)))
-flat old page size entries filler = simp (append_assoc, append-nil)
+flat : (old page size entries filler : List ℕ) → (((old ++ page) ++ size) ++ entries) ++ filler ≡ old ++ (page ++ (size ++ (entries ++ filler)))
+flat old page size entries filler = simp append_assoc
 
-pub block_written : (old new : List ℕ) (fields : List BaseField) (d : BaseField) (page : ℕ) → 0 < length fields → page ≡ page_of (get_or fields 0 d) → new ≡ old ++ (number_bytes 4 page ++ (number_bytes 4 (8 + 2 * (length fields + length fields % 2)) ++ [])) → (new ++ flat_map (number_bytes 2) (map entry_word fields)) ++ flat_map (number_bytes 2) (filler_words (length fields)) ≡ old ++ block_of fields
+pub block_written : (old new : List ℕ) (fields : List BaseField) (d : BaseField) (page : ℕ) → 0 < length fields → page ≡ page_of (get_or fields 0 d) → new ≡ (old ++ number_bytes 4 page) ++ number_bytes 4 (8 + 2 * (length fields + length fields % 2)) → (new ++ flat_map (number_bytes 2) (map entry_word fields)) ++ flat_map (number_bytes 2) (filler_words (length fields)) ≡ old ++ block_of fields
 unfolding block_bytes block_words
 block_written old new fields d page some e is =
     let size : ℕ = 8 + 2 * (length fields + length fields % 2) in

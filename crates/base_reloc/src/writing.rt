@@ -7,8 +7,8 @@ ghost use Rattle.base_reloc.specs.PageBlocks.{IsAscending, page_of, entry_word, 
 
 use crate::field::BaseField;
 use crate::format::BLOCK_HEADER_LEN;
+use link_base::Memory;
 use link_base::pe_format::{PAGE_SIZE, REL_BASED_ABSOLUTE, REL_BASED_DIR64, REL_BASED_HIGHLOW};
-use link_base::{LeNumber, Memory, push_fields};
 use std::alloc::Global;
 
 /// The blocks that list the fields: one for each page that has a field, with its entries in the order of the fields, and
@@ -58,13 +58,8 @@ fn push_block(table: &mut Vec<u8>, fields: &[BaseField]) -> Result<(), Memory>
 {
     let count = fields.len() + fields.len() % 2;
     let size = BLOCK_HEADER_LEN + 2 * count;
-    push_fields(
-        table,
-        &[
-            LeNumber::U32(page_of(fields[0])),
-            LeNumber::U32(size as u32),
-        ],
-    )?;
+    push_number(table, page_of(fields[0]))?;
+    push_number(table, size as u32)?;
     push_entries(table, fields)?;
     push_filler(table, fields.len())
 }
@@ -74,17 +69,26 @@ fn push_entries(table: &mut Vec<u8>, fields: &[BaseField]) -> Result<(), Memory>
     ensures { OnOk result (table.new.items ≡ table.old.items ++ flat_map (number_bytes 2) (map entry_word fields.now)) }
 {
     for field in fields {
-        push_entry(table, *field)?;
+        push_word(table, entry_word(*field))?;
     }
     Ok(())
 }
 
-/// Appends the entry of a field, as one slice of its two bytes.
+/// Appends a number of four bytes.
 #[tactic(auto, unfolding(link_base::specs::Bytes::number_bytes))]
-fn push_entry(table: &mut Vec<u8>, field: BaseField) -> Result<(), Memory>
-    ensures { OnOk result (table.new.items ≡ table.old.items ++ number_bytes 2 (entry_word field)) }
+fn push_number(table: &mut Vec<u8>, number: u32) -> Result<(), Memory>
+    ensures { OnOk result (table.new.items ≡ table.old.items ++ number_bytes 4 number) }
 {
-    table.extend_from_slice(&entry_word(field).to_le_bytes())?;
+    table.extend_from_slice(&number.to_le_bytes())?;
+    Ok(())
+}
+
+/// Appends an entry, a number of two bytes.
+#[tactic(auto, unfolding(link_base::specs::Bytes::number_bytes))]
+fn push_word(table: &mut Vec<u8>, word: u16) -> Result<(), Memory>
+    ensures { OnOk result (table.new.items ≡ table.old.items ++ number_bytes 2 word) }
+{
+    table.extend_from_slice(&word.to_le_bytes())?;
     Ok(())
 }
 
@@ -107,8 +111,5 @@ fn push_filler(table: &mut Vec<u8>, count: usize) -> Result<(), Memory>
     if count % 2 == 0 {
         return Ok(());
     }
-    push_fields(
-        table,
-        &[LeNumber::U16(REL_BASED_ABSOLUTE * PAGE_SIZE as u16)],
-    )
+    push_word(table, REL_BASED_ABSOLUTE * PAGE_SIZE as u16)
 }

@@ -9,7 +9,7 @@ ghost use Rattle.icf.specs.Owners.{owner_at};
 use crate::candidate::FoldCandidate;
 use crate::field::{Field, Owner, Place};
 use link_base::Memory;
-use relocate::{Fix, Fixups, Target};
+use relocate::{Fix, Fixups, PackedFix, Target};
 use std::alloc::Global;
 
 /// The fields of each candidate.
@@ -55,19 +55,26 @@ fn add_fields(
     fields: &mut Vec<Field>,
     owners: &[Option<Owner>],
     rank: usize,
-    fixes: &[Fix],
+    fixes: &[PackedFix],
 ) -> Result<(), Memory>
     ensures { OnOk result (fields.new.items ≡ fields.old.items ++ map (field_in owners.now rank) fixes.now) }
 {
     for fix in fixes {
-        fields.push(Field {
-            rank,
-            at: fix.at,
-            kind: fix.kind,
-            place: place_in(owners, fix),
-        })?;
+        fields.push(field_in(owners, rank, &fix.unpacked()))?;
     }
     Ok(())
+}
+
+/// The field of a relocation of a section.
+fn field_in(owners: &[Option<Owner>], rank: usize, fix: &Fix) -> Field
+    ensures { result ≡ field_in owners.now rank fix.now }
+{
+    Field {
+        rank,
+        at: fix.at,
+        kind: fix.kind,
+        place: place_in(owners, fix),
+    }
 }
 
 /// What a field's symbol means, which is known.

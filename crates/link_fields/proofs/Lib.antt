@@ -7,3 +7,4 @@ pub mod StandingLemmas
 pub mod ListLemmas
 pub mod PlaceLemmas
 pub mod PdataLemmas
+pub mod EdgeLemmas

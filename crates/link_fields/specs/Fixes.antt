@@ -1,6 +1,6 @@
 -- The relocations of the pieces of a link, each with what its symbol means, the first that has a fault, and what they lead to.
 -- Own.
-use Rattle.std.specs.Prelude.{◌≡◌, ℕ, ◌+◌, ◌-◌, ◌<◌, ◌==◌, nat_lt, Bool, if◌then◌else◌, List, [], ◌∷◌, length, filter_map, slice_index_or, Option, Some, None, option_map, option_and_then}
+use Rattle.std.specs.Prelude.{◌≡◌, ℕ, ◌+◌, ◌-◌, ◌<◌, ◌==◌, nat_lt, Bool, if◌then◌else◌, List, [], ◌∷◌, length, filter_map, slice_index_or, Contains, Option, Some, None, option_map, option_and_then}
 use Rattle.std.specs.List.{range_with_len, flat_map}
 use Rattle.link_base.specs.Refusals.{first_refusal_below}
 use Rattle.link_base.specs.declared.fault.Fault.{Fault}
@@ -137,3 +137,8 @@ edges_of link k = edges_by k (piece_fixes link k)
 
 unfoldable pub field_edges : LinkParts → List (ℕ × ℕ)
 field_edges link = flat_map (edges_of link) (range_with_len 0 (length (link_pieces link)))
+
+-- the same pairs stand in both lists, in whatever order and however often
+pub record HasSameEdges (edges list : List (ℕ × ℕ)) : Type 0 where
+  pub there : (edge : ℕ × ℕ) → Contains edges edge → Contains list edge
+  pub only : (edge : ℕ × ℕ) → Contains list edge → Contains edges edge

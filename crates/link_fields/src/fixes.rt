@@ -1,9 +1,8 @@
 //! The relocations of pieces, each with what its symbol means.
 
-ghost use Rattle.std.specs.Prelude.{◌≡◌, ◌≤◌, ℕ, Some, None, IfOk, OnOk, slice_index_or};
+ghost use Rattle.std.specs.Prelude.{◌≡◌, ◌≤◌, Some, None, IfOk, OnOk, slice_index_or};
 ghost use Rattle.coff_records.specs.ObjectFile.{section_total};
 ghost use Rattle.module_view.specs.Module.{module_at};
-ghost use Rattle.link_pieces.specs.LinkParts.{LinkParts};
 ghost use Rattle.link_pieces.specs.PieceIndex.{IsPieceIndex};
 ghost use Rattle.link_fields.specs.Targets.{record_target, AreTargets};
 ghost use Rattle.link_fields.specs.Fixes.{section_fixes, linker_fixes};
@@ -13,7 +12,7 @@ use crate::targets::{RecordTarget, import_target, meant_target, noted_target, re
 use coff_object::Object;
 use link_base::Memory;
 use link_pieces::{LinkNames, PieceIndex};
-use relocate::Fix;
+use relocate::{Fix, PackedFix};
 use std::alloc::Global;
 use synthetic_sections::{FIRST_LOCAL_SLOT, FIRST_THUNK, slot_field, thunk_field};
 
@@ -39,7 +38,7 @@ impl LastTargets {
     }
 
     /// Whether to look up so many more relocations of the module at a position by names: its symbols, whose records are so many,
-    /// were not read, and the relocations looked up are at most half of these. Then reading all symbols would take longer.
+    /// were not read, and the relocations looked up are no more than these. Then reading all symbols would take longer.
     fn are_few(&mut self, position: u32, count: u32, records: u32) -> bool
         ensures position { self.new.position ≡ self.old.position }
         ensures targets { self.new.targets ≡ self.old.targets }
@@ -51,7 +50,7 @@ impl LastTargets {
         let before = if counted == position { before } else { 0 };
         let looked_up = count.saturating_add(before);
         self.by_names = (position, looked_up);
-        looked_up <= records / 2
+        looked_up <= records
     }
 }
 
@@ -64,7 +63,7 @@ pub(crate) fn section_fixes<'a>(
     object: &Object<'a>,
     position: u32,
     section: u32,
-) -> Result<Vec<Fix>, Memory>
+) -> Result<Vec<PackedFix>, Memory>
     requires indexed { IsPieceIndex names.now index.now }
     requires held { HoldsTargets names.now last.old.position last.old.targets.items }
     requires here { object.now ≡ (module_at names.now.modules position).bytes }
@@ -77,44 +76,40 @@ pub(crate) fn section_fixes<'a>(
     if count == 0 {
         return Ok(Vec::new(alloc));
     }
-    if last.are_few(position, count, object.record_count()) {
-        return fixes_by_names(alloc, last, names, index, object, position, section);
+    read_unless_few(last, names, index, object, position, count)?;
+    let mut fixes = Vec::with_capacity(alloc, count as usize)?;
+    let mut number = 0;
+    for relocation in object.relocations(section) {
+        let target = record_target(last, names, index, object, position, relocation.symbol)?;
+        fixes.push(PackedFix::new(Fix {
+            index: number,
+            at: relocation.at,
+            kind: relocation.kind,
+            target,
+        }))?;
+        number += 1;
     }
-    read_last(last, names, index, object, position)?;
-    fixes_by(alloc, object, section, &last.targets)
+    Ok(fixes)
 }
 
-/// The relocations of a section of the module at a position, each looked up by the name of its symbol.
-fn fixes_by_names<'a>(
-    alloc: Global,
+/// Reads what the symbols of the module at a position mean, unless so many more relocations are looked up by names.
+fn read_unless_few<'a>(
     last: &mut LastTargets,
     names: &LinkNames<'a>,
     index: &PieceIndex<'a>,
     object: &Object<'a>,
     position: u32,
-    section: u32,
-) -> Result<Vec<Fix>, Memory>
+    count: u32,
+) -> Result<(), Memory>
     requires indexed { IsPieceIndex names.now index.now }
     requires held { HoldsTargets names.now last.old.position last.old.targets.items }
     requires here { object.now ≡ (module_at names.now.modules position).bytes }
-    requires first { 1 ≤ section }
-    requires last { section ≤ section_total object.now }
-    ensures fixes { IfOk result (λ fixes. fixes.items ≡ section_fixes names.now position object.now section) }
-    ensures held { OnOk result (HoldsTargets names.now last.new.position last.new.targets.items) }
+    ensures { OnOk result (HoldsTargets names.now last.new.position last.new.targets.items) }
 {
-    let mut fixes = Vec::with_capacity(alloc, object.relocation_count(section) as usize)?;
-    let mut number = 0;
-    for relocation in object.relocations(section) {
-        let target = record_target(last, names, index, object, position, relocation.symbol)?;
-        fixes.push(Fix {
-            index: number,
-            at: relocation.at,
-            kind: relocation.kind,
-            target,
-        })?;
-        number += 1;
+    if last.are_few(position, count, object.record_count()) {
+        return Ok(());
     }
-    Ok(fixes)
+    read_last(last, names, index, object, position)
 }
 
 /// What a record of the module at a position means. All symbols of the module are read where it is not noted of this one.
@@ -132,6 +127,9 @@ fn record_target<'a>(
     ensures target { IfOk result (λ target. target ≡ record_target names.now position object.now at) }
     ensures held { OnOk result (HoldsTargets names.now last.new.position last.new.targets.items) }
 {
+    if last.position == Some(position) {
+        return Ok(*target_at(&last.targets, at));
+    }
     if let Some(target) = noted_target(names, index, object, position, at) {
         return Ok(Some(target));
     }
@@ -146,7 +144,7 @@ pub(crate) fn linker_fixes<'a>(
     names: &LinkNames<'a>,
     index: &PieceIndex<'a>,
     number: u32,
-) -> Result<Vec<Fix>, Memory>
+) -> Result<Vec<PackedFix>, Memory>
     requires indexed { IsPieceIndex names.now index.now }
     ensures { IfOk result (λ fixes. fixes.items ≡ linker_fixes names.now number) }
 {
@@ -155,10 +153,10 @@ pub(crate) fn linker_fixes<'a>(
     }
     if number < FIRST_LOCAL_SLOT {
         let target = import_target(index, number - FIRST_THUNK);
-        return Ok(vec![in alloc; thunk_field(target)]?);
+        return Ok(vec![in alloc; PackedFix::new(thunk_field(target))]?);
     }
     let meaning = names.resolve(index.slot_name(number));
-    Ok(vec![in alloc; slot_field(meant_target(index, meaning))]?)
+    Ok(vec![in alloc; PackedFix::new(slot_field(meant_target(index, meaning)))]?)
 }
 
 /// Reads what the symbols of the module at a position mean, where that was not read last.
@@ -180,32 +178,6 @@ fn read_last<'a>(
         last.position = Some(position);
     }
     Ok(())
-}
-
-/// The relocations of a section, by what the symbols of its module mean.
-fn fixes_by(
-    alloc: Global,
-    object: &Object<'_>,
-    section: u32,
-    targets: &[RecordTarget],
-) -> Result<Vec<Fix>, Memory>
-    requires first { 1 ≤ section }
-    requires last { section ≤ section_total object.now }
-    ensures { IfOk result (λ fixes. (link : LinkParts) (position : ℕ) → AreTargets link position object.now targets.now
-        → fixes.items ≡ section_fixes link position object.now section) }
-{
-    let mut fixes = Vec::with_capacity(alloc, object.relocation_count(section) as usize)?;
-    let mut index = 0;
-    for relocation in object.relocations(section) {
-        fixes.push(Fix {
-            index,
-            at: relocation.at,
-            kind: relocation.kind,
-            target: *target_at(targets, relocation.symbol),
-        })?;
-        index += 1;
-    }
-    Ok(fixes)
 }
 
 /// What a list says that a record means.

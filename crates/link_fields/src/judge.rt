@@ -10,16 +10,16 @@ ghost use Rattle.relocate.specs.Judged.{AreTheFields, ArePatchable, len_of};
 ghost use Rattle.link_pieces.specs.Pieces.{link_pieces, link_contents, IsPieceOf};
 ghost use Rattle.link_pieces.specs.PieceIndex.{IsPieceIndex};
 ghost use Rattle.link_fields.specs.Pdata.{is_pdata};
-ghost use Rattle.link_fields.specs.Fixes.{judged_fault, refused_at, fixes_in, fixes_fault, field_edges, len_if, HaveFields};
+ghost use Rattle.link_fields.specs.Fixes.{judged_fault, refused_at, fixes_in, fixes_fault, field_edges, len_if, HaveFields, HasSameEdges};
 ghost use Rattle.link_fields.specs.Steps.{HoldsTargets};
 
-use crate::edges::push_edges;
+use crate::edges::{Edges, push_edges};
 use crate::fixes::{LastTargets, linker_fixes, section_fixes};
 use crate::pdata::is_pdata;
 use link_base::{Fault, Memory, Refusal};
 use link_pieces::{FIRST_COMMON, LinkNames, PieceIndex, TABLES};
 use module_view::Module;
-use relocate::{FieldError, Fix, Fixups, check_list};
+use relocate::{FieldError, Fixups, PackedFix, check_list};
 use section_group::Piece;
 use std::alloc::Global;
 
@@ -28,7 +28,7 @@ use std::alloc::Global;
 pub struct JudgedFixes {
     /// Those of each piece.
     pub fixups: Vec<Fixups>,
-    /// For each field in a piece that means another piece or an import, the piece and what it means.
+    /// For the fields in a piece that mean another piece or an import, the piece and what they mean: each pair at least once.
     pub edges: Vec<(u32, u32)>,
 }
 
@@ -47,12 +47,12 @@ pub fn judge_pieces<'a>(
     requires contents { map piece_contents pieces.now ≡ link_contents names.now }
     requires few { length pieces.now < 2 ^ 31 }
     ensures fields { IfOk result (λ fixes. HaveFields names.now (length pieces.now) fixes.fixups.items) }
-    ensures edges { IfOk result (λ fixes. fixes.edges.items ≡ field_edges names.now) }
+    ensures edges { IfOk result (λ fixes. HasSameEdges (field_edges names.now) fixes.edges.items) }
     ensures accepted { OnOk result (fixes_fault names.now large ≡ None) }
     ensures refused { IfErr result (RefusesFor (fixes_fault names.now large)) }
 {
     let mut fixups = Vec::with_capacity(alloc, pieces.len() + TABLES)?;
-    let mut edges = Vec::new(alloc);
+    let mut edges = Edges::none(alloc, pieces.len() + modules.len())?;
     let mut last = LastTargets::none(alloc);
     for k in 0..pieces.len() {
         let piece = &pieces[k];
@@ -63,7 +63,10 @@ pub fn judge_pieces<'a>(
             Err(error) => return Err(refusal(piece, error)),
         }
     }
-    Ok(JudgedFixes { fixups, edges })
+    Ok(JudgedFixes {
+        fixups,
+        edges: edges.list,
+    })
 }
 
 /// Appends the fields of a piece.
@@ -82,7 +85,7 @@ fn read_fixes<'a>(
     index: &PieceIndex<'a>,
     modules: &[Module<'a>],
     piece: &Piece<'a>,
-) -> Result<Vec<Fix>, Memory>
+) -> Result<Vec<PackedFix>, Memory>
     requires same { names.now.modules ≡ modules.now }
     requires indexed { IsPieceIndex names.now index.now }
     requires held { HoldsTargets names.now last.old.position last.old.targets.items }
@@ -114,7 +117,7 @@ fn read_fixes<'a>(
 fn judge(
     alloc: Global,
     piece: &Piece<'_>,
-    fixes: Vec<Fix>,
+    fixes: Vec<PackedFix>,
     large: bool,
 ) -> Result<Fixups, FieldError>
     ensures fields { IfOk result (λ fixups. AreTheFields fixes.items fixups) }

@@ -1,21 +1,36 @@
 -- What is kept, as paths say it.
 use Rattle.std.proofs.Common.{◌≡◌, ℕ, zero, suc, ◌<◌, Bool, true, false, List, length, get_or, replicate, Some, inl, inr, refl, sym, ap, subst, ◌∙◌, arith}
-use Rattle.std.specs.List.{slice_get}
+use Rattle.std.specs.List.{Contains, slice_get}
 use Rattle.std.proofs.lemmas.Bool.{cases_lt, false≢true}
 use Rattle.std.proofs.lemmas.List.{get_or_past, length-replicate, ext_get_or}
 use Rattle.std.proofs.lemmas.Option.{get_or_from_slice_get, slice_get-get_or}
 use Rattle.reach.specs.Paths.{IsKept}
 use Rattle.link_words.specs.Outcome.{LinkOptions}
 use Rattle.link_pieces.specs.LinkParts.{LinkParts}
+use Rattle.link_fields.specs.Fixes.{HasSameEdges}
 use Rattle.link_pieces.specs.TablePieces.{KeptParts}
 use Rattle.link_folding.specs.Places.{standing}
 use Rattle.link_keeping.specs.Reach.{node_count, link_edges, link_roots, drops, IsToKeep, AreKept}
 use Rattle.link_keeping.specs.Standing.{FoldsTo, AreStanding}
 use Rattle.link_keeping.proofs.StandingLemmas.{one_places}
 
+-- the same pairs lead along the same paths
+kept_by_same : (count : ℕ) (from to : List (ℕ × ℕ)) (roots : List ℕ) (node : ℕ) → ((edge : ℕ × ℕ) → Contains from edge → Contains to edge) → IsKept count from roots node → IsKept count to roots node
+kept_by_same count from to roots node all kept = record {
+  path = kept.path;
+  is_path = record {
+    of_pieces = kept.is_path.of_pieces;
+    led = λ k d lt. all _ (kept.is_path.led k d lt);
+  };
+  root = kept.root;
+  is_root = kept.is_root;
+  first = kept.first;
+  last = kept.last;
+}
+
 -- where unreferenced sections are dropped
-pub reached : (options : LinkOptions) (link : LinkParts) (kept : List Bool) (count : ℕ) (edges : List (ℕ × ℕ)) (roots : List ℕ) → drops options ≡ true → count ≡ node_count link → edges ≡ link_edges link → roots ≡ link_roots options link → length kept ≡ count → ((node : ℕ) → IsKept count edges roots node → slice_get kept node ≡ Some true) → ((node : ℕ) → slice_get kept node ≡ Some true → IsKept count edges roots node) → AreKept options link kept
-reached options link kept count edges roots dropped counted edges_are roots_are long all only = record {
+pub reached : (options : LinkOptions) (link : LinkParts) (kept : List Bool) (count : ℕ) (edges : List (ℕ × ℕ)) (roots : List ℕ) → drops options ≡ true → count ≡ node_count link → HasSameEdges (link_edges link) edges → roots ≡ link_roots options link → length kept ≡ count → ((node : ℕ) → IsKept count edges roots node → slice_get kept node ≡ Some true) → ((node : ℕ) → slice_get kept node ≡ Some true → IsKept count edges roots node) → AreKept options link kept
+reached options link kept count edges roots dropped counted same roots_are long all only = record {
   for_each = long ∙ counted;
   kept = λ node path.
       get_or_from_slice_get kept node true false (all node (back (subst (λ (b : Bool). IsToKeep b options link node) dropped path)));
@@ -31,10 +46,10 @@ reached options link kept count edges roots dropped counted edges_are roots_are 
         ]
 
     back : {node : ℕ} → IsKept (node_count link) (link_edges link) (link_roots options link) node → IsKept count edges roots node
-    back {node} path = rw (counted, edges_are, roots_are) path
+    back {node} path = rw (counted, roots_are) (kept_by_same (node_count link) (link_edges link) edges (link_roots options link) node same.there path)
 
     forth : {node : ℕ} → IsKept count edges roots node → IsKept (node_count link) (link_edges link) (link_roots options link) node
-    forth {node} path = rw (sym counted, sym edges_are, sym roots_are) path
+    forth {node} path = kept_by_same (node_count link) edges (link_edges link) (link_roots options link) node same.only (rw (sym counted, sym roots_are) path)
 
 -- where they are not
 pub all_stay : (options : LinkOptions) (link : LinkParts) (kept : List Bool) (count : ℕ) → drops options ≡ false → count ≡ node_count link → kept ≡ replicate count true → AreKept options link kept

@@ -24,17 +24,6 @@ pub or_or : (a b c : Bool) → ((a || b) || c) ≡ (a || (b || c))
 or_or true b c = refl
 or_or false b c = refl
 
--- a place of a list of marks that is marked
-pub marked_at : (marks : List Bool) (at k : ℕ) → at < length marks → get_or (set marks at true) k false ≡ (get_or marks k false || eqb at k)
-marked_at marks at k lt =
-    elim (eqb_tells at k) [
-      | inl here ↦
-          let same : k ≡ at = omega arith in
-          rw here.0 (ap (λ (j : ℕ). get_or (set marks at true) j false) same ∙ get_or-set_same marks at true false lt ∙ or_true (get_or marks k false))
-      | inr other ↦
-          rw other.0 (get_or-set_other marks at k true false (λ same. other.1 (sym same)) ∙ or_false (get_or marks k false))
-    ]
-
 -- one beyond the list marks none of it
 pub marked_beyond : (marks : List Bool) (at k : ℕ) → length marks ≤ at → k < length marks → get_or marks k false ≡ (get_or marks k false || eqb at k)
 marked_beyond marks at k ge lt =

@@ -14,7 +14,7 @@ ghost use Rattle.link_pieces.specs.Pieces.{link_pieces, link_contents};
 ghost use Rattle.link_pieces.specs.PieceIndex.{is_section, piece_index, IsPieceIndex};
 ghost use Rattle.link_fields.specs.Entry.{entry_place};
 ghost use Rattle.link_fields.specs.ExportTargets.{export_targets};
-ghost use Rattle.link_fields.specs.Fixes.{HaveFields, field_edges};
+ghost use Rattle.link_fields.specs.Fixes.{HaveFields, HasSameEdges, field_edges};
 ghost use Rattle.relocate.specs.Redirected.{place_of};
 ghost use Rattle.link_folding.specs.Places.{standing};
 ghost use Rattle.link_keeping.specs.Reach.{node_count, parent_in, child_edges, link_edges, named_nodes, link_roots, drops as drops_of, AreKept};
@@ -47,7 +47,7 @@ pub struct KeptNodes {
     pub no_import: bool,
 }
 
-/// What is kept of these pieces, whose fields lead to one another by `edges`.
+/// What is kept of these pieces, whose fields lead to one another by `edges`, in whatever order and however often.
 pub fn kept_nodes<'a>(
     alloc: Global,
     names: &LinkNames<'a>,
@@ -69,7 +69,7 @@ pub fn kept_nodes<'a>(
     requires fields { HaveFields names.now (length pieces.now) fixes.now }
     requires entry { places.now.entry ≡ entry_place names.now (options_said options.now).entry_name }
     requires exported { places.now.exported.items ≡ export_targets names.now }
-    requires edges { edges.items ≡ field_edges names.now }
+    requires edges { HasSameEdges (field_edges names.now) edges.items }
     ensures kept { IfOk result (λ nodes. AreStanding (options_said options.now) (record { parts = names.now; kept = nodes.kept.items; places = nodes.place_of.items })) }
     ensures len { IfOk result (λ nodes. length nodes.meant.items ≡ length pieces.now) }
     ensures meant { IfOk result (λ nodes. (k : ℕ) → k < length pieces.now → slice_index_or nodes.meant.items k false
@@ -212,7 +212,7 @@ fn parent_piece<'a>(
 
 /// What edges come to from the roots, or all.
 fn kept_if(alloc: Global, drops: bool, graph: &Graph, roots: &[u32]) -> Result<Vec<bool>, Memory>
-    ensures { IfOk result (λ kept. (options : LinkOptions) (link : LinkParts) → drops ≡ drops_of options → graph.now.pieces ≡ node_count link → graph.now.edges.items ≡ link_edges link
+    ensures { IfOk result (λ kept. (options : LinkOptions) (link : LinkParts) → drops ≡ drops_of options → graph.now.pieces ≡ node_count link → HasSameEdges (link_edges link) graph.now.edges.items
         → roots.now ≡ link_roots options link → AreKept options link kept.items) }
 {
     if drops {

@@ -14,7 +14,7 @@ ghost use Rattle.link_pieces.specs.PieceIndex.{IsPieceIndex};
 ghost use Rattle.link_fields.specs.Entry.{entry_meant, entry_place};
 ghost use Rattle.link_fields.specs.ExportTargets.{export_targets};
 ghost use Rattle.link_fields.specs.LoaderPlaces.{loader_place, TLS_NAME, LOAD_CONFIG_NAME};
-ghost use Rattle.link_fields.specs.Fixes.{HaveFields, field_edges};
+ghost use Rattle.link_fields.specs.Fixes.{HaveFields, HasSameEdges, field_edges};
 ghost use Rattle.link_plan.specs.PlanFaults.{fields_fault};
 ghost use Rattle.link_plan.specs.Laid.{ArePlanned, AreLaid, laid_link};
 ghost use Rattle.link_plan.specs.LinkPublics.{lists_publics, link_publics};
@@ -119,7 +119,7 @@ fn keep_pieces<'a>(
     requires bodies { (k : ℕ) → k < length pieces.items → HasItsBytes pieces.items k }
     requires few { length pieces.items < 2 ^ 31 - 16 }
     requires fields { HaveFields names.now (length pieces.items) fixes.fixups.items }
-    requires edges { fixes.edges.items ≡ field_edges names.now }
+    requires edges { HasSameEdges (field_edges names.now) fixes.edges.items }
     requires entry { places.entry ≡ entry_place names.now (options_said options.now).entry_name }
     requires exported { places.exported.items ≡ export_targets names.now }
     requires tls { places.loader.tls ≡ loader_place names.now TLS_NAME }

@@ -42,10 +42,6 @@ number_bound limit text n e =
     (where_tested ((length text == 1) || not (slice_index text 0 == byte "0")) (digits_up_to 10 limit text) limit n (digits_bound 10 limit text n)) e
 
 -- a number that is read, and is not too small
-least_by : (test : Bool) (low m n : ℕ) → (test ≡ true → low ≤ m) → cond test (Some m) None ≡ Some n → (low ≤ n) × (m ≡ n)
-least_by true low m n enough e = let same : m ≡ n = cc in (rw (← same) (enough refl), same)
-least_by false low m n enough e = absurd cc
-
 read_within : (read : Option ℕ) (low high n : ℕ) (refused : Refused) → ((m : ℕ) → read ≡ Some m → m ≤ high) → ok_or (option_and_then (at_least low) read) refused ≡ Ok n → (low ≤ n) × (n ≤ high)
 read_within None low high n refused bound e = absurd cc
 read_within (Some m) low high n refused bound e =

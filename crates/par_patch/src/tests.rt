@@ -72,7 +72,7 @@ fn one_field(
     };
     let fixups = check(alloc, Some(&[0; 8]), &[fix], false, false)?;
     for fix in fixups.fixes() {
-        if !has_entry(layout, owner, fix) {
+        if !has_entry(layout, owner, &fix.unpacked()) {
             return Err(Fail::new("a piece"));
         }
     }

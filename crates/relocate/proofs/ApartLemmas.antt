@@ -1,8 +1,8 @@
 -- Relocations of which no field shares a byte with that of an earlier one: it is so where their fields, in ascending order, end
 -- each before the next begins.
-use Rattle.std.proofs.Common.{◌≡◌, ◌≢◌, ℕ, zero, suc, ◌+◌, ◌<◌, ◌≤◌, length, List, [], ◌∷◌, ◌++◌, take, Option, Some, None, Bool, true, false, cond, refl, sym, ap, ◌∙◌, le-ltb, lt-ltb, inl, inr, arith, subst, get_or}
+use Rattle.std.proofs.Common.{◌≡◌, ℕ, zero, suc, ◌+◌, ◌<◌, ◌≤◌, length, List, [], ◌∷◌, take, Option, Some, None, Bool, true, false, cond, refl, sym, ap, ◌∙◌, le-ltb, lt-ltb, inl, inr, arith, subst}
 use Rattle.std.proofs.lemmas.Bool.{cases_lt, false≢true}
-use Rattle.std.proofs.lemmas.List.{take_all, take_more, get_or_default}
+use Rattle.std.proofs.lemmas.List.{take_all, take_more}
 use Rattle.std.proofs.lemmas.List.Kept.{AllPairs-cons}
 use Rattle.std.proofs.lemmas.List.Sorted.{IsPermutation-keeps, IsPermutation-sym}
 use Rattle.std.specs.List.{All, AllPairs, filter}
@@ -12,10 +12,10 @@ use Rattle.link_base.proofs.CallerLemmas.{first_below-all_fail}
 use Rattle.link_base.proofs.RefusalLemmas.{first_refusal_below-more, first_refusal_below-found}
 use Rattle.relocate.specs.declared.fix.Fix.{Fix}
 use Rattle.relocate.specs.declared.error.FieldError.{FieldError}
-use Rattle.relocate.specs.Field.{field_width, field_end, has_field, ranges_meet, shares_byte, no_fix, fix_at}
+use Rattle.relocate.specs.Field.{field_width, field_end, has_field, shares_byte, no_fix, fix_at}
 use Rattle.relocate.specs.FieldFaults.{overlaps_earlier, fault_at, field_fault, RefusesFor}
 use Rattle.relocate.specs.Judged.{AreApart, AreTheFields}
-use Rattle.relocate.proofs.JudgeLemmas.{EndBelow, end_starts, end_field, absolute_passes, meets_none, refuses}
+use Rattle.relocate.proofs.JudgeLemmas.{EndBelow, end_starts, end_field, absolute_passes, refuses}
 use Rattle.relocate.proofs.PatchableLemmas.{AnyTwoParted, any_two, two_of, swap_keeps}
 use Rattle.relocate.proofs.FindLemmas.{All-unfilter}
 

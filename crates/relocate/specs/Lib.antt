@@ -6,3 +6,4 @@ pub mod Value
 pub mod Written
 pub mod PatchedBytes
 pub mod Redirected
+pub mod Packed

@@ -10,6 +10,7 @@ ghost use Rattle.relocate.specs.Taken.{Descend};
 use crate::error::FieldError;
 use crate::fix::Fix;
 use crate::judge::fault_of;
+use crate::packed::PackedFix;
 use crate::place::{field_end, has_field};
 use link_base::pe_format::REL_AMD64_ABSOLUTE;
 use std::alloc::{AllocError, Global};
@@ -18,7 +19,7 @@ use std::alloc::{AllocError, Global};
 /// earlier one.
 pub(crate) fn judge_ascending(
     body_len: Option<usize>,
-    fixes: &[Fix],
+    fixes: &[PackedFix],
     large: bool,
     pdata: bool,
 ) -> Result<Option<bool>, FieldError>
@@ -30,7 +31,8 @@ pub(crate) fn judge_ascending(
 {
     let mut all_have_fields = true;
     let mut end = 0;
-    for fix in fixes {
+    for packed in fixes {
+        let fix = packed.unpacked();
         if fix.kind == REL_AMD64_ABSOLUTE {
             all_have_fields = false;
             continue;
@@ -38,10 +40,10 @@ pub(crate) fn judge_ascending(
         if u64::from(fix.at) < end {
             return Ok(None);
         }
-        if let Some(error) = fault_of(body_len, large, pdata, fix, false) {
+        if let Some(error) = fault_of(body_len, large, pdata, &fix, false) {
             return Err(error);
         }
-        end = field_end(fix);
+        end = field_end(&fix);
     }
     Ok(Some(all_have_fields))
 }

@@ -9,6 +9,7 @@ use crate::ascending::{judge_ascending, with_fields};
 use crate::error::FieldError;
 use crate::fix::Fix;
 use crate::fixups::Fixups;
+use crate::packed::{PackedFix, packed, unpacked};
 use std::alloc::Global;
 
 /// The fields of a section's relocations, given in the order of their indexes, where none has a fault. `large` says that the image may stand above 2 GiB,
@@ -30,7 +31,7 @@ pub fn check(
     ensures patchable { IfOk result (λ fixups. ArePatchable (size_of (len_of body.entry)) fixups) }
     ensures refused { IfErr result (RefusesFor (field_fault (len_of body.entry) large pdata fixes.now)) }
 {
-    check_list(alloc, body, Vec::from_slice(alloc, fixes)?, large, pdata)
+    check_list(alloc, body, packed(alloc, fixes)?, large, pdata)
 }
 
 /// The same of relocations in a list, which is kept as it is where the fields ascend and no relocation is without one.
@@ -41,7 +42,7 @@ pub fn check(
 pub fn check_list(
     alloc: Global,
     body: Option<&[u8]>,
-    fixes: Vec<Fix>,
+    fixes: Vec<PackedFix>,
     large: bool,
     pdata: bool,
 ) -> Result<Fixups, FieldError>
@@ -53,11 +54,17 @@ pub fn check_list(
     let body_len = body.map(|bytes| bytes.len());
     match judge_ascending(body_len, &fixes, large, pdata)? {
         Some(true) => Ok(Fixups { fixes }),
-        Some(false) => Ok(Fixups {
-            fixes: with_fields(alloc, &fixes)?,
-        }),
-        None => Ok(Fixups {
-            fixes: sorted_fields(alloc, body_len, &fixes, large, pdata)?,
-        }),
+        Some(false) => {
+            let fields = with_fields(alloc, &unpacked(alloc, &fixes)?)?;
+            Ok(Fixups {
+                fixes: packed(alloc, &fields)?,
+            })
+        }
+        None => {
+            let fields = sorted_fields(alloc, body_len, &unpacked(alloc, &fixes)?, large, pdata)?;
+            Ok(Fixups {
+                fixes: packed(alloc, &fields)?,
+            })
+        }
     }
 }

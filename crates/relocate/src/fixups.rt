@@ -2,14 +2,14 @@
 
 ghost use Rattle.std.specs.Prelude.{◌≡◌, ◌==◌, [], length};
 
-use crate::fix::Fix;
+use crate::packed::PackedFix;
 use std::alloc::Global;
 use std::marker::Model;
 
 /// The relocations of a section that have a field, judged and in ascending order of their fields.
 #[derive(Drop)]
 pub struct Fixups {
-    pub(crate) fixes: Vec<Fix>,
+    pub(crate) fixes: Vec<PackedFix>,
 }
 
 impl Fixups {
@@ -30,7 +30,7 @@ impl Fixups {
     }
 
     /// The relocations, in ascending order of their fields.
-    pub fn fixes(&self) -> &[Fix]
+    pub fn fixes(&self) -> &[PackedFix]
         ensures { result.now ≡ self.now }
     {
         &self.fixes

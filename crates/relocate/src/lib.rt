@@ -15,6 +15,7 @@ mod fixups;
 mod judge;
 mod laws;
 mod number;
+mod packed;
 mod parts;
 mod patching;
 mod place;
@@ -33,6 +34,7 @@ pub use laws::{
     patching_keeps_the_length, redirected_fields_are_fields, values_stay_at_other_bases,
 };
 pub use link_base::{RelocKind, TargetFault};
+pub use packed::PackedFix;
 pub use patching::patch;
 pub use range::RelocRange;
 pub use redirect::{place_of, redirected};

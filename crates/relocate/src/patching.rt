@@ -36,8 +36,8 @@ pub fn patch(
 {
     let mut least = None;
     for fix in fixups.fixes() {
-        let outside = patch_field(part, rva, base, fix, layout, owner);
-        least = least_range(least, fix.index, outside);
+        let outside = patch_field(part, rva, base, &fix.unpacked(), layout, owner);
+        least = least_range(least, fix.index(), outside);
     }
     match least {
         Some(range) => Err(range),

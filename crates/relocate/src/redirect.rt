@@ -3,8 +3,9 @@
 ghost use Rattle.std.specs.Prelude.{◌≡◌, map, slice_index_or};
 ghost use Rattle.relocate.specs.Redirected.{place_of, redirected, redirected_fix};
 
-use crate::fix::{Fix, Target};
+use crate::fix::Target;
 use crate::fixups::Fixups;
+use crate::packed::PackedFix;
 
 impl Fixups {
     /// Gives other places to targets. One in a piece before `first` has the piece that `places` gives for its own, where that
@@ -19,20 +20,20 @@ impl Fixups {
 }
 
 /// Gives another place to a relocation's target, where it has one; others are not written.
-fn redirect_fix(fix: &mut Fix, places: &[u32], first: u32, home: u32, offsets: &[u32])
+fn redirect_fix(fix: &mut PackedFix, places: &[u32], first: u32, home: u32, offsets: &[u32])
     ensures { fix.new ≡ redirected_fix places.now first home offsets.now fix.old }
 {
-    if let Some(Ok(Target::Piece { piece, value })) = fix.target {
+    if let Some(Ok(Target::Piece { piece, value })) = fix.unpacked().target {
         if piece >= first {
-            fix.target = Some(Ok(Target::Piece {
+            fix.set_target(Target::Piece {
                 piece: home,
                 value: offset_at(offsets, piece - first),
-            }));
+            });
         } else if let Some(place) = places.get(piece as usize) {
-            fix.target = Some(Ok(Target::Piece {
+            fix.set_target(Target::Piece {
                 piece: *place,
                 value,
-            }));
+            });
         }
     }
 }

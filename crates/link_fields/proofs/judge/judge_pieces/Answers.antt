@@ -1,13 +1,14 @@
-use Rattle.std.proofs.Common.{ℕ, Option, length, refl, sym, ap, subst, ◌∙◌, arith}
+use Rattle.std.proofs.Common.{ℕ, List, ◌++◌, Option, length, refl, sym, ap, subst, ◌∙◌, arith}
 use Rattle.std.specs.List.{flat_map, range_with_len}
 use Rattle.std.proofs.lemmas.List.{length-map}
 use Rattle.section_group.specs.BarePieces.{bare}
 use Rattle.link_base.specs.Refusals.{first_refusal_below}
 use Rattle.link_base.proofs.RefusalLemmas.{first_refusal_below-more}
 use Rattle.link_pieces.specs.Pieces.{link_pieces}
-use Rattle.link_fields.specs.Fixes.{piece_fault, edges_of, field_edges}
+use Rattle.link_fields.specs.Fixes.{piece_fault, edges_by, edges_of, field_edges, HasSameEdges}
 use Rattle.link_fields.specs.Steps.{HoldsTargets}
 use Rattle.link_fields.proofs.JudgeLemmas.{read_piece, fault_read, fields_none, fields_more, edges_more, refuses_found}
+use Rattle.link_fields.proofs.EdgeLemmas.{same_none}
 use Rattle.link_fields.proofs.judge.judge_pieces.Goals as goal
 
 pub loop-k-init : goal.loop-k-init
@@ -16,7 +17,8 @@ loop-k-init c = record {
   held =
       subst (λ (position : Option ℕ). HoldsTargets c.args.names.now position c.none-last.result.targets.items) (sym c.none-last.ensures) tt;
   fields = fields_none c.args.names.now c.in_ok-fixups.fixups.items c.in_ok-fixups.ensures.items;
-  edges = c.new-edges.ensures.items;
+  noted = c.in_ok-edges.ensures.noted;
+  edges = same_none c.in_ok-edges.edges.list.items c.in_ok-edges.ensures.list;
   none = refl;
 }
 
@@ -46,7 +48,11 @@ loop-k-preserved c =
     record {
       held = c.in_ok-fixes.ensures.held;
       fields = fields_more link k piece c.in_ok-fixes.fixes.items c.in-Ok.fields c.loop-k.fixups.items c.keep.new.fixups.items read c.loop-k.invariant.fields c.in_ok-keep-in-Ok.ensures judged c.in-Ok.ensures.fields c.in-Ok.ensures.patchable;
-      edges = edges_more link k piece c.deref.result.now c.loop-k.edges.items c.push_edges.new.edges.items read led c.loop-k.invariant.edges c.in_ok-push_edges.ensures;
+      noted = c.in_ok-push_edges.ensures.noted;
+      edges =
+          subst (λ (pairs : List (ℕ × ℕ)). HasSameEdges pairs c.push_edges.new.edges.list.items)
+          (edges_more link k piece c.deref.result.now (flat_map (edges_of link) (range_with_len 0 k)) (flat_map (edges_of link) (range_with_len 0 k) ++ edges_by k c.deref.result.now) read led refl refl)
+          (c.in_ok-push_edges.ensures.edges (flat_map (edges_of link) (range_with_len 0 k)) c.loop-k.invariant.edges);
       none = first_refusal_below-more k (piece_fault link c.args.large) c.loop-k.invariant.none (sym (fault_read link k piece c.args.large c.in_ok-fixes.fixes.items read judged) ∙ c.in-Ok.ensures.accepted);
     }
 
@@ -54,5 +60,5 @@ pub returns-clause-edges : goal.returns-clause-edges
 unfolding field_edges
 returns-clause-edges c =
     let link = c.args.names.now in
-    c.loop-k.invariant.edges
-    ∙ ap (λ (n : ℕ). flat_map (edges_of link) (range_with_len 0 n)) (omega (arith, length-map c.args.pieces.now bare, ap length c.requires.pieces))
+    subst (λ (n : ℕ). HasSameEdges (flat_map (edges_of link) (range_with_len 0 n)) c.loop-k.edges.list.items)
+    (omega (arith, length-map c.args.pieces.now bare, ap length c.requires.pieces)) c.loop-k.invariant.edges

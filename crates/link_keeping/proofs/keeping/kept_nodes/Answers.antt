@@ -5,13 +5,12 @@ use Rattle.std.proofs.lemmas.List.{length-map, length-append, length-take}
 use Rattle.section_group.specs.BarePieces.{bare}
 use Rattle.module_view.proofs.CallerLemmas.{unmarked}
 use Rattle.link_words.specs.Outcome.{options_said}
-use Rattle.link_pieces.specs.LinkParts.{LinkParts}
-use Rattle.link_pieces.specs.Pieces.{link_pieces}
 use Rattle.link_folding.specs.Places.{standing}
-use Rattle.link_keeping.specs.Reach.{child_edges, named_nodes, AreKept}
+use Rattle.link_keeping.specs.Reach.{child_edges, named_nodes}
 use Rattle.link_keeping.specs.Named.{leads_there, LeadsWithin, is_at, is_named_at}
 use Rattle.link_keeping.specs.Standing.{FoldsTo}
-use Rattle.link_fields.specs.Fixes.{field_edges}
+use Rattle.link_fields.specs.Fixes.{HasSameEdges, field_edges}
+use Rattle.link_fields.proofs.EdgeLemmas.{same_append, all_same, any_same}
 use Rattle.link_keeping.proofs.StandingLemmas.{places_few}
 use Rattle.link_keeping.proofs.MeantLemmas.{or_or}
 use Rattle.link_keeping.proofs.keeping.kept_nodes.Goals as goal
@@ -22,7 +21,8 @@ standing-requires c =
     let reached =
     c.in_ok-reached.ensures (options_said c.args.options.now) link c.drops.ensures
     (omega (arith, c.in_ok-graph.ensures.count, length-map c.args.pieces.now bare, ap length c.requires.pieces, ap length c.requires.same))
-    (c.in_ok-graph.ensures.edges link c.requires.same c.requires.pieces c.requires.indexed ∙ ap (λ (es : List (ℕ × ℕ)). es ++ child_edges link) c.requires.edges)
+    (subst (HasSameEdges (field_edges link ++ child_edges link)) (sym (c.in_ok-graph.ensures.edges link c.requires.same c.requires.pieces c.requires.indexed))
+    (same_append (field_edges link) c.args.edges.items (child_edges link) c.requires.edges))
     (c.deref.ensures.value ∙ c.in_ok-push_roots.ensures) in
     omega (arith, reached.for_each, ap length c.deref-3.ensures.value, c.requires.few, c.requires.few_modules, ap length c.requires.same, length-map c.args.pieces.now bare, ap length c.requires.pieces)
 
@@ -47,7 +47,8 @@ returns-clause-kept c =
       reached = reached;
       reached_are = c.in_ok-reached.ensures options link c.drops.ensures
           (omega (arith, c.in_ok-graph.ensures.count, length-map c.args.pieces.now bare, ap length c.requires.pieces, ap length c.requires.same))
-          (c.in_ok-graph.ensures.edges link c.requires.same c.requires.pieces c.requires.indexed ∙ ap (λ (es : List (ℕ × ℕ)). es ++ child_edges link) c.requires.edges)
+          (subst (HasSameEdges (field_edges link ++ child_edges link)) (sym (c.in_ok-graph.ensures.edges link c.requires.same c.requires.pieces c.requires.indexed))
+          (same_append (field_edges link) c.args.edges.items (child_edges link) c.requires.edges))
           (c.deref.ensures.value ∙ c.in_ok-push_roots.ensures);
       places_are = subst (λ (flags : List Bool). FoldsTo options.icf link flags places) c.deref-2.ensures.value c.in_ok-place_of.ensures;
       kept_are = c.in_ok-kept.ensures ∙ ap (λ (flags : List Bool). standing flags c.deref-4.result.now) c.deref-3.ensures.value ∙ ap (standing reached) c.deref-4.ensures.value;
@@ -61,11 +62,10 @@ returns-clause-meant c = λ k lt.
     let places = c.in_ok-place_of.place_of.items in
     let edges = take c.len-fields.result c.deref-5.result.now in
     let nodes = take c.len-named.result c.deref-8.result.now in
-    let fields : edges ≡ field_edges link =
+    let fields : edges ≡ c.args.edges.items =
     ap (λ (n : ℕ). take n c.deref-5.result.now) (c.len-fields.ensures ∙ c.args.edges.ok.0)
     ∙ ap (take (length c.args.edges.items)) (c.deref-5.ensures.value ∙ c.in_ok-graph.ensures.edges link c.requires.same c.requires.pieces c.requires.indexed)
-    ∙ take-append_seam c.args.edges.items (child_edges link)
-    ∙ c.requires.edges in
+    ∙ take-append_seam c.args.edges.items (child_edges link) in
     let named : nodes ≡ named_nodes options link =
     ap (λ (n : ℕ). take n c.deref-8.result.now) (c.len-named.ensures ∙ c.in_ok-roots.roots.ok.0 ∙ ap length c.in_ok-roots.ensures)
     ∙ ap (take (length (named_nodes options link))) (c.deref-8.ensures.value ∙ c.in_ok-push_roots.ensures)
@@ -83,7 +83,8 @@ returns-clause-meant c = λ k lt.
     ∙ ap (λ (b : Bool). b || list_any (leads_there c.deref-6.result.now c.deref-7.result.now k) edges) (unmarked c.in_ok-meant.meant.items _ k (c.in_ok-meant.ensures.items_if_clones_equal (λ y e. e)))
     ∙ ap (λ (flags : List Bool). list_any (leads_there flags c.deref-7.result.now k) edges) c.deref-6.ensures.value
     ∙ ap (λ (ps : List ℕ). list_any (leads_there kept ps k) edges) c.deref-7.ensures.value
-    ∙ ap (list_any (leads_there kept places k)) fields))
+    ∙ ap (list_any (leads_there kept places k)) fields
+    ∙ any_same (leads_there kept places k) (field_edges link) c.args.edges.items c.requires.edges))
     ∙ or_or led sought (list_any (is_named_at link places k) (range_with_len 0 (length places)))
 
 pub returns-clause-no_import : goal.returns-clause-no_import
@@ -91,13 +92,13 @@ returns-clause-no_import c = λ none.
     let link = c.args.names.now in
     let kept = c.in_ok-kept.kept.items in
     let edges = take c.len-fields.result c.deref-5.result.now in
-    let fields : edges ≡ field_edges link =
+    let fields : edges ≡ c.args.edges.items =
     ap (λ (n : ℕ). take n c.deref-5.result.now) (c.len-fields.ensures ∙ c.args.edges.ok.0)
     ∙ ap (take (length c.args.edges.items)) (c.deref-5.ensures.value ∙ c.in_ok-graph.ensures.edges link c.requires.same c.requires.pieces c.requires.indexed)
-    ∙ take-append_seam c.args.edges.items (child_edges link)
-    ∙ c.requires.edges in
+    ∙ take-append_seam c.args.edges.items (child_edges link) in
     let count : length c.in_ok-meant.meant.items ≡ length c.args.pieces.now = omega (arith, c.in_ok-meant.ensures.len) in
-    subst (All (LeadsWithin kept (length c.args.pieces.now))) fields
+    all_same (LeadsWithin kept (length c.args.pieces.now)) (field_edges link) c.args.edges.items c.requires.edges
+    (subst (All (LeadsWithin kept (length c.args.pieces.now))) fields
     (subst (λ (n : ℕ). All (LeadsWithin kept n) edges) count
     (subst (λ (flags : List Bool). All (LeadsWithin flags (length c.in_ok-meant.meant.items)) edges) c.deref-6.ensures.value
-    (c.mark_meant-no_import.ensures.within none)))
+    (c.mark_meant-no_import.ensures.within none))))

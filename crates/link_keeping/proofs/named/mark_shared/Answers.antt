@@ -1,4 +1,4 @@
-use Rattle.std.proofs.Common.{◌≡◌, ◌<◌, ◌||◌, ◌&&◌, eqb, ℕ, Bool, false, get_or, ap, ◌∙◌, arith}
+use Rattle.std.proofs.Common.{◌≡◌, ◌||◌, ◌&&◌, eqb, ℕ, Bool, false, get_or, ap, ◌∙◌, arith}
 use Rattle.std.specs.List.{list_any, range_with_len}
 use Rattle.section_group.specs.declared.piece.Piece.{Piece}
 use Rattle.relocate.specs.Redirected.{place_of}

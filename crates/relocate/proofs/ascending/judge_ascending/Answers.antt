@@ -1,37 +1,58 @@
-use Rattle.std.proofs.Common.{◌<◌, ◌≤◌, refl, sym, arith}
-use Rattle.relocate.specs.Field.{fix_at}
+use Rattle.std.proofs.Common.{◌≡◌, ◌≢◌, ◌<◌, ◌≤◌, false, None, Some, refl, sym, ap, ◌∙◌, arith}
+use Rattle.std.proofs.lemmas.List.{get_or_default}
+use Rattle.relocate.specs.declared.fix.Fix.{Fix}
+use Rattle.relocate.specs.Field.{no_fix, fix_at}
+use Rattle.relocate.specs.FieldFaults.{fault_of}
 use Rattle.relocate.proofs.JudgeLemmas.{ascend_starts, ascend_absolute, ascend_field, ascend_refused, ascend_ends, all_ascend}
 use Rattle.relocate.proofs.PatchableLemmas.{patchable_ascending}
 use Rattle.relocate.proofs.ascending.judge_ascending.Goals as goal
 
-pub loop-fix-init : goal.loop-fix-init
-loop-fix-init c = ascend_starts _ _ _ _
+pub loop-packed-init : goal.loop-packed-init
+loop-packed-init c = ascend_starts _ _ _ _
 
-pub loop-fix-preserved-then-fix-eq-REL_AMD64_ABSOLUTE : goal.loop-fix-preserved-then-fix-eq-REL_AMD64_ABSOLUTE
-loop-fix-preserved-then-fix-eq-REL_AMD64_ABSOLUTE c =
-    ascend_absolute _ _ _ _ _ _ _ c.loop-fix-test.true c.if-fix-eq-REL_AMD64_ABSOLUTE.true c.loop-fix.invariant
+pub loop-packed-preserved-then-fix-eq-REL_AMD64_ABSOLUTE : goal.loop-packed-preserved-then-fix-eq-REL_AMD64_ABSOLUTE
+loop-packed-preserved-then-fix-eq-REL_AMD64_ABSOLUTE c =
+    let k = c.loop-packed.packed-index in
+    let lt = c.loop-packed-test.true in
+    let is : c.unpacked-fix.result ≡ fix_at c.args.fixes.now k = c.unpacked-fix.ensures ∙ c.packed-item.is ∙ get_or_default c.args.fixes.now k c.packed-item.result no_fix lt in
+    let kind : (fix_at c.args.fixes.now k).kind ≡ 0 = sym (ap (λ (fix : Fix). fix.kind) is) ∙ c.if-fix-eq-REL_AMD64_ABSOLUTE.true in
+    ascend_absolute _ _ _ _ _ _ _ lt kind c.loop-packed.invariant
 
-pub loop-fix-preserved : goal.loop-fix-preserved
-loop-fix-preserved c =
-    let above : c.loop-fix.end ≤ (fix_at c.args.fixes.now c.loop-fix.fix-index).at = omega (arith, c.from.ensures, c.if-from-end.false) in
-    rw c.field_end-end.ensures.value
-    (ascend_field _ _ _ _ _ _ _ c.loop-fix-test.true c.if-fix-eq-REL_AMD64_ABSOLUTE.false (sym c.in_default.ensures) above c.loop-fix.invariant)
+pub loop-packed-preserved : goal.loop-packed-preserved
+loop-packed-preserved c =
+    let k = c.loop-packed.packed-index in
+    let lt = c.loop-packed-test.true in
+    let is : c.unpacked-fix.result ≡ fix_at c.args.fixes.now k = c.unpacked-fix.ensures ∙ c.packed-item.is ∙ get_or_default c.args.fixes.now k c.packed-item.result no_fix lt in
+    let kind : (fix_at c.args.fixes.now k).kind ≢ 0 = λ none. c.if-fix-eq-REL_AMD64_ABSOLUTE.false (ap (λ (fix : Fix). fix.kind) is ∙ none) in
+    let above : c.loop-packed.end ≤ (fix_at c.args.fixes.now k).at = omega (arith, ap (λ (fix : Fix). fix.at) is, c.from.ensures, c.if-from-end.false) in
+    let passes : fault_of c.args.body_len c.args.large c.args.pdata (fix_at c.args.fixes.now k) false ≡ None =
+    ap (λ (fix : Fix). fault_of c.args.body_len c.args.large c.args.pdata fix false) (sym is) ∙ sym c.in_default.ensures in
+    rw (c.field_end-end.ensures.value, is)
+    (ascend_field _ _ _ _ _ _ _ lt kind passes above c.loop-packed.invariant)
 
 pub returns-in-Some-clause-refused : goal.returns-in-Some-clause-refused
 returns-in-Some-clause-refused c =
-    let above : c.loop-fix.end ≤ (fix_at c.args.fixes.now c.loop-fix.fix-index).at = omega (arith, c.from.ensures, c.if-from-end.false) in
-    ascend_refused _ _ _ _ _ _ _ _ c.loop-fix-test.true (sym c.in-Some.ensures) above c.loop-fix.invariant
+    let k = c.loop-packed.packed-index in
+    let lt = c.loop-packed-test.true in
+    let is : c.unpacked-fix.result ≡ fix_at c.args.fixes.now k = c.unpacked-fix.ensures ∙ c.packed-item.is ∙ get_or_default c.args.fixes.now k c.packed-item.result no_fix lt in
+    let above : c.loop-packed.end ≤ (fix_at c.args.fixes.now k).at = omega (arith, ap (λ (fix : Fix). fix.at) is, c.from.ensures, c.if-from-end.false) in
+    let fails : fault_of c.args.body_len c.args.large c.args.pdata (fix_at c.args.fixes.now k) false ≡ Some c.in-Some.error =
+    ap (λ (fix : Fix). fault_of c.args.body_len c.args.large c.args.pdata fix false) (sym is) ∙ sym c.in-Some.ensures in
+    ascend_refused _ _ _ _ _ _ _ _ lt fails above c.loop-packed.invariant
 
 pub returns-clause-whole : goal.returns-clause-whole
 returns-clause-whole c =
-    (all_ascend _ _ _ _ _ _ _ c.loop-fix-test.false c.loop-fix.auto.fix-index-end c.loop-fix.invariant).whole
+    (all_ascend _ _ _ _ _ _ _ c.loop-packed-test.false c.loop-packed.auto.packed-index-end c.loop-packed.invariant).whole
 
 pub returns-clause-patchable : goal.returns-clause-patchable
 returns-clause-patchable c =
-    let all = all_ascend _ _ _ _ _ _ _ c.loop-fix-test.false c.loop-fix.auto.fix-index-end c.loop-fix.invariant in
+    let all = all_ascend _ _ _ _ _ _ _ c.loop-packed-test.false c.loop-packed.auto.packed-index-end c.loop-packed.invariant in
     patchable_ascending _ _ _ _ _ all.none refl all.apart
 
 pub returns-then-from-end-clause-descend : goal.returns-then-from-end-clause-descend
 returns-then-from-end-clause-descend c =
-    let below : (fix_at c.args.fixes.now c.loop-fix.fix-index).at < c.loop-fix.end = omega (arith, c.from.ensures, c.if-from-end.true) in
-    ascend_ends _ _ _ _ _ _ _ c.loop-fix-test.true below c.loop-fix.invariant
+    let k = c.loop-packed.packed-index in
+    let lt = c.loop-packed-test.true in
+    let is : c.unpacked-fix.result ≡ fix_at c.args.fixes.now k = c.unpacked-fix.ensures ∙ c.packed-item.is ∙ get_or_default c.args.fixes.now k c.packed-item.result no_fix lt in
+    let below : (fix_at c.args.fixes.now k).at < c.loop-packed.end = omega (arith, ap (λ (fix : Fix). fix.at) is, c.from.ensures, c.if-from-end.true) in
+    ascend_ends _ _ _ _ _ _ _ lt below c.loop-packed.invariant

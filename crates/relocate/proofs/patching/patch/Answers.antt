@@ -1,4 +1,5 @@
-use Rattle.std.proofs.Common.{length, subst, ◌<◌, ◌≤◌}
+use Rattle.std.proofs.Common.{length, subst, ◌∙◌, ◌<◌, ◌≤◌}
+use Rattle.std.proofs.lemmas.List.{get_or_default}
 use Rattle.relocate.specs.Field.{no_fix}
 use Rattle.relocate.proofs.PatchLemmas.{PatchedTo, step, all_in_range, all_patched}
 use Rattle.relocate.proofs.PatchedLemmas.{all_written}
@@ -7,12 +8,14 @@ use Rattle.relocate.proofs.patching.patch.Goals as goal
 pub patch_field-outside-requires-clause-patchable : goal.patch_field-outside-requires-clause-patchable
 patch_field-outside-requires-clause-patchable c =
     let lt : c.loop-fix.fix-index < length c.args.fixups.now = rw c.fixes-fix-items.ensures at c.loop-fix-test.true in
-    rw (c.fixes-fix-items.ensures, c.loop-fix.invariant.len) (c.requires.patchable.each c.loop-fix.fix-index no_fix lt)
+    let is = c.unpacked.ensures ∙ c.fix-item.is ∙ get_or_default c.fixes-fix-items.result.now c.loop-fix.fix-index c.fix-item.result no_fix c.loop-fix-test.true in
+    rw (is, c.fixes-fix-items.ensures, c.loop-fix.invariant.len) (c.requires.patchable.each c.loop-fix.fix-index no_fix lt)
 
 pub loop-fix-preserved : goal.loop-fix-preserved
 loop-fix-preserved c =
     let lt : c.loop-fix.fix-index < length c.args.fixups.now = rw c.fixes-fix-items.ensures at c.loop-fix-test.true in
-    rw (c.patch_field-outside.ensures.patched, c.least_range-least.ensures, c.patch_field-outside.ensures.outside, c.fixes-fix-items.ensures)
+    let item = c.fix-item.is ∙ get_or_default c.fixes-fix-items.result.now c.loop-fix.fix-index c.fix-item.result no_fix c.loop-fix-test.true in
+    rw (c.patch_field-outside.ensures.patched, c.least_range-least.ensures, c.patch_field-outside.ensures.outside, c.index.ensures, c.unpacked.ensures, item, c.fixes-fix-items.ensures)
     (step _ _ _ _ _ _ _ _ _ lt c.requires.patchable c.loop-fix.invariant)
 
 pub returns-in-None-clause-patched : goal.returns-in-None-clause-patched

@@ -2,7 +2,7 @@ use Rattle.std.proofs.Common.{◌≡◌, ◌+◌, ◌++◌, length}
 use Rattle.coff_records.specs.ObjectFile.{relocation_total}
 use Rattle.link_fields.specs.Fixes.{fixes_from, section_fixes}
 use Rattle.link_fields.specs.Steps.{HoldsTargets}
-use Rattle.link_fields.proofs.fixes.fixes_by_names.Given as goal
+use Rattle.link_fields.proofs.fixes.section_fixes.Given as goal
 
 abbrev pub invariant-loop-relocation : goal.invariant-loop-relocation
 invariant-loop-relocation l = record {
