@@ -8,11 +8,11 @@ ghost use Rattle.link_fields.specs.Targets.{record_target, AreTargets};
 ghost use Rattle.link_fields.specs.Fixes.{section_fixes, linker_fixes};
 ghost use Rattle.link_fields.specs.Steps.{HoldsTargets};
 
-use crate::targets::{RecordTarget, import_target, meant_target, noted_target, read_targets};
+use crate::targets::{import_target, meant_target, noted_target, read_targets};
 use coff_object::Object;
 use link_base::Memory;
 use link_pieces::{LinkNames, PieceIndex};
-use relocate::{Fix, PackedFix};
+use relocate::{PackedFix, PackedTarget};
 use std::alloc::Global;
 use synthetic_sections::{FIRST_LOCAL_SLOT, FIRST_THUNK, slot_field, thunk_field};
 
@@ -20,7 +20,7 @@ use synthetic_sections::{FIRST_LOCAL_SLOT, FIRST_THUNK, slot_field, thunk_field}
 #[derive(Drop)]
 pub(crate) struct LastTargets {
     position: Option<u32>,
-    targets: Vec<RecordTarget>,
+    targets: Vec<PackedTarget>,
     /// The module whose relocations were looked up by names last, and how many these were.
     by_names: (u32, u32),
 }
@@ -81,12 +81,7 @@ pub(crate) fn section_fixes<'a>(
     let mut number = 0;
     for relocation in object.relocations(section) {
         let target = record_target(last, names, index, object, position, relocation.symbol)?;
-        fixes.push(PackedFix::new(Fix {
-            index: number,
-            at: relocation.at,
-            kind: relocation.kind,
-            target,
-        }))?;
+        fixes.push(PackedFix::of(number, relocation.at, relocation.kind, &target))?;
         number += 1;
     }
     Ok(fixes)
@@ -120,7 +115,7 @@ fn record_target<'a>(
     object: &Object<'a>,
     position: u32,
     at: u32,
-) -> Result<RecordTarget, Memory>
+) -> Result<PackedTarget, Memory>
     requires indexed { IsPieceIndex names.now index.now }
     requires held { HoldsTargets names.now last.old.position last.old.targets.items }
     requires here { object.now ≡ (module_at names.now.modules position).bytes }
@@ -128,13 +123,13 @@ fn record_target<'a>(
     ensures held { OnOk result (HoldsTargets names.now last.new.position last.new.targets.items) }
 {
     if last.position == Some(position) {
-        return Ok(*target_at(&last.targets, at));
+        return Ok(target_at(&last.targets, at));
     }
     if let Some(target) = noted_target(names, index, object, position, at) {
-        return Ok(Some(target));
+        return Ok(PackedTarget::new(Some(target)));
     }
     read_last(last, names, index, object, position)?;
-    Ok(*target_at(&last.targets, at))
+    Ok(target_at(&last.targets, at))
 }
 
 /// The field of a piece that the linker makes, by the number of the piece: of a jump the slot that it goes through, of a local slot the
@@ -181,11 +176,11 @@ fn read_last<'a>(
 }
 
 /// What a list says that a record means.
-fn target_at(targets: &[RecordTarget], at: u32) -> &RecordTarget
-    ensures { result.now ≡ slice_index_or targets.now at None }
+fn target_at(targets: &[PackedTarget], at: u32) -> PackedTarget
+    ensures { result ≡ slice_index_or targets.now at None }
 {
     match targets.get(at as usize) {
-        Some(target) => target,
-        None => &None,
+        Some(target) => target.copied(),
+        None => PackedTarget::new(None),
     }
 }

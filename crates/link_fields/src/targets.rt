@@ -14,15 +14,13 @@ use link_base::pe_format::{
 };
 use link_base::{Memory, Name, TargetFault};
 use link_pieces::{LinkNames, PieceIndex};
-use relocate::Target;
+use relocate::{PackedTarget, Target};
 use symbol_table::{Meaning, NoMeaning};
 
-/// What a symbol means to a relocation: a target, or why it has none; nothing where a record is no symbol.
-pub(crate) type RecordTarget = Option<Result<Target, TargetFault>>;
-
-/// Replaces a list by what each symbol record of the object at a position means, by the record's index.
+/// Replaces a list by what each symbol record of the object at a position means, by the record's index: a target, or why it has
+/// none; nothing where a record is no symbol.
 pub(crate) fn read_targets<'a>(
-    targets: &mut Vec<RecordTarget>,
+    targets: &mut Vec<PackedTarget>,
     names: &LinkNames<'a>,
     index: &PieceIndex<'a>,
     object: &Object<'a>,
@@ -41,23 +39,26 @@ pub(crate) fn read_targets<'a>(
 }
 
 /// Replaces a list by nothing for each of `count` records.
-fn put_nothing(targets: &mut Vec<RecordTarget>, count: u32) -> Result<(), Memory>
+fn put_nothing(targets: &mut Vec<PackedTarget>, count: u32) -> Result<(), Memory>
     ensures { OnOk result (targets.new.items ≡ replicate count None) }
 {
     targets.clear();
-    targets.resize(count as usize, None)?;
+    targets.reserve(count as usize)?;
+    for _ in 0..count {
+        targets.push(PackedTarget::new(None))?;
+    }
     Ok(())
 }
 
 /// Notes what a record means, where nothing is noted there.
-fn note(targets: &mut Vec<RecordTarget>, at: usize, target: Result<Target, TargetFault>)
+fn note(targets: &mut Vec<PackedTarget>, at: usize, target: Result<Target, TargetFault>)
     requires { at < length targets.old.items }
     ensures len { length targets.new.items ≡ length targets.old.items }
     ensures noted { (other : ℕ) → slice_index_or targets.new.items other None
         ≡ option_or (slice_index_or targets.old.items other None) (if at == other then Some target else None) }
 {
     if targets[at].is_none() {
-        targets[at] = Some(target);
+        targets[at] = PackedTarget::new(Some(target));
     }
 }
 

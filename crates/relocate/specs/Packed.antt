@@ -1,14 +1,15 @@
 -- What the symbol of a packed relocation means. Own.
-use Rattle.std.specs.Prelude.{Option, Some, None, Result, Ok, Err}
+use Rattle.std.specs.Prelude.{ℕ, Option, Some, None, Result, Ok, Err}
 use Rattle.link_base.specs.declared.kinds.target.TargetFault.{TargetFault}
 use Rattle.relocate.specs.declared.fix.Target.{Target}
 use Rattle.relocate.specs.declared.fix.Target.TheVariants as target
-use Rattle.relocate.specs.declared.packed.Meaning.{Meaning}
-use Rattle.relocate.specs.declared.packed.Meaning.TheVariants as meaning
+use Rattle.relocate.specs.declared.packed.Choice.{Choice}
+use Rattle.relocate.specs.declared.packed.Choice.TheVariants as choice
 
-abbrev pub meant : Meaning → Option (Result Target TargetFault)
-meant meaning.Nothing = None
-meant (meaning.Piece piece value) = Some (Ok (target.Piece piece value))
-meant (meaning.Absolute number) = Some (Ok (target.Absolute number))
-meant meaning.ImageBase = Some (Ok target.ImageBase)
-meant (meaning.Fault fault) = Some (Err fault)
+-- a choice, with the numbers that stand beside it
+abbrev pub meant : Choice → ℕ → ℕ → Option (Result Target TargetFault)
+meant choice.Nothing first second = None
+meant choice.Piece first second = Some (Ok (target.Piece first second))
+meant choice.Absolute first second = Some (Ok (target.Absolute first))
+meant choice.ImageBase first second = Some (Ok target.ImageBase)
+meant (choice.Fault fault) first second = Some (Err fault)

@@ -34,7 +34,7 @@ pub use laws::{
     patching_keeps_the_length, redirected_fields_are_fields, values_stay_at_other_bases,
 };
 pub use link_base::{RelocKind, TargetFault};
-pub use packed::PackedFix;
+pub use packed::{PackedFix, PackedTarget};
 pub use patching::patch;
 pub use range::RelocRange;
 pub use redirect::{place_of, redirected};

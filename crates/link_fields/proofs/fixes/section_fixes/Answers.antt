@@ -37,7 +37,7 @@ loop-relocation-preserved c =
       fixes =
           fixes_more c.args.names.now c.args.position bytes c.loop-relocation.number before c.next.new.self c.in-Some.relocation c.loop-relocation.fixes.items c.push.new.self.items _ steps
           c.loop-relocation.invariant.fixes
-          (c.in_ok-push.ensures.items ∙ ap (λ (fix : Fix). c.loop-relocation.fixes.items ++ fix ∷ []) (c.new-in-loop-relocation.ensures ∙ fix_read c.args.names.now c.args.position bytes c.loop-relocation.number c.in-Some.relocation _ c.in_ok-target.ensures.target));
+          (c.in_ok-push.ensures.items ∙ ap (λ (fix : Fix). c.loop-relocation.fixes.items ++ fix ∷ []) (c.of.ensures ∙ fix_read c.args.names.now c.args.position bytes c.loop-relocation.number c.in-Some.relocation _ c.in_ok-target.ensures.target));
       held = c.in_ok-target.ensures.held;
     }
 
