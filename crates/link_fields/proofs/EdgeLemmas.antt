@@ -1,5 +1,6 @@
 -- Pairs of a piece and what it leads to, each listed once or more.
-use Rattle.std.proofs.Common.{◌≡◌, ℕ, zero, suc, Bool, true, false, List, [], ◌∷◌, ◌++◌, get_or, inl, inr, refl, sym, ap, subst, ◌∙◌, arith}
+use Rattle.std.proofs.Common.{◌≡◌, ℕ, zero, suc, Bool, true, List, [], ◌∷◌, ◌++◌, get_or, inl, inr, ap, subst, ◌∙◌, arith}
+use Rattle.std.specs.Cmp.{both_ways}
 use Rattle.std.specs.List.{Contains, All, list_any}
 use Rattle.std.proofs.lemmas.List.{get_or_default}
 use Rattle.std.proofs.lemmas.List.Folds.{Any-from_list_any, list_any_at}
@@ -53,15 +54,10 @@ all_same P earlier list same all = λ k d lt.
 
 -- whether a pair passes a test
 pub any_same : (test : ℕ × ℕ → Bool) (earlier list : List (ℕ × ℕ)) → HasSameEdges earlier list → list_any test list ≡ list_any test earlier
-any_same test earlier list same = both (list_any test list) (list_any test earlier) (found list earlier same.only) (found earlier list same.there)
+any_same test earlier list same = both_ways (list_any test list) (list_any test earlier) (found list earlier same.only) (found earlier list same.there)
   where
     found : (from to : List (ℕ × ℕ)) → ((edge : ℕ × ℕ) → Contains from edge → Contains to edge) → list_any test from ≡ true → list_any test to ≡ true
     found from to all is =
         let any = Any-from_list_any test from is in
         let here : Contains to any.1 = all any.1 (any.0, any.2, any.3) in
         list_any_at test to here.0 any.1 here.1 (ap test here.2 ∙ any.4)
-
-    both : (p q : Bool) → (p ≡ true → q ≡ true) → (q ≡ true → p ≡ true) → p ≡ q
-    both true q there back = sym (there refl)
-    both false true there back = back refl
-    both false false there back = refl

@@ -1,5 +1,6 @@
 -- Whether some field of a link holds an address, by the judged fields of its pieces.
 use Rattle.std.proofs.Common.{◌≡◌, ℕ, suc, ◌+◌, ◌<◌, ◌⊎◌, Bool, true, false, ◌||◌, List, [], ◌∷◌, length, get_or, refl, sym, ap, ◌∙◌, inl, inr, arith}
+use Rattle.std.specs.Cmp.{both_ways}
 use Rattle.std.specs.List.{list_any, range_with_len}
 use Rattle.std.proofs.lemmas.Bool.{false≢true}
 use Rattle.std.proofs.lemmas.List.Folds.{list_any_at}
@@ -12,13 +13,6 @@ use Rattle.relocate.proofs.CallerLemmas.{based_width, field_among, among_fields}
 use Rattle.link_pieces.specs.TablePieces.{KeptParts, whole_pieces}
 use Rattle.link_plan.specs.Planned.{planned_fixes, HaveFields}
 use Rattle.link_image.specs.BaseFields.{piece_holds_address, holds_address}
-
--- two tests are one where each follows from the other
-one_bool : (a b : Bool) → (a ≡ true → b ≡ true) → (b ≡ true → a ≡ true) → a ≡ b
-one_bool true true there back = refl
-one_bool true false there back = sym (there refl)
-one_bool false true there back = back refl
-one_bool false false there back = refl
 
 -- where a test passes
 PlaceOf : {X : Type 0} → (X → Bool) → List X → X → Type 0
@@ -45,7 +39,7 @@ based_field fix based = by (based_width fix based)
 -- the judged fields of a piece hold an address where its relocations do
 same_piece : (fixes fixups : List Fix) → AreTheFields fixes fixups → list_any is_based fixups ≡ list_any is_based fixes
 unfolding IsAmong PlaceOf
-same_piece fixes fixups fields = one_bool (list_any is_based fixups) (list_any is_based fixes) there back
+same_piece fixes fixups fields = both_ways (list_any is_based fixups) (list_any is_based fixes) there back
   where
     there : list_any is_based fixups ≡ true → list_any is_based fixes ≡ true
     there e =

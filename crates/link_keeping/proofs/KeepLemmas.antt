@@ -1,5 +1,6 @@
 -- What is kept, as paths say it.
 use Rattle.std.proofs.Common.{◌≡◌, ℕ, zero, suc, ◌<◌, Bool, true, false, List, length, get_or, replicate, Some, inl, inr, refl, sym, ap, subst, ◌∙◌, arith}
+use Rattle.std.specs.Cmp.{both_ways}
 use Rattle.std.specs.List.{Contains, slice_get}
 use Rattle.std.proofs.lemmas.Bool.{cases_lt, false≢true}
 use Rattle.std.proofs.lemmas.List.{get_or_past, length-replicate, ext_get_or}
@@ -77,12 +78,7 @@ all_stay options link kept count dropped counted is =
 pub one_kept : (options : LinkOptions) (link : LinkParts) (a b : List Bool) → AreKept options link a → AreKept options link b → a ≡ b
 one_kept options link a b x y =
     ext_get_or false a b (x.for_each ∙ sym y.for_each) (λ node lt.
-    both (get_or a node false) (get_or b node false) (λ is. y.kept node (x.only node is)) (λ is. x.kept node (y.only node is)))
-  where
-    both : (p q : Bool) → (p ≡ true → q ≡ true) → (q ≡ true → p ≡ true) → p ≡ q
-    both true q there back = sym (there refl)
-    both false true there back = back refl
-    both false false there back = refl
+    both_ways (get_or a node false) (get_or b node false) (λ is. y.kept node (x.only node is)) (λ is. x.kept node (y.only node is)))
 
 -- and so is a link of which it is known what stands
 pub one_standing : (options : LinkOptions) (a b : KeptParts) → a.parts ≡ b.parts → AreStanding options a → AreStanding options b → a ≡ b

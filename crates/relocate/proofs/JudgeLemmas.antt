@@ -1,10 +1,10 @@
 -- Relocations judged one after the other, in the order of their indexes.
-use Rattle.std.proofs.Common.{◌≡◌, ◌≢◌, ℕ, ◌+◌, ◌-◌, ◌<◌, ◌≤◌, length, List, [], ◌∷◌, ◌++◌, take, Option, Some, None, Bool, true, false, cond, refl, sym, ap, ◌∙◌, eqb, le-ltb, lt-ltb, inl, inr, append-nil, arith, nat_le, nat_lt, subst}
+use Rattle.std.proofs.Common.{◌≡◌, ◌≢◌, ℕ, ◌+◌, ◌-◌, ◌<◌, ◌≤◌, length, get_or, List, [], ◌∷◌, ◌++◌, take, Option, Some, None, Bool, true, false, cond, refl, sym, ap, ◌∙◌, eqb, le-ltb, lt-ltb, inl, inr, append-nil, arith, nat_le, nat_lt, subst}
 use Rattle.std.proofs.lemmas.Bool.{cases_lt}
 use Rattle.std.proofs.lemmas.Bool.Decides.{nat_tests}
 use Rattle.std.proofs.lemmas.List.Elements.{filter_more, All-push, All-weaker, All-nil}
 use Rattle.std.proofs.lemmas.List.Quantifiers.{all_pairs_push}
-use Rattle.std.proofs.lemmas.List.{take_all, take_more}
+use Rattle.std.proofs.lemmas.List.{take_all, take_more, get_or_default}
 use Rattle.std.specs.List.{All, filter}
 use Rattle.std.specs.Option.{option_or, is_some}
 use Rattle.link_base.specs.Refusals.{shown, first_standing, first_refusal_below}
@@ -23,6 +23,10 @@ use Rattle.relocate.specs.Taken.{Descend}
 pub record JudgedTo (body_len : Option ℕ) (large pdata : Bool) (fixes : List Fix) (k : ℕ) (fields : List Fix) : Type 0 where
   pub none : first_refusal_below k (fault_at body_len large pdata fixes) ≡ None
   pub fields_are : fields ≡ filter has_field (take k fixes)
+
+-- a relocation that was unpacked is that of its place
+pub unpacked_at : (fixes : List Fix) (k : ℕ) (fix item : Fix) → k < length fixes → fix ≡ item → item ≡ get_or fixes k item → fix ≡ fix_at fixes k
+unpacked_at fixes k fix item lt is read = is ∙ read ∙ get_or_default fixes k item no_fix lt
 
 -- a refusal is that of the fault that stands
 pub refuses : (standing : Option FieldError) (error : FieldError) → standing ≡ Some error → RefusesFor standing error

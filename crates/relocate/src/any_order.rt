@@ -11,6 +11,7 @@ use crate::ascending::with_fields;
 use crate::error::FieldError;
 use crate::fix::Fix;
 use crate::judge::fault_of;
+use crate::packed::PackedFix;
 use crate::place::{field_end, field_width};
 use link_base::pe_format::REL_AMD64_ABSOLUTE;
 use std::alloc::Global;
@@ -20,17 +21,17 @@ use std::collections::BTreeMap;
 pub(crate) fn sorted_fields(
     alloc: Global,
     body_len: Option<usize>,
-    fixes: &[Fix],
+    fixes: &[PackedFix],
     large: bool,
     pdata: bool,
-) -> Result<Vec<Fix>, FieldError>
+) -> Result<Vec<PackedFix>, FieldError>
     ensures accepted { IfOk result (λ _. field_fault body_len large pdata fixes.now ≡ None) }
     ensures fields { IfOk result (λ fields. AreTheFields fixes.now fields.items) }
     ensures patchable { IfOk result (λ fields. ArePatchable (size_of body_len) fields.items) }
     ensures refused { IfErr result (RefusesFor (field_fault body_len large pdata fixes.now)) }
 {
     let mut fields = with_fields(alloc, fixes)?;
-    fields.sort_by_key(|fix| fix.at)?;
+    fields.sort_by_key(|fix| fix.unpacked().at)?;
     judge_any_order(alloc, body_len, fixes, &fields, large, pdata)?;
     Ok(fields)
 }
@@ -39,8 +40,8 @@ pub(crate) fn sorted_fields(
 fn judge_any_order(
     alloc: Global,
     body_len: Option<usize>,
-    fixes: &[Fix],
-    fields: &[Fix],
+    fixes: &[PackedFix],
+    fields: &[PackedFix],
     large: bool,
     pdata: bool,
 ) -> Result<(), FieldError>
@@ -55,15 +56,16 @@ fn judge_any_order(
 }
 
 /// Whether each of these fields ends before the next begins.
-fn are_apart(fields: &[Fix]) -> bool
+fn are_apart(fields: &[PackedFix]) -> bool
     ensures { MatchBool result (AreApart fields.now) (AreApart fields.now → ⊥) }
 {
     let mut end = 0;
-    for fix in fields {
+    for packed in fields {
+        let fix = packed.unpacked();
         if u64::from(fix.at) < end {
             return false;
         }
-        end = field_end(fix);
+        end = field_end(&fix);
     }
     true
 }
@@ -71,7 +73,7 @@ fn are_apart(fields: &[Fix]) -> bool
 /// Judges relocations of which no field shares a byte with that of an earlier one.
 fn judge_apart(
     body_len: Option<usize>,
-    fixes: &[Fix],
+    fixes: &[PackedFix],
     large: bool,
     pdata: bool,
 ) -> Result<(), FieldError>
@@ -79,8 +81,8 @@ fn judge_apart(
     ensures accepted { IfOk result (λ _. field_fault body_len large pdata fixes.now ≡ None) }
     ensures refused { IfErr result (RefusesFor (field_fault body_len large pdata fixes.now)) }
 {
-    for fix in fixes {
-        if let Some(error) = fault_of(body_len, large, pdata, fix, false) {
+    for packed in fixes {
+        if let Some(error) = fault_of(body_len, large, pdata, &packed.unpacked(), false) {
             return Err(error);
         }
     }
@@ -91,7 +93,7 @@ fn judge_apart(
 fn judge_by_places(
     alloc: Global,
     body_len: Option<usize>,
-    fixes: &[Fix],
+    fixes: &[PackedFix],
     large: bool,
     pdata: bool,
 ) -> Result<(), FieldError>
@@ -99,11 +101,12 @@ fn judge_by_places(
     ensures refused { IfErr result (RefusesFor (field_fault body_len large pdata fixes.now)) }
 {
     let mut taken = BTreeMap::new(alloc);
-    for fix in fixes {
+    for packed in fixes {
+        let fix = packed.unpacked();
         if fix.kind == REL_AMD64_ABSOLUTE {
             continue;
         }
-        if let Some(error) = fault_of(body_len, large, pdata, fix, overlaps(&taken, fix)) {
+        if let Some(error) = fault_of(body_len, large, pdata, &fix, overlaps(&taken, &fix)) {
             return Err(error);
         }
         taken.insert(u64::from(fix.at), u64::from(field_width(fix.kind)))?;

@@ -8,7 +8,6 @@ ghost use Rattle.relocate.specs.Judged.{ArePatchable, size_of};
 ghost use Rattle.relocate.specs.Taken.{Descend};
 
 use crate::error::FieldError;
-use crate::fix::Fix;
 use crate::judge::fault_of;
 use crate::packed::PackedFix;
 use crate::place::{field_end, has_field};
@@ -49,13 +48,14 @@ pub(crate) fn judge_ascending(
 }
 
 /// The relocations that have a field.
-pub(crate) fn with_fields(alloc: Global, fixes: &[Fix]) -> Result<Vec<Fix>, AllocError>
+pub(crate) fn with_fields(alloc: Global, fixes: &[PackedFix]) -> Result<Vec<PackedFix>, AllocError>
     ensures { IfOk result (λ fields. fields.items ≡ filter has_field fixes.now) }
 {
     let mut fields = Vec::new(alloc);
-    for fix in fixes {
-        if has_field(fix) {
-            fields.push(*fix)?;
+    for packed in fixes {
+        let fix = packed.unpacked();
+        if has_field(&fix) {
+            fields.push(PackedFix::new(fix))?;
         }
     }
     Ok(fields)

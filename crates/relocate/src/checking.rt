@@ -9,7 +9,7 @@ use crate::ascending::{judge_ascending, with_fields};
 use crate::error::FieldError;
 use crate::fix::Fix;
 use crate::fixups::Fixups;
-use crate::packed::{PackedFix, packed, unpacked};
+use crate::packed::{PackedFix, packed};
 use std::alloc::Global;
 
 /// The fields of a section's relocations, given in the order of their indexes, where none has a fault. `large` says that the image may stand above 2 GiB,
@@ -54,17 +54,11 @@ pub fn check_list(
     let body_len = body.map(|bytes| bytes.len());
     match judge_ascending(body_len, &fixes, large, pdata)? {
         Some(true) => Ok(Fixups { fixes }),
-        Some(false) => {
-            let fields = with_fields(alloc, &unpacked(alloc, &fixes)?)?;
-            Ok(Fixups {
-                fixes: packed(alloc, &fields)?,
-            })
-        }
-        None => {
-            let fields = sorted_fields(alloc, body_len, &unpacked(alloc, &fixes)?, large, pdata)?;
-            Ok(Fixups {
-                fixes: packed(alloc, &fields)?,
-            })
-        }
+        Some(false) => Ok(Fixups {
+            fixes: with_fields(alloc, &fixes)?,
+        }),
+        None => Ok(Fixups {
+            fixes: sorted_fields(alloc, body_len, &fixes, large, pdata)?,
+        }),
     }
 }

@@ -123,13 +123,6 @@ impl PackedFix {
         }
     }
 
-    /// Its index among the section's relocations.
-    pub(crate) fn index(&self) -> u32
-        ensures { result ≡ self.now.index }
-    {
-        self.index
-    }
-
     /// Gives it another target.
     pub(crate) fn set_target(&mut self, target: Target)
         ensures { self.new ≡ record self.old { target = Some (Ok target) } }
@@ -178,15 +171,4 @@ pub(crate) fn packed(alloc: Global, fixes: &[Fix]) -> Result<Vec<PackedFix>, All
         packed.push(PackedFix::new(*fix))?;
     }
     Ok(packed)
-}
-
-/// The relocations that were packed.
-pub(crate) fn unpacked(alloc: Global, packed: &[PackedFix]) -> Result<Vec<Fix>, AllocError>
-    ensures { IfOk result (λ fixes. fixes.items ≡ packed.now) }
-{
-    let mut fixes = Vec::with_capacity(alloc, packed.len())?;
-    for fix in packed {
-        fixes.push(fix.unpacked())?;
-    }
-    Ok(fixes)
 }

@@ -35,9 +35,10 @@ pub fn patch(
     ensures refused { IfErr result (IsLeastOutside base rva layout.now owner.now fixups.now part.old) }
 {
     let mut least = None;
-    for fix in fixups.fixes() {
-        let outside = patch_field(part, rva, base, &fix.unpacked(), layout, owner);
-        least = least_range(least, fix.index(), outside);
+    for packed in fixups.fixes() {
+        let fix = packed.unpacked();
+        let outside = patch_field(part, rva, base, &fix, layout, owner);
+        least = least_range(least, fix.index, outside);
     }
     match least {
         Some(range) => Err(range),

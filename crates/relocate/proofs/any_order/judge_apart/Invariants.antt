@@ -3,5 +3,5 @@ use Rattle.link_base.specs.Refusals.{first_refusal_below}
 use Rattle.relocate.specs.FieldFaults.{fault_at}
 use Rattle.relocate.proofs.any_order.judge_apart.Given as goal
 
-abbrev pub invariant-loop-fix : goal.invariant-loop-fix
-invariant-loop-fix l = first_refusal_below l.fix-index (fault_at l.body_len l.large l.pdata l.fixes) ≡ None
+abbrev pub invariant-loop-packed : goal.invariant-loop-packed
+invariant-loop-packed l = first_refusal_below l.packed-index (fault_at l.body_len l.large l.pdata l.fixes) ≡ None

@@ -1,9 +1,8 @@
 use Rattle.std.proofs.Common.{◌≡◌, ◌≢◌, ◌<◌, ◌≤◌, false, None, Some, refl, sym, ap, ◌∙◌, arith}
-use Rattle.std.proofs.lemmas.List.{get_or_default}
 use Rattle.relocate.specs.declared.fix.Fix.{Fix}
-use Rattle.relocate.specs.Field.{no_fix, fix_at}
+use Rattle.relocate.specs.Field.{fix_at}
 use Rattle.relocate.specs.FieldFaults.{fault_of}
-use Rattle.relocate.proofs.JudgeLemmas.{ascend_starts, ascend_absolute, ascend_field, ascend_refused, ascend_ends, all_ascend}
+use Rattle.relocate.proofs.JudgeLemmas.{unpacked_at, ascend_starts, ascend_absolute, ascend_field, ascend_refused, ascend_ends, all_ascend}
 use Rattle.relocate.proofs.PatchableLemmas.{patchable_ascending}
 use Rattle.relocate.proofs.ascending.judge_ascending.Goals as goal
 
@@ -14,7 +13,7 @@ pub loop-packed-preserved-then-fix-eq-REL_AMD64_ABSOLUTE : goal.loop-packed-pres
 loop-packed-preserved-then-fix-eq-REL_AMD64_ABSOLUTE c =
     let k = c.loop-packed.packed-index in
     let lt = c.loop-packed-test.true in
-    let is : c.unpacked-fix.result ≡ fix_at c.args.fixes.now k = c.unpacked-fix.ensures ∙ c.packed-item.is ∙ get_or_default c.args.fixes.now k c.packed-item.result no_fix lt in
+    let is : c.unpacked-fix.result ≡ fix_at c.args.fixes.now k = unpacked_at c.args.fixes.now k c.unpacked-fix.result c.packed-item.result lt c.unpacked-fix.ensures c.packed-item.is in
     let kind : (fix_at c.args.fixes.now k).kind ≡ 0 = sym (ap (λ (fix : Fix). fix.kind) is) ∙ c.if-fix-eq-REL_AMD64_ABSOLUTE.true in
     ascend_absolute _ _ _ _ _ _ _ lt kind c.loop-packed.invariant
 
@@ -22,7 +21,7 @@ pub loop-packed-preserved : goal.loop-packed-preserved
 loop-packed-preserved c =
     let k = c.loop-packed.packed-index in
     let lt = c.loop-packed-test.true in
-    let is : c.unpacked-fix.result ≡ fix_at c.args.fixes.now k = c.unpacked-fix.ensures ∙ c.packed-item.is ∙ get_or_default c.args.fixes.now k c.packed-item.result no_fix lt in
+    let is : c.unpacked-fix.result ≡ fix_at c.args.fixes.now k = unpacked_at c.args.fixes.now k c.unpacked-fix.result c.packed-item.result lt c.unpacked-fix.ensures c.packed-item.is in
     let kind : (fix_at c.args.fixes.now k).kind ≢ 0 = λ none. c.if-fix-eq-REL_AMD64_ABSOLUTE.false (ap (λ (fix : Fix). fix.kind) is ∙ none) in
     let above : c.loop-packed.end ≤ (fix_at c.args.fixes.now k).at = omega (arith, ap (λ (fix : Fix). fix.at) is, c.from.ensures, c.if-from-end.false) in
     let passes : fault_of c.args.body_len c.args.large c.args.pdata (fix_at c.args.fixes.now k) false ≡ None =
@@ -34,7 +33,7 @@ pub returns-in-Some-clause-refused : goal.returns-in-Some-clause-refused
 returns-in-Some-clause-refused c =
     let k = c.loop-packed.packed-index in
     let lt = c.loop-packed-test.true in
-    let is : c.unpacked-fix.result ≡ fix_at c.args.fixes.now k = c.unpacked-fix.ensures ∙ c.packed-item.is ∙ get_or_default c.args.fixes.now k c.packed-item.result no_fix lt in
+    let is : c.unpacked-fix.result ≡ fix_at c.args.fixes.now k = unpacked_at c.args.fixes.now k c.unpacked-fix.result c.packed-item.result lt c.unpacked-fix.ensures c.packed-item.is in
     let above : c.loop-packed.end ≤ (fix_at c.args.fixes.now k).at = omega (arith, ap (λ (fix : Fix). fix.at) is, c.from.ensures, c.if-from-end.false) in
     let fails : fault_of c.args.body_len c.args.large c.args.pdata (fix_at c.args.fixes.now k) false ≡ Some c.in-Some.error =
     ap (λ (fix : Fix). fault_of c.args.body_len c.args.large c.args.pdata fix false) (sym is) ∙ sym c.in-Some.ensures in
@@ -53,6 +52,6 @@ pub returns-then-from-end-clause-descend : goal.returns-then-from-end-clause-des
 returns-then-from-end-clause-descend c =
     let k = c.loop-packed.packed-index in
     let lt = c.loop-packed-test.true in
-    let is : c.unpacked-fix.result ≡ fix_at c.args.fixes.now k = c.unpacked-fix.ensures ∙ c.packed-item.is ∙ get_or_default c.args.fixes.now k c.packed-item.result no_fix lt in
+    let is : c.unpacked-fix.result ≡ fix_at c.args.fixes.now k = unpacked_at c.args.fixes.now k c.unpacked-fix.result c.packed-item.result lt c.unpacked-fix.ensures c.packed-item.is in
     let below : (fix_at c.args.fixes.now k).at < c.loop-packed.end = omega (arith, ap (λ (fix : Fix). fix.at) is, c.from.ensures, c.if-from-end.true) in
     ascend_ends _ _ _ _ _ _ _ lt below c.loop-packed.invariant

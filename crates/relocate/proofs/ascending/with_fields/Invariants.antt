@@ -3,5 +3,5 @@ use Rattle.std.specs.List.{filter}
 use Rattle.relocate.specs.Field.{has_field}
 use Rattle.relocate.proofs.ascending.with_fields.Given as goal
 
-abbrev pub invariant-loop-fix : goal.invariant-loop-fix
-invariant-loop-fix l = l.fields.items ≡ filter has_field (take l.fix-index l.fixes)
+abbrev pub invariant-loop-packed : goal.invariant-loop-packed
+invariant-loop-packed l = l.fields.items ≡ filter has_field (take l.packed-index l.fixes)

@@ -1,5 +1,5 @@
 use Rattle.relocate.proofs.PatchLemmas.{PatchedTo}
 use Rattle.relocate.proofs.patching.patch.Given as goal
 
-abbrev pub invariant-loop-fix : goal.invariant-loop-fix
-invariant-loop-fix l = PatchedTo l.base l.rva l.layout l.owner l.fixups l.fix-index l.initial.part l.part l.least
+abbrev pub invariant-loop-packed : goal.invariant-loop-packed
+invariant-loop-packed l = PatchedTo l.base l.rva l.layout l.owner l.fixups l.packed-index l.initial.part l.part l.least
