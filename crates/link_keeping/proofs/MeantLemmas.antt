@@ -1,6 +1,7 @@
 -- Pieces that are marked, one after the other, and named by their marks.
 use Rattle.std.proofs.Common.{◌≡◌, ℕ, ◌+◌, ◌<◌, ◌≤◌, Bool, true, false, ◌||◌, ◌&&◌, eqb, List, [], ◌∷◌, ◌++◌, length, map, get_or, set, take, inl, inr, refl, sym, ap, ◌∙◌, add-one, subst, arith}
 use Rattle.std.specs.List.{list_any, range_with_len}
+use Rattle.std.proofs.Math.Bool.{or_assoc, or-true, or-false}
 use Rattle.std.proofs.Math.Seq.{take-suc}
 use Rattle.std.proofs.lemmas.Bool.{cases_lt}
 use Rattle.std.proofs.lemmas.Bool.Decides.{eqb_tells}
@@ -12,37 +13,25 @@ use Rattle.section_group.specs.declared.piece.Piece.{Piece}
 use Rattle.section_group.specs.SectionOrder.{no_piece}
 use Rattle.link_keeping.specs.Named.{LeadsWithin, named_if}
 
-or_true : (b : Bool) → true ≡ (b || true)
-or_true true = refl
-or_true false = refl
-
-or_false : (b : Bool) → b ≡ (b || false)
-or_false true = refl
-or_false false = refl
-
-pub or_or : (a b c : Bool) → ((a || b) || c) ≡ (a || (b || c))
-or_or true b c = refl
-or_or false b c = refl
-
 -- one beyond the list marks none of it
 pub marked_beyond : (marks : List Bool) (at k : ℕ) → length marks ≤ at → k < length marks → get_or marks k false ≡ (get_or marks k false || eqb at k)
 marked_beyond marks at k ge lt =
     elim (eqb_tells at k) [
       | inl here ↦ absurd (omega arith)
-      | inr other ↦ rw other.0 (or_false (get_or marks k false))
+      | inr other ↦ rw other.0 (sym (or-false (get_or marks k false)))
     ]
 
 pub marked_none : (b : Bool) → b ≡ (b || false)
-marked_none b = or_false b
+marked_none b = sym (or-false b)
 
 -- one more that a test passes
 pub marks_more : {X : Type 0} (test : X → Bool) (xs : List X) (i : ℕ) (x : X) (first was now : Bool) → i < length xs → x ≡ get_or xs i x → was ≡ (first || list_any test (take i xs)) → now ≡ (was || test x) → now ≡ (first || list_any test (take (i + 1) xs))
 marks_more {X} test xs i x first was now lt read before after =
     after
     ∙ ap (λ (b : Bool). b || test x) before
-    ∙ or_or first (list_any test (take i xs)) (test x)
+    ∙ or_assoc first (list_any test (take i xs)) (test x)
     ∙ ap (λ (b : Bool). first || b)
-    (ap (λ (b : Bool). list_any test (take i xs) || b) (or_false (test x))
+    (ap (λ (b : Bool). list_any test (take i xs) || b) (sym (or-false (test x)))
     ∙ sym (list_any-append test (take i xs) (x ∷ []))
     ∙ ap (λ (y : X). list_any test (take i xs ++ y ∷ [])) read
     ∙ ap (list_any test) (sym (take-suc xs i x lt))
@@ -53,9 +42,9 @@ pub marks_range : (test : ℕ → Bool) (i : ℕ) (first was now : Bool) → was
 marks_range test i first was now before after =
     after
     ∙ ap (λ (b : Bool). b || test i) before
-    ∙ or_or first (list_any test (range_with_len 0 i)) (test i)
+    ∙ or_assoc first (list_any test (range_with_len 0 i)) (test i)
     ∙ ap (λ (b : Bool). first || b)
-    (ap (λ (b : Bool). list_any test (range_with_len 0 i) || b) (or_false (test i))
+    (ap (λ (b : Bool). list_any test (range_with_len 0 i) || b) (sym (or-false (test i)))
     ∙ sym (list_any-append test (range_with_len 0 i) (i ∷ []))
     ∙ ap (list_any test) (sym (range_more 0 i i (omega arith))))
 
@@ -74,7 +63,7 @@ pub record AreNamedUpTo (old : List Piece) (meant : List Bool) (count : ℕ) (no
   pub others : (k : ℕ) → count ≤ k → get_or now k no_piece ≡ get_or old k no_piece
 
 or_false_named : (piece : Piece) → piece ≡ named_if false piece
-or_false_named piece = ap (λ (b : Bool). record piece { named = b }) (or_false piece.named)
+or_false_named piece = ap (λ (b : Bool). record piece { named = b }) (sym (or-false piece.named))
 
 pub all_named : (old : List Piece) (meant : List Bool) (count : ℕ) (now : List Piece) → length old ≤ count → AreNamedUpTo old meant count now → now ≡ map (λ k. named_if (get_or meant k false) (get_or old k no_piece)) (range_with_len 0 (length old))
 all_named old meant count now all are =
@@ -99,7 +88,7 @@ named_more old meant k now piece lt are marked read = record {
 }
   where
     marked_named : (p : Piece) (b : Bool) → b ≡ true → named_if b p ≡ record p { named = true }
-    marked_named p b e = rw e (ap (λ (n : Bool). record p { named = n }) (sym (or_true p.named)))
+    marked_named p b e = rw e (ap (λ (n : Bool). record p { named = n }) (or-true p.named))
 
 -- one that is not
 pub named_same : (old : List Piece) (meant : List Bool) (k : ℕ) (now : List Piece) → AreNamedUpTo old meant k now → get_or meant k false ≡ false → AreNamedUpTo old meant (k + 1) now

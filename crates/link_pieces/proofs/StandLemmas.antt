@@ -1,19 +1,19 @@
 -- Where the names stand that a link asks for and that symbols define, those do that its modules ask for.
-use Rattle.std.proofs.Common.{◌≡◌, ℕ, zero, suc, ◌+◌, ◌<◌, ◌≤◌, Bool, true, false, cond, ◌||◌, ◌&&◌, not, List, [], ◌∷◌, ◌++◌, length, get_or, map, filter, Option, None, Some, refl, sym, ap, subst, ◌∙◌, inl, inr, arith}
+use Rattle.std.proofs.Common.{◌≡◌, ℕ, zero, suc, ◌+◌, ◌<◌, ◌≤◌, Bool, true, false, cond, ◌||◌, List, [], ◌∷◌, ◌++◌, length, get_or, map, filter, Option, None, Some, refl, sym, subst, ◌∙◌, inl, inr, arith}
 use Rattle.std.specs.Prelude.{filter_map}
 use Rattle.std.specs.Option.{IfSome}
 use Rattle.std.specs.List.{All, cons_option, flat_map, range_with_len}
 use Rattle.std.proofs.lemmas.Bool.{false≢true, cases_lt, and_parts}
 use Rattle.std.proofs.lemmas.List.{get_or_append_left, length-append}
-use Rattle.std.proofs.lemmas.List.Elements.{All-append, All-nil}
+use Rattle.std.proofs.lemmas.List.Elements.{All-append, All-cons, All-nil, All-tail}
 use Rattle.link_base.proofs.RangeLemmas.{all_joined}
-use Rattle.coff_records.specs.ObjectFile.{SymbolView, SymbolEntry, name_in, symbol_entries}
+use Rattle.coff_records.specs.ObjectFile.{SymbolEntry, name_in, symbol_entries}
 use Rattle.module_view.specs.Module.{module_at}
 use Rattle.module_view.specs.SymbolLists.{is_definition, definition_of, defines, definitions_of, is_reference, reference_of, refers, references_of}
 use Rattle.module_view.specs.declared.definition.Definition.{Definition}
 use Rattle.module_view.specs.declared.reference.Reference.{Reference}
-use Rattle.symbol_names.specs.References.{Asked, asked_by_name, asked_by_symbol, names_by, asked_by, all_asked}
-use Rattle.symbol_table.specs.Meant.{StandsAsked, StandsDefined, AllStand}
+use Rattle.symbol_names.specs.References.{asked_by_name, asked_by_symbol, names_by, asked_by}
+use Rattle.symbol_table.specs.Meant.{StandsAsked, AllStand}
 use Rattle.comdat.specs.Selection.{chosen_sections}
 use Rattle.link_pieces.specs.LinkParts.{LinkParts, names_in}
 use Rattle.link_pieces.specs.LocalSlots.{is_lost, asks, name_asked, names_asked, modules_asked}
@@ -28,17 +28,10 @@ pub all_back : {X : Type 0} (P : X → Type 0) (xs ys : List X) → All P (xs ++
 all_back P [] ys all = all
 all_back P (x ∷ xs) ys all = all_back P xs ys (λ k d lt. all (suc k) d (omega arith))
 
-all_cons : {X : Type 0} (P : X → Type 0) (x : X) (xs : List X) → P x → All P xs → All P (x ∷ xs)
-all_cons P x xs first later zero d lt = first
-all_cons P x xs first later (suc k) d lt = later k d (omega arith)
-
-pub all_rest : {X : Type 0} (P : X → Type 0) (x : X) (xs : List X) → All P (x ∷ xs) → All P xs
-all_rest P x xs all = λ k d lt. all (suc k) d (omega arith)
-
 all_unmapped : {X Y : Type 0} (f : X → Y) (P : Y → Type 0) (xs : List X) → All P (map f xs) → All (λ x. P (f x)) xs
 all_unmapped f P [] all = λ k d lt. absurd (omega arith)
 all_unmapped {X} f P (x ∷ xs) all =
-    all_cons (λ (y : X). P (f y)) x xs (all zero (f x) (omega arith)) (all_unmapped f P xs (all_rest P (f x) (map f xs) all))
+    All-cons (λ (y : X). P (f y)) x xs (all zero (f x) (omega arith)) (all_unmapped f P xs (All-tail P (f x) (map f xs) all))
 
 -- of those that pass a test
 all_tested : {X Y : Type 0} (f : X → Y) (p : X → Bool) (P : Y → Type 0) (xs : List X) → All P (map f (filter p xs)) → All (λ x. p x ≡ true → P (f x)) xs
@@ -47,18 +40,18 @@ all_tested {X} {Y} f p P (x ∷ xs) all = go (p x) refl all (all_tested f p P xs
   where
     go : (b : Bool) → p x ≡ b → All P (map f (cond b (x ∷ filter p xs) (filter p xs))) → (All P (map f (filter p xs)) → All (λ y. p y ≡ true → P (f y)) xs) → All (λ y. p y ≡ true → P (f y)) (x ∷ xs)
     go true is each later =
-        all_cons (λ (y : X). p y ≡ true → P (f y)) x xs (λ _. each zero (f x) (omega arith)) (later (all_rest P (f x) (map f (filter p xs)) each))
+        All-cons (λ (y : X). p y ≡ true → P (f y)) x xs (λ _. each zero (f x) (omega arith)) (later (All-tail P (f x) (map f (filter p xs)) each))
     go false is each later =
-        all_cons (λ (y : X). p y ≡ true → P (f y)) x xs (λ holds. absurd (false≢true (sym is ∙ holds))) (later each)
+        All-cons (λ (y : X). p y ≡ true → P (f y)) x xs (λ holds. absurd (false≢true (sym is ∙ holds))) (later each)
 
 -- of what is given of each
 all_given : {X Y : Type 0} (f : X → Option Y) (P : Y → Type 0) (xs : List X) → All (λ x. IfSome (f x) P) xs → All P (filter_map f xs)
 all_given f P [] all = All-nil P
-all_given {X} {Y} f P (x ∷ xs) all = go (f x) (all zero x (omega arith)) (all_given f P xs (all_rest (λ (y : X). IfSome (f y) P) x xs all))
+all_given {X} {Y} f P (x ∷ xs) all = go (f x) (all zero x (omega arith)) (all_given f P xs (All-tail (λ (y : X). IfSome (f y) P) x xs all))
   where
     go : (o : Option Y) → IfSome o P → All P (filter_map f xs) → All P (cons_option o (filter_map f xs))
     go None first later = later
-    go (Some y) first later = all_cons P y (filter_map f xs) first later
+    go (Some y) first later = All-cons P y (filter_map f xs) first later
 
 -- of one of the lists that are joined
 pub joined_part : {X : Type 0} (P : X → Type 0) (f : ℕ → List X) (a n : ℕ) → All P (flat_map f (range_with_len a n)) → (k : ℕ) → a ≤ k → k < a + n → All P (f k)

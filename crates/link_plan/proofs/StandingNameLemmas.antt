@@ -1,8 +1,9 @@
 -- Where all names stand that modules ask for, none means nothing, and none is a slot that has to be made.
-use Rattle.std.proofs.Common.{◌≡◌, ℕ, zero, suc, ◌+◌, ◌<◌, ◌≤◌, Bool, true, false, cond, List, [], ◌∷◌, length, map, Option, None, Some, Result, Ok, Err, refl, sym, ap, ◌∙◌, add-one, arith}
+use Rattle.std.proofs.Common.{◌≡◌, ℕ, zero, suc, ◌<◌, ◌≤◌, Bool, true, false, cond, List, [], ◌∷◌, length, map, Option, None, Some, Result, Ok, Err, refl, sym, ap, ◌∙◌, add-one, arith}
 use Rattle.std.specs.Prelude.{filter_map}
-use Rattle.std.specs.List.{All, cons_option, range_with_len}
+use Rattle.std.specs.List.{All, cons_option}
 use Rattle.std.specs.Option.{option_or}
+use Rattle.std.proofs.lemmas.List.Elements.{All-tail}
 use Rattle.link_base.specs.Refusals.{first_standing, first_refusal_below}
 use Rattle.link_base.specs.declared.fault.Fault.{Fault}
 use Rattle.link_base.proofs.RefusalLemmas.{first_refusal_below-more}
@@ -16,8 +17,8 @@ use Rattle.symbol_table.specs.Meant.{is_standing}
 use Rattle.link_pieces.specs.LinkParts.{LinkParts}
 use Rattle.link_pieces.specs.NameMeaning.{name_meaning, StandsIn}
 use Rattle.link_pieces.specs.LocalSlots.{asks, name_asked, names_asked, modules_asked, slot_in, slot_meant, with_slots, with_meant}
-use Rattle.link_pieces.proofs.StandLemmas.{all_front, all_back, all_rest, joined_part}
-use Rattle.link_plan.specs.References.{no_meaning_fault, name_fault, symbol_fault, symbols_fault, asked_fault, names_fault, object_fault_among, references_fault_at, references_fault}
+use Rattle.link_pieces.proofs.StandLemmas.{all_front, all_back, joined_part}
+use Rattle.link_plan.specs.References.{no_meaning_fault, name_fault, symbol_fault, asked_fault, names_fault, references_fault_at, references_fault}
 
 -- ---- a name
 
@@ -41,7 +42,7 @@ no_names_fault : (link : LinkParts) (at : Option ℕ) (names : List (List ℕ)) 
 no_names_fault link at [] all = refl
 no_names_fault link at (name ∷ names) all =
     ap (λ (o : Option Fault). option_or o (first_standing (map (asked_fault link at) names))) (no_fault name at (name_meaning link name) (all zero name (omega arith)))
-    ∙ no_names_fault link at names (all_rest (StandsIn link) name names all)
+    ∙ no_names_fault link at names (All-tail (StandsIn link) name names all)
 
 no_symbols_fault : (link : LinkParts) (position : ℕ) (entries : List SymbolEntry) → All (StandsIn link) (filter_map (name_asked link position) entries) → first_standing (map (symbol_fault link position) entries) ≡ None
 no_symbols_fault link position [] all = refl
@@ -53,7 +54,7 @@ no_symbols_fault link position (entry ∷ entries) all = go (asks link position 
     go : (b : Bool) → All (StandsIn link) (cons_option (cond b (Some (name_in entry.1)) None) later) → (All (StandsIn link) later → first_standing (map (symbol_fault link position) entries) ≡ None) → option_or (cond b (name_fault link (name_in entry.1) (Some position)) None) (first_standing (map (symbol_fault link position) entries)) ≡ None
     go true each rest =
         ap (λ (o : Option Fault). option_or o (first_standing (map (symbol_fault link position) entries))) (no_fault (name_in entry.1) (Some position) (name_meaning link (name_in entry.1)) (each zero (name_in entry.1) (omega arith)))
-        ∙ rest (all_rest (StandsIn link) (name_in entry.1) later each)
+        ∙ rest (All-tail (StandsIn link) (name_in entry.1) later each)
     go false each rest = rest each
 
 -- ---- all of them
@@ -83,4 +84,4 @@ no_more_meant link slots all = sym (ap (with_slots slots) (nothing_meant (module
     nothing_meant [] all = refl
     nothing_meant (name ∷ names) all =
         ap (λ (o : Option (List ℕ)). cons_option o (filter_map (slot_meant link) names)) (no_slot (name_meaning link name) (all zero name (omega arith)))
-        ∙ nothing_meant names (all_rest (StandsIn link) name names all)
+        ∙ nothing_meant names (All-tail (StandsIn link) name names all)

@@ -2,6 +2,7 @@
 use Rattle.std.proofs.Common.{◌≡◌, ◌≢◌, ℕ, ◌+◌, ◌<◌, Bool, true, false, cond, ◌&&◌, ◌||◌, eqb, List, [], ◌∷◌, length, map, get_or, take, replicate, Option, Some, None, unwrap_or, refl, sym, ap, ◌∙◌, add-one, arith}
 use Rattle.std.specs.List.{list_any, range_with_len}
 use Rattle.std.specs.Option.{option_or}
+use Rattle.std.proofs.Math.Bool.{or-false}
 use Rattle.std.proofs.Math.Seq.{take-suc}
 use Rattle.std.proofs.Math.ListN.{get_or-map}
 use Rattle.std.proofs.lemmas.Bool.{ne_eqb, eq-eqb}
@@ -15,10 +16,6 @@ use Rattle.section_group.specs.Uniqueness.{SectionRow, row_of, rows_of}
 use Rattle.piece_bytes.specs.Owners.{no_row, row_holds, section_of, owners}
 
 -- ---- the members of a section
-
-or_false : (b : Bool) → (b || false) ≡ b
-or_false true = refl
-or_false false = refl
 
 abbrev pub noted : Bool → ℕ → ℕ → ℕ → ℕ
 noted there none section old = cond (there && eqb old none) section old
@@ -35,7 +32,7 @@ noted_more members t k none section old member lt read apart =
         ∙ ap (list_any (λ m. eqb m k)) (take-suc members t member lt)
         ∙ list_any-append (λ m. eqb m k) (take t members) (get_or members t member ∷ [])
         ∙ ap (λ (m : ℕ). list_any (λ m. eqb m k) (take t members) || (eqb m k || false)) (sym read)
-        ∙ ap (λ (b : Bool). list_any (λ m. eqb m k) (take t members) || b) (or_false (eqb member k))
+        ∙ ap (λ (b : Bool). list_any (λ m. eqb m k) (take t members) || b) (or-false (eqb member k))
 
     go : (a b c : Bool) → eqb old none ≡ c → cond (b && eqb (cond (a && c) section old) none) section (cond (a && c) section old) ≡ cond ((a || b) && c) section old
     go true true true e = rw (ne_eqb section none apart) refl

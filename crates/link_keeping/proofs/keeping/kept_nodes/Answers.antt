@@ -1,5 +1,6 @@
 use Rattle.std.proofs.Common.{◌≡◌, ℕ, ◌||◌, Bool, false, List, ◌++◌, length, take, get_or, ap, sym, subst, ◌∙◌, arith}
 use Rattle.std.specs.List.{All, list_any, range_with_len}
+use Rattle.std.proofs.Math.Bool.{or_assoc}
 use Rattle.std.proofs.Math.Seq.{take-append_seam}
 use Rattle.std.proofs.lemmas.List.{length-map, length-append, length-take}
 use Rattle.section_group.specs.BarePieces.{bare}
@@ -12,7 +13,6 @@ use Rattle.link_keeping.specs.Standing.{FoldsTo}
 use Rattle.link_fields.specs.Fixes.{HasSameEdges, field_edges}
 use Rattle.link_fields.proofs.EdgeLemmas.{same_append, all_same, any_same}
 use Rattle.link_keeping.proofs.StandingLemmas.{places_few}
-use Rattle.link_keeping.proofs.MeantLemmas.{or_or}
 use Rattle.link_keeping.proofs.keeping.kept_nodes.Goals as goal
 
 pub standing-requires : goal.standing-requires
@@ -85,7 +85,7 @@ returns-clause-meant c = λ k lt.
     ∙ ap (λ (ps : List ℕ). list_any (leads_there kept ps k) edges) c.deref-7.ensures.value
     ∙ ap (list_any (leads_there kept places k)) fields
     ∙ any_same (leads_there kept places k) (field_edges link) c.args.edges.items c.requires.edges))
-    ∙ or_or led sought (list_any (is_named_at link places k) (range_with_len 0 (length places)))
+    ∙ or_assoc led sought (list_any (is_named_at link places k) (range_with_len 0 (length places)))
 
 pub returns-clause-no_import : goal.returns-clause-no_import
 returns-clause-no_import c = λ none.
