@@ -1,5 +1,6 @@
 -- The fields that hold addresses, as they are listed piece by piece and section by section.
-use Rattle.std.proofs.Common.{◌≡◌, ℕ, suc, ◌+◌, ◌<◌, List, [], ◌∷◌, ◌++◌, length, take, get_or, append_assoc, append-nil, sym, ap, ◌∙◌, subst, arith}
+use Rattle.std.proofs.Common.{◌≡◌, ℕ, ◌+◌, ◌<◌, List, [], ◌∷◌, ◌++◌, length, take, get_or, append_assoc, append-nil, sym, ap, ◌∙◌, subst}
+use Rattle.std.proofs.Math.Numerals.{suc-eq-add-one}
 use Rattle.std.specs.List.{All, flat_map}
 use Rattle.std.proofs.Math.Seq.{take-suc}
 use Rattle.std.proofs.lemmas.Grind.{flat_map-append}
@@ -20,10 +21,7 @@ section_more rvas fixups indexes n rva fixes before start after lt at read was i
     ∙ ap (λ (xs : List BaseField). xs ++ fields_of rva fixes) was
     ∙ append_assoc start (flat_map f (take n indexes)) (fields_of rva fixes)
     ∙ ap (λ (xs : List BaseField). start ++ (flat_map f (take n indexes) ++ xs)) (ap (λ (r : ℕ). fields_of r fixes) at ∙ ap (fields_of (get_or rvas k 0)) read ∙ sym (append-nil (fields_at rvas fixups k)))
-    ∙ ap (λ (xs : List BaseField). start ++ xs) (sym (flat_map-append f (take n indexes) (k ∷ [])) ∙ ap (flat_map f) (sym (take-suc indexes n 0 lt) ∙ ap (λ (m : ℕ). take m indexes) (next n)))
-  where
-    next : (m : ℕ) → suc m ≡ m + 1
-    next m = omega arith
+    ∙ ap (λ (xs : List BaseField). start ++ xs) (sym (flat_map-append f (take n indexes) (k ∷ [])) ∙ ap (flat_map f) (sym (take-suc indexes n 0 lt) ∙ ap (λ (m : ℕ). take m indexes) (suc-eq-add-one n)))
 
 -- one section more
 pub all_more : (rvas : List ℕ) (fixups : List (List Fix)) (sections : List OutSection) (n : ℕ) (section : OutSection) (before after : List BaseField) → n < length sections
@@ -36,10 +34,7 @@ all_more rvas fixups sections n section before after lt read was is =
     ∙ ap (λ (xs : List BaseField). xs ++ f section) was
     ∙ ap (λ (xs : List BaseField). flat_map f (take n sections) ++ xs) (ap f read ∙ sym (append-nil (f (get_or sections n section))))
     ∙ sym (flat_map-append f (take n sections) (get_or sections n section ∷ []))
-    ∙ ap (flat_map f) (sym (take-suc sections n section lt) ∙ ap (λ (m : ℕ). take m sections) (next n))
-  where
-    next : (m : ℕ) → suc m ≡ m + 1
-    next m = omega arith
+    ∙ ap (flat_map f) (sym (take-suc sections n section lt) ∙ ap (λ (m : ℕ). take m sections) (suc-eq-add-one n))
 
 -- the fields of a piece fit
 pub fit_here : (rvas : List ℕ) (fixups : List (List Fix)) (indexes : List ℕ) (n : ℕ) (fixes : List Fix) → n < length indexes → All (Fits rvas fixups) indexes → fixes ≡ get_or fixups (get_or indexes n 0) [] → All (λ fix. get_or rvas (get_or indexes n 0) 0 + fix.at < 4294967296) fixes

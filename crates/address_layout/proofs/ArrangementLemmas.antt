@@ -1,9 +1,9 @@
 -- The places that are computed are the least ones.
 use Rattle.std.proofs.Common.{◌≡◌, ◌⊎◌, ℕ, zero, suc, ◌+◌, ◌-◌, ◌*◌, ◌/◌, ◌%◌, ◌<◌, ◌≤◌, Bool, true, false, ◌||◌, cond, eqb, ltb, List, length, IsTrue, refl, sym, ap, ◌∙◌, subst, inl, inr, arith}
 use Rattle.std.specs.List.{All}
-use Rattle.std.proofs.lemmas.Bool.{cases_lt, true≢false, ltb-false, lt-ltb}
+use Rattle.std.proofs.lemmas.Bool.{cases_lt, ltb-false, lt-ltb, or_right, or_parts}
 use Rattle.std.proofs.lemmas.Option.{slice_get_cases}
-use Rattle.std.proofs.Math.Nat.{mul-mod_right, mul_assoc}
+use Rattle.std.proofs.Math.Nat.{mul-mod_right, mul_assoc, le_of_eq, add-sub_of_le}
 use Rattle.section_group.specs.declared.piece.Piece.{Piece}
 use Rattle.section_group.specs.declared.piece.OutSection.{OutSection}
 use Rattle.address_layout.specs.declared.layout.Placed.{Placed}
@@ -34,10 +34,7 @@ end_step pieces row start j = refl
 
 -- the ends do not fall
 pub end_grows : (pieces : List Piece) (row : List ℕ × List ℕ) (start i j : ℕ) → Aligned pieces row → i ≤ j → j ≤ length row.1 → end_after pieces row start i ≤ end_after pieces row start j
-end_grows pieces row start i zero aligned le within = let same : i ≡ zero = omega arith in ≤_of (ap (end_after pieces row start) same)
-  where
-    ≤_of : {a b : ℕ} → a ≡ b → a ≤ b
-    ≤_of e = omega arith
+end_grows pieces row start i zero aligned le within = let same : i ≡ zero = omega arith in le_of_eq (ap (end_after pieces row start) same)
 end_grows pieces row start i (suc j) aligned le within =
     elim (cases_lt j i) [
       | inl above ↦ let same : i ≡ suc j = omega arith in let e = ap (end_after pieces row start) same in omega arith
@@ -62,16 +59,8 @@ bytes_there pieces row (suc count) j lt some =
       | inl below ↦ ap (λ (b : Bool). b || ltb 0 (piece_in pieces row count).size) (bytes_there pieces row count j below some)
       | inr last ↦
           let same : j ≡ count = omega arith in
-          or_true (bytes_before pieces row count) (ltb 0 (piece_in pieces row count).size) (lt-ltb 0 (piece_in pieces row count).size (subst (λ (n : ℕ). 0 < (piece_in pieces row n).size) same some))
+          or_right (bytes_before pieces row count) (ltb 0 (piece_in pieces row count).size) (lt-ltb 0 (piece_in pieces row count).size (subst (λ (n : ℕ). 0 < (piece_in pieces row n).size) same some))
     ]
-  where
-    or_true : (a b : Bool) → b ≡ true → (a || b) ≡ true
-    or_true true b e = refl
-    or_true false b e = e
-
-both_false : (a b : Bool) → (a || b) ≡ false → (a ≡ false) × (b ≡ false)
-both_false true b e = absurd (true≢false e)
-both_false false b e = (refl, e)
 
 bytes_none : (pieces : List Piece) (row : List ℕ × List ℕ) (count : ℕ) → ((j : ℕ) → j < count → (piece_in pieces row j).size ≡ 0) → bytes_before pieces row count ≡ false
 unfolding bytes_before
@@ -132,16 +121,13 @@ placed_section pieces row before file aligned =
       size_of_bytes = λ some.
           let there = bytes_there pieces row n some.0 some.1 some.2 in
           let above = end_above pieces row start n aligned (omega arith) in
-          ap (λ (b : Bool). start + cond b (end_after pieces row start n - start) 1) there ∙ full start (end_after pieces row start n) above ∙ sym (floor_is pieces row start n);
+          ap (λ (b : Bool). start + cond b (end_after pieces row start n - start) 1) there ∙ add-sub_of_le above ∙ sym (floor_is pieces row start n);
       size_of_none = λ none. ap (λ (b : Bool). cond b (end_after pieces row start n - start) 1) (bytes_none pieces row n none);
       initialised_end = raw_end_after pieces row start n;
       is_initialised_end = initialised_end_is pieces row start;
       raw = rounded_is 512 (raw_end_after pieces row start n - start) (omega arith);
       file = refl;
     }
-  where
-    full : (a b : ℕ) → a ≤ b → a + (b - a) ≡ b
-    full a b le = omega arith
 
 -- ---- all sections
 
@@ -206,7 +192,7 @@ none_reach : (pieces : List Piece) (row : List ℕ × List ℕ) (start count : �
 unfolding end_after bytes_before
 none_reach pieces row start zero aligned divides within none = rounded_above 8192 start (omega arith)
 none_reach pieces row start (suc count) aligned divides within none =
-    let parts = both_false (bytes_before pieces row count) (ltb 0 (piece_in pieces row count).size) none in
+    let parts = or_parts (bytes_before pieces row count) (ltb 0 (piece_in pieces row count).size) none in
     let empty : (piece_in pieces row count).size ≤ 0 = ltb-false 0 (piece_in pieces row count).size parts.1 in
     let before = none_reach pieces row start count aligned divides (omega arith) parts.0 in
     let alignment = aligned.each count (omega arith) in

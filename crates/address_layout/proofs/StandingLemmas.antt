@@ -1,8 +1,8 @@
 -- Each piece stands in one section.
-use Rattle.std.proofs.Common.{◌≡◌, ℕ, zero, suc, ◌+◌, ◌<◌, ◌≤◌, eqb, eq-eqb, List, [], ◌∷◌, ◌++◌, length, get_or, take, drop, map, refl, sym, ap, ◌∙◌, subst, arith, length-append, add-one}
+use Rattle.std.proofs.Common.{◌≡◌, ℕ, zero, suc, ◌+◌, ◌<◌, ◌≤◌, eqb, eq-eqb, List, [], ◌∷◌, ◌++◌, length, get_or, take, drop, map, sym, ap, ◌∙◌, subst, arith, length-append, add-one}
 use Rattle.std.specs.List.{All, Contains, IsDistinct}
 use Rattle.std.proofs.lemmas.Bool.{false≢true}
-use Rattle.std.proofs.lemmas.List.{take-append-drop, take_more, get_or_default, length-map}
+use Rattle.std.proofs.lemmas.List.{take-append-drop, take_more, get_or_default, length-map, append-nil, get_or-append-add}
 use Rattle.std.proofs.lemmas.List.Elements.{All-contains, Contains-get_or, Contains-append_left, Contains-append_right}
 use Rattle.std.proofs.lemmas.Map.Keys.{apart_from_distinct, IsDistinct-from_apart}
 use Rattle.std.proofs.lemmas.Map.Steps.{length-le_from_distinct_below}
@@ -24,10 +24,6 @@ pieces_more sections i section lt is =
     ap all_pieces (take_more sections i section lt ∙ ap (λ (s : OutSection). take i sections ++ s ∷ []) (sym is))
     ∙ flat_map-append (λ (s : OutSection). s.pieces.items) (take i sections) (section ∷ [])
     ∙ ap (λ (xs : List ℕ). all_pieces (take i sections) ++ xs) (append-nil section.pieces.items)
-  where
-    append-nil : (xs : List ℕ) → xs ++ [] ≡ xs
-    append-nil [] = refl
-    append-nil (x ∷ xs) = ap (λ (ys : List ℕ). x ∷ ys) (append-nil xs)
 
 -- what is before a point and what is behind it
 pub pieces_split : (sections : List OutSection) (i : ℕ) → all_pieces sections ≡ all_pieces (take i sections) ++ all_pieces (drop i sections)
@@ -53,11 +49,7 @@ apart_parts xs ys x distinct here there =
     let j = length xs + there.0 in
     let in' : j < length (xs ++ ys) = omega (arith, length-append xs ys, there.1) in
     let differ = apart_from_distinct eqb (xs ++ ys) i j x distinct (omega (arith, here.1)) in' in
-    false≢true (sym differ ∙ eq-eqb _ _ (get_or-append xs ys x i here.1 ∙ here.2 ∙ sym (get_or-append_add xs ys there.0 x ∙ there.2)))
-  where
-    get_or-append_add : (us bs : List ℕ) (k d : ℕ) → get_or (us ++ bs) (length us + k) d ≡ get_or bs k d
-    get_or-append_add [] bs k d = ap (λ (n : ℕ). get_or bs n d) (omega arith)
-    get_or-append_add (u ∷ us) bs k d = let e : length (u ∷ us) + k ≡ suc (length us + k) = omega arith in ap (λ (n : ℕ). get_or (u ∷ (us ++ bs)) n d) e ∙ get_or-append_add us bs k d
+    false≢true (sym differ ∙ eq-eqb _ _ (get_or-append xs ys x i here.1 ∙ here.2 ∙ sym (get_or-append-add xs ys there.0 x ∙ there.2)))
 
 -- ---- no more pieces stand than there are
 

@@ -1,5 +1,6 @@
 -- The bytes of fields that are raised, and that they settle a memory.
 use Rattle.std.proofs.Common.{◌≡◌, ℕ, zero, suc, ◌+◌, ◌-◌, ◌*◌, ◌%◌, ◌^◌, ◌<◌, ◌≤◌, false, List, [], ◌∷◌, ◌++◌, length, take, drop, slice_index, get_or, sym, ap, ◌∙◌, inl, inr, arith, subst}
+use Rattle.std.proofs.Math.Nat.{add-sub_of_le}
 use Rattle.std.proofs.lemmas.Grind.{same_number_lists}
 use Rattle.std.proofs.lemmas.List.{get_or_append_left, get_or-drop, drop_at, length-take-le}
 use Rattle.link_base.specs.Bytes.{number_at, number_bytes}
@@ -54,11 +55,8 @@ raised_by_bytes fields old new delta len within apart elsewhere each =
           let field = get_or fields k blank in
           let low = found.1.1.0 blank in
           let high = found.1.1.1 blank in
-          let at : field.rva + (rva - field.rva) ≡ rva = back field.rva rva low in
+          let at : field.rva + (rva - field.rva) ≡ rva = add-sub_of_le low in
           let t : rva - field.rva < width_of field = omega (arith, low, high) in
           subst (λ (i : ℕ). slice_index made i ≡ slice_index new i) at
           (raised_bytes delta old fields within apart k blank (rva - field.rva) found.1.0 t ∙ sym (each k blank (rva - field.rva) found.1.0 t))
     ])
-  where
-    back : (a b : ℕ) → a ≤ b → a + (b - a) ≡ b
-    back a b le = omega arith

@@ -1,5 +1,8 @@
 -- The first two symbols of a section, and what its COMDAT record says.
 use Rattle.std.proofs.Common.{◌≡◌, ℕ, zero, suc, ◌+◌, ◌-◌, ◌<◌, ◌≤◌, inl, inr, ℤ, pos, negsuc, Bool, true, false, cond, ◌||◌, eqb, List, [], ◌∷◌, length, map, filter, replicate, get_or, Option, Some, None, refl, sym, ap, ◌∙◌, arith}
+use Rattle.std.proofs.Math.Numerals.{suc-eq-add-one}
+use Rattle.std.proofs.Math.Bool.{or-true}
+use Rattle.std.proofs.lemmas.Option.{same_Some}
 use Rattle.std.specs.Prelude.{IfSome}
 use Rattle.std.specs.List.{list_any, range_with_len}
 use Rattle.std.specs.Ordering.{int_eq}
@@ -23,19 +26,8 @@ first_is entry (other ∷ rest) = refl
 some_same : (i j : ℕ) → Some i ≡ Some j → eqb i j ≡ true
 some_same i j is = elim (eqb_tells i j) [
   | inl same ↦ same.0
-  | inr other ↦ absurd (other.1 (inside i j is))
+  | inr other ↦ absurd (other.1 (same_Some i j is))
 ]
-  where
-    inside : (i j : ℕ) → Some i ≡ Some j → i ≡ j
-    inside i j is = ap (λ (o : Option ℕ). or_zero o) is
-      where
-        or_zero : Option ℕ → ℕ
-        or_zero None = 0
-        or_zero (Some k) = k
-
-or_true : (b : Bool) → (b || true) ≡ true
-or_true true = refl
-or_true false = refl
 
 first_among : (test : SymbolEntry → Bool) (entries : List SymbolEntry) (j : ℕ) → (first_two (filter test entries)).first ≡ Some j → list_any (λ e. eqb e.0 j) entries ≡ true
 first_among test [] j is = absurd cc
@@ -43,7 +35,7 @@ first_among test (entry ∷ rest) j is = go (test entry) (first_among test rest 
   where
     go : (b : Bool) → ((first_two (filter test rest)).first ≡ Some j → list_any (λ e. eqb e.0 j) rest ≡ true) → (first_two (cond b (entry ∷ filter test rest) (filter test rest))).first ≡ Some j → (eqb entry.0 j || list_any (λ e. eqb e.0 j) rest) ≡ true
     go true later is = ap (λ (b : Bool). b || list_any (λ (e : SymbolEntry). eqb e.0 j) rest) (some_same entry.0 j (sym (first_is entry (filter test rest)) ∙ is))
-    go false later is = ap (λ (b : Bool). eqb entry.0 j || b) (later is) ∙ or_true (eqb entry.0 j)
+    go false later is = ap (λ (b : Bool). eqb entry.0 j || b) (later is) ∙ or-true (eqb entry.0 j)
 
 pub section_symbol_starts : (bytes : List ℕ) (section : ℕ) (first : Option ℕ) → first ≡ (section_symbols_of bytes section).first → IfSome first (λ j. starts_symbol bytes j ≡ true)
 unfolding section_symbols_of
@@ -89,10 +81,6 @@ two_more noted entry rest = go noted.first refl
 abbrev pub noted_then : List SectionSymbols → ℕ → List SymbolEntry → SectionSymbols
 noted_then symbols k entries = then_two (get_or symbols k no_symbols) (filter (stands_in (k + 1)) entries)
 
--- a section's number is the one after its place
-next_is : (k : ℕ) → suc k ≡ k + 1
-next_is k = omega arith
-
 same_number : (a b : ℤ) → a ≡ b → int_eq a b ≡ true
 same_number a b same = (Decides-int_eq a b).1 same
 
@@ -128,7 +116,7 @@ pub noted_more : (symbols : List SectionSymbols) (before after : List SymbolEntr
 unfolding stands_in
 noted_more symbols before after entry k whole is lt was =
     by_number (section_number_in entry.1) k symbols entry (filter (stands_in (k + 1)) after) lt
-    ∙ ap (λ (section : ℕ). then_two (get_or symbols k no_symbols) (cond (int_eq (section_number_in entry.1) (pos section)) (entry ∷ filter (stands_in (k + 1)) after) (filter (stands_in (k + 1)) after))) (next_is k)
+    ∙ ap (λ (section : ℕ). then_two (get_or symbols k no_symbols) (cond (int_eq (section_number_in entry.1) (pos section)) (entry ∷ filter (stands_in (k + 1)) after) (filter (stands_in (k + 1)) after))) (suc-eq-add-one k)
     ∙ ap (λ (es : List SymbolEntry). noted_then symbols k es) (sym is)
     ∙ was
 

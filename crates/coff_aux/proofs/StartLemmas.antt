@@ -1,5 +1,6 @@
 -- Where symbols start, told by the symbols of an object; marks, and one more of a list that passes.
 use Rattle.std.proofs.Common.{◌≡◌, ℕ, zero, suc, ◌<◌, Bool, true, false, ◌||◌, eqb, List, [], ◌∷◌, ◌++◌, length, map, replicate, get_or, set, inl, inr, refl, sym, ap, ◌∙◌, arith}
+use Rattle.std.proofs.Math.Bool.{or-false, or_assoc, or-true}
 use Rattle.std.specs.List.{list_any}
 use Rattle.std.proofs.lemmas.Bool.Decides.{eqb_tells}
 use Rattle.std.proofs.lemmas.List.{get_or-set_same, get_or-set_other}
@@ -26,14 +27,10 @@ unmarked marks n j is = ap (λ (ms : List Bool). get_or ms j false) is ∙ each 
     each (suc n) zero = refl
     each (suc n) (suc j) = each n j
 
-or_false : (b : Bool) → b ≡ (b || false)
-or_false true = refl
-or_false false = refl
-
 -- one more passes, or an earlier one
 pub any_more : {X : Type 0} (test : X → Bool) (xs : List X) (x : X) (b : Bool) → b ≡ test x → list_any test (xs ++ x ∷ []) ≡ (list_any test xs || b)
 any_more test xs x b is =
-    list_any-append test xs (x ∷ []) ∙ ap (λ (c : Bool). list_any test xs || c) (sym (or_false (test x)) ∙ sym is)
+    list_any-append test xs (x ∷ []) ∙ ap (λ (c : Bool). list_any test xs || c) (or-false (test x) ∙ sym is)
 
 -- ---- what is told of symbols, after one more
 
@@ -48,31 +45,23 @@ found_among test before after x whole b is was said passes =
     let here : test x ≡ true = sym said ∙ passes in
     sym was ∙ ap (list_any test) is ∙ ap (λ (c : Bool). c || list_any test after) here
 
-or_or : (a b c : Bool) → ((a || b) || c) ≡ (a || (b || c))
-or_or true b c = refl
-or_or false b c = refl
-
 one_noted : {X : Type 0} (test : X → Bool) (before after : List X) (x : X) (noted b whole : Bool) → before ≡ x ∷ after → (noted || list_any test before) ≡ whole → b ≡ test x → ((noted || b) || list_any test after) ≡ whole
 one_noted {X} test before after x noted b whole is was said =
-    or_or noted b (list_any test after)
+    or_assoc noted b (list_any test after)
     ∙ ap (λ (c : Bool). noted || (c || list_any test after)) said
     ∙ ap (λ (xs : List X). noted || list_any test xs) (sym is)
     ∙ was
 
 -- ---- marks where symbols start
 
-or_true : (b : Bool) → true ≡ (b || true)
-or_true true = refl
-or_true false = refl
-
 mark : (marks : List Bool) (at j : ℕ) → at < length marks → get_or (set marks at true) j false ≡ (get_or marks j false || eqb at j)
 mark marks at j lt =
     elim (eqb_tells at j) [
       | inl here ↦
           let same : j ≡ at = omega arith in
-          rw here.0 (ap (λ (k : ℕ). get_or (set marks at true) k false) same ∙ get_or-set_same marks at true false lt ∙ or_true (get_or marks j false))
+          rw here.0 (ap (λ (k : ℕ). get_or (set marks at true) k false) same ∙ get_or-set_same marks at true false lt ∙ sym (or-true (get_or marks j false)))
       | inr other ↦
-          rw other.0 (get_or-set_other marks at j true false (λ same. other.1 (sym same)) ∙ or_false (get_or marks j false))
+          rw other.0 (get_or-set_other marks at j true false (λ same. other.1 (sym same)) ∙ sym (or-false (get_or marks j false)))
     ]
 
 pub marks_more : (before after : List SymbolEntry) (entry : SymbolEntry) (marks : List Bool) (j : ℕ) (whole : Bool) → before ≡ entry ∷ after → entry.0 < length marks → (get_or marks j false || list_any (λ e. eqb e.0 j) before) ≡ whole → (get_or (set marks entry.0 true) j false || list_any (λ e. eqb e.0 j) after) ≡ whole

@@ -1,5 +1,6 @@
 -- Which symbol records are whole in a file, and the first record or symbol that is not.
 use Rattle.std.proofs.Common.{◌≡◌, ℕ, zero, suc, ◌+◌, ◌-◌, ◌*◌, ◌/◌, ◌<◌, ◌≤◌, Bool, true, false, cond, ltb, List, [], ◌∷◌, length, map, Option, Some, None, refl, ap, ◌∙◌, ◌⊎◌, inl, inr, lt-ltb, le-ltb, arith}
+use Rattle.std.proofs.lemmas.Option.{same_Some}
 use Rattle.std.proofs.lemmas.Bool.{cases_lt}
 use Rattle.link_base.proofs.CallerLemmas.{first_below-found, first_below-all_fail}
 use Rattle.coff_records.specs.ObjectHeader.{symbols_offset, symbol_size, record_total}
@@ -58,9 +59,6 @@ range_of_symbol file whole index torn none within lt first =
       | inr all ↦ rw (none (omega arith), first) refl
     ]
 
-some_same : (a b : ℕ) → Some a ≡ Some b → a ≡ b
-some_same a b same = cc
-
 -- symbols start at the record that a walk begins at, or after it
 first_of-low : (fails : SymbolEntry → Bool) (file : List ℕ) (n index k : ℕ) → first_of fails (map (symbol_entry file) (starts_within file n index)) ≡ Some k → index ≤ k
 unfolding starts_within first_of
@@ -69,7 +67,7 @@ first_of-low fails file (suc n) index k e =
     start (ltb index (record_total file)) (first_of-low fails file n (index + 1 + aux_total_of file index) k) e
   where
     entry : (b : Bool) (rest : Option ℕ) → (rest ≡ Some k → index + 1 + aux_total_of file index ≤ k) → cond b (Some index) rest ≡ Some k → index ≤ k
-    entry true rest low h = let same : index ≡ k = some_same index k h in omega arith
+    entry true rest low h = let same : index ≡ k = same_Some index k h in omega arith
     entry false rest low h = omega (arith, low h)
 
     start : (b : Bool) → (first_of fails (map (symbol_entry file) (starts_within file n (index + 1 + aux_total_of file index))) ≡ Some k → index + 1 + aux_total_of file index ≤ k) → first_of fails (map (symbol_entry file) (cond b (index ∷ starts_within file n (index + 1 + aux_total_of file index)) [])) ≡ Some k → index ≤ k

@@ -1,8 +1,8 @@
 -- Which records start a symbol: record 0, and the record after each symbol and its auxiliary records, below the count; and no
 -- other. They are the least that hold these rules.
-use Rattle.std.proofs.Common.{◌≡◌, ℕ, zero, suc, ◌+◌, ◌-◌, ◌<◌, ◌≤◌, Bool, true, false, cond, ◌||◌, eqb, ltb, List, [], ◌∷◌, map, None, refl, sym, ap, ◌∙◌, inl, inr, ◌⊎◌, lt-ltb, arith, subst}
+use Rattle.std.proofs.Common.{◌≡◌, ℕ, zero, suc, ◌+◌, ◌-◌, ◌<◌, ◌≤◌, Bool, true, false, cond, eqb, ltb, List, [], ◌∷◌, map, None, refl, sym, ap, ◌∙◌, inl, inr, ◌⊎◌, lt-ltb, arith, subst}
 use Rattle.std.specs.List.{list_any}
-use Rattle.std.proofs.lemmas.Bool.{false≢true, eqb-true, eq-eqb, ltb-true, ltb-false}
+use Rattle.std.proofs.lemmas.Bool.{false≢true, eqb-true, eq-eqb, ltb-true, ltb-false, or_cases, or_left, or_right}
 use Rattle.coff_records.specs.ObjectHeader.{record_total}
 use Rattle.coff_records.specs.ObjectFile.{aux_total_of, starts_within, symbols_of, starts_symbol, SymbolEntry, symbol_entry, symbol_entries}
 use Rattle.coff_object.specs.ObjectFaults.{aux_leave, first_of, object_fault}
@@ -10,18 +10,6 @@ use Rattle.coff_object.proofs.LoopLemmas.{symbol_passes}
 use Rattle.coff_object.proofs.WellFormedLemmas.{no_fault, aux_hold}
 
 -- ---- lists of starts
-
-either : (a b : Bool) → (a || b) ≡ true → (a ≡ true) ⊎ (b ≡ true)
-either true b e = inl refl
-either false b e = inr e
-
-or_first : (a b : Bool) → a ≡ true → (a || b) ≡ true
-or_first true b e = refl
-or_first false b e = absurd (false≢true e)
-
-or_second : (a b : Bool) → b ≡ true → (a || b) ≡ true
-or_second true b e = refl
-or_second false b e = e
 
 -- an index is in a list
 abbrev is_in : ℕ → List ℕ → Bool
@@ -46,7 +34,7 @@ nothing_in file from index e = false≢true e
 -- an index in the list of starts from a record on is that record, or is in the list of those after it
 start_or_later : (file : List ℕ) (n from index : ℕ) → is_in index (starts_within file (suc n) from) ≡ true → (from ≡ index) ⊎ (is_in index (starts_within file n (from + 1 + aux_total_of file from)) ≡ true)
 start_or_later file n from index e =
-    elim (either (eqb from index) _ (sym (ap (is_in index) (within-step file n from (within-end file n from index e))) ∙ e)) [
+    elim (or_cases (eqb from index) _ (sym (ap (is_in index) (within-step file n from (within-end file n from index e))) ∙ e)) [
       | inl same ↦ inl (eqb-true from index same)
       | inr later ↦ inr later
     ]
@@ -54,10 +42,10 @@ start_or_later file n from index e =
 first_in : (file : List ℕ) (n from : ℕ) → from < record_total file → record_total file ≤ from + n → is_in from (starts_within file n from) ≡ true
 first_in file zero from lt enough = absurd (omega arith)
 first_in file (suc n) from lt enough =
-    ap (is_in from) (within-step file n from lt) ∙ or_first (eqb from from) _ (eq-eqb from from refl)
+    ap (is_in from) (within-step file n from lt) ∙ or_left (eqb from from) _ (eq-eqb from from refl)
 
 later_in : (file : List ℕ) (n from index : ℕ) → from < record_total file → is_in index (starts_within file n (from + 1 + aux_total_of file from)) ≡ true → is_in index (starts_within file (suc n) from) ≡ true
-later_in file n from index lt e = ap (is_in index) (within-step file n from lt) ∙ or_second (eqb from index) _ e
+later_in file n from index lt e = ap (is_in index) (within-step file n from lt) ∙ or_right (eqb from index) _ e
 
 next_in : (file : List ℕ) (n from index next : ℕ) → record_total file ≤ from + n → is_in index (starts_within file n from) ≡ true → next ≡ index + 1 + aux_total_of file index → next < record_total file → is_in next (starts_within file n from) ≡ true
 next_in file zero from index next enough e is lt = absurd (nothing_in file from index e)
@@ -111,7 +99,7 @@ passes_in : (file : List ℕ) (fails : SymbolEntry → Bool) (index : ℕ) (star
 passes_in file fails index [] none e = absurd (false≢true e)
 passes_in file fails index (start ∷ rest) none e =
     let both = symbol_passes fails (map (symbol_entry file) (start ∷ rest)) (map (symbol_entry file) rest) (symbol_entry file start) refl none in
-    elim (either (eqb start index) (is_in index rest) e) [
+    elim (or_cases (eqb start index) (is_in index rest) e) [
       | inl same ↦ ap (λ (j : ℕ). fails (symbol_entry file j)) (sym (eqb-true start index same)) ∙ both.0
       | inr later ↦ passes_in file fails index rest both.1 later
     ]

@@ -1,5 +1,6 @@
 -- Which records start a symbol: the steps of a walk, and what a walk of a list of symbols keeps.
-use Rattle.std.proofs.Common.{◌≡◌, ℕ, zero, suc, ◌+◌, ◌-◌, ◌<◌, ◌≤◌, Bool, true, false, cond, ◌||◌, ltb, List, [], ◌∷◌, ◌++◌, length, map, eqb, append_assoc, refl, sym, ap, ◌∙◌, ◌⊎◌, inl, inr, lt-ltb, le-ltb, arith}
+use Rattle.std.proofs.Common.{◌≡◌, ℕ, zero, suc, ◌+◌, ◌-◌, ◌<◌, ◌≤◌, true, cond, ltb, List, [], ◌∷◌, ◌++◌, length, map, eqb, append_assoc, refl, sym, ap, ◌∙◌, ◌⊎◌, inl, inr, lt-ltb, le-ltb, arith}
+use Rattle.std.proofs.Math.Bool.{or-true}
 use Rattle.std.specs.List.{list_any}
 use Rattle.std.proofs.lemmas.Bool.{cases_lt, eq-eqb}
 use Rattle.coff_records.specs.ObjectHeader.{record_total}
@@ -75,11 +76,7 @@ symbols_left-all file rest is = record { passed = []; next = 0; all = refl; is =
 
 any_here : (passed rest : List ℕ) (index : ℕ) → list_any (λ start. eqb start index) (passed ++ index ∷ rest) ≡ true
 any_here [] rest index = rw (eq-eqb index index refl) refl
-any_here (start ∷ passed) rest index = rw (any_here passed rest index) (or_true (eqb start index))
-  where
-    or_true : (b : Bool) → (b || true) ≡ true
-    or_true true = refl
-    or_true false = refl
+any_here (start ∷ passed) rest index = rw (any_here passed rest index) (or-true (eqb start index))
 
 starts_here : (file passed rest : List ℕ) (index : ℕ) → symbols_of file ≡ passed ++ index ∷ rest → starts_symbol file index ≡ true
 unfolding starts_symbol

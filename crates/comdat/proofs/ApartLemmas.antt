@@ -1,5 +1,6 @@
 -- The sections of modules that go by a name are apart from one another.
 use Rattle.std.proofs.Common.{◌≡◌, ℕ, zero, suc, ◌+◌, ◌<◌, Bool, true, false, cond, eqb, ◌&&◌, List, [], ◌∷◌, ◌++◌, length, get_or, filter, map, refl, ap, ◌∙◌, arith}
+use Rattle.std.proofs.Math.Bool.{and-false}
 use Rattle.std.specs.List.{All, AllPairs, range_with_len, flat_map}
 use Rattle.std.proofs.lemmas.Bool.{ne_eqb}
 use Rattle.std.proofs.lemmas.List.Elements.{All-append, All-weaker}
@@ -26,11 +27,7 @@ other_module one other lt =
 other_number : (one other : Named) → one.candidate.section < other.candidate.section → AreApart one other
 other_number one other lt =
     ap (λ (b : Bool). eqb other.candidate.«module» one.candidate.«module» && b) (ne_eqb other.candidate.section one.candidate.section (λ e. absurd (omega (arith, lt, e))))
-    ∙ either (eqb other.candidate.«module» one.candidate.«module»)
-  where
-    either : (b : Bool) → (b && false) ≡ false
-    either true = refl
-    either false = refl
+    ∙ and-false (eqb other.candidate.«module» one.candidate.«module»)
 
 of_module : (position : ℕ) (bytes : List ℕ) (a n : ℕ) → AllPairs AreApart (map (entry_in position bytes) (filter (goes_by_name bytes) (range_with_len a n)))
 of_module position bytes a zero = λ i j d before lt. absurd (omega (arith, lt))

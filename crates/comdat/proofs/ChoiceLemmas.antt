@@ -1,6 +1,7 @@
 -- What a group chooses, and where one conflicts: a list conflicts exactly where a later section does not agree with the
 -- first, so that each longer list conflicts too.
 use Rattle.std.proofs.Common.{◌≡◌, ℕ, zero, suc, ◌+◌, ◌-◌, ◌<◌, Bool, true, false, cond, not, eqb, ◌&&◌, ◌||◌, List, [], ◌∷◌, length, get_or, take, Option, None, Some, ◌⊎◌, inl, inr, refl, sym, ap, ◌∙◌, subst, add-one, arith}
+use Rattle.std.proofs.Math.Bool.{or-false, and-true}
 use Rattle.std.specs.Prelude.{is_none}
 use Rattle.std.specs.List.{list_all, list_any}
 use Rattle.std.proofs.lemmas.Bool.{false≢true, eqb-true, ne_eqb, and_parts, and_from, not-false, or_from}
@@ -72,14 +73,6 @@ all_either {X} test other (x ∷ xs) = split (test x) (other x) (list_all test x
 other_selection : (selection n m : ℕ) → eqb selection n ≡ true → eqb n m ≡ false → eqb selection m ≡ false
 other_selection selection n m is other = ap (λ (k : ℕ). eqb k m) (eqb-true selection n is) ∙ other
 
-or_false : (b : Bool) → (b || false) ≡ b
-or_false true = refl
-or_false false = refl
-
-and_true : (b : Bool) → (b && true) ≡ b
-and_true true = refl
-and_true false = refl
-
 -- a section has one selection: of the tests of the first one at most one passes
 record OneSelection (any same_size exact largest : Bool) : Type 0 where
   any_alone : any ≡ true → (same_size ≡ false) × ((exact ≡ false) × (largest ≡ false))
@@ -104,11 +97,11 @@ by_selection true false false false size contents second more one = sym (all_eit
 by_selection false true true largest size contents second more one = absurd (false≢true (sym (one.same_size_alone refl).0))
 by_selection false true false true size contents second more one = absurd (false≢true (sym (one.same_size_alone refl).1))
 by_selection false true false false size contents second more one =
-    or_false (list_all is_same_size (second ∷ more) && list_all (has_size size) (second ∷ more)) ∙ sym (all_both is_same_size (has_size size) (second ∷ more))
+    or-false (list_all is_same_size (second ∷ more) && list_all (has_size size) (second ∷ more)) ∙ sym (all_both is_same_size (has_size size) (second ∷ more))
 by_selection false false true true size contents second more one = absurd (false≢true (sym (one.exact_alone refl)))
 by_selection false false true false size contents second more one =
-    or_false (list_all is_exact_match (second ∷ more) && list_all (has_contents contents) (second ∷ more)) ∙ sym (all_both is_exact_match (has_contents contents) (second ∷ more))
-by_selection false false false true size contents second more one = and_true (list_all is_any_or_largest (second ∷ more))
+    or-false (list_all is_exact_match (second ∷ more) && list_all (has_contents contents) (second ∷ more)) ∙ sym (all_both is_exact_match (has_contents contents) (second ∷ more))
+by_selection false false false true size contents second more one = and-true (list_all is_any_or_largest (second ∷ more))
 by_selection false false false false size contents second more one = refl
 
 pub conflicts_where : (first : Candidate) (rest : List Candidate) → conflicts (first ∷ rest) ≡ not (list_all (agrees first) rest)
@@ -147,7 +140,7 @@ first_goes_on (first ∷ rest) some =
 
 pub first_is_largest : (list : List Candidate) → 0 < length list → is_largest (get_or list 0 no_candidate) ≡ list_any is_largest (take 1 list)
 first_is_largest [] some = absurd (omega arith)
-first_is_largest (first ∷ rest) some = sym (or_false (is_largest first))
+first_is_largest (first ∷ rest) some = sym (or-false (is_largest first))
 
 -- no place conflicts: the whole list does not
 pub goes_to_end : (list : List Candidate) → 0 < length list → conflict_place list ≡ None → conflicts list ≡ false

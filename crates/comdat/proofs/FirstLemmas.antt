@@ -1,5 +1,6 @@
 -- The choice where all sections are ANY: the first of each name.
 use Rattle.std.proofs.Common.{◌≡◌, ℕ, zero, suc, ◌+◌, ◌<◌, Bool, true, false, cond, eqb, not, ◌&&◌, ◌||◌, List, [], ◌∷◌, length, get_or, set, filter, map, Option, None, Some, refl, sym, ap, ◌∙◌, inl, inr, eq-eqb, add-one, arith}
+use Rattle.std.proofs.Math.Bool.{or-true, or-false}
 use borrow.Author.Count.{below_more}
 use Rattle.std.specs.Prelude.{replicate, is_some, is_none, option_map, option_and_then, slice_get}
 use Rattle.std.specs.Option.{option_or, option_map_or}
@@ -68,24 +69,16 @@ firsts_more entries count done seen flags was before lt in_count read =
         | inl same ↦
             ap (λ (n : ℕ). get_or (set seen name true) n false) same
             ∙ get_or-set_same seen name true false (omega (arith, in_count, before.names))
-            ∙ sym (has_more entries done other ∙ ap (λ (b : Bool). has_before entries done other || b) (eq-eqb name other (sym same)) ∙ or_true (has_before entries done other))
+            ∙ sym (has_more entries done other ∙ ap (λ (b : Bool). has_before entries done other || b) (eq-eqb name other (sym same)) ∙ or-true (has_before entries done other))
         | inr apart ↦
             get_or-set_other seen name other true false apart
             ∙ before.met other within
-            ∙ sym (has_more entries done other ∙ ap (λ (b : Bool). has_before entries done other || b) (ne_eqb name other (λ e. apart (sym e))) ∙ or_false (has_before entries done other))
+            ∙ sym (has_more entries done other ∙ ap (λ (b : Bool). has_before entries done other || b) (ne_eqb name other (λ e. apart (sym e))) ∙ or-false (has_before entries done other))
       ];
       first = below_more (λ k. get_or (set flags done (not was)) k false ≡ not (has_before entries k (number_at entries k))) done
           (λ k less. get_or-set_other flags done k (not was) false (λ e. absurd (omega (arith, less, e))) ∙ before.first k less)
           (get_or-set_same flags done (not was) false (omega (arith, lt, before.full)) ∙ ap not (read ∙ before.met name in_count));
     }
-  where
-    or_true : (b : Bool) → (b || true) ≡ true
-    or_true true = refl
-    or_true false = refl
-
-    or_false : (b : Bool) → (b || false) ≡ b
-    or_false true = refl
-    or_false false = refl
 
 first_alike : (n : ℕ) (test other : ℕ → Bool) → ((k : ℕ) → k < n → test k ≡ other k) → first_below n test ≡ first_below n other
 unfolding first_below

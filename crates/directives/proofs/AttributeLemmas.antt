@@ -1,8 +1,9 @@
 -- Attributes one after another: what is taken in the end is what may stand together.
 use Rattle.std.proofs.Common.{◌≡◌, ℕ, ◌+◌, ◌<◌, Bool, true, false, ◌&&◌, ◌||◌, leb, cond, List, [], ◌∷◌, map, length, take, drop, get_or, fold, Option, Some, None, is_some, option_map, refl, sym, ap, ◌∙◌, zero-add, arith}
+use Rattle.std.proofs.Math.Bool.{or-false, or-true}
 use Rattle.std.proofs.Math.ListN.{get_or-map, length-map}
 use Rattle.std.specs.List.{take-map, count_by, list_all, list_any, filter_map, last_or, slice_split}
-use Rattle.std.proofs.lemmas.Bool.{lt-leb, and_right}
+use Rattle.std.proofs.lemmas.Bool.{lt-leb, and_right, and_left}
 use Rattle.std.proofs.lemmas.List.{take-append-drop}
 use Rattle.std.proofs.lemmas.List.Sums.{fold-append, fold_more, sum_by-cons}
 use Rattle.directives.specs.Text.{is_comma}
@@ -44,14 +45,6 @@ free_second kind part parts e =
 free_of_none : (kind : Option Attribute → Bool) (parts : List (Option Attribute)) → free false kind parts ≡ rule.once kind parts
 free_of_none kind parts = ap (λ (n : ℕ). leb n 1) (zero-add (count_by kind parts))
 
-or_false : (b : Bool) → (b || false) ≡ b
-or_false true = refl
-or_false false = refl
-
-or_true : (b : Bool) → (b || true) ≡ true
-or_true true = refl
-or_true false = refl
-
 -- ---- what is taken, and parts that join it
 
 abbrev made : Option ℕ → Bool → Bool → Bool → Bool → Attributes
@@ -79,12 +72,6 @@ refused (part ∷ parts) = refused parts
 five : (l a a' b b' c c' d d' e e' : Bool) → a ≡ a' → b ≡ b' → c ≡ c' → d ≡ d' → e ≡ e' → (l && (a && (b && (c && (d && e))))) ≡ (l && (a' && (b' && (c' && (d' && e')))))
 five l a a' b b' c c' d d' e e' p q r s t = cc
 
-first : (a b : Bool) → a ≡ false → (a && b) ≡ false
-first a b e = ap (λ (t : Bool). t && b) e
-
-later : (a b : Bool) → b ≡ false → (a && b) ≡ false
-later a b e = ap (λ (t : Bool). a && t) e ∙ and_right a false refl
-
 -- a part that is refused, and a part that is taken
 module _ (x : Attribute) (parts : List (Option Attribute)) where
   stops : (fit : Bool) (said : rule.Attributes) → fit ≡ false → option_map attributes_said (fold also None parts) ≡ cond fit (Some said) None
@@ -97,23 +84,23 @@ joins : (o : Option ℕ) (a b c p : Bool) (parts : List (Option Attribute)) → 
 joins o a b c p [] = rw (free_none a is_noname, free_none b is_data, free_none c is_constant, free_none p is_private, free_none (is_some o) is_ordinal) refl
 joins o a b c p (None ∷ parts) = ap (option_map attributes_said) (refused parts)
 joins o true b c p (Some NoName ∷ parts) =
-    stops NoName parts (fits o true b c p (Some NoName ∷ parts)) (joined o true b c p (Some NoName ∷ parts)) (later (list_all is_some parts) _ (first _ _ (free_second is_noname (Some NoName) parts refl)))
+    stops NoName parts (fits o true b c p (Some NoName ∷ parts)) (joined o true b c p (Some NoName ∷ parts)) (and_right (list_all is_some parts) _ (and_left _ _ (free_second is_noname (Some NoName) parts refl)))
 joins o false b c p (Some NoName ∷ parts) =
-    goes_on _ _ _ _ _ (joins o true b c p parts) (five (list_all is_some parts) _ _ _ _ _ _ _ _ _ _ (free_first is_noname (Some NoName) parts refl) (free_other b is_data (Some NoName) parts refl) (free_other c is_constant (Some NoName) parts refl) (free_other p is_private (Some NoName) parts refl) (free_other (is_some o) is_ordinal (Some NoName) parts refl)) (ap (λ (t : Bool). says (last_or o (filter_map ordinal_in parts)) t (list_any is_data parts || b) (list_any is_constant parts || c) (list_any is_private parts || p)) (sym (or_true (list_any is_noname parts))))
+    goes_on _ _ _ _ _ (joins o true b c p parts) (five (list_all is_some parts) _ _ _ _ _ _ _ _ _ _ (free_first is_noname (Some NoName) parts refl) (free_other b is_data (Some NoName) parts refl) (free_other c is_constant (Some NoName) parts refl) (free_other p is_private (Some NoName) parts refl) (free_other (is_some o) is_ordinal (Some NoName) parts refl)) (ap (λ (t : Bool). says (last_or o (filter_map ordinal_in parts)) t (list_any is_data parts || b) (list_any is_constant parts || c) (list_any is_private parts || p)) (sym (or-true (list_any is_noname parts))))
 joins o a true c p (Some DataItem ∷ parts) =
-    stops DataItem parts (fits o a true c p (Some DataItem ∷ parts)) (joined o a true c p (Some DataItem ∷ parts)) (later (list_all is_some parts) _ (later (free a is_noname (Some DataItem ∷ parts)) _ (first _ _ (free_second is_data (Some DataItem) parts refl))))
+    stops DataItem parts (fits o a true c p (Some DataItem ∷ parts)) (joined o a true c p (Some DataItem ∷ parts)) (and_right (list_all is_some parts) _ (and_right (free a is_noname (Some DataItem ∷ parts)) _ (and_left _ _ (free_second is_data (Some DataItem) parts refl))))
 joins o a false c p (Some DataItem ∷ parts) =
-    goes_on _ _ _ _ _ (joins o a true c p parts) (five (list_all is_some parts) _ _ _ _ _ _ _ _ _ _ (free_other a is_noname (Some DataItem) parts refl) (free_first is_data (Some DataItem) parts refl) (free_other c is_constant (Some DataItem) parts refl) (free_other p is_private (Some DataItem) parts refl) (free_other (is_some o) is_ordinal (Some DataItem) parts refl)) (ap (λ (t : Bool). says (last_or o (filter_map ordinal_in parts)) (list_any is_noname parts || a) t (list_any is_constant parts || c) (list_any is_private parts || p)) (sym (or_true (list_any is_data parts))))
+    goes_on _ _ _ _ _ (joins o a true c p parts) (five (list_all is_some parts) _ _ _ _ _ _ _ _ _ _ (free_other a is_noname (Some DataItem) parts refl) (free_first is_data (Some DataItem) parts refl) (free_other c is_constant (Some DataItem) parts refl) (free_other p is_private (Some DataItem) parts refl) (free_other (is_some o) is_ordinal (Some DataItem) parts refl)) (ap (λ (t : Bool). says (last_or o (filter_map ordinal_in parts)) (list_any is_noname parts || a) t (list_any is_constant parts || c) (list_any is_private parts || p)) (sym (or-true (list_any is_data parts))))
 joins o a b true p (Some Constant ∷ parts) =
-    stops Constant parts (fits o a b true p (Some Constant ∷ parts)) (joined o a b true p (Some Constant ∷ parts)) (later (list_all is_some parts) _ (later (free a is_noname (Some Constant ∷ parts)) _ (later (free b is_data (Some Constant ∷ parts)) _ (first _ _ (free_second is_constant (Some Constant) parts refl)))))
+    stops Constant parts (fits o a b true p (Some Constant ∷ parts)) (joined o a b true p (Some Constant ∷ parts)) (and_right (list_all is_some parts) _ (and_right (free a is_noname (Some Constant ∷ parts)) _ (and_right (free b is_data (Some Constant ∷ parts)) _ (and_left _ _ (free_second is_constant (Some Constant) parts refl)))))
 joins o a b false p (Some Constant ∷ parts) =
-    goes_on _ _ _ _ _ (joins o a b true p parts) (five (list_all is_some parts) _ _ _ _ _ _ _ _ _ _ (free_other a is_noname (Some Constant) parts refl) (free_other b is_data (Some Constant) parts refl) (free_first is_constant (Some Constant) parts refl) (free_other p is_private (Some Constant) parts refl) (free_other (is_some o) is_ordinal (Some Constant) parts refl)) (ap (λ (t : Bool). says (last_or o (filter_map ordinal_in parts)) (list_any is_noname parts || a) (list_any is_data parts || b) t (list_any is_private parts || p)) (sym (or_true (list_any is_constant parts))))
+    goes_on _ _ _ _ _ (joins o a b true p parts) (five (list_all is_some parts) _ _ _ _ _ _ _ _ _ _ (free_other a is_noname (Some Constant) parts refl) (free_other b is_data (Some Constant) parts refl) (free_first is_constant (Some Constant) parts refl) (free_other p is_private (Some Constant) parts refl) (free_other (is_some o) is_ordinal (Some Constant) parts refl)) (ap (λ (t : Bool). says (last_or o (filter_map ordinal_in parts)) (list_any is_noname parts || a) (list_any is_data parts || b) t (list_any is_private parts || p)) (sym (or-true (list_any is_constant parts))))
 joins o a b c true (Some PrivateItem ∷ parts) =
-    stops PrivateItem parts (fits o a b c true (Some PrivateItem ∷ parts)) (joined o a b c true (Some PrivateItem ∷ parts)) (later (list_all is_some parts) _ (later (free a is_noname (Some PrivateItem ∷ parts)) _ (later (free b is_data (Some PrivateItem ∷ parts)) _ (later (free c is_constant (Some PrivateItem ∷ parts)) _ (first _ _ (free_second is_private (Some PrivateItem) parts refl))))))
+    stops PrivateItem parts (fits o a b c true (Some PrivateItem ∷ parts)) (joined o a b c true (Some PrivateItem ∷ parts)) (and_right (list_all is_some parts) _ (and_right (free a is_noname (Some PrivateItem ∷ parts)) _ (and_right (free b is_data (Some PrivateItem ∷ parts)) _ (and_right (free c is_constant (Some PrivateItem ∷ parts)) _ (and_left _ _ (free_second is_private (Some PrivateItem) parts refl))))))
 joins o a b c false (Some PrivateItem ∷ parts) =
-    goes_on _ _ _ _ _ (joins o a b c true parts) (five (list_all is_some parts) _ _ _ _ _ _ _ _ _ _ (free_other a is_noname (Some PrivateItem) parts refl) (free_other b is_data (Some PrivateItem) parts refl) (free_other c is_constant (Some PrivateItem) parts refl) (free_first is_private (Some PrivateItem) parts refl) (free_other (is_some o) is_ordinal (Some PrivateItem) parts refl)) (ap (λ (t : Bool). says (last_or o (filter_map ordinal_in parts)) (list_any is_noname parts || a) (list_any is_data parts || b) (list_any is_constant parts || c) t) (sym (or_true (list_any is_private parts))))
+    goes_on _ _ _ _ _ (joins o a b c true parts) (five (list_all is_some parts) _ _ _ _ _ _ _ _ _ _ (free_other a is_noname (Some PrivateItem) parts refl) (free_other b is_data (Some PrivateItem) parts refl) (free_other c is_constant (Some PrivateItem) parts refl) (free_first is_private (Some PrivateItem) parts refl) (free_other (is_some o) is_ordinal (Some PrivateItem) parts refl)) (ap (λ (t : Bool). says (last_or o (filter_map ordinal_in parts)) (list_any is_noname parts || a) (list_any is_data parts || b) (list_any is_constant parts || c) t) (sym (or-true (list_any is_private parts))))
 joins (Some m) a b c p (Some (Ordinal n) ∷ parts) =
-    stops (Ordinal n) parts (fits (Some m) a b c p (Some (Ordinal n) ∷ parts)) (joined (Some m) a b c p (Some (Ordinal n) ∷ parts)) (later (list_all is_some parts) _ (later (free a is_noname (Some (Ordinal n) ∷ parts)) _ (later (free b is_data (Some (Ordinal n) ∷ parts)) _ (later (free c is_constant (Some (Ordinal n) ∷ parts)) _ (later (free p is_private (Some (Ordinal n) ∷ parts)) _ (free_second is_ordinal (Some (Ordinal n)) parts refl))))))
+    stops (Ordinal n) parts (fits (Some m) a b c p (Some (Ordinal n) ∷ parts)) (joined (Some m) a b c p (Some (Ordinal n) ∷ parts)) (and_right (list_all is_some parts) _ (and_right (free a is_noname (Some (Ordinal n) ∷ parts)) _ (and_right (free b is_data (Some (Ordinal n) ∷ parts)) _ (and_right (free c is_constant (Some (Ordinal n) ∷ parts)) _ (and_right (free p is_private (Some (Ordinal n) ∷ parts)) _ (free_second is_ordinal (Some (Ordinal n)) parts refl))))))
 joins None a b c p (Some (Ordinal n) ∷ parts) =
     goes_on _ _ _ _ _ (joins (Some n) a b c p parts) (five (list_all is_some parts) _ _ _ _ _ _ _ _ _ _ (free_other a is_noname (Some (Ordinal n)) parts refl) (free_other b is_data (Some (Ordinal n)) parts refl) (free_other c is_constant (Some (Ordinal n)) parts refl) (free_other p is_private (Some (Ordinal n)) parts refl) (free_first is_ordinal (Some (Ordinal n)) parts refl)) refl
 
@@ -125,10 +112,10 @@ none_more parts =
     let b = list_any is_data parts in
     let c = list_any is_constant parts in
     let p = list_any is_private parts in
-    ap (λ (t : Bool). says ordinal t b c p) (sym (or_false a))
-    ∙ ap (λ (t : Bool). says ordinal (a || false) t c p) (sym (or_false b))
-    ∙ ap (λ (t : Bool). says ordinal (a || false) (b || false) t p) (sym (or_false c))
-    ∙ ap (λ (t : Bool). says ordinal (a || false) (b || false) (c || false) t) (sym (or_false p))
+    ap (λ (t : Bool). says ordinal t b c p) (sym (or-false a))
+    ∙ ap (λ (t : Bool). says ordinal (a || false) t c p) (sym (or-false b))
+    ∙ ap (λ (t : Bool). says ordinal (a || false) (b || false) t p) (sym (or-false c))
+    ∙ ap (λ (t : Bool). says ordinal (a || false) (b || false) (c || false) t) (sym (or-false p))
 
 -- parts that may stand together are taken, and others are not
 together : (parts : List (Option Attribute)) → option_map attributes_said (fold also (Some none_taken) parts) ≡ cond (stand_together parts) (Some (say_together parts)) None

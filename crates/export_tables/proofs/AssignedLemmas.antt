@@ -6,7 +6,7 @@ use Rattle.std.specs.Cmp.Lexicographic.{slice_cmp, texts_ties}
 use Rattle.std.specs.Ordering.{is_lt, is_eq, ordering_reverse, nat_cmp}
 use Rattle.std.specs.declared.cmp.Ordering.{Ordering}
 use Rattle.std.specs.declared.cmp.Ordering.TheVariants.{Less, Equal, Greater}
-use Rattle.std.proofs.lemmas.Bool.{false≢true, cases_Bool, ltb-false}
+use Rattle.std.proofs.lemmas.Bool.{false≢true, cases_Bool, ltb-false, or_right}
 use Rattle.std.proofs.lemmas.Cmp.{nat_list_cmp_total}
 use Rattle.std.proofs.lemmas.List.{get_or-map, get_or-take, length-map, length-take}
 use Rattle.std.proofs.lemmas.List.Folds.{list_any_at}
@@ -68,10 +68,6 @@ names_differ rows i j ok lt within =
     ]
 
 -- ---- ordinals that are asked for
-
-or_right : (a b : Bool) → b ≡ true → (a || b) ≡ true
-or_right true b e = refl
-or_right false b e = e
 
 among_more : (o : Option ℕ) (n : ℕ) (rest : List ℕ) → list_any (eqb n) rest ≡ true → list_any (eqb n) (cons_option o rest) ≡ true
 among_more None n rest e = e

@@ -1,5 +1,6 @@
 -- The first row that asks for what an earlier one has, in a loop over rows.
 use Rattle.std.proofs.Common.{◌≡◌, ℕ, ◌+◌, ◌<◌, Bool, true, false, cond, not, List, [], ◌∷◌, ◌++◌, length, take, map, Option, Some, None, refl, sym, ap, ◌∙◌}
+use Rattle.std.proofs.lemmas.Bool.{not-false, not-true}
 use Rattle.std.specs.List.{cons_option, list_any}
 use Rattle.std.proofs.lemmas.List.{map-append}
 use Rattle.std.proofs.lemmas.List.Elements.{filter_map-append}
@@ -41,16 +42,12 @@ names_none rows = record { names = refl; none = refl }
 pub second_name_found : (rows : List Export) (index : ℕ) (keys : List (List ℕ)) (name : List ℕ) (is_new : Bool) → NamesSoFar rows index keys → index < length rows → name ≡ (row_at rows index).name → is_new ≡ not (list_any (same_name name) keys) → is_new ≡ false → Some index ≡ first_below (length rows) (has_earlier_name rows)
 second_name_found rows index keys name is_new before lt is added old =
     sym (first_below-found index (length rows) (has_earlier_name rows) lt before.none
-    (sym (name_among rows index keys name before is) ∙ was_there (list_any (same_name name) keys) (sym added ∙ old)))
-  where
-    was_there : (b : Bool) → not b ≡ false → b ≡ true
-    was_there true e = refl
-    was_there false e = absurd cc
+    (sym (name_among rows index keys name before is) ∙ not-false (list_any (same_name name) keys) (sym added ∙ old)))
 
 -- a new name
 pub names_more : (rows : List Export) (index : ℕ) (keys more : List (List ℕ)) (name : List ℕ) (is_new : Bool) → NamesSoFar rows index keys → index < length rows → name ≡ (row_at rows index).name → is_new ≡ not (list_any (same_name name) keys) → more ≡ insert_key same_name keys name → is_new ≡ true → NamesSoFar rows (index + 1) more
 names_more rows index keys more name is_new before lt is added inserted new =
-    let none : list_any (same_name name) keys ≡ false = was_not (list_any (same_name name) keys) (sym added ∙ new) in
+    let none : list_any (same_name name) keys ≡ false = not-true (list_any (same_name name) keys) (sym added ∙ new) in
     record {
       names =
           inserted
@@ -61,10 +58,6 @@ names_more rows index keys more name is_new before lt is added inserted new =
           ∙ ap (map (λ (row : Export). row.name)) (sym (take_next rows index lt));
       none = first_below-more index (has_earlier_name rows) before.none (sym (name_among rows index keys name before is) ∙ none);
     }
-  where
-    was_not : (b : Bool) → not b ≡ true → b ≡ false
-    was_not true e = absurd cc
-    was_not false e = refl
 
 -- ---- ordinals
 

@@ -1,5 +1,5 @@
 -- The bytes of the tables, one item after the other, and that they fit.
-use Rattle.std.proofs.Common.{◌≡◌, ℕ, ◌+◌, ◌*◌, ◌<◌, ◌≤◌, List, [], ◌∷◌, ◌++◌, length, map, get_or, Option, None, Result, Ok, Err, OnOk, refl, sym, ap, ◌∙◌, append_assoc, append-nil, arith}
+use Rattle.std.proofs.Common.{◌≡◌, ℕ, ◌+◌, ◌*◌, ◌<◌, ◌≤◌, List, [], ◌∷◌, ◌++◌, length, map, get_or, Option, None, refl, sym, ap, ◌∙◌, append_assoc, append-nil, arith}
 use Rattle.std.specs.List.{sum_by, flat_map, range_with_len}
 use Rattle.std.proofs.lemmas.List.{get_or_default}
 use Rattle.std.proofs.lemmas.List.Sums.{sum_by_more, sum_by-take-le}
@@ -63,10 +63,6 @@ rvas_more start names k n old before after is was more =
     (numbers_more 4 (text_rva name_size start names) k ∙ ap (λ (m : ℕ). flat_map (number_bytes 4) (map (text_rva name_size start names) (range_with_len 0 k)) ++ number_bytes 4 m) (sym is))
 
 -- ---- the tables together
-
-pub on_ok : {T E P Q : Type 0} (r : Result T E) → (P → Q) → OnOk r P → OnOk r Q
-on_ok (Ok x) f p = f p
-on_ok (Err e) f p = tt
 
 pub tables_written : (time : ℕ) (directory : Directory) (names_rva forwarders_rva : ℕ) (targets : List (Option ExportTo)) (names : List NameEntry) (old a b c d : List ℕ) → a ≡ old ++ fields (directory_fields time directory) → b ≡ a ++ addresses forwarders_rva targets (length targets) → c ≡ b ++ name_rvas names_rva names (length names) → d ≡ c ++ flat_map index_bytes names → d ≡ old ++ tables_bytes time directory names_rva forwarders_rva targets names
 unfolding tables_bytes

@@ -2,7 +2,7 @@
 use Rattle.std.proofs.Common.{◌≡◌, ◌≢◌, ℕ, zero, suc, ◌+◌, ◌-◌, ◌^◌, ◌<◌, ◌⊎◌, Bool, true, false, cond, ◌&&◌, not, List, length, get_or, Option, Some, None, is_some, All, refl, sym, ap, ◌∙◌, subst, inl, inr, arith}
 use Rattle.std.specs.List.{find}
 use Rattle.std.specs.Option.{option_or}
-use Rattle.std.proofs.lemmas.Bool.{cases_Bool, cases_lt, and_parts}
+use Rattle.std.proofs.lemmas.Bool.{cases_Bool, cases_lt, and_parts, not-true}
 use Rattle.std.proofs.lemmas.Slice.Eq.{bytes_eq-Decides}
 use Rattle.link_base.specs.NameText.{same_name}
 use Rattle.link_base.specs.Refusals.{first_refusal_below}
@@ -57,11 +57,7 @@ that_of_all (suc n) m at x lt here each =
 as_name : (name : List ℕ) (row : ExportRow) → is_exported_as name row ≡ true → (row.noname ≡ false) × (row.name ≡ name)
 as_name name row is =
     let both = and_parts (not row.noname) (same_name row.name name) is in
-    (not_none row.noname both.0, (bytes_eq-Decides row.name name).0 both.1)
-  where
-    not_none : (b : Bool) → not b ≡ true → b ≡ false
-    not_none true e = sym e
-    not_none false e = refl
+    (not-true row.noname both.0, (bytes_eq-Decides row.name name).0 both.1)
 
 not_as_name : (name : List ℕ) (row : ExportRow) → is_exported_as name row ≡ false → row.noname ≡ false → same_name row.name name ≡ false
 not_as_name name row is has = ap (λ (b : Bool). not b && same_name row.name name) (sym has) ∙ is

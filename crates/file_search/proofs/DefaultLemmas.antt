@@ -1,10 +1,10 @@
 -- One more name of a default library, and those of one more module.
-use Rattle.std.proofs.Common.{◌≡◌, ◌<◌, ◌≤◌, ◌+◌, ℕ, zero, suc, Bool, true, false, cond, ◌||◌, List, [], ◌∷◌, ◌++◌, length, map, take, get_or, Option, Some, None, refl, sym, ap, ◌∙◌, append_assoc, length-append, arith}
+use Rattle.std.proofs.Common.{◌≡◌, ◌<◌, ◌≤◌, ◌+◌, ℕ, zero, suc, Bool, true, false, cond, ◌||◌, List, [], ◌∷◌, ◌++◌, length, map, take, get_or, Option, Some, None, refl, sym, ap, ◌∙◌, append_assoc, arith}
 use Rattle.std.specs.List.{filter_map, flat_map, cons_option, range_with_len}
 use Rattle.std.specs.Str.{str_eq_ignore_ascii_case}
 use Rattle.std.proofs.Math.Seq.{take-append_seam, get_or-append_seam}
 use Rattle.std.proofs.lemmas.Bool.{true≢false}
-use Rattle.std.proofs.lemmas.List.{append-nil, map-append, take_more, take_all, take-append-le, get_or_append_left}
+use Rattle.std.proofs.lemmas.List.{append-nil, map-append, take_more, take_all, take-append-le, get_or_append_left, length_push}
 use Rattle.std.proofs.lemmas.List.Elements.{filter_map-append}
 use Rattle.link_base.proofs.RangeLemmas.{range_more, joined_more}
 use Rattle.directives.specs.Said.{Said, said}
@@ -35,9 +35,6 @@ same_flat_map {B} f g a (suc n) same =
 
 -- ---- one more name
 
-one_more_long : {A : Type 0} (xs : List A) (x : A) → length (xs ++ x ∷ []) ≡ length xs + 1
-one_more_long xs x = length-append xs (x ∷ [])
-
 earlier_same : (options : LinkOptions) (names : List (List ℕ)) (name : List ℕ) (k : ℕ) → k < length names → wanted_at options (names ++ name ∷ []) k ≡ wanted_at options names k
 earlier_same options names name k lt =
     ap (λ (earlier : List (List ℕ)). wanted_after options earlier (get_or (names ++ name ∷ []) k [])) (take-append-le k names (name ∷ []) (omega arith))
@@ -52,7 +49,7 @@ wanted_more : (options : LinkOptions) (names : List (List ℕ)) (name : List ℕ
 wanted_more options names name =
     let n = length names in
     let f = wanted_at options (names ++ name ∷ []) in
-    ap (λ (len : ℕ). filter_map f (range_with_len 0 len)) (one_more_long names name)
+    ap (λ (len : ℕ). filter_map f (range_with_len 0 len)) (length_push names name)
     ∙ ap (filter_map f) (range_more 0 n n (omega arith))
     ∙ filter_map-append f (range_with_len 0 n) (n ∷ [])
     ∙ ap (λ (xs : List (List ℕ)). xs ++ cons_option (f n) []) (same_filter_map f (wanted_at options names) 0 n (λ k low high. earlier_same options names name k (omega arith)))
@@ -124,7 +121,7 @@ of_all_more {A} list modules m =
     let n = length modules in
     let f = λ (k : ℕ). list k (module_at (modules ++ m ∷ []) k).bytes in
     let g = λ (k : ℕ). list k (module_at modules k).bytes in
-    ap (λ (len : ℕ). flat_map f (range_with_len 0 len)) (one_more_long modules m)
+    ap (λ (len : ℕ). flat_map f (range_with_len 0 len)) (length_push modules m)
     ∙ joined_more f 0 n n (omega arith)
     ∙ ap (λ (xs : List A). xs ++ f n) (same_flat_map f g 0 n (λ k low high. ap (λ (v : ModuleView). list k v.bytes) (get_or_append_left modules (m ∷ []) no_module k (omega arith))))
     ∙ ap (λ (v : ModuleView). flat_map g (range_with_len 0 n) ++ list n v.bytes) (get_or-append_seam modules m [] no_module)

@@ -1,12 +1,9 @@
 -- The sections of candidates.
 use Rattle.std.proofs.Common.{◌≡◌, ℕ, zero, suc, ◌+◌, ◌<◌, ◌≤◌, List, [], ◌∷◌, ◌++◌, length, get_or, take, Option, Some, None, option_map, unwrap_or, slice_get, refl, sym, ap, ◌∙◌, subst, arith}
 use Rattle.std.proofs.lemmas.List.{take_more}
-use Rattle.std.proofs.lemmas.Option.{slice_get_within, slice_get-get_or, get_or_from_slice_get}
+use Rattle.std.proofs.lemmas.Option.{slice_get_within, slice_get-get_or, get_or_from_slice_get, same_Some}
 use Rattle.icf.specs.declared.candidate.FoldCandidate.{FoldCandidate}
 use Rattle.icf.specs.Sections.{sections_of, sections_at, HasSection, AreCandidates}
-
-some_same : {X : Type 0} (x y : X) → Some x ≡ Some y → x ≡ y
-some_same x y e = cc
 
 -- the sections of a candidate of the list
 pub sections_there : (candidates : List FoldCandidate) (number : ℕ) (candidate : FoldCandidate) → slice_get candidates number ≡ Some candidate → sections_at candidates number ≡ sections_of candidate
@@ -30,7 +27,7 @@ section_there sections rank lt = slice_get-get_or sections rank 0 lt
 
 -- two sections of one rank are one
 pub one_section : (sections : List ℕ) (rank piece other : ℕ) → slice_get sections rank ≡ Some piece → slice_get sections rank ≡ Some other → piece ≡ other
-one_section sections rank piece other is is' = some_same piece other (sym is ∙ is')
+one_section sections rank piece other is is' = same_Some piece other (sym is ∙ is')
 
 -- candidates ascend, so that no number is above that of the piece
 pub number_below : (pieces : ℕ) (candidates : List FoldCandidate) → AreCandidates pieces candidates → (number : ℕ) (d : FoldCandidate) → number < length candidates → number ≤ (get_or candidates number d).piece

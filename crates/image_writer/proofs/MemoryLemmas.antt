@@ -1,5 +1,6 @@
 -- What stands in the memory of a layout at a base: the bytes of each piece at its RVA.
 use Rattle.std.proofs.Common.{◌≡◌, ℕ, zero, suc, ◌+◌, ◌-◌, ◌<◌, ◌≤◌, nat_lt, nat_le, ◌&&◌, Bool, true, false, cond, List, [], ◌∷◌, ◌++◌, length, get_or, slice_index, refl, sym, ap, ◌∙◌, subst, inl, inr, arith, le-ltb}
+use Rattle.std.proofs.Math.Nat.{add-sub_of_le}
 use Rattle.std.proofs.lemmas.Bool.{cases_lt, cond-true, cond-false, and_parts, leb-true, ltb-true}
 use Rattle.std.proofs.lemmas.List.{length-map, get_or_past}
 use Rattle.std.proofs.lemmas.List.FromFn.{get_or-map-range_with_len, length-map-range_with_len}
@@ -58,11 +59,8 @@ one_agrees rvas old new rva k xs ys agree same = go (holds (piece_bytes rvas old
         let low : get_or rvas k 0 ≤ rva = leb-true _ _ both.0 in
         let high : rva < get_or rvas k 0 + length (get_or old k []) = ltb-true _ _ both.1 in
         cond-true (holds (piece_bytes rvas new k) rva) _ _ (held ∙ e)
-        ∙ agree.same_byte (rva - get_or rvas k 0) (back (get_or rvas k 0) rva low) (omega (arith, low, high))
+        ∙ agree.same_byte (rva - get_or rvas k 0) (add-sub_of_le low) (omega (arith, low, high))
         ∙ sym (cond-true (holds (piece_bytes rvas old k) rva) _ _ e)
-      where
-        back : (a b : ℕ) → a ≤ b → a + (b - a) ≡ b
-        back a b le = omega arith
 
 section_agrees : (rvas : List ℕ) (old new : List (List ℕ)) (rva : ℕ) (indexes : List ℕ) (xs ys : List PlacedBytes) → ((k : ℕ) → Agree rvas old new rva k) → piece_byte xs rva ≡ piece_byte ys rva → piece_byte (section_bytes rvas new indexes ++ xs) rva ≡ piece_byte (section_bytes rvas old indexes ++ ys) rva
 section_agrees rvas old new rva [] xs ys agree same = same

@@ -15,9 +15,6 @@ bytes_are bytes place (b ∷ bs) inside same =
     same_number_lists (take n (drop place bytes)) (b ∷ bs) len (λ t lt.
     get_or-take n (drop place bytes) t 0 (omega (arith, len, lt)) ∙ get_or-drop place bytes t 0 ∙ same t (omega (arith, len, lt)))
 
-taken : (place : ℕ) (bytes : List ℕ) → length bytes ≤ place → take place bytes ≡ bytes
-taken place bytes le = take_all place bytes le
-
 pub length-patched : (place : ℕ) (part bytes : List ℕ) → (0 < length part → place + length part ≤ length bytes) → length (patched place part bytes) ≡ length bytes
 length-patched place part bytes fits =
     let back = drop (place + length part) bytes in
@@ -29,7 +26,7 @@ length-patched place part bytes fits =
           let front = length-take-le place bytes (omega arith) in
           (elim (cases_lt 0 (length part)) [ inl some ↦ omega (arith, whole, rest, dropped, front, fits some) | inr none ↦ omega (arith, whole, rest, dropped, front, none) ])
       | inr past ↦
-          let front = ap length (taken place bytes past) in
+          let front = ap length (take_all place bytes past) in
           (elim (cases_lt 0 (length part)) [ inl some ↦ absurd (omega (arith, fits some, some, past)) | inr none ↦ omega (arith, whole, rest, dropped, front, none) ])
     ]
 
@@ -39,7 +36,7 @@ patched_before place part bytes o lt there =
       | inl before ↦
           get_or_append_left (take place bytes) (part ++ drop (place + length part) bytes) 0 o (omega (arith, length-take-le place bytes (omega arith), lt)) ∙ get_or-take place bytes o 0 lt
       | inr past ↦
-          get_or_append_left (take place bytes) (part ++ drop (place + length part) bytes) 0 o (omega (arith, ap length (taken place bytes past), there)) ∙ get_or-take place bytes o 0 lt
+          get_or_append_left (take place bytes) (part ++ drop (place + length part) bytes) 0 o (omega (arith, ap length (take_all place bytes past), there)) ∙ get_or-take place bytes o 0 lt
     ]
 
 pub patched_inside : (place : ℕ) (part bytes : List ℕ) (o : ℕ) → place + length part ≤ length bytes → place ≤ o → o < place + length part → slice_index (patched place part bytes) o ≡ slice_index part (o - place)

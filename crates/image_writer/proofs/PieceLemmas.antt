@@ -1,5 +1,6 @@
 -- Each byte of a piece is the one that the pieces put at its address.
 use Rattle.std.proofs.Common.{◌≡◌, ℕ, zero, suc, ◌+◌, ◌-◌, ◌<◌, ◌≤◌, ◌⊎◌, Bool, true, false, cond, eqb, List, [], ◌∷◌, ◌++◌, length, get_or, refl, sym, ap, ◌∙◌, subst, inl, inr, eq-eqb, le-leb, lt-ltb, arith}
+use Rattle.std.proofs.Math.Nat.{add-sub_cancel_left}
 use Rattle.std.proofs.lemmas.Bool.{and_from, cond-true, eqb-true, false≢true}
 use Rattle.section_group.specs.Uniqueness.{SectionRow as OutRow}
 use Rattle.address_layout.specs.declared.layout.Placed.{Placed}
@@ -32,10 +33,7 @@ section_owner rvas contents (k ∷ ks) rest end place zero t up lt inside =
     let rva = get_or rvas k 0 in
     let bytes = get_or contents k [] in
     cond-true (holds (piece_bytes rvas contents k) (rva + t)) (get_or bytes (rva + t - rva) 0) _ (and_from _ _ (le-leb rva (rva + t) (omega arith)) (lt-ltb (rva + t) (rva + length bytes) (omega (arith, inside))))
-    ∙ ap (λ (n : ℕ). get_or bytes n 0) (back rva t)
-  where
-    back : (a b : ℕ) → a + b - a ≡ b
-    back a b = omega arith
+    ∙ ap (λ (n : ℕ). get_or bytes n 0) (add-sub_cancel_left rva t)
 section_owner rvas contents (k ∷ ks) rest end place (suc j) t up lt inside =
     let bytes = get_or contents k [] in
     let rva = get_or rvas k 0 in

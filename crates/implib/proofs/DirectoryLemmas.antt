@@ -1,5 +1,6 @@
 -- What is read of the linker members.
-use Rattle.std.proofs.Common.{◌≡◌, ℕ, zero, suc, ◌+◌, ◌-◌, ◌*◌, ◌^◌, ◌<◌, ◌≤◌, Bool, true, false, ◌&&◌, ◌||◌, not, ltb, leb, List, [], ◌∷◌, ◌++◌, length, map, take, drop, get_or, slice_index, refl, sym, ap, ◌∙◌, append_assoc, le-ltb, lt-ltb, le-leb, length-append, arith}
+use Rattle.std.proofs.Common.{◌≡◌, ℕ, zero, suc, ◌+◌, ◌-◌, ◌*◌, ◌^◌, ◌<◌, ◌≤◌, Bool, true, false, ◌||◌, not, ltb, leb, List, [], ◌∷◌, ◌++◌, length, map, take, drop, get_or, slice_index, refl, sym, ap, ◌∙◌, append_assoc, le-ltb, lt-ltb, le-leb, length-append, arith}
+use Rattle.std.proofs.lemmas.Bool.{and_from}
 use Rattle.std.specs.Prelude.{is_some}
 use Rattle.std.specs.List.{All, list_any, flat_map}
 use Rattle.std.proofs.lemmas.List.{drop_at, drop_more, drop-drop, take-append-drop, length-take-le}
@@ -180,9 +181,6 @@ all_pass (suc n) test each = rw (all_pass n test (λ k lt. each k (omega (arith,
 none_of_three : (a b c : Bool) → a ≡ false → b ≡ false → c ≡ false → (a || (b || c)) ≡ false
 none_of_three a b c first second third = rw (first, second, third) refl
 
-both_pass : (a b : Bool) → a ≡ true → b ≡ true → (a && b) ≡ true
-both_pass a b first second = rw (first, second) refl
-
 counts_stay : (headers : List ℕ) (listings : List Listing) → length headers < 2 ^ 32 → length listings < 2 ^ 32 → second_counts_leave (second_directory headers listings) ≡ false
 unfolding second_counts_leave
 counts_stay headers listings few short =
@@ -201,7 +199,7 @@ member_there headers listings k few are lt =
     let is = are k any lt in
     let index = index_read headers listings k any few are lt in
     let members = members_counted headers listings few in
-    both_pass (ltb 0 (member_index directory k)) (leb (member_index directory k) (member_count directory))
+    and_from (ltb 0 (member_index directory k)) (leb (member_index directory k) (member_count directory))
     (lt-ltb _ _ (omega (arith, index, is.first))) (le-leb _ _ (omega (arith, index, members, is.last)))
 
 table_stays : (headers : List ℕ) (listings : List Listing) → length headers < 2 ^ 32 → length listings < 2 ^ 32 → All (IsListed headers) listings → second_table_leaves (second_directory headers listings) ≡ false

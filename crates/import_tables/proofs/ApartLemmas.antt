@@ -1,5 +1,6 @@
 -- No two imports share a slot, and each lies in the table of its DLL, before the entry that ends it.
 use Rattle.std.proofs.Common.{◌≡◌, ℕ, suc, ◌+◌, ◌*◌, ◌<◌, ◌≤◌, ◌⊎◌, Bool, true, false, cond, ◌||◌, List, [], ◌∷◌, length, take, drop, refl, sym, ap, ◌∙◌, inl, inr, arith}
+use Rattle.std.proofs.Math.Bool.{or-true}
 use Rattle.std.specs.List.{list_any, before_first, position_or_len}
 use Rattle.std.proofs.lemmas.Bool.{cases_Bool, false≢true}
 use Rattle.std.proofs.Math.Numerals.{one-add}
@@ -75,11 +76,7 @@ some_more name rows k some =
 pub listed : (rows : List ImportRow) (k : ℕ) → k < length rows → list_any (same_name (dll_at rows k)) (dlls_of rows) ≡ true
 listed rows k lt =
     any_dll (dll_at rows k) rows
-    ∙ some_more (dll_at rows k) rows (k + 1) (any_more_row rows k (dll_at rows k) lt ∙ (ap (λ (b : Bool). list_any (is_of (dll_at rows k)) (take k rows) || b) (same_refl (dll_at rows k)) ∙ or_there (list_any (is_of (dll_at rows k)) (take k rows))))
-  where
-    or_there : (b : Bool) → (b || true) ≡ true
-    or_there true = refl
-    or_there false = refl
+    ∙ some_more (dll_at rows k) rows (k + 1) (any_more_row rows k (dll_at rows k) lt ∙ (ap (λ (b : Bool). list_any (is_of (dll_at rows k)) (take k rows) || b) (same_refl (dll_at rows k)) ∙ or-true (list_any (is_of (dll_at rows k)) (take k rows))))
 
 pub count_grows : (name : List ℕ) (rows : List ImportRow) (k : ℕ) → count_of name (take k rows) ≤ count_of name rows
 unfolding count_of

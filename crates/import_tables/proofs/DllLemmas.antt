@@ -1,5 +1,6 @@
 -- The DLLs of some imports, one import at a time, and how many imports each has.
 use Rattle.std.proofs.Common.{◌≡◌, ℕ, ◌+◌, ◌≤◌, Bool, true, false, cond, ◌||◌, List, [], ◌∷◌, ◌++◌, length, length-append, fold, refl, sym, ap, ◌∙◌, inl, inr, arith}
+use Rattle.std.proofs.Math.Bool.{or-false, or_assoc}
 use Rattle.std.specs.List.{list_any, count_by}
 use Rattle.std.proofs.lemmas.Bool.{cases_Bool}
 use Rattle.std.proofs.lemmas.Bool.Decides.{same_from_decides}
@@ -23,18 +24,6 @@ same_flip a b =
 
 -- ---- one more import
 
-or_false : (b : Bool) → (b || false) ≡ b
-or_false true = refl
-or_false false = refl
-
-or_true : (b : Bool) → (b || true) ≡ true
-or_true true = refl
-or_true false = refl
-
-or_assoc : (a b c : Bool) → ((a || b) || c) ≡ (a || (b || c))
-or_assoc true b c = refl
-or_assoc false b c = refl
-
 any_with : (name : List ℕ) (dlls : List (List ℕ)) (row : ImportRow) → list_any (same_name name) (with_dll dlls row) ≡ (list_any (same_name name) dlls || is_of name row)
 any_with name dlls row =
     elim (cases_Bool (list_any (same_name row.dll) dlls)) [
@@ -42,14 +31,14 @@ any_with name dlls row =
         | inl same ↦
             let there : list_any (same_name name) dlls ≡ true = ap (λ (q : List ℕ). list_any (same_name q) dlls) (same_is name row.dll same) ∙ known in
             rw (there) refl
-        | inr other ↦ rw other (sym (or_false _))
+        | inr other ↦ rw other (sym (or-false _))
       ])
       | inr new ↦
-          rw new (list_any-append (same_name name) dlls (row.dll ∷ []) ∙ ap (λ (b : Bool). list_any (same_name name) dlls || b) (or_false (same_name name row.dll)))
+          rw new (list_any-append (same_name name) dlls (row.dll ∷ []) ∙ ap (λ (b : Bool). list_any (same_name name) dlls || b) (or-false (same_name name row.dll)))
     ]
 
 any_fold : (name : List ℕ) (dlls : List (List ℕ)) (rows : List ImportRow) → list_any (same_name name) (fold with_dll dlls rows) ≡ (list_any (same_name name) dlls || list_any (is_of name) rows)
-any_fold name dlls [] = sym (or_false _)
+any_fold name dlls [] = sym (or-false _)
 any_fold name dlls (row ∷ rows) =
     any_fold name (with_dll dlls row) rows
     ∙ ap (λ (b : Bool). b || list_any (is_of name) rows) (any_with name dlls row)
@@ -85,7 +74,7 @@ one_more dlls name row new =
           rw (same, back, none) refl
       | inr other ↦
           let back : same_name row.dll name ≡ false = sym (same_flip name row.dll) ∙ other in
-          rw (other, back, or_false (list_any (same_name row.dll) dlls)) (sym (plus_zero _))
+          rw (other, back, or-false (list_any (same_name row.dll) dlls)) (sym (plus_zero _))
     ])
   where
     plus_zero : (n : ℕ) → n + 0 ≡ n

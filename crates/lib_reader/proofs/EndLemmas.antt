@@ -1,5 +1,6 @@
 -- Where the walk ends, and what a library is by its end.
 use Rattle.std.proofs.Common.{◌≡◌, ℕ, ◌+◌, ◌<◌, ◌≤◌, Bool, true, false, ◌||◌, not, leb, List, [], length, Some, None, unwrap_or, refl, sym, ap, ◌∙◌, add-one, le-leb}
+use Rattle.std.proofs.Math.Bool.{or-true}
 use Rattle.std.specs.Prelude.{is_some}
 use Rattle.std.proofs.lemmas.Bool.{lt-leb}
 use Rattle.link_base.specs.Bytes.{first_below}
@@ -23,10 +24,6 @@ unfolding header_at
 header_next bytes at position place = ap (next_header bytes) place ∙ rw add-one refl
 
 -- ---- a position at which the walk ends, or does not
-
-or_true : (a : Bool) → (a || true) ≡ true
-or_true true = refl
-or_true false = refl
 
 -- a member that stands in the file, at which nothing is wrong, and behind which the walk goes on
 pub goes_behind : (bytes : List ℕ) (at position : ℕ) → at ≡ header_at bytes position → at < length bytes → position_fault bytes position ≡ None → names_special (text_at_position bytes position) ≡ true → first_below position (ends_walk bytes) ≡ None → first_below (position + 1) (ends_walk bytes) ≡ None
@@ -81,7 +78,7 @@ ends_there bytes position magic lt before other =
     let past = is_past_end bytes position in
     ended bytes position magic
     (found_end bytes position lt before
-    (ap (λ (b : Bool). past || (fails || not b)) other ∙ (ap (λ (b : Bool). past || b) (or_true fails) ∙ or_true past)))
+    (ap (λ (b : Bool). past || (fails || not b)) other ∙ (ap (λ (b : Bool). past || b) (or-true fails) ∙ or-true past)))
 
 pub there_well : (bytes : List ℕ) (at position : ℕ) → at ≡ header_at bytes position → at < length bytes → position_fault bytes position ≡ None → end_fault bytes position ≡ None
 unfolding end_fault

@@ -1,16 +1,12 @@
 -- What is whole in a directory, by its tests that do not stand.
-use Rattle.std.proofs.Common.{◌≡◌, ℕ, ◌+◌, ◌<◌, ◌≤◌, Bool, true, false, not, ltb, List, length, refl, sym}
-use Rattle.std.proofs.lemmas.Bool.{false≢true, ltb-true, leb-true, and_parts, ltb-false}
+use Rattle.std.proofs.Common.{◌≡◌, ℕ, ◌+◌, ◌<◌, ◌≤◌, Bool, true, false, not, ltb, List, length, sym}
+use Rattle.std.proofs.lemmas.Bool.{false≢true, ltb-true, leb-true, and_parts, ltb-false, not-false}
 use Rattle.link_base.specs.Bytes.{all_below}
 use Rattle.link_base.proofs.CallerLemmas.{all_below-each}
 use Rattle.link_base.proofs.TestLemmas.{or_left, or_right}
 use Rattle.lib_reader.specs.FirstDirectory.{first_names_place, first_table_leaves}
 use Rattle.lib_reader.specs.SecondDirectory.{member_count, name_count_place, second_count, member_index, second_names_place, second_counts_leave, has_member, second_table_leaves}
 use Rattle.lib_reader.specs.Listing.{table_leaves}
-
-not_false : (a : Bool) → not a ≡ false → a ≡ true
-not_false true e = refl
-not_false false e = absurd (false≢true (sym e))
 
 -- ---- the first linker member
 
@@ -50,7 +46,7 @@ pub second_table : (directory : List ℕ) → second_table_leaves directory ≡ 
 unfolding second_table_leaves
 second_table directory e = record {
   counts = or_left (second_counts_leave directory) _ e;
-  members = not_false _ (or_right (second_counts_leave directory) _ e);
+  members = not-false _ (or_right (second_counts_leave directory) _ e);
 }
 
 -- the index of a name, and the offset that it refers to

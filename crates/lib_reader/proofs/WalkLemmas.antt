@@ -2,7 +2,7 @@
 use Rattle.std.proofs.Common.{Bor, ◌≡◌, ℕ, ◌+◌, Bool, true, false, cond, ◌&&◌, List, Option, Some, None, option_map, refl, sym, ap, ◌∙◌, inl, inr, add-one}
 use Rattle.std.specs.Prelude.{is_some, is_none}
 use Rattle.std.specs.Option.{option_copied}
-use Rattle.std.proofs.lemmas.Bool.{false≢true}
+use Rattle.std.proofs.lemmas.Bool.{false≢true, and_left}
 use Rattle.std.proofs.lemmas.Bool.Decides.{eqb_tells}
 use Rattle.std.specs.Option.{option_or}
 use Rattle.link_base.specs.Bytes.{first_below}
@@ -84,14 +84,11 @@ unfolding first_directory
 other_first bytes position other =
     ap (option_map (λ k. listings_in false (data_at_position bytes k))) (passed_by position (is_directory bytes) other)
 
-none_later : (b c : Bool) → b ≡ false → (b && c) ≡ false
-none_later b c is = rw is refl
-
 pub other_second : (bytes : List ℕ) (position : ℕ) → is_directory bytes position ≡ false → second_listed bytes (position + 1) ≡ second_listed bytes position
 unfolding second_directory
 other_second bytes position other =
     ap (option_map (λ k. listings_in true (data_at_position bytes k)))
-    (passed_by position (is_later_directory bytes) (none_later (is_directory bytes position) _ other))
+    (passed_by position (is_later_directory bytes) (and_left (is_directory bytes position) _ other))
 
 -- ---- long names
 

@@ -1,5 +1,6 @@
 -- The first open reference from a number on, and what is passed over before it.
 use Rattle.std.proofs.Common.{◌≡◌, ℕ, zero, suc, ◌+◌, ◌-◌, ◌<◌, ◌≤◌, Bool, true, false, cond, List, length, Option, Some, None, inl, inr, refl, sym, ap, ◌∙◌, add-one, arith}
+use Rattle.std.proofs.lemmas.Option.{some_pair_parts}
 use Rattle.std.specs.Prelude.{option_map}
 use Rattle.std.specs.List.{find, range_with_len}
 use Rattle.std.proofs.lemmas.Bool.{cases_lt}
@@ -64,14 +65,6 @@ pub record IsFirstOpen (link : LinkView) (from number : ℕ) (name : List ℕ) :
   pub named : name ≡ (asked_at link number).name
   pub before : (j : ℕ) → from ≤ j → j < number → is_open_at link j ≡ false
 
-some_pair : (a c : ℕ) (b d : List ℕ) → ◌≡◌ {A = Option (ℕ × List ℕ)} (Some (a, b)) (Some (c, d)) → (a ≡ c) × (b ≡ d)
-some_pair a c b d e =
-    let same = inside (a, b) (c, d) e in
-    (ap (λ (p : ℕ × List ℕ). p.0) same, ap (λ (p : ℕ × List ℕ). p.1) same)
-  where
-    inside : (x y : ℕ × List ℕ) → Some x ≡ Some y → x ≡ y
-    inside x y e = cc
-
 pub first_open : (link : LinkView) (from number : ℕ) (name : List ℕ) → from ≤ length (all_asked link) → open_from link from ≡ Some (number, name) → IsFirstOpen link from number name
 unfolding open_from
 first_open link from number name within is =
@@ -81,7 +74,7 @@ first_open link from number name within is =
     go None e some = absurd cc
     go (Some k) e some =
         let first = first_in (is_open_at link) from (length (all_asked link) - from) k e in
-        let both = some_pair k number (asked_at link k).name name some in
+        let both = some_pair_parts k number (asked_at link k).name name some in
         let same = both.0 in
         let text = both.1 in
         record {

@@ -3,7 +3,7 @@ use Rattle.std.proofs.Common.{◌≡◌, ℕ, ◌<◌, ◌+◌, zero, suc, Bool,
 use Rattle.std.specs.Prelude.{is_none, option_map}
 use Rattle.std.specs.Option.{option_or}
 use Rattle.std.proofs.lemmas.Slice.Eq.{bytes_eq-Decides}
-use Rattle.std.proofs.lemmas.List.{length-append, get_or_append_left}
+use Rattle.std.proofs.lemmas.List.{length-append, get_or_append_left, get_or_default}
 use Rattle.link_base.specs.Refusals.{first_refusal_below}
 use Rattle.link_base.specs.NameText.{same_name}
 use Rattle.lib_reader.specs.Listing.{Entry, first_of_name}
@@ -16,7 +16,6 @@ use Rattle.module_view.specs.Module.{ModuleView}
 use Rattle.par_read.specs.Joining.{joining_fault}
 use Rattle.lib_search.specs.LibraryFaults.{bad_library}
 use Rattle.lib_search.specs.OpenLibraries.{ListsBelow, ListsSoFar}
-use Rattle.lib_search.proofs.ListingLemmas.{same_item}
 use Rattle.lib_search.specs.SearchSteps.{MemberPlace, place_in, listing_at, name_of_member, member_fault_in}
 
 pub same_is : (a b : List ℕ) → same_name a b ≡ true → a ≡ b
@@ -100,7 +99,7 @@ lists_now libraries now library k place_of is same below =
     subst (λ (n : ℕ). ListsBelow place_of n now) end (subst (ListsBelow place_of (k + 1)) (sym same) below)
 
 pub library_here : (libraries : List FoundFile) (k : ℕ) (library : FoundFile) → k < length libraries → library ≡ get_or libraries k library → library ≡ get_or libraries k no_file
-library_here libraries k library lt is = is ∙ same_item libraries k library no_file lt
+library_here libraries k library lt is = is ∙ get_or_default libraries k library no_file lt
 
 last_item : (libraries : List FoundFile) (library : FoundFile) → library ≡ get_or (libraries ++ library ∷ []) (length libraries) no_file
 last_item [] library = refl

@@ -1,5 +1,6 @@
 -- The member that joins next is one of a library that is searched, and has not joined.
 use Rattle.std.proofs.Common.{◌≡◌, ℕ, zero, suc, ◌<◌, Bool, true, false, cond, List, [], ◌∷◌, length, map, Option, Some, None, refl, sym, ap, ◌∙◌, arith}
+use Rattle.std.proofs.lemmas.Option.{same_Some}
 use Rattle.std.specs.Prelude.{IfSome, option_map, option_and_then}
 use Rattle.std.specs.List.{list_any}
 use Rattle.std.specs.Option.{option_or}
@@ -34,9 +35,6 @@ found_standing {X} {A} f (y ∷ ys) x is = go (f y) refl is (found_standing f ys
 
 -- ---- a listed member
 
-some_place : {A : Type 0} (a b : A) → Some a ≡ Some b → a ≡ b
-some_place a b e = cc
-
 listing_within : (libraries : List FoundFile) (name : List ℕ) (place : MemberPlace) → first_listing libraries name ≡ Some place → place.0 < length libraries
 unfolding first_listing
 listing_within libraries name place is =
@@ -46,14 +44,14 @@ listing_within libraries name place is =
   where
     go : (k : ℕ) → k < length libraries → (o : Option ℕ) → option_map (place_in k) o ≡ Some place → place.0 < length libraries
     go k lt None e = absurd cc
-    go k lt (Some at) e = let same = ap (λ (p : MemberPlace). p.0) (some_place (place_in k at) place e) in omega (arith, lt, same)
+    go k lt (Some at) e = let same = ap (λ (p : MemberPlace). p.0) (same_Some (place_in k at) place e) in omega (arith, lt, same)
 
 listed_fresh : (s : Searched) (name : List ℕ) (place : MemberPlace) → listed_member s name ≡ Some place → IsFresh s place
 listed_fresh s name place is = go (first_listing s.libraries name) refl is
   where
     unjoined : (other : MemberPlace) (b : Bool) → list_any (is_place other) s.joined ≡ b → cond b None (Some other) ≡ Some place → (other ≡ place) × (list_any (is_place other) s.joined ≡ false)
     unjoined other true e some = absurd cc
-    unjoined other false e some = (some_place other place some, e)
+    unjoined other false e some = (same_Some other place some, e)
 
     go : (o : Option MemberPlace) → first_listing s.libraries name ≡ o → option_and_then (unless_joined s.joined) o ≡ Some place → IsFresh s place
     go None e some = absurd cc

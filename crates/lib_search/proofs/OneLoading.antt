@@ -1,6 +1,7 @@
 -- A link has one loading: one fault of it, or one list of modules that join, with the entries of its
 -- resource files.
 use Rattle.std.proofs.Common.{◌≡◌, ℕ, ◌<◌, ◌≤◌, zero, suc, List, Some, None, sym, ap, ◌∙◌, inl, inr, arith}
+use Rattle.std.proofs.lemmas.Option.{none-some, same_Some}
 use Rattle.std.proofs.lemmas.Bool.{cases_lt}
 use Rattle.link_base.specs.declared.fault.Fault.{Fault}
 use Rattle.link_files.specs.Store.{Store}
@@ -9,12 +10,6 @@ use Rattle.link_words.specs.Outcome.{LinkOptions}
 use Rattle.res_merge.specs.Entries.{Entry}
 use Rattle.lib_search.specs.SearchSteps.{SearchState, Ends, Faults, next_step}
 use Rattle.lib_search.specs.Loading.{state_in, state_after_one, state_after, EndsAt, FaultsAt, HasLoadingFault, AtRead, AtOpening, AtStep, Loads}
-
-no_some : {A : Type 0} → (x : A) → None ≡ Some x → ⊥
-no_some x is = cc
-
-same_some : {A : Type 0} → (x y : A) → Some x ≡ Some y → x ≡ y
-same_some x y is = cc
 
 -- ---- one end
 
@@ -41,7 +36,7 @@ none_later store options steps (suc later) none le = elim (cases_lt later steps)
 
 not_before : (store : Store) (options : LinkOptions) (steps others : ℕ) (state other : SearchState) → state_after store options steps ≡ Some state → Halts store options state → state_after store options others ≡ Some other → steps < others → ⊥
 not_before store options steps others state other is halts other_is lt =
-    no_some other (sym (none_later store options (suc steps) others (halted store options steps state is halts) lt) ∙ other_is)
+    none-some other (sym (none_later store options (suc steps) others (halted store options steps state is halts) lt) ∙ other_is)
 
 -- two states that halt are one
 one_halt : (store : Store) (options : LinkOptions) (steps others : ℕ) (state other : SearchState) → state_after store options steps ≡ Some state → Halts store options state → state_after store options others ≡ Some other → Halts store options other → state ≡ other
@@ -49,7 +44,7 @@ one_halt store options steps others state other is halts other_is other_halts = 
   | inl lt ↦ absurd (not_before store options steps others state other is halts other_is lt)
   | inr ge ↦ elim (cases_lt others steps) [
     | inl lt ↦ absurd (not_before store options others steps other state other_is other_halts is lt)
-    | inr le ↦ same_some state other (sym is ∙ at_steps store options steps others (omega (arith, ge, le)) ∙ other_is)
+    | inr le ↦ same_Some state other (sym is ∙ at_steps store options steps others (omega (arith, ge, le)) ∙ other_is)
   ]
 ]
 
@@ -76,21 +71,21 @@ not_both store options state other fault x y =
     no_end fault (sym y.next ∙ sym (ap (next_step store options) same) ∙ x.next)
 
 pub one_fault : (store : Store) (options : LinkOptions) (f g : Fault) → HasLoadingFault store options f → HasLoadingFault store options g → f ≡ g
-one_fault store options f g (AtRead r) (AtRead s) = same_some f g (sym r ∙ s)
-one_fault store options f g (AtRead r) (AtOpening read opened) = absurd (no_some f (sym read ∙ r))
-one_fault store options f g (AtRead r) (AtStep state y) = absurd (no_some f (sym y.reached.read ∙ r))
-one_fault store options f g (AtOpening read opened) (AtRead s) = absurd (no_some g (sym read ∙ s))
-one_fault store options f g (AtOpening read opened) (AtOpening other y) = same_some f g (sym opened ∙ y)
-one_fault store options f g (AtOpening read opened) (AtStep state y) = absurd (no_some f (sym y.reached.opened ∙ opened))
-one_fault store options f g (AtStep state x) (AtRead s) = absurd (no_some g (sym x.reached.read ∙ s))
-one_fault store options f g (AtStep state x) (AtOpening read opened) = absurd (no_some g (sym x.reached.opened ∙ opened))
+one_fault store options f g (AtRead r) (AtRead s) = same_Some f g (sym r ∙ s)
+one_fault store options f g (AtRead r) (AtOpening read opened) = absurd (none-some f (sym read ∙ r))
+one_fault store options f g (AtRead r) (AtStep state y) = absurd (none-some f (sym y.reached.read ∙ r))
+one_fault store options f g (AtOpening read opened) (AtRead s) = absurd (none-some g (sym read ∙ s))
+one_fault store options f g (AtOpening read opened) (AtOpening other y) = same_Some f g (sym opened ∙ y)
+one_fault store options f g (AtOpening read opened) (AtStep state y) = absurd (none-some f (sym y.reached.opened ∙ opened))
+one_fault store options f g (AtStep state x) (AtRead s) = absurd (none-some g (sym x.reached.read ∙ s))
+one_fault store options f g (AtStep state x) (AtOpening read opened) = absurd (none-some g (sym x.reached.opened ∙ opened))
 one_fault store options f g (AtStep state x) (AtStep other y) = same_step store options state other f g x y
 
 -- ---- one list of modules, and one of entries
 
 pub fault_or_loads : (store : Store) (options : LinkOptions) (fault : Fault) (modules : List ModuleView) (entries : List Entry) → HasLoadingFault store options fault → Loads store options modules entries → ⊥
-fault_or_loads store options fault modules entries (AtRead r) y = no_some fault (sym y.ends.reached.read ∙ r)
-fault_or_loads store options fault modules entries (AtOpening read opened) y = no_some fault (sym y.ends.reached.opened ∙ opened)
+fault_or_loads store options fault modules entries (AtRead r) y = none-some fault (sym y.ends.reached.read ∙ r)
+fault_or_loads store options fault modules entries (AtOpening read opened) y = none-some fault (sym y.ends.reached.opened ∙ opened)
 fault_or_loads store options fault modules entries (AtStep state x) y = not_both store options state y.state fault x y.ends
 
 pub one_loading : (store : Store) (options : LinkOptions) (modules others : List ModuleView) (entries other_entries : List Entry) → Loads store options modules entries → Loads store options others other_entries → (modules ≡ others) × (entries ≡ other_entries)

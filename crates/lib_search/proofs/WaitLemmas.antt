@@ -1,15 +1,16 @@
 -- Alternates that wait, those that are asleep, and those that lead to no member.
 use Rattle.std.proofs.Common.{◌≡◌, ℕ, zero, suc, add-one, ◌+◌, ◌<◌, ◌≤◌, Bool, true, false, ◌&&◌, ◌||◌, not, cond, List, [], ◌∷◌, ◌++◌, length, map, take, get_or, Option, Some, None, inl, inr, refl, sym, ap, subst, ◌∙◌, append_assoc, arith}
+use Rattle.std.proofs.Math.Bool.{and-false, or-false}
 use Rattle.std.specs.List.{list_any, filter_map}
 use Rattle.std.specs.BTreeSet.{BTreeSet}
 use Rattle.std.specs.Ordering.{nat_cmp, is_eq}
-use Rattle.std.proofs.lemmas.Bool.{cases_lt}
+use Rattle.std.proofs.lemmas.Bool.{cases_lt, and_parts, or_parts, or_left}
 use Rattle.std.proofs.lemmas.Bool.Decides.{nat_tests}
 use Rattle.std.proofs.lemmas.Slice.Eq.{bytes_eq-Decides}
 use Rattle.std.proofs.lemmas.List.Elements.{filter_map-append}
 use Rattle.directives.specs.Said.{said}
 use Rattle.directives.specs.declared.item.Directive.{Directive}
-use Rattle.std.proofs.lemmas.List.{map-append, length-append, get_or_append_left, get_or_push, take_more, take_all}
+use Rattle.std.proofs.lemmas.List.{map-append, length-append, get_or_append_left, get_or_push, take_more, take_all, get_or_default}
 use Rattle.std.proofs.lemmas.List.Folds.{list_any-append, list_any_at, list_any_none, list_any_more}
 use Rattle.link_base.specs.NameText.{same_name}
 use Rattle.module_view.specs.Module.{ModuleView}
@@ -24,35 +25,16 @@ use Rattle.lib_search.specs.declared.alternates.Alternates.{Alternates}
 use Rattle.lib_search.proofs.AlternateLemmas.{first_of, none_more, some_found}
 use Rattle.lib_search.proofs.FromLemmas.{IsFirstOpen, none_open}
 use Rattle.lib_search.proofs.LibraryLemmas.{same_is}
-use Rattle.lib_search.proofs.ListingLemmas.{same_item}
 use Rattle.lib_search.proofs.PassedLemmas.{asked_push, asked_same, provided_more, closed_stays, unlisted_more, passed_joined}
 use Rattle.lib_search.proofs.ModuleLemmas.{of_all_push}
 
 clash : true ≡ false → ⊥
 clash e = cc
 
-both : (a b : Bool) → (a && b) ≡ true → (a ≡ true) × (b ≡ true)
-both true true e = (refl, refl)
-both true false e = absurd cc
-both false b e = absurd cc
-
-neither : (a b : Bool) → (a || b) ≡ false → (a ≡ false) × (b ≡ false)
-neither false false e = (refl, refl)
-neither false true e = absurd cc
-neither true b e = absurd cc
-
 either : {A : Type 0} (a b : Bool) → (a || b) ≡ true → (a ≡ true → A) → (b ≡ true → A) → A
 either true b e f g = f refl
 either false true e f g = g refl
 either false false e f g = absurd cc
-
-or_left : (a b : Bool) → a ≡ true → (a || b) ≡ true
-or_left true b e = refl
-or_left false b e = absurd cc
-
-not_true : (b : Bool) → not b ≡ true → b ≡ false
-not_true false e = refl
-not_true true e = absurd cc
 
 -- ---- numbers and names
 
@@ -74,7 +56,7 @@ module _ (link : LinkView) (name : List ℕ) where
   asked_for : (k : ℕ) → is_open_at link k ≡ true → same_name (asked_at link k).name name ≡ true → asks_for name (asked_at link k) ≡ true
   asked_for k opens same =
       let asked = asked_at link k in
-      let opened = both asked.search (not (is_provided link.modules asked.name)) opens in
+      let opened = and_parts asked.search (not (is_provided link.modules asked.name)) opens in
       ap (λ (b : Bool). b && same_name asked.name name) opened.0 ∙ same
 
   -- it is asked for where it is open by a number
@@ -85,7 +67,7 @@ module _ (link : LinkView) (name : List ℕ) where
   open_by : (k : ℕ) → k < length (all_asked link) → is_open_at link k ≡ true → same_name (asked_at link k).name name ≡ true → is_open_name link name ≡ true
   open_by k lt opens same =
       let asked = asked_at link k in
-      let opened = both asked.search (not (is_provided link.modules asked.name)) opens in
+      let opened = and_parts asked.search (not (is_provided link.modules asked.name)) opens in
       ap (λ (b : Bool). b && not (is_provided link.modules name)) (asked_by_open k lt opens same)
       ∙ ap (λ (n : List ℕ). not (is_provided link.modules n)) (sym (same_is asked.name name same))
       ∙ opened.1
@@ -107,7 +89,7 @@ module _ (link : LinkView) (name : List ℕ) where
       go : (b : Bool) → asks_for name asked ≡ b → b ≡ false
       go false e = refl
       go true e =
-          let parts = both asked.search (same_name asked.name name) e in
+          let parts = and_parts asked.search (same_name asked.name name) e in
           let opens : is_open_at link k ≡ true =
           ap (λ (b : Bool). b && not (is_provided link.modules asked.name)) parts.0
           ∙ ap (λ (n : List ℕ). not (is_provided link.modules n)) (same_is asked.name name parts.1)
@@ -118,20 +100,16 @@ module _ (link : LinkView) (name : List ℕ) where
   pub quiet_closed : IsQuiet link (length (all_asked link)) name → is_open_name link name ≡ false
   quiet_closed quiet = go (is_provided link.modules name) refl
     where
-      and_none : (a : Bool) → (a && false) ≡ false
-      and_none true = refl
-      and_none false = refl
-
       go : (b : Bool) → is_provided link.modules name ≡ b → (is_asked_name link name && not b) ≡ false
-      go true e = and_none (is_asked_name link name)
+      go true e = and-false (is_asked_name link name)
       go false e =
           ap (λ (b : Bool). b && true)
           (list_any_none (asks_for name) (all_asked link) (λ k d lt.
-          ap (asks_for name) (same_item (all_asked link) k d nothing_asked lt) ∙ quiet_asks quiet e k lt))
+          ap (asks_for name) (get_or_default (all_asked link) k d nothing_asked lt) ∙ quiet_asks quiet e k lt))
 
   -- an open name is asked for
   pub open_asked : is_open_name link name ≡ true → is_asked_name link name ≡ true
-  open_asked opens = (both (is_asked_name link name) (not (is_provided link.modules name)) opens).0
+  open_asked opens = (and_parts (is_asked_name link name) (not (is_provided link.modules name)) opens).0
 
 -- where the left name is not open
 pub closed_none : (s : Searched) (pair : List ℕ × List ℕ) → is_open_name s.link pair.0 ≡ false → alternate_member s pair ≡ None
@@ -228,7 +206,7 @@ module _ (s : Searched) (seen number : ℕ) (name : List ℕ) (before after : Al
       go : (b : Bool) → same_name name left ≡ b → is_among (noted_under before.asleep left) k ≡ false
       go true e =
           ap (λ (n : List ℕ). is_among (noted_under before.asleep n) k) (sym (same_is name left e))
-          ∙ (neither (is_waiting before.waiting k) (is_among (noted_under before.asleep name) k) (sym (wakes.waiting_is k) ∙ awake)).1
+          ∙ (or_parts (is_waiting before.waiting k) (is_among (noted_under before.asleep name) k) (sym (wakes.waiting_is k) ∙ awake)).1
       go false e =
           ap (λ (ns : List ℕ). is_among ns k) (sym (wakes.asleep_is left ∙ ap (λ (b : Bool). cond b [] (noted_under before.asleep left)) e))
           ∙ ap (λ (pair : List ℕ × List ℕ). is_among (noted_under after.asleep pair.0) k) (sym (same_pair k))
@@ -247,7 +225,7 @@ module _ (s : Searched) (seen number : ℕ) (name : List ℕ) (before after : Al
         let was = keeps.sleeps other k earlier.1 in
         (omega (arith, was.0, same_count), ap (λ (pair : List ℕ × List ℕ). pair.0) (same_pair k) ∙ was.1, still_quiet other earlier.0 was.2);
     gone = λ k lt awake up.
-        let was = keeps.gone k (omega (arith, lt, same_count)) (neither (is_waiting before.waiting k) (is_among (noted_under before.asleep name) k) (sym (wakes.waiting_is k) ∙ awake)).0 (not_slept k awake up) in
+        let was = keeps.gone k (omega (arith, lt, same_count)) (or_parts (is_waiting before.waiting k) (is_among (noted_under before.asleep name) k) (sym (wakes.waiting_is k) ∙ awake)).0 (not_slept k awake up) in
         (ap (λ (pair : List ℕ × List ℕ). is_asked_name s.link pair.0) (same_pair k) ∙ was.0, ap (alternate_member s) (same_pair k) ∙ was.1);
   }
 
@@ -323,15 +301,11 @@ module _ (s : Searched) (pair : List ℕ × List ℕ) (before after : Alternates
   noted_now noted other k =
       ap (λ (ns : List ℕ). is_among ns k) (noted other) ∙ go (same_name pair.0 other)
     where
-      or_none : (b : Bool) → b ≡ (b || false)
-      or_none true = refl
-      or_none false = refl
-
       go : (b : Bool) → is_among (cond b (noted_under before.asleep other ++ length before.pairs.items ∷ []) (noted_under before.asleep other)) k ≡ (is_among (noted_under before.asleep other) k || (b && is_eq (nat_cmp (length before.pairs.items) k)))
       go true =
           list_any-append (λ (n : ℕ). is_eq (nat_cmp n k)) (noted_under before.asleep other) (length before.pairs.items ∷ [])
-          ∙ ap (λ (b : Bool). is_among (noted_under before.asleep other) k || b) (sym (or_none (is_eq (nat_cmp (length before.pairs.items) k))))
-      go false = or_none (is_among (noted_under before.asleep other) k)
+          ∙ ap (λ (b : Bool). is_among (noted_under before.asleep other) k || b) (or-false (is_eq (nat_cmp (length before.pairs.items) k)))
+      go false = sym (or-false (is_among (noted_under before.asleep other) k))
 
   -- its left name is not open
   pub added_asleep : is_open_name s.link pair.0 ≡ false → after.waiting ≡ before.waiting → ((other : List ℕ) → noted_under after.asleep other ≡ cond (same_name pair.0 other) (noted_under before.asleep other ++ length before.pairs.items ∷ []) (noted_under before.asleep other)) → KeepsAlternates s (length (all_asked s.link)) after
@@ -343,7 +317,7 @@ module _ (s : Searched) (pair : List ℕ × List ℕ) (before after : Alternates
         either (is_among (noted_under before.asleep name) k) (same_name pair.0 name && is_eq (nat_cmp (length before.pairs.items) k)) (sym (noted_now noted name k) ∙ here)
         (λ slept. let was = keeps.sleeps name k slept in
         (omega (arith, was.0, count), ap (λ (p : List ℕ × List ℕ). p.0) (earlier_pair k was.0) ∙ was.1, was.2))
-        (λ now. let parts = both (same_name pair.0 name) (is_eq (nat_cmp (length before.pairs.items) k)) now in
+        (λ now. let parts = and_parts (same_name pair.0 name) (is_eq (nat_cmp (length before.pairs.items) k)) now in
         let is : k ≡ length before.pairs.items = same_number (length before.pairs.items) k parts.1 in
         let named : pair.0 ≡ name = same_is pair.0 name parts.0 in (
           omega (arith, is, count),
@@ -354,12 +328,12 @@ module _ (s : Searched) (pair : List ℕ × List ℕ) (before after : Alternates
       | inl low ↦
           let same = earlier_pair k low in
           let was = keeps.gone k low (ap (λ (w : BTreeSet ℕ). is_waiting w k) (sym waiting) ∙ awake)
-          (neither (is_among (noted_under before.asleep (pair_at before.pairs.items k).0) k) (same_name pair.0 (pair_at before.pairs.items k).0 && is_eq (nat_cmp (length before.pairs.items) k))
+          (or_parts (is_among (noted_under before.asleep (pair_at before.pairs.items k).0) k) (same_name pair.0 (pair_at before.pairs.items k).0 && is_eq (nat_cmp (length before.pairs.items) k))
           (sym (noted_now noted (pair_at before.pairs.items k).0 k) ∙ ap (λ (p : List ℕ × List ℕ). is_among (noted_under after.asleep p.0) k) (sym same) ∙ up)).0 in
           (ap (λ (p : List ℕ × List ℕ). is_asked_name s.link p.0) same ∙ was.0, ap (alternate_member s) same ∙ was.1)
       | inr high ↦
           let is : k ≡ length before.pairs.items = omega (arith, high, lt, count) in
-          let out = (neither (is_among (noted_under before.asleep pair.0) k) (same_name pair.0 pair.0 && is_eq (nat_cmp (length before.pairs.items) k))
+          let out = (or_parts (is_among (noted_under before.asleep pair.0) k) (same_name pair.0 pair.0 && is_eq (nat_cmp (length before.pairs.items) k))
           (sym (noted_now noted pair.0 k) ∙ ap (λ (p : List ℕ × List ℕ). is_among (noted_under after.asleep p.0) k) (sym (last_pair k is)) ∙ up)).1 in
           absurd (clash (sym (ap (λ (b : Bool). b && is_eq (nat_cmp (length before.pairs.items) k)) (same_self pair.0) ∙ ap (λ (n : ℕ). is_eq (nat_cmp (length before.pairs.items) n)) is ∙ number_self (length before.pairs.items)) ∙ out))
     ];
@@ -384,7 +358,7 @@ module _ (s : Searched) (a : Alternates) (keeps : KeepsAlternates s (length (all
   none_first (suc n) le awake =
       let pairs = a.pairs.items in
       ap (λ (m : ℕ). first_of (alternate_member s) (take m pairs)) (sym (add-one n))
-      ∙ none_more (alternate_member s) pairs n (pair_at pairs n) (omega (arith, le)) (same_item pairs n ([], []) (pair_at pairs n) (omega (arith, le)))
+      ∙ none_more (alternate_member s) pairs n (pair_at pairs n) (omega (arith, le)) (get_or_default pairs n ([], []) (pair_at pairs n) (omega (arith, le)))
       (none_first n (omega (arith, le)) (λ k lt. awake k (omega (arith, lt))))
       (awake_none n (omega (arith, le)) (awake n (omega arith)))
 
@@ -395,7 +369,7 @@ module _ (s : Searched) (a : Alternates) (keeps : KeepsAlternates s (length (all
       let pairs = a.pairs.items in
       let lt = (keeps.waits number least.here).0 in
       ap (first_of (alternate_member s)) (sym all)
-      ∙ some_found (alternate_member s) pairs number (pair_at pairs number) place lt (same_item pairs number ([], []) (pair_at pairs number) lt)
+      ∙ some_found (alternate_member s) pairs number (pair_at pairs number) place lt (get_or_default pairs number ([], []) (pair_at pairs number) lt)
       (none_first number (omega (arith, lt)) least.below) leads
 
   -- none waits
@@ -427,10 +401,6 @@ keeps_joined s place modules before after passed keeps kept pairs = record {
 }
 
 -- ---- numbers that are inserted one after the other
-
-pub none_inserted : (b : Bool) → b ≡ (b || false)
-none_inserted true = refl
-none_inserted false = refl
 
 pub one_inserted : (old was now : Bool) (xs : List ℕ) (i x k : ℕ) → i < length xs → x ≡ get_or xs i x → was ≡ (old || is_among (take i xs) k) → now ≡ cond (is_eq (nat_cmp x k)) true was → now ≡ (old || is_among (take (i + 1) xs) k)
 one_inserted old was now xs i x k lt is was_is now_is =

@@ -1,5 +1,6 @@
 -- What callers may cite: the least number that passes, in a loop that counts up, and what all numbers below one pass.
-use Rattle.std.proofs.Common.{List, ◌++◌, length, drop, ◌^◌, ◌≡◌, ℕ, zero, suc, ◌+◌, ◌<◌, Bool, true, false, cond, ◌&&◌, Option, Some, None, refl, sym, ap, ◌∙◌, inl, inr, ◌⊎◌, add-one, arith}
+use Rattle.std.proofs.Common.{List, ◌++◌, length, drop, ◌^◌, ◌≡◌, ℕ, zero, suc, ◌+◌, ◌<◌, Bool, true, false, cond, Option, Some, None, refl, sym, ap, ◌∙◌, inl, inr, ◌⊎◌, add-one, arith}
+use Rattle.std.proofs.lemmas.Option.{same_Some}
 use Rattle.std.proofs.lemmas.Bool.{false≢true, cases_lt, and_parts, and_right}
 use Rattle.byteorder.specs.Numbers.{little_number-reads_back, length-bytes_low_first}
 use Rattle.std.specs.Option.{option_or}
@@ -46,12 +47,9 @@ first_below-all_fail zero test fails = refl
 first_below-all_fail (suc n) test fails =
     rw (first_below-all_fail n test (λ k lt. fails k (omega arith)), fails n (omega arith)) refl
 
-some_same : (k m : ℕ) → Some k ≡ Some m → k ≡ m
-some_same k m e = cc
-
 found_by : (earlier : Option ℕ) (b : Bool) (n k : ℕ) → option_or earlier (cond b (Some n) None) ≡ Some k → (earlier ≡ Some k) ⊎ ((earlier ≡ None) × ((b ≡ true) × (n ≡ k)))
 found_by (Some m) b n k e = inl e
-found_by None true n k e = inr (refl, (refl, some_same n k e))
+found_by None true n k e = inr (refl, (refl, same_Some n k e))
 found_by None false n k e = absurd cc
 
 -- the least number is below the end, passes, and none before it does

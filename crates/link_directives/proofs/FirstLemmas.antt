@@ -1,5 +1,6 @@
 -- One more key and its value: the first value of its key, and the mismatch that it makes.
-use Rattle.std.proofs.Common.{◌≡◌, ℕ, zero, suc, ◌+◌, ◌<◌, Bool, true, false, cond, List, [], ◌∷◌, ◌++◌, length, take, Option, Some, None, refl, sym, ap, subst, ◌∙◌, append_assoc, add-one, arith}
+use Rattle.std.proofs.Common.{◌≡◌, ℕ, zero, suc, ◌+◌, ◌<◌, Bool, true, false, cond, List, [], ◌∷◌, ◌++◌, length, Option, Some, None, refl, sym, ap, subst, ◌∙◌, append_assoc, add-one, arith}
+use Rattle.std.proofs.Math.Seq.{take-length}
 use Rattle.std.specs.Prelude.{option_map, option_and_then}
 use Rattle.std.specs.Option.{option_or}
 use Rattle.std.specs.List.{find}
@@ -50,17 +51,13 @@ entry_last : (entries : List (List ℕ × List ℕ)) (entry : List ℕ × List �
 entry_last [] entry = refl
 entry_last (first ∷ rest) entry = entry_last rest entry
 
-take_whole : (entries : List (List ℕ × List ℕ)) → take (length entries) entries ≡ entries
-take_whole [] = refl
-take_whole (entry ∷ rest) = ap (λ (es : List (List ℕ × List ℕ)). entry ∷ es) (take_whole rest)
-
 mismatch_before : (entries : List (List ℕ × List ℕ)) (entry : List ℕ × List ℕ) (k : ℕ) → k < length entries → mismatch_at (entries ++ entry ∷ []) k ≡ mismatch_at entries k
 mismatch_before entries entry k lt =
     rw (entry_before entries entry k lt, take-append-le k entries (entry ∷ []) (omega arith)) refl
 
 mismatch_last : (entries : List (List ℕ × List ℕ)) (entry : List ℕ × List ℕ) → mismatch_at (entries ++ entry ∷ []) (length entries) ≡ option_and_then (mismatch_with entry) (find (has_key entry.0) entries)
 mismatch_last entries entry =
-    rw (entry_last entries entry, take-append-le (length entries) entries (entry ∷ []) (omega arith)) (ap (λ (es : List (List ℕ × List ℕ)). option_and_then (mismatch_with entry) (find (has_key entry.0) es)) (take_whole entries))
+    rw (entry_last entries entry, take-append-le (length entries) entries (entry ∷ []) (omega arith)) (ap (λ (es : List (List ℕ × List ℕ)). option_and_then (mismatch_with entry) (find (has_key entry.0) es)) (take-length entries))
 
 mismatch_more : (entries : List (List ℕ × List ℕ)) (entry : List ℕ × List ℕ) → mismatch_in (entries ++ entry ∷ []) ≡ option_or (mismatch_in entries) (option_and_then (mismatch_with entry) (find (has_key entry.0) entries))
 mismatch_more entries entry =

@@ -1,5 +1,6 @@
 -- What fields are that were judged: each means what suits its type, and in the exception table none holds an address.
 use Rattle.std.proofs.Common.{◌≡◌, ℕ, zero, suc, ◌<◌, Bool, true, false, cond, ◌&&◌, not, eqb, eqb-true, nat_le, nat_lt, List, [], ◌∷◌, length, get_or, Option, Some, None, option_map, option_and_then, refl}
+use Rattle.std.proofs.lemmas.Bool.{not-false}
 use Rattle.std.specs.Option.{option_or, is_none}
 use Rattle.std.proofs.lemmas.List.Elements.{All-weaker}
 use Rattle.link_base.specs.Refusals.{shown, first_standing, first_refusal_below}
@@ -93,10 +94,6 @@ fixes_suited link large k lt none =
 
 -- ---- the exception table
 
-by_kind : (b : Bool) → not b ≡ false → b ≡ true
-by_kind true e = refl
-by_kind false e = absurd cc
-
 one_not_based : (large : Bool) (fix : Fix) → IsSuited large true fix → is_based fix ≡ false
 unfolding target_faults
 one_not_based large fix suits =
@@ -105,7 +102,7 @@ one_not_based large fix suits =
     let section = or_none (shown (nat_le 10 fix.kind && is_image_base fix.target) (error.Target fix.index target.NoSection)) _ relative.1 in
     let low = or_none (shown (eqb fix.kind 2 && (not (is_absolute fix.target) && large)) (error.Target fix.index target.NeedsLow)) _ section.1 in
     let field = or_none (shown (not (eqb fix.kind 3)) (error.Target fix.index target.PdataField)) _ low.1 in
-    let is : fix.kind ≡ 3 = eqb-true fix.kind 3 (by_kind (eqb fix.kind 3) (shown_none (not (eqb fix.kind 3)) (error.Target fix.index target.PdataField) field.0)) in
+    let is : fix.kind ≡ 3 = eqb-true fix.kind 3 (not-false (eqb fix.kind 3) (shown_none (not (eqb fix.kind 3)) (error.Target fix.index target.PdataField) field.0)) in
     rw is refl
 
 -- fields that suit the exception table hold no address

@@ -2,11 +2,10 @@
 use Rattle.std.proofs.Common.{◌≡◌, ℕ, zero, suc, ◌+◌, ◌-◌, ◌<◌, inl, inr, Bool, true, false, cond, not, ◌&&◌, eqb, ltb, List, [], ◌∷◌, ◌++◌, length, get_or, set, map, Option, Some, None, slice_get, refl, sym, ap, ◌∙◌, subst, arith}
 use Rattle.std.specs.List.{All, range_with_len, filter_map}
 use Rattle.std.specs.Option.{option_and_then}
-use Rattle.std.proofs.lemmas.Bool.{cases_eq, cases_lt, and_parts, ltb-true, lt-ltb, le-ltb, eq-eqb}
-use Rattle.std.proofs.lemmas.Bool.Decides.{eqb_tells}
+use Rattle.std.proofs.lemmas.Bool.{cases_eq, cases_lt, and_parts, ltb-true, lt-ltb, le-ltb, eq-eqb, ne_eqb}
 use Rattle.std.proofs.lemmas.List.{append-nil, length-map, length-set, get_or-map, get_or-set_same, get_or-set_other}
 use Rattle.std.proofs.lemmas.List.Elements.{filter_map-append}
-use Rattle.std.proofs.lemmas.Option.{slice_get_within, slice_get-get_or}
+use Rattle.std.proofs.lemmas.Option.{slice_get_within, slice_get-get_or, same_Some}
 use Rattle.link_base.proofs.RangeLemmas.{range_more, range_passes}
 use Rattle.coff_records.specs.ObjectFile.{section_total}
 use Rattle.coff_aux.specs.Comdats.{parents_of}
@@ -28,26 +27,11 @@ use Rattle.link_folding.proofs.PieceLemmas.{index_of}
 turned : (a b : ℕ) → eqb a b ≡ eqb b a
 turned a b = elim (cases_eq a b) [
   | inl same ↦ ap (λ (n : ℕ). eqb n b) same ∙ ap (λ (n : ℕ). eqb b n) (sym same)
-  | inr apart ↦ fails a b apart ∙ sym (fails b a (λ same. apart (sym same)))
-]
-  where
-    fails : (a b : ℕ) → (a ≡ b → ⊥) → eqb a b ≡ false
-    fails a b apart = elim (eqb_tells a b) [
-      | inl same ↦ absurd (apart same.1)
-      | inr other ↦ other.0
-    ]
-
-no_match : (a b : ℕ) → (a ≡ b → ⊥) → eqb a b ≡ false
-no_match a b apart = elim (eqb_tells a b) [
-  | inl same ↦ absurd (apart same.1)
-  | inr other ↦ other.0
+  | inr apart ↦ ne_eqb a b apart ∙ sym (ne_eqb b a (λ same. apart (sym same)))
 ]
 
 none_some : {X : Type 0} (o : Option X) (x : X) → o ≡ None → o ≡ Some x → ⊥
 none_some o x none some = cc
-
-some_same : {X : Type 0} (x y : X) → Some x ≡ Some y → x ≡ y
-some_same x y e = cc
 
 either_none : {X : Type 0} (b : Bool) → cond b None None ≡ (let none : Option X = None in none)
 either_none true = refl
@@ -63,7 +47,7 @@ here_done : (link : LinkParts) (position count : ℕ) → sections_done link pos
 here_done link position count = rw (le-ltb position position (omega arith), eq-eqb position position refl) refl
 
 elsewhere_done : (link : LinkParts) (position one other m : ℕ) → (m ≡ position → ⊥) → sections_done link position one m ≡ sections_done link position other m
-elsewhere_done link position one other m apart = rw (no_match m position apart) refl
+elsewhere_done link position one other m apart = rw (ne_eqb m position apart) refl
 
 none_done : (link : LinkParts) (m : ℕ) → sections_done link 0 0 m ≡ 0
 none_done link m = rw (le-ltb m 0 (omega arith)) (either_same (eqb m 0) 0)
@@ -77,7 +61,7 @@ next_done link position m = elim (cases_lt m position) [
         rw (le-ltb m position high, eq-eqb m position here, lt-ltb m (position + 1) (omega (arith, here)))
         (ap (λ (k : ℕ). section_total (module_at link.modules k).bytes) (sym here))
     | inr apart ↦
-        rw (le-ltb m position high, no_match m position apart, le-ltb m (position + 1) (omega (arith, high, apart)))
+        rw (le-ltb m position high, ne_eqb m position apart, le-ltb m (position + 1) (omega (arith, high, apart)))
         (sym (either_same (eqb m (position + 1)) 0))
   ]
 ]
@@ -208,7 +192,7 @@ module _ (link : LinkParts) (kept : List Bool) where
             | inl same ↦
                 rw (eq-eqb end number same)
                 (ap (λ (b : Bool). cond (not b) given_here None) (turned section number ∙ ap (λ (n : ℕ). eqb n section) (sym same)) ∙ flipped (eqb end section))
-            | inr apart ↦ rw (no_match end number apart) refl
+            | inr apart ↦ rw (ne_eqb end number apart) refl
           ]
         where
           given_here : Option ℕ
@@ -248,7 +232,7 @@ module _ (link : LinkParts) (kept : List Bool) where
           let candidate = get_or found.list.items k d in
           kept_same candidate (gathered.children k d lt) (λ here.
           child_given (piece_at link candidate.piece).number
-          ∙ ap (λ (b : Bool). cond b child_here None) (no_match end (piece_at link candidate.piece).number (λ same. none_some (candidate_at index.sections found.numbers.items position end) k none (found_root found k d gathered lt here same))))) gathered
+          ∙ ap (λ (b : Bool). cond b child_here None) (ne_eqb end (piece_at link candidate.piece).number (λ same. none_some (candidate_at index.sections found.numbers.items position end) k none (found_root found k d gathered lt here same))))) gathered
 
       -- what is found is the candidate at the end of the chain
       root_at : (found : Candidates) (number : ℕ) → AreGathered link kept position (section - 1) found → candidate_at index.sections found.numbers.items position end ≡ Some number → (root : ℕ) × ((indexed index.sections position end ≡ Some root) × (slice_get (candidate_pieces link kept) number ≡ Some root))
@@ -281,7 +265,7 @@ module _ (link : LinkParts) (kept : List Bool) where
               let candidate = get_or found.list.items k d in
               subst New (sym read) (kept_same candidate (gathered.children k d low) (λ here.
               child_given (piece_at link candidate.piece).number
-              ∙ ap (λ (b : Bool). cond b child_here None) (no_match end (piece_at link candidate.piece).number (λ e. apart (some_same k number (sym (found_root found k d gathered low here e) ∙ told))))))
+              ∙ ap (λ (b : Bool). cond b child_here None) (ne_eqb end (piece_at link candidate.piece).number (λ e. apart (same_Some k number (sym (found_root found k d gathered low here e) ∙ told))))))
         ]);
       }
         where
@@ -293,7 +277,7 @@ module _ (link : LinkParts) (kept : List Bool) where
 
           root_is_old : root.0 ≡ old.piece
           root_is_old =
-              some_same root.0 old.piece
+              same_Some root.0 old.piece
               (sym root.1.1
               ∙ ap (λ (xs : List ℕ). slice_get xs number) (sym gathered.pieces)
               ∙ slice_get-get_or (map (λ candidate. candidate.piece) found.list.items) number 0 (omega (arith, within, length-map found.list.items (λ candidate. candidate.piece)))

@@ -6,7 +6,7 @@ use Rattle.std.proofs.lemmas.Bool.Decides.{eqb_tells}
 use Rattle.std.proofs.lemmas.List.{length-map, get_or-map}
 use Rattle.std.proofs.lemmas.List.FromFn.{length-range_with_len, get_or-range_with_len}
 use Rattle.std.proofs.lemmas.List.Kept.{AllPairs-filter}
-use Rattle.std.proofs.lemmas.Option.{slice_get_within, get_or_from_slice_get}
+use Rattle.std.proofs.lemmas.Option.{slice_get_within, get_or_from_slice_get, same_Some}
 use Rattle.coff_records.specs.ObjectFile.{section_total}
 use Rattle.coff_aux.specs.Comdats.{comdat_of, parents_of}
 use Rattle.module_view.specs.Module.{module_at}
@@ -26,9 +26,6 @@ use Rattle.icf.specs.Sections.{HasSection, AreCandidates}
 use Rattle.link_folding.specs.Candidates.{candidate_pieces, children_of, child_piece, is_own, is_candidate, may_fold, AreCandidatesOf}
 use Rattle.link_folding.proofs.SectionsLemmas.{comes_from, IsChildOf, IsOwnOf, section_is, given_by}
 use Rattle.link_folding.proofs.PieceLemmas.{index_of}
-
-some_same : {X : Type 0} (x y : X) → Some x ≡ Some y → x ≡ y
-some_same x y e = cc
 
 -- ---- lists without an item twice
 
@@ -64,8 +61,8 @@ once_given f from tells a (suc n) i j item one other = go (λ i j. once_given f 
     go : ((i j : ℕ) → slice_get (filter_map f (range_with_len (a + 1) n)) i ≡ Some item → slice_get (filter_map f (range_with_len (a + 1) n)) j ≡ Some item → i ≡ j) → (given : Option ℕ) → f a ≡ given → (i j : ℕ) → slice_get (filter_map f (range_with_len a (suc n))) i ≡ Some item → slice_get (filter_map f (range_with_len a (suc n))) j ≡ Some item → i ≡ j
     go before None e i j one other = before i j (rw e at one) (rw e at other)
     go before (Some x) e zero zero one other = refl
-    go before (Some x) e zero (suc j) one other = absurd (later x j e (some_same x item (rw e at one)) (rw e at other))
-    go before (Some x) e (suc i) zero one other = absurd (later x i e (some_same x item (rw e at other)) (rw e at one))
+    go before (Some x) e zero (suc j) one other = absurd (later x j e (same_Some x item (rw e at one)) (rw e at other))
+    go before (Some x) e (suc i) zero one other = absurd (later x i e (same_Some x item (rw e at other)) (rw e at one))
     go before (Some x) e (suc i) (suc j) one other = ap suc (before i j (rw e at one) (rw e at other))
 
 range_rises : (a n : ℕ) → AllPairs (λ x y. x < y) (range_with_len a n)
@@ -173,7 +170,7 @@ module _ (link : LinkParts) (kept : List Bool) (candidates : List FoldCandidate)
       ∙ ap (chain_end (parents_of (module_at link.modules (piece_at link right.piece).«module»).bytes)) sections
       ∙ there.root in
       let roots : left.piece ≡ right.piece =
-      some_same left.piece right.piece
+      same_Some left.piece right.piece
       (sym (index_of link left.piece one.at.within (section_of left.piece one.at.passes))
       ∙ ap (λ (m : ℕ). piece_index link m (piece_at link left.piece).number) modules
       ∙ ap (piece_index link (piece_at link right.piece).«module») numbers

@@ -4,15 +4,12 @@ use Rattle.std.specs.List.{All, range_with_len}
 use Rattle.std.proofs.lemmas.Bool.{cases_lt}
 use Rattle.std.proofs.lemmas.List.{append-nil, length-append, length-map, get_or_past, get_or_append_left}
 use Rattle.std.proofs.lemmas.List.Elements.{filter-append}
-use Rattle.std.proofs.lemmas.Option.{slice_get_within, slice_get-get_or, get_or_from_slice_get}
+use Rattle.std.proofs.lemmas.Option.{slice_get_within, slice_get-get_or, get_or_from_slice_get, same_Some}
 use Rattle.link_base.proofs.RangeLemmas.{range_more}
 use Rattle.link_pieces.specs.LinkParts.{LinkParts}
 use Rattle.link_folding.specs.declared.candidates.Candidates.{Candidates}
 use Rattle.link_folding.specs.Candidates.{is_candidate}
 use Rattle.link_folding.specs.Steps.{AreNumbers, NotesPiece, has_none}
-
-some_same : {X : Type 0} (x y : X) → Some x ≡ Some y → x ≡ y
-some_same x y e = cc
 
 slice_get_left : {X : Type 0} (xs ys : List X) (k : ℕ) (x : X) → slice_get xs k ≡ Some x → slice_get (xs ++ ys) k ≡ Some x
 slice_get_left xs ys k x there =
@@ -26,7 +23,7 @@ slice_get_next (y ∷ xs) x = slice_get_next xs x
 
 -- an item of a longer list is the new one, or was there
 slice_get_cases : {X : Type 0} (xs : List X) (y x : X) (k : ℕ) → slice_get (xs ++ y ∷ []) k ≡ Some x → (slice_get xs k ≡ Some x) ⊎ ((k ≡ length xs) × (x ≡ y))
-slice_get_cases [] y x zero there = inr (refl, some_same x y (sym there))
+slice_get_cases [] y x zero there = inr (refl, same_Some x y (sym there))
 slice_get_cases [] y x (suc k) there = absurd cc
 slice_get_cases (z ∷ xs) y x zero there = inl there
 slice_get_cases (z ∷ xs) y x (suc k) there = elim (slice_get_cases xs y x k there) [
@@ -56,7 +53,7 @@ numbers_more roots numbers k true count are = record {
     | inr past ↦
         let within = numbered_within (numbers ++ Some (length roots) ∷ []) piece number is in
         let here : piece ≡ length numbers = omega (arith, within, past, length-append numbers (Some (length roots) ∷ [])) in
-        let number_is : length roots ≡ number = some_same (length roots) number (sym (get_or_next numbers (Some (length roots)) None) ∙ ap (λ (p : ℕ). get_or (numbers ++ Some (length roots) ∷ []) p None) (sym here) ∙ is) in
+        let number_is : length roots ≡ number = same_Some (length roots) number (sym (get_or_next numbers (Some (length roots)) None) ∙ ap (λ (p : ℕ). get_or (numbers ++ Some (length roots) ∷ []) p None) (sym here) ∙ is) in
         subst (λ (n : ℕ). slice_get (roots ++ k ∷ []) n ≡ Some piece) number_is (slice_get_next roots k ∙ ap Some (sym count ∙ sym here))
   ];
   every = λ piece number there. elim (slice_get_cases roots k piece number there) [

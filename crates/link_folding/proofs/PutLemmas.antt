@@ -4,7 +4,7 @@ use Rattle.std.specs.List.{range_with_len}
 use Rattle.std.proofs.lemmas.Bool.{cases_eq, cases_lt}
 use Rattle.std.proofs.lemmas.List.{length-set, get_or-set_same, get_or-set_other, get_or_past}
 use Rattle.std.proofs.lemmas.List.FromFn.{length-range_with_len, get_or-range_with_len}
-use Rattle.std.proofs.lemmas.Option.{slice_get_within}
+use Rattle.std.proofs.lemmas.Option.{slice_get_within, same_Some}
 use Rattle.link_base.proofs.RangeLemmas.{range_more}
 use Rattle.relocate.specs.Redirected.{place_of}
 use Rattle.icf.specs.declared.candidate.FoldCandidate.{FoldCandidate}
@@ -13,9 +13,6 @@ use Rattle.icf.specs.Folding.{AreLeast, KeepsAlike, AnsweredAlike}
 use Rattle.icf.proofs.SectionLemmas.{candidate_there, one_section}
 use Rattle.link_folding.specs.Places.{ArePlaces}
 use Rattle.link_folding.specs.Steps.{ArePut, ArePlacesBelow, HaveSections}
-
-some_same : {X : Type 0} (x y : X) → Some x ≡ Some y → x ≡ y
-some_same x y e = cc
 
 -- ---- the sections of one candidate
 
@@ -69,7 +66,7 @@ find_rank (y ∷ xs) x = elim (cases_eq y x) [
 ]
   where
     nowhere : (y x : ℕ) (xs : List ℕ) → (y ≡ x → ⊥) → ((rank : ℕ) → slice_get xs rank ≡ Some x → ⊥) → (rank : ℕ) → slice_get (y ∷ xs) rank ≡ Some x → ⊥
-    nowhere y x xs apart none zero there = apart (some_same y x there)
+    nowhere y x xs apart none zero there = apart (same_Some y x there)
     nowhere y x xs apart none (suc rank) there = none rank there
 
 module _ (candidates : List FoldCandidate) (answers : List ℕ) where

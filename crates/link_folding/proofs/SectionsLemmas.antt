@@ -4,7 +4,7 @@ use Rattle.std.specs.List.{range_with_len, filter_map}
 use Rattle.std.specs.Option.{option_and_then}
 use Rattle.std.specs.Prelude.{option_map, unwrap_or}
 use Rattle.std.proofs.lemmas.Bool.{and_parts}
-use Rattle.std.proofs.lemmas.Option.{slice_get_within, get_or_from_slice_get}
+use Rattle.std.proofs.lemmas.Option.{slice_get_within, get_or_from_slice_get, same_Some}
 use Rattle.link_base.proofs.RangeLemmas.{range_passes}
 use Rattle.coff_records.specs.ObjectFile.{section_total}
 use Rattle.module_view.specs.Module.{module_at}
@@ -42,9 +42,6 @@ comes_from f a (suc n) rank item there = go (λ r. comes_from f (a + 1) n r item
 
 -- ---- a candidate's own section, and its children
 
-some_same : {X : Type 0} (x y : X) → Some x ≡ Some y → x ≡ y
-some_same x y e = cc
-
 -- a candidate of the list
 pub record IsCandidateAt (link : LinkParts) (kept : List Bool) (candidates : List FoldCandidate) (number : ℕ) (candidate : FoldCandidate) : Type 0 where
   pub there : slice_get candidates number ≡ Some candidate
@@ -55,7 +52,7 @@ pub record IsCandidateAt (link : LinkParts) (kept : List Bool) (candidates : Lis
 
 slice_get-map : {X Y : Type 0} (f : X → Y) (xs : List X) (k : ℕ) (x : X) → slice_get xs k ≡ Some x → slice_get (map f xs) k ≡ Some (f x)
 slice_get-map f [] k x there = absurd cc
-slice_get-map f (y ∷ xs) zero x there = ap (λ (z : _). Some (f z)) (some_same y x there)
+slice_get-map f (y ∷ xs) zero x there = ap (λ (z : _). Some (f z)) (same_Some y x there)
 slice_get-map f (y ∷ xs) (suc k) x there = slice_get-map f xs k x there
 
 -- each of the list is one
@@ -75,7 +72,7 @@ candidate_is link kept candidates number candidate are there =
       listed = listed;
       within = omega (arith, passed.high, read);
       passes = subst (λ (k : ℕ). is_candidate link kept k ≡ true) read passed.passes;
-      children = some_same candidate.children.items (children_of link kept candidate.piece) children;
+      children = same_Some candidate.children.items (children_of link kept candidate.piece) children;
     }
 
 -- a piece comes from a section of a candidate's module that goes with it
@@ -102,7 +99,7 @@ kept_of kept None piece e = absurd cc
 kept_of kept (Some k) piece e = go (get_or kept k false) refl e
   where
     go : (b : Bool) → get_or kept k false ≡ b → cond b (Some k) None ≡ Some piece → (Some k ≡ Some piece) × (get_or kept piece false ≡ true)
-    go true is e = (e, ap (λ (n : ℕ). get_or kept n false) (sym (some_same k piece e)) ∙ is)
+    go true is e = (e, ap (λ (n : ℕ). get_or kept n false) (sym (same_Some k piece e)) ∙ is)
     go false is e = absurd cc
 
 when_true : (b : Bool) (index : Option ℕ) (piece : ℕ) → cond b index None ≡ Some piece → (b ≡ true) × (index ≡ Some piece)
@@ -120,7 +117,7 @@ pub section_is : (link : LinkParts) (kept : List Bool) (candidates : List FoldCa
 section_is link kept candidates are number rank piece has = by (slice_get candidates number) refl has
   where
     of : (candidate : FoldCandidate) (at : IsCandidateAt link kept candidates number candidate) (rank : ℕ) → slice_get (sections_of candidate) rank ≡ Some piece → IsOwnOf link kept candidates number rank piece candidate ⊎ IsChildOf link kept candidates number rank piece candidate
-    of candidate at zero e = inl (record { at = at; rank_is = refl; piece_is = sym (some_same candidate.piece piece e) })
+    of candidate at zero e = inl (record { at = at; rank_is = refl; piece_is = sym (same_Some candidate.piece piece e) })
     of candidate at (suc rank) e =
         let root = piece_at link candidate.piece in
         let bytes = (module_at link.modules root.«module»).bytes in

@@ -3,7 +3,7 @@
 use Rattle.std.proofs.Common.{◌≡◌, ◌≢◌, ℕ, ◌+◌, ◌^◌, ◌<◌, Bool, true, false, cond, ◌&&◌, eqb, ltb, List, [], ◌∷◌, length, map, take, get_or, Option, Some, None, option_map, All, refl, sym, ap, ◌∙◌, subst, inl, inr, arith}
 use Rattle.std.specs.Option.{option_or}
 use Rattle.std.proofs.lemmas.Bool.{false≢true, cases_lt, le-leb, ltb-false, ne_eqb}
-use Rattle.std.proofs.lemmas.List.{get_or-map, get_or-take, length-map, length-take}
+use Rattle.std.proofs.lemmas.List.{get_or-map, get_or-take, length-map, length-take, nil_from_length}
 use Rattle.std.proofs.lemmas.List.Elements.{All-nil, All-cons, All-map, All-weaker}
 use Rattle.std.proofs.lemmas.List.Folds.{list_any_at}
 use Rattle.std.proofs.lemmas.Slice.Eq.{bytes_eq-Decides}
@@ -174,12 +174,8 @@ exports_read_by_ordinal link layout memory has read below held ordinal =
 
 -- ---- no exports
 
-no_items : {A : Type 0} (xs : List A) → length xs ≡ 0 → xs ≡ []
-no_items [] none = refl
-no_items (x ∷ xs) none = absurd (omega (arith, none))
-
 none_exported : (link : KeptParts) (rvas : List ℕ) → length link.parts.exports.rows ≡ 0 → exported_rows link rvas ≡ []
-none_exported link rvas none = no_items (exported_rows link rvas) (length_exported link rvas ∙ none)
+none_exported link rvas none = nil_from_length (exported_rows link rvas) (length_exported link rvas ∙ none)
 
 pub none_read : (link : KeptParts) (memory rvas : List ℕ) (name : List ℕ) → length link.parts.exports.rows ≡ 0 → export_of_name memory 0 0 name ≡ exported_name (exported_rows link rvas) name
 unfolding export_of_name directory_in exported_name
@@ -194,7 +190,7 @@ pub none_read_by_ordinal : (link : KeptParts) (rows : List Export) (dll : List �
     → export_of_ordinal memory 0 0 ordinal ≡ exported_ordinal (exported_rows link rvas) link.parts.exports.ordinals ordinal
 unfolding export_of_ordinal directory_in exported_ordinal
 none_read_by_ordinal link rows dll time memory rvas ordinal is none =
-    let empty = sym (ap (λ (exports : ExportsView). exports.rows) is) ∙ no_items link.parts.exports.rows none in
+    let empty = sym (ap (λ (exports : ExportsView). exports.rows) is) ∙ nil_from_length link.parts.exports.rows none in
     let numbers = ap (λ (exports : ExportsView). exports.ordinals) is ∙ no_numbers rows empty in
     ap (λ (rows : List ExportRow). exported_ordinal rows [] ordinal) (sym (none_exported link rvas none))
     ∙ ap (λ (numbers : List ℕ). exported_ordinal (exported_rows link rvas) numbers ordinal) (sym numbers)

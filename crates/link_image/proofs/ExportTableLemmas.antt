@@ -1,5 +1,6 @@
 -- The export table of a plan whose pieces have places.
 use Rattle.std.proofs.Common.{◌≡◌, ℕ, ◌+◌, ◌<◌, ◌≤◌, eqb, false, List, [], ◌∷◌, length, map, get_or, Option, Some, None, refl, sym, ap, ◌∙◌, subst, inl, inr, arith}
+use Rattle.std.proofs.lemmas.Option.{none-some}
 use Rattle.std.specs.List.{All}
 use Rattle.std.proofs.lemmas.Bool.{cases_lt}
 use Rattle.std.proofs.lemmas.Bool.Decides.{eqb_tells}
@@ -31,12 +32,9 @@ use Rattle.link_image.proofs.ImportLemmas.{are_made}
 none_zero : (link : KeptParts) → table_index link EXPORTS ≡ None → link.parts.exports.size ≡ 0
 none_zero link none =
     elim (cases_lt 0 link.parts.exports.size) [
-      | inl some ↦ absurd (let there = are_made link EXPORTS (omega arith) (omega (arith, some, export_size link)) in nowhere there.0 (sym none ∙ there.1))
+      | inl some ↦ absurd (let there = are_made link EXPORTS (omega arith) (omega (arith, some, export_size link)) in none-some there.0 (sym none ∙ there.1))
       | inr zero ↦ omega (arith, zero)
     ]
-  where
-    nowhere : (k : ℕ) → None ≡ Some k → ⊥
-    nowhere k e = absurd cc
 
 pub nothing_held : (link : KeptParts) (layout : Layout) → table_index link EXPORTS ≡ None → export_table_at link layout ≡ []
 unfolding export_table_at

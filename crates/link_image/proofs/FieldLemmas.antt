@@ -1,5 +1,6 @@
 -- The fields of a piece: what it holds with them patched, and values that do not fit.
-use Rattle.std.proofs.Common.{◌≡◌, ℕ, ◌<◌, Bool, true, false, List, [], ◌∷◌, length, get_or, Some, None, option_map, refl, sym, ap, ◌∙◌, inl, arith}
+use Rattle.std.proofs.Common.{◌≡◌, ℕ, ◌<◌, Bool, true, false, List, length, get_or, Some, None, option_map, refl, sym, ap, ◌∙◌, inl, arith}
+use Rattle.std.proofs.lemmas.List.{nil_from_length}
 use Rattle.std.specs.List.{All}
 use Rattle.std.proofs.Math.ListN.{get_or-map}
 use Rattle.link_base.specs.declared.fault.Fault.{Fault}
@@ -79,12 +80,8 @@ module _ (link : KeptParts) (pieces : List Piece) (fixups : List (List Fix)) (se
   pub nothing_linked : (base k : ℕ) (fields : List Fix) → k < length pieces → AreTheFields (planned_fixes link k) fields → ArePatchable (length (contents_at link layout k)) fields → length fields ≡ 0 → linked_bytes link (rows_of sections) layout base k ≡ contents_at link layout k
   nothing_linked base k fields lt are patchable none =
       sym (same_bytes base k fields lt are patchable)
-      ∙ ap (λ (fs : List Fix). patched_bytes base (get_or layout.pieces.items k 0) layout owner fs (contents_at link layout k)) (empty_is fields none)
+      ∙ ap (λ (fs : List Fix). patched_bytes base (get_or layout.pieces.items k 0) layout owner fs (contents_at link layout k)) (nil_from_length fields none)
       ∙ nothing_patched base (get_or layout.pieces.items k 0) layout owner (contents_at link layout k)
-    where
-      empty_is : {X : Type 0} (xs : List X) → length xs ≡ 0 → xs ≡ []
-      empty_is [] e = refl
-      empty_is (x ∷ xs) e = absurd (omega (arith, e))
 
   -- and no value out of range
   pub no_field : (base rva : ℕ) (bytes : List ℕ) (fields : List Fix) → length fields ≡ 0 → All (λ fix. fits base rva layout owner bytes fix ≡ true) fields

@@ -1,7 +1,7 @@
 -- Contents in which the data that names the PDB has an identifier: no other piece differs, and none is longer or shorter.
-use Rattle.std.proofs.Common.{Bool, true, cond, ◌≡◌, ℕ, zero, suc, ◌<◌, List, [], ◌∷◌, ◌++◌, length, get_or, set, slice_index, Option, Some, None, inl, inr, refl, sym, ap, ◌∙◌, arith}
+use Rattle.std.proofs.Common.{Bool, true, cond, ◌≡◌, ℕ, ◌<◌, List, [], ◌++◌, length, get_or, set, slice_index, Option, Some, None, inl, inr, refl, sym, ap, ◌∙◌, arith}
 use Rattle.std.proofs.lemmas.Bool.{cases_eq}
-use Rattle.std.proofs.lemmas.List.{get_or-set_same, get_or-set_other}
+use Rattle.std.proofs.lemmas.List.{get_or-set_same, get_or-set_other, set-append_left}
 use Rattle.address_layout.specs.declared.layout.Layout.{Layout}
 use Rattle.link_debug.specs.LinkDebug.{no_identifier, data_size, data_bytes}
 use Rattle.link_debug.proofs.DataLemmas.{length-data, length-bytes}
@@ -52,15 +52,9 @@ byte_with (Some d) bytes old new k t fits same =
           ∙ sym (ap (λ (b : List ℕ). slice_index b t) (get_or-set_other old d k bytes [] apart))
     ]
 
--- in front of tables
-set_front : (xs ys : List (List ℕ)) (d : ℕ) (bytes : List ℕ) → d < length xs → set xs d bytes ++ ys ≡ set (xs ++ ys) d bytes
-set_front [] ys d bytes lt = absurd (omega (arith, lt))
-set_front (x ∷ xs) ys zero bytes lt = refl
-set_front (x ∷ xs) ys (suc d) bytes lt = ap (λ (l : List (List ℕ)). x ∷ l) (set_front xs ys d bytes (omega (arith, lt)))
-
 pub with_front : (place : Option ℕ) (bytes : List ℕ) (contents tables : List (List ℕ)) → ((d : ℕ) → place ≡ Some d → d < length contents) → with_bytes place bytes contents ++ tables ≡ with_bytes place bytes (contents ++ tables)
 with_front None bytes contents tables fits = refl
-with_front (Some d) bytes contents tables fits = set_front contents tables d bytes (fits d refl)
+with_front (Some d) bytes contents tables fits = sym (set-append_left contents tables d bytes (fits d refl))
 
 -- ---- the data that names the PDB
 

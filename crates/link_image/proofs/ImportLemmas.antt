@@ -1,5 +1,7 @@
 -- The imports of the modules, read back from the memory that an image of theirs is loaded to.
-use Rattle.std.proofs.Common.{◌≡◌, ℕ, ◌+◌, ◌^◌, ◌<◌, ◌≤◌, ◌⊎◌, Bool, true, false, cond, eqb, List, [], ◌∷◌, ◌++◌, length, get_or, slice_index, slice_get, Option, Some, None, refl, sym, ap, ◌∙◌, subst, inl, inr, arith}
+use Rattle.std.proofs.Common.{◌≡◌, ℕ, ◌+◌, ◌^◌, ◌<◌, ◌≤◌, ◌⊎◌, Bool, true, false, cond, eqb, List, [], ◌++◌, length, get_or, slice_index, slice_get, Option, Some, None, refl, sym, ap, ◌∙◌, subst, inl, inr, arith}
+use Rattle.std.proofs.lemmas.Option.{none-some}
+use Rattle.std.proofs.lemmas.List.{nil_from_length}
 use Rattle.std.specs.Prelude.{codes}
 use Rattle.std.specs.List.{All}
 use Rattle.piece_bytes.specs.Extents.{rva_of, extent_of}
@@ -88,15 +90,8 @@ loaded_is plan file means base memory loads = by (permits plan base) (sym (means
 
 -- ---- lists and numbers
 
-empty_is : {X : Type 0} (xs : List X) → length xs ≡ 0 → xs ≡ []
-empty_is [] e = refl
-empty_is (x ∷ xs) e = absurd (omega (arith, e))
-
 some_headers : (count len : ℕ) → len ≡ size_of_headers count → 0 < len
 some_headers count len is = omega arith
-
-nothing_some : (k : ℕ) → None ≡ Some k → ⊥
-nothing_some k e = absurd cc
 
 extent_rva : (pieces : List Piece) (rvas : List ℕ) (place : Option ℕ) → (extent_of pieces rvas place).0 ≡ rva_of rvas place
 extent_rva pieces rvas None = refl
@@ -214,7 +209,7 @@ module _ (options : LinkOptions) (plan : LinkPlan) (placement : Placement) (owne
     none_stands : (base number : ℕ) → number < 9 → table_index (kept_parts plan) number ≡ None → table_rva (kept_parts plan) placement.layout number ≡ 0 → Stands base number
     none_stands base number few none rva =
         let nothing : size number ≡ 0 = by (cases_lt 0 (size number)) in
-        let empty : table number ≡ [] = empty_is (table number) (long number ∙ nothing) in
+        let empty : table number ≡ [] = nil_from_length (table number) (long number ∙ nothing) in
         record {
           held = subst (λ (bytes : List ℕ). Holds (expected_image image base) (table_rva (kept_parts plan) placement.layout number) bytes) (sym empty) refl;
           ends = omega (arith, rva, nothing);
@@ -222,7 +217,7 @@ module _ (options : LinkOptions) (plan : LinkPlan) (placement : Placement) (owne
         }
       where
         nowhere : (k : ℕ) → table_index (kept_parts plan) number ≡ Some k → ⊥
-        nowhere k found = nothing_some k (sym none ∙ found)
+        nowhere k found = none-some k (sym none ∙ found)
 
         by : (0 < size number) ⊎ (size number ≤ 0) → size number ≡ 0
         by (inl some) = absurd (let there = made number few some in nowhere there.0 there.1)
@@ -270,7 +265,7 @@ module _ (options : LinkOptions) (plan : LinkPlan) (placement : Placement) (owne
     imports_read base readable =
         elim (cases_lt 0 (length (kept_rows (kept_parts plan)))) [
           | inl some ↦ some_read base some readable
-          | inr none ↦ none_read_here base (empty_is (kept_rows (kept_parts plan)) (omega (arith, none)))
+          | inr none ↦ none_read_here base (nil_from_length (kept_rows (kept_parts plan)) (omega (arith, none)))
         ]
 
     -- the directory that the headers name
@@ -333,7 +328,7 @@ module _ (options : LinkOptions) (plan : LinkPlan) (placement : Placement) (owne
           by : (place : Option ℕ) → table_index (kept_parts plan) EXPORTS ≡ place → Extends
           by None none = record {
             rva_zero = λ zero. ap (extent_of (whole_pieces (kept_parts plan)) placement.layout.pieces.items) none;
-            extent_is = λ some. absurd (let there = made EXPORTS (omega arith) (omega (arith, some, export_size (kept_parts plan))) in nothing_some there.0 (sym none ∙ there.1));
+            extent_is = λ some. absurd (let there = made EXPORTS (omega arith) (omega (arith, some, export_size (kept_parts plan))) in none-some there.0 (sym none ∙ there.1));
           }
           by (Some k) found =
               let at = found_table (kept_parts plan) EXPORTS k (omega arith) found in
@@ -404,7 +399,7 @@ module _ (options : LinkOptions) (plan : LinkPlan) (placement : Placement) (owne
 
           there : (place : Option ℕ) → table_index (kept_parts plan) RESOURCES ≡ place → table_extent (kept_parts plan) placement.layout RESOURCES ≡ (table_rva (kept_parts plan) placement.layout RESOURCES, plan.names.resources.size)
           there None none =
-              absurd (let there = made RESOURCES (omega arith) (omega (arith, some, tree_size_is (kept_parts plan))) in nothing_some there.0 (sym none ∙ there.1))
+              absurd (let there = made RESOURCES (omega arith) (omega (arith, some, tree_size_is (kept_parts plan))) in none-some there.0 (sym none ∙ there.1))
           there (Some k) found =
               let at = found_table (kept_parts plan) RESOURCES k (omega arith) found in
               let size : (get_or (whole_pieces (kept_parts plan)) k no_piece).size ≡ plan.names.resources.size = table_size RESOURCES k at ∙ tree_size_is (kept_parts plan) in

@@ -1,5 +1,6 @@
 -- The pieces of the exception table: each has its base name, holds whole rows, and is one of the link's.
 use Rattle.std.proofs.Common.{◌≡◌, ℕ, zero, suc, ◌-◌, ◌<◌, Bool, true, false, cond, ◌||◌, eqb, List, [], ◌∷◌, ◌++◌, length, get_or, Option, Some, None, unwrap_or, inl, inr, refl, sym, ap, ◌∙◌, eqb-true, arith}
+use Rattle.std.proofs.lemmas.Option.{same_Some}
 use Rattle.std.specs.Prelude.{codes}
 use Rattle.std.specs.List.{All, AllByRecursion, Contains, IsDistinct}
 use Rattle.std.specs.Map.{lookup}
@@ -38,10 +39,7 @@ lookup_there name other [] e = absurd cc
 lookup_there name other (m ∷ ms) e = by (same_name name m.0) e (lookup_there name other ms)
   where
     by : (b : Bool) → cond b (Some m.1) (lookup (same_name name) ms) ≡ Some other → (lookup (same_name name) ms ≡ Some other → (k : ℕ) × (k < length ms) × ((merge_at ms k).1 ≡ other)) → (k : ℕ) × (k < length (m ∷ ms)) × ((merge_at (m ∷ ms) k).1 ≡ other)
-    by true e rest = (0, omega arith, some_same m.1 other e)
-      where
-        some_same : (a b : List ℕ) → Some a ≡ Some b → a ≡ b
-        some_same a b e = cc
+    by true e rest = (0, omega arith, same_Some m.1 other e)
     by false e rest = let later = rest e in (suc later.0, omega (arith, later.1), later.2)
 
 abbrev PDATA : List ℕ

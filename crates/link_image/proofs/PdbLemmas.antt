@@ -1,8 +1,8 @@
 -- What the PDB of an image lists of the plan.
-use Rattle.std.proofs.Common.{◌≡◌, ℕ, ◌<◌, ◌≤◌, Bool, true, false, ◌||◌, List, length, map, get_or, inl, inr, refl, sym, ap, ◌∙◌, subst, arith}
+use Rattle.std.proofs.Common.{◌≡◌, ℕ, ◌<◌, ◌≤◌, true, List, length, map, get_or, inl, inr, sym, ap, ◌∙◌, subst, arith}
 use Rattle.std.specs.Prelude.{is_some}
 use Rattle.std.specs.List.{All}
-use Rattle.std.proofs.lemmas.Bool.{cases_lt}
+use Rattle.std.proofs.lemmas.Bool.{cases_lt, or_right}
 use Rattle.std.proofs.lemmas.List.{get_or_default}
 use Rattle.link_base.specs.declared.fault.Fault.TheVariants as faults
 use Rattle.pdb_msf.specs.declared.writing.MsfError.{MsfError}
@@ -49,12 +49,8 @@ modules_within options plan planned = λ k d lt.
 
 -- ---- a PDB that is asked for lists the public symbols
 
-or_asked : (a b : Bool) → b ≡ true → (a || b) ≡ true
-or_asked true b e = refl
-or_asked false b e = e
-
 pub publics_listed : (options : LinkOptions) → options.debug ≡ true → lists_publics options ≡ true
-publics_listed options asked = or_asked (is_some options.map_file) options.debug asked
+publics_listed options asked = or_right (is_some options.map_file) options.debug asked
 
 -- the streams of what is listed are those of the link
 pub streams_there : (options : LinkOptions) (link : KeptParts) (rows : List SectionRow) (layout : Layout) (image : Mapped) (id file headers : List ℕ) → image ≡ mapped_link options link rows layout → headers ≡ section_headers_in file (length rows) → image_streams image options.time id headers ≡ streams_at options link rows layout id file

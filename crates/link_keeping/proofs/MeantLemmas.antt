@@ -1,5 +1,5 @@
 -- Pieces that are marked, one after the other, and named by their marks.
-use Rattle.std.proofs.Common.{◌≡◌, ℕ, ◌+◌, ◌<◌, ◌≤◌, Bool, true, false, ◌||◌, ◌&&◌, eqb, List, [], ◌∷◌, ◌++◌, length, map, get_or, set, take, inl, inr, refl, sym, ap, ◌∙◌, add-one, subst, arith}
+use Rattle.std.proofs.Common.{◌≡◌, ℕ, ◌+◌, ◌<◌, ◌≤◌, Bool, true, false, ◌||◌, eqb, List, [], ◌∷◌, ◌++◌, length, map, get_or, set, take, inl, inr, sym, ap, ◌∙◌, add-one, subst, arith}
 use Rattle.std.specs.List.{list_any, range_with_len}
 use Rattle.std.proofs.Math.Bool.{or_assoc, or-true, or-false}
 use Rattle.std.proofs.Math.Seq.{take-suc}
@@ -20,9 +20,6 @@ marked_beyond marks at k ge lt =
       | inl here ↦ absurd (omega arith)
       | inr other ↦ rw other.0 (sym (or-false (get_or marks k false)))
     ]
-
-pub marked_none : (b : Bool) → b ≡ (b || false)
-marked_none b = sym (or-false b)
 
 -- one more that a test passes
 pub marks_more : {X : Type 0} (test : X → Bool) (xs : List X) (i : ℕ) (x : X) (first was now : Bool) → i < length xs → x ≡ get_or xs i x → was ≡ (first || list_any test (take i xs)) → now ≡ (was || test x) → now ≡ (first || list_any test (take (i + 1) xs))
@@ -47,12 +44,6 @@ marks_range test i first was now before after =
     (ap (λ (b : Bool). list_any test (range_with_len 0 i) || b) (sym (or-false (test i)))
     ∙ sym (list_any-append test (range_with_len 0 i) (i ∷ []))
     ∙ ap (list_any test) (sym (range_more 0 i i (omega arith))))
-
-pub and_swap : (a b : Bool) → (a && b) ≡ (b && a)
-and_swap true true = refl
-and_swap true false = refl
-and_swap false true = refl
-and_swap false false = refl
 
 -- ---- pieces that are named
 

@@ -1,10 +1,10 @@
 -- What callers may cite of the pieces of a link: what each is, and the one that a section, a common or a slot is.
-use Rattle.std.proofs.Common.{◌≡◌, ℕ, suc, ◌+◌, ◌-◌, ◌<◌, ◌≤◌, Bool, true, false, ◌&&◌, eqb, ltb, List, [], ◌∷◌, length, map, filter, get_or, Option, Some, None, inl, inr, refl, sym, ap, subst, ◌∙◌, eq-eqb, arith}
+use Rattle.std.proofs.Common.{◌≡◌, ℕ, suc, ◌+◌, ◌-◌, ◌<◌, ◌≤◌, Bool, true, false, eqb, ltb, List, [], ◌∷◌, length, map, filter, get_or, Option, Some, None, inl, inr, refl, sym, ap, subst, ◌∙◌, eq-eqb, arith}
+use Rattle.std.proofs.Math.Bool.{and-false}
 use Rattle.std.specs.List.{All, Contains, list_any}
-use Rattle.std.proofs.lemmas.Bool.{cases_lt, false≢true, eqb-true, ltb-true, lt-ltb, le-ltb, and_parts}
-use Rattle.std.proofs.lemmas.Bool.Decides.{eqb_tells}
+use Rattle.std.proofs.lemmas.Bool.{cases_lt, false≢true, eqb-true, ltb-true, lt-ltb, le-ltb, and_parts, ne_eqb}
 use Rattle.std.proofs.lemmas.List.{get_or_append_left, get_or-append_right, length-append}
-use Rattle.std.proofs.lemmas.List.Elements.{All-map, All-weaker, All-append, All-contains_itself}
+use Rattle.std.proofs.lemmas.List.Elements.{All-map, All-weaker, All-append, All-contains_itself, All-filter}
 use Rattle.std.proofs.Math.ListN.{get_or-map}
 use Rattle.link_base.proofs.CallerLemmas.{first_below-none, first_below-some}
 use Rattle.link_base.proofs.RangeLemmas.{all_kept, all_joined}
@@ -25,7 +25,6 @@ use Rattle.link_pieces.specs.PieceIndex.{is_section, is_numbered, is_section_of,
 use Rattle.std.specs.Option.{option_and_then}
 use Rattle.synthetic_sections.specs.LinkerPieces.{FIRST_THUNK, FIRST_LOCAL_SLOT, size_at}
 use Rattle.link_pieces.specs.LocalSlots.{slot_names, slot_number}
-use Rattle.link_pieces.proofs.CommonLemmas.{all_kept_of}
 
 -- ---- what each piece is
 
@@ -47,7 +46,7 @@ common_pieces link m within =
       within = within;
       is = inr (record { common = common; own = own; is = refl });
     })) (filter (is_meant_common link m) commons)
-    (all_kept_of (Contains commons) (is_meant_common link m) commons (All-contains_itself commons)))
+    (All-filter (is_meant_common link m) (Contains commons) commons (All-contains_itself commons)))
 
 module_pieces_are : (link : LinkParts) → All (IsPieceOf link) (module_pieces link)
 module_pieces_are link =
@@ -70,21 +69,10 @@ no_table link k lt =
     let piece = get_or (link_pieces link) k no_piece in
     let count = length link.modules in
     elim (piece_is link k lt) [
-      | inl of_module ↦ rw (ne-eqb piece.«module» count (λ same. omega (arith, of_module.within, same))) refl
-      | inr of_linker ↦ rw (le-ltb piece.number FIRST_THUNK (above count (length (slot_names link)) piece.number of_linker.numbered), and_false (eqb piece.«module» count)) refl
+      | inl of_module ↦ rw (ne_eqb piece.«module» count (λ same. omega (arith, of_module.within, same))) refl
+      | inr of_linker ↦ rw (le-ltb piece.number FIRST_THUNK (above count (length (slot_names link)) piece.number of_linker.numbered), and-false (eqb piece.«module» count)) refl
     ]
   where
-    ne-eqb : (a b : ℕ) → (a ≡ b → ⊥) → eqb a b ≡ false
-    ne-eqb a b apart =
-        elim (eqb_tells a b) [
-          | inl same ↦ absurd (apart same.1)
-          | inr other ↦ other.0
-        ]
-
-    and_false : (b : Bool) → (b && false) ≡ false
-    and_false true = refl
-    and_false false = refl
-
     above : (modules slots number : ℕ) → IsLinkerNumber modules slots number → FIRST_THUNK ≤ number
     above modules slots number (inl jump) = jump.0
     above modules slots number (inr slot) = omega (arith, slot.0)

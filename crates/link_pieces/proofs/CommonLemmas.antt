@@ -1,9 +1,9 @@
 -- Where the symbols of commons stand, and how their pieces are aligned.
-use Rattle.std.proofs.Common.{◌≡◌, ℕ, suc, ◌<◌, Bool, true, false, cond, eqb, List, [], ◌∷◌, length, filter, Option, Some, None, inl, inr, refl, subst, arith}
+use Rattle.std.proofs.Common.{◌≡◌, ℕ, ◌<◌, Bool, true, false, cond, eqb, List, length, filter, Option, Some, None, inl, inr, refl, subst, arith}
 use Rattle.std.specs.Prelude.{unwrap_or, nat_le}
 use Rattle.std.specs.List.{All, Contains}
 use Rattle.std.proofs.lemmas.Bool.Decides.{eqb_tells}
-use Rattle.std.proofs.lemmas.List.Elements.{All-nil, All-cons, All-map, All-weaker, All-contains}
+use Rattle.std.proofs.lemmas.List.Elements.{All-map, All-weaker, All-contains, All-filter}
 use Rattle.coff_records.specs.ObjectFile.{SymbolEntry, symbol_entry, symbols_of, symbol_entries, record_total, starts_symbol}
 use Rattle.coff_object.proofs.CallerLemmas.{starts_below}
 use Rattle.address_layout.specs.Layout.{IsAlignment}
@@ -13,16 +13,6 @@ use Rattle.module_view.proofs.CallerLemmas.{symbols_start}
 use Rattle.link_pieces.specs.Commons.{common_alignment}
 use Rattle.link_pieces.specs.Rows.{common_places}
 
--- what holds of all holds of those that pass a test
-pub all_kept_of : {X : Type 0} (P : X → Type 0) (test : X → Bool) (xs : List X) → All P xs → All P (filter test xs)
-all_kept_of P test [] all = All-nil P
-all_kept_of {X} P test (x ∷ xs) all =
-    go (test x) (all 0 x (omega arith)) (all_kept_of P test xs (λ k d lt. all (suc k) d (omega arith)))
-  where
-    go : (b : Bool) → P x → All P (filter test xs) → All P (cond b (x ∷ filter test xs) (filter test xs))
-    go true here rest = All-cons P x (filter test xs) here rest
-    go false here rest = rest
-
 -- ---- symbols
 
 -- a common's symbol is a record
@@ -31,7 +21,7 @@ unfolding commons_of
 commons_recorded bytes =
     let below = λ (entry : SymbolEntry). entry.0 < record_total bytes in
     All-map (λ (common : Common). common.symbol < record_total bytes) common_of (filter (λ (entry : SymbolEntry). is_common entry.1) (symbol_entries bytes))
-    (all_kept_of below (λ (entry : SymbolEntry). is_common entry.1) (symbol_entries bytes)
+    (All-filter (λ (entry : SymbolEntry). is_common entry.1) below (symbol_entries bytes)
     (All-map below (symbol_entry bytes) (symbols_of bytes)
     (All-weaker (λ i. starts_symbol bytes i ≡ true) (λ i. below (symbol_entry bytes i)) (λ i starts. starts_below bytes i starts) (symbols_of bytes) (symbols_start bytes))))
 

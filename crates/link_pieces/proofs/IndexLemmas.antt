@@ -1,9 +1,10 @@
 -- An index of pieces, one piece more at a time.
 use Rattle.std.proofs.Common.{◌≡◌, ℕ, zero, suc, ◌+◌, ◌-◌, ◌<◌, ◌≤◌, Bool, true, false, cond, ◌&&◌, eqb, ltb, List, [], ◌∷◌, ◌++◌, length, map, get_or, set, replicate, Option, Some, None, inl, inr, refl, sym, ap, subst, ◌∙◌, add-one, arith}
+use Rattle.std.proofs.Math.Bool.{and-false}
 use Rattle.std.specs.Prelude.{is_some}
 use Rattle.std.specs.Option.{option_or}
 use Rattle.std.specs.List.{All}
-use Rattle.std.proofs.lemmas.Bool.{cases_lt, eq-eqb, lt-ltb, le-ltb}
+use Rattle.std.proofs.lemmas.Bool.{cases_lt, eq-eqb, lt-ltb, le-ltb, ne_eqb}
 use Rattle.std.proofs.lemmas.Bool.Decides.{eqb_tells}
 use Rattle.std.proofs.lemmas.List.{get_or-set_same, get_or-set_other, get_or_default, get_or_past, get_or_push, get_or_append_left, length-append, length-replicate}
 use Rattle.std.proofs.Math.ListN.{get_or-map as get_or-map_same}
@@ -65,18 +66,11 @@ same_place starts p n m s ascends here there =
           let start : get_or starts p 0 ≡ get_or starts m 0 = ap (λ (k : ℕ). get_or starts k 0) same.1 in
           elim (eqb_tells n s) [
             | inl equal ↦ rw (same.0, equal.0) (eq-eqb (get_or starts p 0 + n) (get_or starts m 0 + s) (omega (arith, start, equal.1)))
-            | inr other ↦ rw (same.0, other.0) (ne-eqb (get_or starts p 0 + n) (get_or starts m 0 + s) (λ e. other.1 (omega (arith, start, e))))
+            | inr other ↦ rw (same.0, other.0) (ne_eqb (get_or starts p 0 + n) (get_or starts m 0 + s) (λ e. other.1 (omega (arith, start, e))))
           ]
-      | inr other ↦ rw other.0 (ne-eqb (get_or starts p 0 + n) (get_or starts m 0 + s) (λ e. other.1 (row_of e)))
+      | inr other ↦ rw other.0 (ne_eqb (get_or starts p 0 + n) (get_or starts m 0 + s) (λ e. other.1 (row_of e)))
     ]
   where
-    ne-eqb : (a b : ℕ) → (a ≡ b → ⊥) → eqb a b ≡ false
-    ne-eqb a b apart =
-        elim (eqb_tells a b) [
-          | inl same ↦ absurd (apart same.1)
-          | inr other ↦ other.0
-        ]
-
     row_of : get_or starts p 0 + n ≡ get_or starts m 0 + s → p ≡ m
     row_of e =
         elim (cases_lt p m) [
@@ -221,16 +215,12 @@ index_same test pieces k piece before lt read fails was =
 
 -- ---- sections and commons
 
-and_false : (b : Bool) → (b && false) ≡ false
-and_false true = refl
-and_false false = refl
-
 pub of_section : (count position section : ℕ) (piece : Piece) → piece.«module» < count → piece.number < FIRST_COMMON → (eqb piece.«module» position && eqb piece.number section) ≡ is_section_of count position section piece
 of_section count position section piece inside small =
     rw (lt-ltb piece.«module» count inside, lt-ltb piece.number FIRST_COMMON small) refl
 
 pub no_section : (count position section : ℕ) (piece : Piece) → FIRST_COMMON ≤ piece.number → is_section_of count position section piece ≡ false
-no_section count position section piece large = rw (le-ltb piece.number FIRST_COMMON large, and_false (ltb piece.«module» count)) refl
+no_section count position section piece large = rw (le-ltb piece.number FIRST_COMMON large, and-false (ltb piece.«module» count)) refl
 
 pub not_of_modules : (count position section : ℕ) (piece : Piece) → piece.«module» ≡ count → is_section_of count position section piece ≡ false
 not_of_modules count position section piece same = rw (le-ltb piece.«module» count (omega (arith, same))) refl
@@ -253,7 +243,7 @@ pub no_common : (position symbol : ℕ) (piece : Piece) → piece.number < FIRST
 no_common position symbol piece small =
     elim (eqb_tells piece.number (FIRST_COMMON + symbol)) [
       | inl same ↦ absurd (omega (arith, small, same.1))
-      | inr other ↦ ap (λ (b : Bool). eqb piece.«module» position && b) other.0 ∙ and_false (eqb piece.«module» position)
+      | inr other ↦ ap (λ (b : Bool). eqb piece.«module» position && b) other.0 ∙ and-false (eqb piece.«module» position)
     ]
 
 -- ---- rows with what is noted of the first pieces

@@ -1,7 +1,7 @@
 -- The rows of the pieces that the linker makes, one piece more at a time.
 use Rattle.std.proofs.Common.{◌≡◌, ℕ, zero, suc, ◌+◌, ◌-◌, ◌<◌, ◌≤◌, Bool, true, false, cond, eqb, ltb, List, length, map, get_or, set, replicate, Option, Some, None, inl, inr, refl, sym, ap, ◌∙◌, eq-eqb, arith}
 use Rattle.std.specs.Option.{option_or}
-use Rattle.std.proofs.lemmas.Bool.{cases_lt, lt-ltb, le-ltb}
+use Rattle.std.proofs.lemmas.Bool.{cases_lt, lt-ltb, le-ltb, ne_eqb}
 use Rattle.std.proofs.lemmas.Bool.Decides.{eqb_tells}
 use Rattle.std.proofs.lemmas.List.{length-replicate}
 use Rattle.link_base.specs.Bytes.{first_below}
@@ -18,24 +18,16 @@ use Rattle.link_pieces.proofs.IndexLemmas.{put_at, index_more, index_same}
 
 -- ---- one number more
 
--- two numbers that differ
-apart : (a b : ℕ) → (a ≡ b → ⊥) → eqb a b ≡ false
-apart a b other =
-    elim (eqb_tells a b) [
-      | inl same ↦ absurd (other same.1)
-      | inr told ↦ told.0
-    ]
-
 -- counted from another number
 shifted : (number n first : ℕ) → first ≤ number → first ≤ n → eqb (number - first) (n - first) ≡ eqb number n
 shifted number n first low least =
     elim (eqb_tells number n) [
       | inl same ↦ eq-eqb (number - first) (n - first) (omega (arith, same.1)) ∙ sym same.0
-      | inr other ↦ apart (number - first) (n - first) (λ e. other.1 (omega (arith, e, low, least))) ∙ sym other.0
+      | inr other ↦ ne_eqb (number - first) (n - first) (λ e. other.1 (omega (arith, e, low, least))) ∙ sym other.0
     ]
 
 unchanged : (o : Option ℕ) (index number n : ℕ) → (number ≡ n → ⊥) → o ≡ option_or o (cond (eqb number n) (Some index) None)
-unchanged o index number n other = rw (apart number n other) (sym (or_none o))
+unchanged o index number n other = rw (ne_eqb number n other) (sym (or_none o))
 
 pub made_noted : (made after slots : List (Option ℕ)) (number index n : ℕ) → number < FIRST_LOCAL_SLOT → number < length made → after ≡ set made number (option_or (get_or made number None) (Some index)) → linker_indexed (linker_rows_of after slots) n ≡ option_or (linker_indexed (linker_rows_of made slots) n) (cond (eqb number n) (Some index) None)
 made_noted made after slots number index n small room is =
@@ -120,4 +112,4 @@ linker_same modules slots pieces k piece rows lt read other are = record {
 }
   where
     fails : (n : ℕ) → is_numbered (length modules) n (bare piece) ≡ false
-    fails n = rw (apart piece.«module» (length modules) other) refl
+    fails n = rw (ne_eqb piece.«module» (length modules) other) refl

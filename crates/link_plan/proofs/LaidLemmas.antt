@@ -1,9 +1,9 @@
 -- The pieces of a plan, their fields and the exports, once it is known what is kept.
-use Rattle.std.proofs.Common.{◌≡◌, ℕ, zero, suc, ◌+◌, ◌-◌, ◌^◌, ◌<◌, ◌≤◌, Bool, true, false, cond, ◌&&◌, ◌||◌, eqb, ltb, List, [], ◌∷◌, ◌++◌, length, map, take, drop, get_or, replicate, Option, Some, None, option_map, Result, Ok, Err, inl, inr, refl, sym, ap, subst, ◌∙◌, append_assoc, add-one, arith}
+use Rattle.std.proofs.Common.{◌≡◌, ℕ, zero, suc, ◌+◌, ◌-◌, ◌^◌, ◌<◌, ◌≤◌, Bool, true, false, cond, ◌&&◌, eqb, ltb, List, [], ◌∷◌, ◌++◌, length, map, get_or, replicate, Option, Some, None, option_map, Result, Ok, Err, inl, inr, refl, sym, ap, subst, ◌∙◌, append_assoc, add-one, arith}
 use Rattle.std.specs.List.{All, range_with_len}
 use Rattle.std.specs.Prelude.{unwrap_or}
 use Rattle.std.proofs.lemmas.Bool.{cases_lt, false≢true, and_parts, eqb-true, lt-ltb, le-ltb}
-use Rattle.std.proofs.lemmas.List.{get_or_append_left, get_or-append_right, get_or_past, get_or_default, take_all, length-drop, length-append, length-map, length-replicate, ext_get_or}
+use Rattle.std.proofs.lemmas.List.{get_or_append_left, get_or-append_right, get_or_past, get_or_default, length-append, length-map, length-replicate, ext_get_or}
 use Rattle.std.proofs.lemmas.List.Elements.{All-map, All-append, All-nil}
 use Rattle.std.proofs.lemmas.List.Sorted.{IsPermutation-refl}
 use Rattle.std.proofs.lemmas.List.FromFn.{get_or-map-range_with_len, length-map-range_with_len}
@@ -34,7 +34,7 @@ use Rattle.link_pieces.proofs.CallerLemmas.{bare_at, no_table, whole_at}
 use Rattle.link_pieces.proofs.PieceLemmas.{over_bare}
 use Rattle.link_pieces.proofs.TableLemmas.{tables_aligned, tables_told, tables_few}
 use Rattle.link_fields.specs.ExportTargets.{export_targets}
-use Rattle.link_fields.specs.Fixes.{piece_fixes, HaveFields as HaveAll}
+use Rattle.link_fields.specs.Fixes.{HaveFields as HaveAll, piece_fixes}
 use Rattle.link_keeping.specs.Named.{named_if}
 use Rattle.link_keeping.proofs.CallerLemmas.{AreNamed, count_named, contents_named}
 use Rattle.link_plan.specs.Planned.{planned_piece, plan_pieces, slot_offsets, slot_table, placed_target, placed_fix, fixes_if, HaveFields, planned_target, planned_targets}
@@ -312,6 +312,3 @@ others_fail options link count n after counted all are k below =
     ∙ not_slots link.parts k inside
 
 -- ---- what is behind the pieces
-
-pub part_from : (n : ℕ) (flags : List Bool) → take (length flags - n) (drop n flags) ≡ drop n flags
-part_from n flags = take_all (length flags - n) (drop n flags) (omega (arith, length-drop n flags))

@@ -88,11 +88,6 @@ module _ (count home : ℕ) (offsets : List ℕ) where
 
 -- ---- those of all pieces
 
--- nothing folds where the list is empty
-pub no_places : (places : List ℕ) → length places ≡ 0 → places ≡ []
-no_places [] none = refl
-no_places (place ∷ places) none = absurd (omega (arith, none))
-
 pub fields_stay : (link : LinkParts) (count home : ℕ) (offsets : List ℕ) (kept : List Bool) (fixups : List (List Fix)) (k : ℕ) → count ≡ length (link_pieces link) → HaveFields link count fixups → All (LeadsWithin kept count) (field_edges link) → k < count → get_or kept k false ≡ true
     → map (redirected_fix [] count home offsets) (get_or fixups k []) ≡ get_or fixups k []
 unfolding field_edges

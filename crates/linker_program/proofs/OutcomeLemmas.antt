@@ -1,5 +1,6 @@
 -- Words and files have one outcome.
 use Rattle.std.proofs.Common.{◌≡◌, ℕ, ◌+◌, ◌≤◌, ◌⊎◌, Bool, true, false, cond, List, ◌++◌, length, map, subst, Option, Some, None, unwrap_or, Result, Ok, Err, refl, sym, ap, ◌∙◌, inl, inr, arith}
+use Rattle.std.proofs.lemmas.Option.{same_Some, none-some}
 use Rattle.std.proofs.lemmas.Bool.{cases_lt, false≢true}
 use Rattle.std.proofs.lemmas.List.{length-map}
 use Rattle.link_base.specs.declared.fault.Fault.{Fault}
@@ -179,21 +180,14 @@ same_range options link f g x y =
     some_same : Some f ≡ Some g → f ≡ g
     some_same e = cc
 
--- a bad table
-some_fault : (f g : Fault) → Some f ≡ Some g → f ≡ g
-some_fault f g e = cc
-
-none_fault : (f : Fault) → None ≡ Some f → ⊥
-none_fault f e = cc
-
 same_table : (options : LinkOptions) (link : KeptParts) (f g : Fault) → HasBadTable options link f → HasBadTable options link g → f ≡ g
-same_table options link f g x y = some_fault f g (sym x.is ∙ y.is)
+same_table options link f g x y = same_Some f g (sym x.is ∙ y.is)
 
 merge_or_table : (options : LinkOptions) (link : KeptParts) (f g : Fault) → IsBadMerge options link f → HasBadTable options link g → ⊥
 merge_or_table options link f g x y = y.merges x.named.place x.named.first.within x.named.first.bad
 
 table_or : (options : LinkOptions) (link : KeptParts) (fault : Fault) (sections : List OutSection) → HasBadTable options link fault → AreGrouped options link (plan_pieces options link) sections → ⊥
-table_or options link fault sections x grouped = none_fault fault (sym grouped.tables ∙ x.is)
+table_or options link fault sections x grouped = none-some fault (sym grouped.tables ∙ x.is)
 
 -- one that lies in the table
 same_inside : (link : KeptParts) (rows other_rows : List SectionRow) (layout other : Layout) (tables other_tables : List (List ℕ)) → SamePlacement rows other_rows layout other tables other_tables → in_table_fault link layout.pieces.items ≡ in_table_fault link other.pieces.items
@@ -202,7 +196,7 @@ same_inside link rows other_rows layout other tables other_tables same = ap (in_
 same_in_table : (options : LinkOptions) (link : KeptParts) (f g : Fault) → HasExportInTable options link f → HasExportInTable options link g → f ≡ g
 same_in_table options link f g x y =
     let same = one_placement options link x.rows y.rows x.layout y.layout x.tables y.tables x.placement y.placement in
-    some_fault f g (sym x.is ∙ same_inside link x.rows y.rows x.layout y.layout x.tables y.tables same ∙ y.is)
+    same_Some f g (sym x.is ∙ same_inside link x.rows y.rows x.layout y.layout x.tables y.tables same ∙ y.is)
 
 base_or_inside : (options : LinkOptions) (link : KeptParts) (f g : Fault) → HasBadBase options link f → HasExportInTable options link g → ⊥
 base_or_inside options link f g x y =
@@ -212,7 +206,7 @@ base_or_inside options link f g x y =
 inside_or : (options : LinkOptions) (link : KeptParts) (f : Fault) (rows : List SectionRow) (layout : Layout) (tables : List (List ℕ)) → HasExportInTable options link f → IsPlacement options link rows layout tables → in_table_fault link layout.pieces.items ≡ None → ⊥
 inside_or options link f rows layout tables x placement outside =
     let same = one_placement options link x.rows rows x.layout layout x.tables tables x.placement placement in
-    none_fault f (sym outside ∙ sym (same_inside link x.rows rows x.layout layout x.tables tables same) ∙ x.is)
+    none-some f (sym outside ∙ sym (same_inside link x.rows rows x.layout layout x.tables tables same) ∙ x.is)
 
 -- no bad merge stands where the pieces are grouped
 merge_or : (options : LinkOptions) (link : KeptParts) (fault : Fault) (sections : List OutSection) → IsBadMerge options link fault → AreGrouped options link (plan_pieces options link) sections → ⊥
@@ -281,7 +275,7 @@ fault_or_image options link f image (inr (inr (inr (inr (inl x))))) y =
 fault_or_image options link f image (inr (inr (inr (inr (inr (inl x)))))) y = inside_or options link f y.rows y.layout y.tables x y.placement y.outside
 fault_or_image options link f image (inr (inr (inr (inr (inr (inr (x))))))) y =
     let same = one_placement options link y.rows x.rows y.layout x.layout y.tables x.tables y.placement x.placement in
-    absurd (none_fault f (sym y.in_range ∙ same_ranges options link y.rows x.rows y.layout x.layout y.tables x.tables same ∙ x.is))
+    absurd (none-some f (sym y.in_range ∙ same_ranges options link y.rows x.rows y.layout x.layout y.tables x.tables same ∙ x.is))
 
 -- ---- the plan
 
@@ -357,14 +351,11 @@ same_fault options link f g (inr (inl x)) (inr (inl y)) =
     ∙ ap (λ (ss : List (List ℕ)). faults.PdbTooLarge (file_size (map length ss))) (same_streams options link x.image y.image x.is_image y.is_image)
     ∙ sym y.is.is
 
-none_or_some : (f : Fault) → None ≡ Some f → ⊥
-none_or_some f e = absurd cc
-
 -- modules have a fault, or a plan
 fault_or_plan : (options : LinkOptions) (modules : List ModuleView) (resources : List Entry) (link : KeptParts) (f : Fault) (plan : Plan) → IsBuildFault options link f → IsPlan options modules resources link plan → ⊥
 fault_or_plan options modules resources link f plan (inl x) y = fault_or_image options link f plan.image x y.image_is
 fault_or_plan options modules resources link f plan (inr (inl x)) y = large_or_fits options link f plan.image y.image_is x y.pdb_fits
-fault_or_plan options modules resources link f plan (inr (inr x)) y = none_or_some f (sym y.library_fits ∙ x.is)
+fault_or_plan options modules resources link f plan (inr (inr x)) y = none-some f (sym y.library_fits ∙ x.is)
 
 -- the map of a layout, by its lists
 abbrev map_at : LinkOptions → KeptParts → List SectionRow → List Placed → List ℕ → ℕ → List ℕ

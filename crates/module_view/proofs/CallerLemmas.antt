@@ -5,7 +5,7 @@ use Rattle.std.specs.Option.{option_or}
 use Rattle.std.specs.Cmp.Derive.{both_true}
 use Rattle.std.specs.Int.Signed.{lt_z}
 use Rattle.std.specs.List.{All, list_any}
-use Rattle.std.proofs.lemmas.Bool.{eqb-true, eq-eqb, ltb-true, and_parts}
+use Rattle.std.proofs.lemmas.Bool.{eqb-true, eq-eqb, ltb-true, and_parts, or_right}
 use Rattle.std.proofs.lemmas.List.Elements.{All-nil, All-cons, All-map, All-weaker}
 use Rattle.link_base.specs.Refusals.{first_standing}
 use Rattle.coff_records.specs.SymbolRecord.{SymbolView, value_in, class_in, section_number_in, section_of_number}
@@ -107,15 +107,11 @@ definition_stands bytes index sound starts e = by_place (is_absolute symbol) par
 all_starts : (indexes : List ℕ) → All (λ i. list_any (λ start. eqb start i) indexes ≡ true) indexes
 all_starts indexes = each indexes indexes (λ i h. h)
   where
-    or_true : (b : Bool) {c : Bool} → c ≡ true → (b || c) ≡ true
-    or_true true e = refl
-    or_true false e = e
-
     each : (whole rest : List ℕ) → ((i : ℕ) → list_any (λ start. eqb start i) rest ≡ true → list_any (λ start. eqb start i) whole ≡ true) → All (λ i. list_any (λ start. eqb start i) whole ≡ true) rest
     each whole [] in_whole = All-nil (λ i. list_any (λ start. eqb start i) whole ≡ true)
     each whole (i ∷ rest) in_whole =
         All-cons (λ j. list_any (λ start. eqb start j) whole ≡ true) i rest (in_whole i (rw (eq-eqb i i refl) refl))
-        (each whole rest (λ j h. in_whole j (or_true (eqb i j) h)))
+        (each whole rest (λ j h. in_whole j (or_right (eqb i j) _ h)))
 
 pub symbols_start : (bytes : List ℕ) → All (λ i. starts_symbol bytes i ≡ true) (symbols_of bytes)
 unfolding starts_symbol

@@ -1,5 +1,6 @@
 -- One more section in a loop, and what a section shows whose name is none that is looked for.
-use Rattle.std.proofs.Common.{◌≡◌, ℕ, ◌+◌, ◌<◌, Bool, true, false, ◌||◌, ◌&&◌, not, List, take, refl, sym, ap, ◌∙◌, arith}
+use Rattle.std.proofs.Common.{◌≡◌, ℕ, ◌+◌, ◌<◌, Bool, true, false, ◌||◌, ◌&&◌, not, List, take, sym, ap, ◌∙◌, arith}
+use Rattle.std.proofs.Math.Bool.{or-false}
 use Rattle.std.specs.List.{list_any, range_with_len}
 use Rattle.std.proofs.lemmas.List.Folds.{list_any_at}
 use Rattle.std.proofs.lemmas.List.FromFn.{length-range_with_len, get_or-range_with_len}
@@ -18,14 +19,10 @@ any_section test n section before here place was is =
     ∙ sym (any_more test (range_with_len 1 n) section here is)
     ∙ ap (list_any test) (sym (range_more 1 n section place))
 
-or_none : (b : Bool) → (b || false) ≡ b
-or_none true = refl
-or_none false = refl
-
 -- one that fails changes nothing
 pub same_sections : (test : ℕ → Bool) (n section : ℕ) (before : Bool) → 1 + n ≡ section → before ≡ list_any test (range_with_len 1 n) → test section ≡ false → before ≡ list_any test (range_with_len 1 (n + 1))
 same_sections test n section before place was fails =
-    sym (or_none before) ∙ any_section test n section before false place was (sym fails)
+    sym (or-false before) ∙ any_section test n section before false place was (sym fails)
 
 pub no_section : (test : ℕ → Bool) (n section : ℕ) → 1 + n ≡ section → list_any test (range_with_len 1 n) ≡ false → test section ≡ false → list_any test (range_with_len 1 (n + 1)) ≡ false
 no_section test n section place none fails =

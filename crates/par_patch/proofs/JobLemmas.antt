@@ -1,5 +1,6 @@
 -- Jobs that are patched one after the other: in one of two slices of an image that are joined, and counted from an offset.
 use Rattle.std.proofs.Common.{◌≡◌, ℕ, ◌+◌, ◌-◌, ◌≤◌, List, [], ◌∷◌, ◌++◌, length, map, refl, sym, ap, ◌∙◌, subst, length-drop, arith}
+use Rattle.std.proofs.Math.Nat.{add-sub_of_le, sub-add-eq}
 use Rattle.std.proofs.lemmas.List.{length-take-le}
 use Rattle.std.proofs.lemmas.List.Elements.{All-head, All-tail}
 use Rattle.std.specs.List.{All}
@@ -69,19 +70,16 @@ patched_jobs-front base layout owner (job ∷ jobs) xs ys within =
 abbrev pub BeginsBehind : ℕ → Job → Type 0
 BeginsBehind len job = len ≤ job.start
 
-place_back : (len start : ℕ) → len ≤ start → start ≡ len + (start - len)
-place_back len start le = omega arith
-
 pub bytes_of-behind : (job : Job) (xs ys : List ℕ) → BeginsBehind (length xs) job → bytes_of (xs ++ ys) job ≡ bytes_of ys (shifted (length xs) job)
 bytes_of-behind job xs ys behind =
-    ap (λ (start : ℕ). bytes_of (xs ++ ys) (record job { start = start })) (place_back (length xs) job.start behind)
+    ap (λ (start : ℕ). bytes_of (xs ++ ys) (record job { start = start })) (sym (add-sub_of_le behind))
     ∙ bytes_behind (job.start - length xs) job.len xs ys
 
 patched_job-behind : (base : ℕ) (layout : Layout) (owner : List ℕ) (job : Job) (xs ys : List ℕ) → BeginsBehind (length xs) job → patched_job base layout owner job (xs ++ ys) ≡ xs ++ patched_job base layout owner (shifted (length xs) job) ys
 patched_job-behind base layout owner job xs ys behind =
     let part = new_bytes base layout owner (shifted (length xs) job) ys in
     ap (λ (bytes : List ℕ). put_over job.start (patched_bytes base (rva_of layout job) layout owner job.fixups.now bytes) (xs ++ ys)) (bytes_of-behind job xs ys behind)
-    ∙ ap (λ (start : ℕ). put_over start part (xs ++ ys)) (place_back (length xs) job.start behind)
+    ∙ ap (λ (start : ℕ). put_over start part (xs ++ ys)) (sym (add-sub_of_le behind))
     ∙ put_behind (job.start - length xs) part xs ys
 
 pub patched_jobs-behind : (base : ℕ) (layout : Layout) (owner : List ℕ) (jobs : List Job) (xs ys : List ℕ) → All (BeginsBehind (length xs)) jobs → patched_jobs base layout owner jobs (xs ++ ys) ≡ xs ++ patched_jobs base layout owner (map (shifted (length xs)) jobs) ys
@@ -95,10 +93,7 @@ patched_jobs-behind base layout owner (job ∷ jobs) xs ys behind =
 
 pub shifted-twice : (offset more : ℕ) (jobs : List Job) → map (shifted more) (map (shifted offset) jobs) ≡ map (shifted (offset + more)) jobs
 shifted-twice offset more [] = refl
-shifted-twice offset more (job ∷ jobs) = rw (apart job.start offset more, shifted-twice offset more jobs) refl
-  where
-    apart : (start offset more : ℕ) → start - offset - more ≡ start - (offset + more)
-    apart start offset more = omega arith
+shifted-twice offset more (job ∷ jobs) = rw (sym (sub-add-eq job.start offset more), shifted-twice offset more jobs) refl
 
 pub shifted-zero : (jobs : List Job) → map (shifted 0) jobs ≡ jobs
 shifted-zero [] = refl

@@ -1,5 +1,6 @@
 -- Bytes that are put over others in one of two lists that are joined.
 use Rattle.std.proofs.Common.{◌≡◌, ℕ, ◌+◌, ◌≤◌, List, ◌++◌, length, take, drop, ap, ◌∙◌, length-append, length-drop, arith}
+use Rattle.std.proofs.Math.Nat.{add_assoc}
 use Rattle.std.proofs.lemmas.List.{append_assoc, take-append-le, drop-append-le, length-take-le}
 use Rattle.std.proofs.Math.Seq.{take-append-add, drop-append-add}
 use Rattle.link_base.specs.Bytes.{bytes_at}
@@ -22,9 +23,6 @@ bytes_in_front place count xs ys within =
 pub put_behind : (place : ℕ) (part xs ys : List ℕ) → put_over (length xs + place) part (xs ++ ys) ≡ xs ++ put_over place part ys
 put_behind place part xs ys =
     rw (take-append-add xs ys place, add_assoc (length xs) place (length part), drop-append-add xs ys (place + length part)) (simp append_assoc)
-  where
-    add_assoc : (a b c : ℕ) → a + b + c ≡ a + (b + c)
-    add_assoc a b c = omega arith
 
 pub bytes_behind : (place count : ℕ) (xs ys : List ℕ) → bytes_at (xs ++ ys) (length xs + place) count ≡ bytes_at ys place count
 bytes_behind place count xs ys = ap (take count) (drop-append-add xs ys place)

@@ -145,9 +145,6 @@ used_first rows i number b row v flags new more lt is at small read free changed
 
 -- ---- the stream of publics
 
-sum_cons : {X : Type 0} (x : X) (xs : List X) (f : X → ℕ) → sum_by f (x ∷ xs) ≡ f x + sum_by f xs
-sum_cons x xs f = sum_by-cons f x xs
-
 sum_moved : {X : Type 0} (xs ys : List X) → IsPermutation xs ys → (f : X → ℕ) → sum_by f ys ≡ sum_by f xs
 sum_moved xs ys moved f = sum_by-IsPermutation f xs ys moved
 
@@ -157,8 +154,8 @@ unfolding hash_keys
 names_hashed offset k [] = refl
 names_hashed offset k (row ∷ rows) =
     let next = offset + record_size (length row.name) in
-    let keys = sum_cons (hash_key offset row) (hash_keys next rows) (λ key. cond (eqb key.bucket k) 1 0) in
-    let names = sum_cons row rows (λ r. cond (eqb (bucket r.name) k) 1 0) in
+    let keys = sum_by-cons (λ key. cond (eqb key.bucket k) 1 0) (hash_key offset row) (hash_keys next rows) in
+    let names = sum_by-cons (λ r. cond (eqb (bucket r.name) k) 1 0) row rows in
     let rest = names_hashed next k rows in
     omega (arith, keys, names, rest)
 

@@ -1,8 +1,7 @@
 -- The blocks of data of a written file, and the numbers in them.
 use Rattle.std.proofs.Common.{◌≡◌, ℕ, zero, suc, ◌+◌, ◌-◌, ◌*◌, ◌/◌, ◌%◌, ◌<◌, List, [], ◌∷◌, ◌++◌, length, get_or, take, drop, map, refl, sym, ap, ◌∙◌, arith, append_assoc, length-append, length-drop, min}
 use Rattle.std.specs.List.{flat_map, range_with_len}
-use Rattle.std.proofs.lemmas.List.{append-nil, length-take, get_or-take, get_or-drop, get_or_append_left, get_or-append_right}
-use Rattle.std.proofs.Math.Seq.{drop-append_seam}
+use Rattle.std.proofs.lemmas.List.{append-nil, length-take, get_or-take, get_or-drop, get_or_append_left, get_or-append_right, drop_at}
 use Rattle.std.proofs.lemmas.Grind.{flat_map-append}
 use Rattle.std.proofs.lemmas.List.FromFn.{get_or-map-range_with_len, length-map-range_with_len}
 use Rattle.link_base.specs.Bytes.{number_at, number_bytes}
@@ -39,11 +38,8 @@ number_in_list (number ∷ numbers) rest (suc k) small lt =
     ap (λ (xs : List ℕ). number_at 4 xs (4 * suc k)) (append_assoc (number_bytes 4 number) (listed numbers) rest)
     ∙ ap (number_at 4 (number_bytes 4 number ++ (listed numbers ++ rest))) place
     ∙ sym (number_at-drop 4 4 (4 * k) (number_bytes 4 number ++ (listed numbers ++ rest)))
-    ∙ ap (λ (xs : List ℕ). number_at 4 xs (4 * k)) (behind (number_bytes 4 number) (listed numbers ++ rest) 4 width)
+    ∙ ap (λ (xs : List ℕ). number_at 4 xs (4 * k)) (drop_at (number_bytes 4 number) (listed numbers ++ rest) 4 width)
     ∙ number_in_list numbers rest k (λ j low. small (suc j) (omega (arith, low))) (omega (arith, lt))
-  where
-    behind : (xs ys : List ℕ) (n : ℕ) → length xs ≡ n → drop n (xs ++ ys) ≡ ys
-    behind xs ys n is = ap (λ (k : ℕ). drop k (xs ++ ys)) (sym is) ∙ drop-append_seam xs ys
 
 flat_map-map : (f : ℕ → ℕ) (ks : List ℕ) → flat_map (λ k. number_bytes 4 (f k)) ks ≡ listed (map f ks)
 flat_map-map f [] = refl

@@ -1,5 +1,7 @@
 -- The bits of the bitmap, and the range of a bucket.
-use Rattle.std.proofs.Common.{◌≡◌, ℕ, zero, suc, ◌+◌, ◌*◌, ◌/◌, ◌%◌, ◌<◌, ◌≤◌, Bool, true, false, cond, leb, ◌&&◌, lt-ltb, le-ltb, le-leb, List, get_or, refl, sym, ap, ◌∙◌, add-one, arith, rules}
+use Rattle.std.proofs.Common.{◌≡◌, ℕ, zero, suc, ◌+◌, ◌*◌, ◌/◌, ◌%◌, ◌<◌, ◌≤◌, Bool, true, false, cond, leb, ◌&&◌, lt-ltb, le-ltb, le-leb, List, get_or, refl, sym, ap, ◌∙◌, add-one, arith}
+use Rattle.std.proofs.lemmas.Bool.{lt-leb}
+use Rattle.std.proofs.Math.Bool.{and-false}
 use mir.Val.{bool_byte}
 use Rattle.pdb_publics.specs.Lookup.{records_len, is_set, bitmap_at, has_bucket, passing, word, is_word, first_record, has_next, end_record, has_end, has_range, IsRange}
 
@@ -62,33 +64,23 @@ end_missing publics number next missing = rw next (sym missing)
 
 -- ---- the range
 
-and_false : (b : Bool) → (b && false) ≡ false
-and_false true = refl
-and_false false = refl
-
 pub no_word : (publics : List ℕ) (number : ℕ) → false ≡ is_word publics number → has_range publics number ≡ false
 unfolding has_range
 no_word publics number missing = rw (sym missing) refl
 
 pub no_end : (publics : List ℕ) (number : ℕ) → has_end publics number ≡ false → has_range publics number ≡ false
 unfolding has_range
-no_end publics number missing = rw (missing, and_false (is_word publics number)) refl
+no_end publics number missing = rw (missing, and-false (is_word publics number)) refl
 
 pub descends : (publics : List ℕ) (number first end : ℕ) → first ≡ first_record publics number → end ≡ end_record publics number → end < first → has_range publics number ≡ false
 unfolding has_range
 descends publics number first end is_first is_end lt =
-    rw (le-leb-false (first_record publics number) (end_record publics number) (omega (arith, is_first, is_end, lt))) (and_false (is_word publics number && has_end publics number))
-  where
-    le-leb-false : (m n : ℕ) → n < m → leb m n ≡ false
-    le-leb-false m n lt = search rules
+    rw (lt-leb (first_record publics number) (end_record publics number) (omega (arith, is_first, is_end, lt))) (and-false (is_word publics number && has_end publics number))
 
 pub leaves : (publics : List ℕ) (number end len : ℕ) → end ≡ end_record publics number → len ≡ records_len publics → len < 8 * end → has_range publics number ≡ false
 unfolding has_range
 leaves publics number end len is_end is_len lt =
-    rw (le-leb-false (8 * end_record publics number) (records_len publics) (omega (arith, is_end, is_len, lt)), and_false (leb (first_record publics number) (end_record publics number))) (and_false (is_word publics number && has_end publics number))
-  where
-    le-leb-false : (m n : ℕ) → n < m → leb m n ≡ false
-    le-leb-false m n lt = search rules
+    rw (lt-leb (8 * end_record publics number) (records_len publics) (omega (arith, is_end, is_len, lt)), and-false (leb (first_record publics number) (end_record publics number))) (and-false (is_word publics number && has_end publics number))
 
 pub range_is : (publics : List ℕ) (number first end len : ℕ) → true ≡ is_word publics number → has_end publics number ≡ true → first ≡ first_record publics number → end ≡ end_record publics number → len ≡ records_len publics → first ≤ end → 8 * end ≤ len → IsRange publics number (first, end)
 unfolding has_range

@@ -1,22 +1,15 @@
 -- Paths: a root is one, an edge makes one longer, and what is closed under edges holds all of one.
 use Rattle.std.proofs.Common.{◌≡◌, ℕ, zero, suc, ◌+◌, ◌-◌, ◌<◌, List, [], ◌∷◌, ◌++◌, length, get_or, Some, refl, sym, ap, subst, ◌∙◌, inl, inr, length-append, arith}
-use Rattle.std.specs.List.{All, Contains, AllAdjacentBelow, slice_get}
+use Rattle.std.specs.List.{All, Contains, AllAdjacentBelow}
 use Rattle.std.proofs.lemmas.Bool.{cases_lt}
 use Rattle.std.proofs.lemmas.List.{get_or_append_left}
 use Rattle.std.proofs.lemmas.List.Elements.{All-append}
-use Rattle.std.proofs.lemmas.Option.{get_or_from_slice_get, slice_get-get_or, slice_get_past, none-some}
+use Rattle.std.proofs.lemmas.Option.{get_or_from_slice_get, slice_get-get_or, slice_get_within}
 use Rattle.reach.specs.Paths.{LeadsTo, IsPath, IsKept}
 
 one_piece : (pieces piece : ℕ) → piece < pieces → All (λ (p : ℕ). p < pieces) (piece ∷ [])
 one_piece pieces piece lt zero d h = lt
 one_piece pieces piece lt (suc k) d h = absurd (omega arith)
-
-pub within_list : {X : Type 0} (xs : List X) (i : ℕ) (x : X) → slice_get xs i ≡ Some x → i < length xs
-within_list xs i x e =
-    elim (cases_lt i (length xs)) [
-      | inl lt ↦ lt
-      | inr past ↦ absurd (none-some x (sym (slice_get_past xs i past) ∙ e))
-    ]
 
 at_end : {X : Type 0} (xs : List X) (x d : X) → get_or (xs ++ x ∷ []) (length xs) d ≡ x
 at_end [] x d = refl
@@ -54,7 +47,7 @@ next_kept pieces edges roots piece next kept leads lt = record {
     len = length-append kept.path (next ∷ [])
 
     some : 0 < length kept.path
-    some = within_list kept.path 0 kept.root kept.first
+    some = slice_get_within kept.path 0 kept.root kept.first
 
     led : AllAdjacentBelow (LeadsTo edges) longer (length longer)
     led k d less =
@@ -81,7 +74,7 @@ module _ (pieces : ℕ) (edges : List (ℕ × ℕ)) (roots : List ℕ) (Holds : 
 
   pub of_kept : (piece : ℕ) → IsKept pieces edges roots piece → Holds piece
   of_kept piece kept =
-      let some : 0 < length kept.path = within_list kept.path 0 kept.root kept.first in
+      let some : 0 < length kept.path = slice_get_within kept.path 0 kept.root kept.first in
       let first : kept.root ≡ get_or kept.path 0 0 = sym (get_or_from_slice_get kept.path 0 kept.root 0 kept.first) in
       let starts : Holds (get_or kept.path 0 0) =
       subst Holds first (of_roots kept.root kept.is_root (subst (λ (p : ℕ). p < pieces) (sym first) (kept.is_path.of_pieces 0 0 some))) in

@@ -1,14 +1,12 @@
 -- The first item of a list that passes a test, and what all items of a list pass.
 use Rattle.std.proofs.Common.{◌≡◌, ℕ, suc, ◌<◌, List, [], ◌∷◌, length, get_or, map, Option, Some, None, Bool, true, false, cond, refl, sym, ap, ◌∙◌, subst, arith}
+use Rattle.std.proofs.lemmas.Option.{same_Some}
 use Rattle.std.proofs.lemmas.Bool.{false≢true}
 use Rattle.std.proofs.lemmas.List.Elements.{All-nil, All-cons, All-head, All-tail, All-from_get_or}
 use Rattle.std.proofs.lemmas.List.FromFn.{fill_by_all, length-map-range_with_len, get_or-map-range_with_len}
 use Rattle.std.proofs.lemmas.List.Sorted.{IsPermutation-sym, All-permutation}
 use Rattle.std.specs.List.{All, find, filter, range_with_len}
 use Rattle.std.specs.List.Sorted.{IsPermutation}
-
-some_same : {A : Type 0} (x y : A) → Some x ≡ Some y → x ≡ y
-some_same x y e = cc
 
 -- it stands somewhere, and passes
 pub found_in : {A : Type 0} (test : A → Bool) (xs : List A) (x d : A) → find test xs ≡ Some x → (k : ℕ) × (k < length xs) × (get_or xs k d ≡ x) × (test x ≡ true)
@@ -17,7 +15,7 @@ found_in {A} test (y ∷ ys) x d e = by (λ later. found_in test ys x d later) (
   where
     by : (find test ys ≡ Some x → (k : ℕ) × (k < length ys) × (get_or ys k d ≡ x) × (test x ≡ true)) → (b : Bool) → test y ≡ b → cond b (Some y) (find test ys) ≡ Some x
         → (k : ℕ) × (k < length (y ∷ ys)) × (get_or (y ∷ ys) k d ≡ x) × (test x ≡ true)
-    by more true passes here = (0, omega arith, some_same y x here, subst (λ (z : A). test z ≡ true) (some_same y x here) passes)
+    by more true passes here = (0, omega arith, same_Some y x here, subst (λ (z : A). test z ≡ true) (same_Some y x here) passes)
     by more false fails later = let rest = more later in let lt = rest.1 in (suc rest.0, omega arith, rest.2, rest.3)
 
 -- where there is none, each fails

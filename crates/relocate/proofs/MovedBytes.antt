@@ -1,5 +1,6 @@
 -- At another base a field that holds an address has the bytes of its number and the difference of the bases.
 use Rattle.std.proofs.Common.{◌≡◌, ℕ, ◌+◌, ◌-◌, ◌*◌, ◌%◌, ◌^◌, ◌<◌, List, length, slice_index, true, false, sym, ap, ◌∙◌, arith}
+use Rattle.std.proofs.Math.Nat.{add-sub_cancel_left}
 use Rattle.link_base.specs.Bytes.{number_at, number_bytes}
 use Rattle.address_layout.specs.declared.layout.Layout.{Layout}
 use Rattle.relocate.specs.declared.fix.Fix.{Fix}
@@ -32,8 +33,5 @@ module _ (base other rva : ℕ) (layout : Layout) (owner : List ℕ) (fixes fixu
       rw (sym here, sym there)
       (byte_patched other rva layout owner fixups bytes (fix.at + t) (omega (arith, end, inside))
       ∙ ap (byte_by other rva layout owner bytes (fix.at + t)) (found_once (covers (fix.at + t)) fixups k (covered_once fixups (fix.at + t) patchable.apart) lt (is_covered (fix.at + t) fix.at width some (omega arith) (omega (arith, inside))))
-      ∙ ap (λ (n : ℕ). slice_index (number_bytes width (held width (value_of other rva layout owner bytes fix))) n) (back fix.at t)
+      ∙ ap (λ (n : ℕ). slice_index (number_bytes width (held width (value_of other rva layout owner bytes fix))) n) (add-sub_cancel_left fix.at t)
       ∙ ap (λ (n : ℕ). slice_index (number_bytes width n) t) number)
-    where
-      back : (a b : ℕ) → a + b - a ≡ b
-      back a b = omega arith

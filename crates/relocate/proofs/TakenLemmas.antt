@@ -1,5 +1,6 @@
 -- The places of fields that are taken, in the order of the relocations' indexes.
 use Rattle.std.proofs.Common.{◌≡◌, ◌≢◌, ℕ, ◌+◌, ◌-◌, ◌<◌, ◌≤◌, List, [], ◌∷◌, Option, Some, None, Bool, true, false, cond, refl, sym, ap, ◌∙◌, eqb, le-ltb, lt-ltb, inl, inr, arith, nat_le, subst}
+use Rattle.std.proofs.lemmas.Option.{same_Some}
 use Rattle.std.proofs.lemmas.Bool.{cases_lt, false≢true}
 use Rattle.std.proofs.lemmas.Bool.Decides.{nat_tests, eqb_tells}
 use Rattle.std.specs.Bool.{MatchBool}
@@ -104,9 +105,6 @@ holds_absolute fixes k taken holds absolute =
 other_key : (a b : ℕ) → a ≢ b → tree.is_at (nat_cmp a) b ≡ false
 other_key a b apart = grind (arith, nat_tests)
 
-some_same : (v w : ℕ) → Some v ≡ Some w → v ≡ w
-some_same v w e = cc
-
 not_some : (found : Option ℕ) → is_some found ≡ false → found ≡ None
 not_some None e = refl
 not_some (Some k) e = absurd cc
@@ -125,7 +123,7 @@ holds_field fixes k old new holds apart some updates =
       sound = λ place width e. elim (eqb_tells (fix_at fixes k).at place) [
         | inl same ↦
             let there : width_at new place ≡ Some (field_width (fix_at fixes k).kind) = ap (width_at new) (sym same.1) ∙ updates.1 in
-            (k, omega arith, same.1, some_same _ _ (sym there ∙ e))
+            (k, omega arith, same.1, same_Some _ _ (sym there ∙ e))
         | inr other ↦
             let kept : width_at new place ≡ width_at old place = updates.2 place (other_key (fix_at fixes k).at place other.1) in
             let found = holds.sound place width (sym kept ∙ e) in

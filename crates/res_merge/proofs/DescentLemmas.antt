@@ -2,7 +2,7 @@
 use Rattle.std.proofs.Common.{◌≡◌, ℕ, zero, suc, ◌+◌, ◌-◌, ◌*◌, ◌/◌, ◌^◌, ◌<◌, ◌≤◌, Bool, true, false, cond, leb, List, [], ◌∷◌, ◌++◌, length, take, drop, Option, Some, refl, ap, ◌∙◌, subst, le-leb, append_assoc, length-append, length-drop, arith}
 use Rattle.std.specs.List.{sum_by, AllByRecursion}
 use Rattle.std.specs.Option.{option_and_then}
-use Rattle.std.proofs.lemmas.List.{length-replicate}
+use Rattle.std.proofs.lemmas.List.{length-replicate, length-take-le}
 use Rattle.std.proofs.lemmas.List.Sums.{sum_by-cons}
 use Rattle.link_base.proofs.CallerLemmas.{length-number_bytes}
 use Rattle.res_merge.specs.declared.rows.Row.{Row}
@@ -31,11 +31,6 @@ pub each_drop : {X : Type 0} (P : X → Type 0) (count : ℕ) (xs : List X) → 
 each_drop P zero xs each = each
 each_drop P (suc count) [] each = tt
 each_drop P (suc count) (x ∷ xs) each = each_drop P count xs each.1
-
-pub taken_length : {X : Type 0} (count : ℕ) (xs : List X) → count ≤ length xs → length (take count xs) ≡ count
-taken_length zero xs le = refl
-taken_length (suc count) [] le = absurd (omega arith)
-taken_length (suc count) (x ∷ xs) le = ap suc (taken_length count xs (omega arith))
 
 languages_take : (count leaf : ℕ) (entries : List Entry) → take count (language_rows leaf entries) ≡ language_rows leaf (take count entries)
 unfolding language_rows
@@ -126,7 +121,7 @@ module _ (part : List ℕ) (rva time text table leaf place filling : ℕ) (run :
   names_next =
       let after = stand_after part rva run.count leaf place filling entries count_fits stands.stand in
       let size : length (table_bytes time (language_rows leaf (take run.count entries))) ≡ table_size run.count =
-      table_length time (language_rows leaf (take run.count entries)) ∙ ap (λ (n : ℕ). 16 + 8 * n) (language_length leaf (take run.count entries) ∙ taken_length run.count entries count_fits) in
+      table_length time (language_rows leaf (take run.count entries)) ∙ ap (λ (n : ℕ). 16 + 8 * n) (language_length leaf (take run.count entries) ∙ length-take-le run.count entries count_fits) in
       record {
         leaf = leaf + 16 * run.count;
         place = after.place;
@@ -149,7 +144,7 @@ module _ (part : List ℕ) (rva time text table leaf place filling : ℕ) (run :
     table_rows =
         table_read part _ table time (language_rows leaf (take run.count entries)) table_is
         (subst (λ (rs : List Row). AllByRecursion IsSmallRow rs) (languages_take run.count leaf entries) (each_take IsSmallRow run.count (language_rows leaf entries) (languages_small part rva leaf place filling entries small stands.stand stands.small)))
-        (omega (arith, language_length leaf (take run.count entries), taken_length run.count entries count_fits, count_fits, stands.few))
+        (omega (arith, language_length leaf (take run.count entries), length-take-le run.count entries count_fits, count_fits, stands.few))
 
     pub name_read : (wanted : Key) → IsSmallKey wanted → is_named part wanted (row_id text run.head.name) ≡ equal_key wanted run.head.name
     name_read wanted also = named_as part _ wanted run.head.name text text_is stands.short.0.0 stands.short.0.1 also

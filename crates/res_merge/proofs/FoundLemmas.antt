@@ -1,5 +1,6 @@
 -- What is read of a table where it stands.
 use Rattle.std.proofs.Common.{◌≡◌, ℕ, ◌+◌, ◌-◌, ◌*◌, ◌/◌, ◌^◌, ◌<◌, min, Bool, true, false, cond, not, List, [], ◌∷◌, ◌++◌, length, drop, map, refl, sym, ap, ◌∙◌, append_assoc, length-append, length-drop, arith}
+use Rattle.std.proofs.Math.Seq.{drop-append_seam}
 use Rattle.std.specs.Prelude.{count_by}
 use Rattle.std.specs.List.{flat_map, range_with_len, AllByRecursion}
 use Rattle.std.proofs.lemmas.List.{drop-drop}
@@ -15,11 +16,7 @@ use Rattle.res_merge.specs.Lookup.{row_at, row_count, rows_at}
 -- behind a part stands the rest
 pub behind : (bytes part rest : List ℕ) (at size : ℕ) → drop at bytes ≡ part ++ rest → length part ≡ size → drop (at + size) bytes ≡ rest
 behind bytes part rest at size is len =
-    sym (drop-drop size at bytes) ∙ ap (drop size) is ∙ ap (λ (n : ℕ). drop n (part ++ rest)) (sym len) ∙ over part rest
-  where
-    over : (xs ys : List ℕ) → drop (length xs) (xs ++ ys) ≡ ys
-    over [] ys = refl
-    over (x ∷ xs) ys = over xs ys
+    sym (drop-drop size at bytes) ∙ ap (drop size) is ∙ ap (λ (n : ℕ). drop n (part ++ rest)) (sym len) ∙ drop-append_seam part rest
 
 -- a number is read where its bytes stand
 pub number_there : (width number at : ℕ) (bytes rest : List ℕ) → drop at bytes ≡ number_bytes width number ++ rest → number < 256 ^ width → number_at width bytes at ≡ number

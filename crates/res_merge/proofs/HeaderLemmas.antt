@@ -1,18 +1,12 @@
 -- What is there in an entry whose header is not refused, and that each part ends behind its start.
 use Rattle.std.proofs.Common.{◌≡◌, ℕ, ◌+◌, ◌%◌, ◌<◌, ◌≤◌, Bool, true, false, not, cond, eqb, leb, ltb, List, length, Option, Some, None, Result, Ok, Err, refl, sym, ◌∙◌, inl, inr, arith}
 use Rattle.std.proofs.lemmas.Bool.{false≢true, cases_lt, ltb-false}
-use Rattle.std.specs.Prelude.{◌&&◌}
 use Rattle.link_base.specs.Bytes.{u16_at, has_bytes}
 use Rattle.link_base.specs.declared.kinds.resource.ResFault.{ResFault}
 use Rattle.link_base.specs.declared.kinds.resource.ResFault.TheVariants as bad
 use Rattle.link_base.proofs.TestLemmas.{or_left, or_right}
 use Rattle.res_merge.specs.Entries.{Key, Number}
 use Rattle.res_merge.specs.ResourceFile.{aligned, FIELDS_SIZE, NUMBER_MARK, text_units, NameRead, text_read, name_read, header_size, data_size, data_place, Heading, with_name, with_kind, heading, size_is_bad, header_is_bad, EntryRead, entry_with, with_heading, entry_read}
-
--- a test that passes
-pub and_both : (a b : Bool) → (a && b) ≡ true → (a ≡ true) × (b ≡ true)
-and_both true b e = (refl, e)
-and_both false b e = absurd (false≢true e)
 
 not_leb : (a b : ℕ) → not (leb a b) ≡ false → a ≤ b
 not_leb a b e =

@@ -2,7 +2,7 @@
 use Rattle.std.proofs.Common.{◌≡◌, ℕ, zero, suc, ◌+◌, ◌-◌, ◌*◌, ◌/◌, ◌^◌, ◌<◌, ◌≤◌, Bool, true, false, cond, List, [], ◌∷◌, ◌++◌, length, take, drop, Option, Some, refl, sym, ap, ◌∙◌, subst, append_assoc, length-append, length-drop, arith}
 use Rattle.std.specs.List.{sum_by, AllByRecursion}
 use Rattle.std.specs.Option.{option_and_then}
-use Rattle.std.proofs.lemmas.List.{drop-drop}
+use Rattle.std.proofs.lemmas.List.{drop-drop, length-take-le}
 use Rattle.std.proofs.lemmas.List.Sums.{sum_by-cons}
 use Rattle.link_base.proofs.CallerLemmas.{length-number_bytes}
 use Rattle.res_merge.specs.declared.rows.Row.{Row}
@@ -17,7 +17,7 @@ use Rattle.res_merge.proofs.PlaceLemmas.{rows_length}
 use Rattle.res_merge.proofs.FoundLemmas.{behind, IsSmallRow, table_read, table_length}
 use Rattle.res_merge.proofs.NamedLemmas.{named_as}
 use Rattle.res_merge.proofs.LeafLemmas.{bytes_of}
-use Rattle.res_merge.proofs.DescentLemmas.{each_take, taken_length, rows_take, text_length, target_of, NamesStand, NamesAfter, names_next, text_is, table_is, by_language, names_found}
+use Rattle.res_merge.proofs.DescentLemmas.{each_take, rows_take, text_length, target_of, NamesStand, NamesAfter, names_next, text_is, table_is, by_language, names_found}
 
 -- what is not empty stands inside
 pub inside : (part xs rest : List ℕ) (at : ℕ) → drop at part ≡ xs ++ rest → 0 < length xs → at < length part
@@ -97,7 +97,7 @@ module _ (part : List ℕ) (rva time kind_text kind_table text table leaf place 
   kinds_next =
       let far = names_behind part rva time run.count text table leaf place filling names entries kind_count_fits stands.names_are in
       let size : length (table_bytes time (rows name_of_run text table (take run.count names))) ≡ table_size run.count =
-      table_length time (rows name_of_run text table (take run.count names)) ∙ ap (λ (n : ℕ). 16 + 8 * n) (rows_length name_of_run text table (take run.count names) ∙ taken_length run.count names kind_count_fits) in
+      table_length time (rows name_of_run text table (take run.count names)) ∙ ap (λ (n : ℕ). 16 + 8 * n) (rows_length name_of_run text table (take run.count names) ∙ length-take-le run.count names kind_count_fits) in
       record {
         text = far.text;
         table = far.table;
@@ -121,7 +121,7 @@ module _ (part : List ℕ) (rva time kind_text kind_table text table leaf place 
     kind_rows_read =
         table_read part _ kind_table time (rows name_of_run text table (take run.count names)) kind_table_is
         (subst (λ (rs : List Row). AllByRecursion IsSmallRow rs) (rows_take name_of_run run.count text table names) (each_take IsSmallRow run.count (rows name_of_run text table names) (names_small part rva time text table leaf place filling names entries small stands.names_are)))
-        (omega (arith, rows_length name_of_run text table (take run.count names), taken_length run.count names kind_count_fits, kind_count_fits, stands.names_few))
+        (omega (arith, rows_length name_of_run text table (take run.count names), length-take-le run.count names kind_count_fits, kind_count_fits, stands.names_few))
 
     kind_read : (wanted : Key) → IsSmallKey wanted → is_named part wanted (row_id kind_text run.head.kind) ≡ equal_key wanted run.head.kind
     kind_read wanted also = named_as part _ wanted run.head.kind kind_text kind_text_is stands.kinds_short.0.0 stands.kinds_short.0.1 also

@@ -1,8 +1,9 @@
 -- What an entry of a table names where its text stands.
-use Rattle.std.proofs.Common.{◌≡◌, ◌≢◌, ◌⊎◌, ℕ, ◌+◌, ◌-◌, ◌*◌, ◌/◌, ◌<◌, ◌≤◌, Bool, true, false, eqb, leb, List, [], ◌∷◌, ◌++◌, length, take, drop, refl, sym, ap, ◌∙◌, inl, inr, le-leb, append_assoc, length-append, length-drop, arith}
-use Rattle.std.specs.Prelude.{◌&&◌, replicate}
+use Rattle.std.proofs.Common.{◌≡◌, ◌≢◌, ◌⊎◌, ℕ, ◌+◌, ◌-◌, ◌*◌, ◌/◌, ◌<◌, ◌≤◌, true, false, eqb, leb, List, [], ◌∷◌, ◌++◌, length, take, drop, refl, sym, ap, ◌∙◌, inl, inr, le-leb, append_assoc, length-append, length-drop, arith}
+use Rattle.std.proofs.Math.Bool.{and-false}
+use Rattle.std.specs.Prelude.{replicate}
 use Rattle.std.specs.Cmp.Lexicographic.{unequal}
-use Rattle.std.proofs.lemmas.Bool.{cases_lt}
+use Rattle.std.proofs.lemmas.Bool.{cases_lt, eq-eqb}
 use Rattle.std.proofs.lemmas.Bool.Decides.{eqb_tells}
 use Rattle.link_base.specs.Bytes.{number_bytes, u16_at, has_bytes, bytes_at}
 use Rattle.link_base.specs.NameText.{same_name}
@@ -29,19 +30,8 @@ first_of xs ys n is = ap (λ (k : ℕ). take k (xs ++ ys)) is ∙ go xs
     go [] = refl
     go (x ∷ xs) = ap (λ (rest : List ℕ). x ∷ rest) (go xs)
 
-equal : (m n : ℕ) → m ≡ n → eqb m n ≡ true
-equal m n is =
-    elim (eqb_tells m n) [
-      | inl h ↦ h.0
-      | inr h ↦ absurd (h.1 is)
-    ]
-
 abbrev pad : List ℕ → List ℕ
 pad units = replicate (aligned (2 + length units) - (2 + length units)) 0
-
-fails : (b : Bool) → (b && false) ≡ false
-fails true = refl
-fails false = refl
 
 -- the text that stands at an offset
 module _ (part rest units wanted : List ℕ) (offset : ℕ) (is : drop offset part ≡ text_bytes (Text units) ++ rest) (short : IsShort (Text units)) where
@@ -62,12 +52,12 @@ module _ (part rest units wanted : List ℕ) (offset : ℕ) (is : drop offset pa
 
   apart : length units ≢ length wanted → is_text_at part offset wanted ≡ same_name units wanted
   apart differ =
-      rw (other (2 * u16_at part offset) (length wanted) (λ e. differ (sym read ∙ e))) (fails (has_bytes part offset (2 + length wanted)) ∙ sym (unequal eqb units wanted differ))
+      rw (other (2 * u16_at part offset) (length wanted) (λ e. differ (sym read ∙ e))) (and-false (has_bytes part offset (2 + length wanted)) ∙ sym (unequal eqb units wanted differ))
 
   same : length units ≡ length wanted → is_text_at part offset wanted ≡ same_name units wanted
   same e =
       let there : has_bytes part offset (2 + length wanted) ≡ true = le-leb _ _ (omega (arith, size_all)) in
-      let counted : eqb (2 * u16_at part offset) (length wanted) ≡ true = equal _ _ (read ∙ e) in
+      let counted : eqb (2 * u16_at part offset) (length wanted) ≡ true = eq-eqb _ _ (read ∙ e) in
       let units_are : bytes_at part (offset + 2) (length wanted) ≡ units = ap (take (length wanted)) second ∙ first_of units (pad units ++ rest) (length wanted) (sym e) in
       rw (there, counted, units_are) refl
 

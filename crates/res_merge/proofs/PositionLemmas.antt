@@ -1,5 +1,6 @@
 -- Where the parts of a tree stand in it, and what the steps from its root lead to.
 use Rattle.std.proofs.Common.{◌≡◌, ℕ, suc, ◌+◌, ◌-◌, ◌*◌, ◌^◌, ◌<◌, ◌≤◌, List, [], ◌∷◌, ◌++◌, length, take, drop, refl, sym, ap, ◌∙◌, append_assoc, length-append, length-drop, arith}
+use Rattle.std.proofs.lemmas.List.{length-take-le}
 use Rattle.std.specs.List.{sum_by, AllByRecursion}
 use Rattle.std.specs.Option.{option_map}
 use Rattle.std.proofs.lemmas.List.Sums.{sum_by-cons}
@@ -18,7 +19,7 @@ use Rattle.res_merge.proofs.WritingLemmas.{leaf_fields}
 use Rattle.res_merge.proofs.SizeLemmas.{run_count, runs_count, runs_few}
 use Rattle.res_merge.proofs.PlaceLemmas.{rows_length, language_length, runs_each, heads_each}
 use Rattle.res_merge.proofs.FoundLemmas.{behind, IsSmallRow, table_read, table_length}
-use Rattle.res_merge.proofs.DescentLemmas.{taken_length, text_length}
+use Rattle.res_merge.proofs.DescentLemmas.{text_length}
 use Rattle.res_merge.proofs.KindLemmas.{row_small, inside, KindsStand, kinds_next, kind_text_is, kind_table_is, by_name, kinds_found}
 
 -- ---- how long the parts are
@@ -30,7 +31,7 @@ tables_length time (run ∷ runs) list counts =
     let fits : run.count ≤ length list = omega (arith, counts, sum_by-cons run_count run runs) in
     let rest : sum_by run_count runs ≡ length (drop run.count list) = omega (arith, counts, sum_by-cons run_count run runs, length-drop run.count list) in
     length-append (part.table time (take run.count list)) (tables time runs (drop run.count list))
-    ∙ omega (arith, table_length time (take run.count list), taken_length run.count list fits, tables_length time runs (drop run.count list) rest, sum_by-cons (λ (r : Run). table_size r.count) run runs)
+    ∙ omega (arith, table_length time (take run.count list), length-take-le run.count list fits, tables_length time runs (drop run.count list) rest, sum_by-cons (λ (r : Run). table_size r.count) run runs)
 
 texts_length : (key : Run → Key) (runs : List Run) → length (texts key runs) ≡ texts_size key runs
 unfolding texts

@@ -3,14 +3,13 @@ use Rattle.std.proofs.Common.{◌≡◌, ℕ, suc, ◌+◌, Bool, true, false, c
 use Rattle.std.specs.Prelude.{◌&&◌}
 use Rattle.std.specs.List.{sum_by, AllByRecursion}
 use Rattle.std.specs.Ordering.{is_eq}
-use Rattle.std.proofs.lemmas.Bool.{false≢true}
+use Rattle.std.proofs.lemmas.Bool.{false≢true, and_parts}
 use Rattle.std.proofs.lemmas.List.{drop-drop}
 use Rattle.std.proofs.lemmas.List.Sums.{sum_by-cons}
 use Rattle.res_merge.specs.Entries.{Key, Entry}
 use Rattle.res_merge.specs.Order.{same_key, IsShort}
 use Rattle.res_merge.specs.Runs.{Run, run_before, runs, heads, same_kind, same_name}
 use Rattle.res_merge.specs.Found.{equal_key, is_resource, data_of, body_of, named_data, kind_data}
-use Rattle.res_merge.proofs.HeaderLemmas.{and_both}
 use Rattle.res_merge.proofs.SizeLemmas.{run_count}
 use Rattle.res_merge.proofs.GroupLemmas.{keys_one, wanted_is, same_itself, one_wanted, Rises, separated, kind_cmp, name_cmp, kind_total, name_total, same_is}
 
@@ -74,7 +73,7 @@ module _ (kind name : Key) (language : ℕ) where
       rw here (none_other entry rest is apart.1)
     where
       parts : (equal_key kind entry.kind ≡ true) × (equal_key name entry.name ≡ true)
-      parts = and_both (equal_key kind entry.kind) (equal_key name entry.name) is
+      parts = and_parts (equal_key kind entry.kind) (equal_key name entry.name) is
 
       unpaired : (a b : Bool) → equal_key kind other.kind ≡ a → equal_key name other.name ≡ b → is_pair kind name other ≡ false
       unpaired false b e f = rw e refl
@@ -94,7 +93,7 @@ module _ (kind name : Key) (language : ℕ) where
   -- resources that are the same in type and name are wanted alike
   alike : (a b : Entry) → IsShort a.kind × IsShort a.name → IsShort b.kind × IsShort b.name → same_name a b ≡ true → is_pair kind name a ≡ is_pair kind name b
   alike a b short also e =
-      let parts = and_both (same_key a.kind b.kind) (same_key a.name b.name) e in
+      let parts = and_parts (same_key a.kind b.kind) (same_key a.name b.name) e in
       ap (λ (k : Key). equal_key kind k && equal_key name a.name) (keys_one a.kind b.kind short.0 also.0 parts.0)
       ∙ ap (λ (k : Key). equal_key kind b.kind && equal_key name k) (keys_one a.name b.name short.1 also.1 parts.1)
 

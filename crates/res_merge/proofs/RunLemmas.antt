@@ -4,7 +4,7 @@ use Rattle.std.specs.Prelude.{◌&&◌}
 use Rattle.std.specs.Ordering.{is_eq}
 use Rattle.std.specs.declared.cmp.Ordering.{Ordering}
 use Rattle.std.specs.declared.cmp.Ordering.TheVariants.{Less, Equal, Greater}
-use Rattle.std.proofs.lemmas.Bool.{false≢true}
+use Rattle.std.proofs.lemmas.Bool.{false≢true, and_parts}
 use Rattle.std.proofs.lemmas.List.{drop_all}
 use Rattle.link_base.specs.declared.kinds.resource.ResName.TheVariants as name
 use Rattle.res_merge.specs.declared.resource.Resource.{Resource}
@@ -14,7 +14,6 @@ use Rattle.res_merge.specs.Runs.{Run, run_before, runs}
 use Rattle.res_merge.specs.Levels.{same_at}
 use Rattle.res_merge.specs.declared.runs.Level.{Level}
 use Rattle.res_merge.specs.declared.runs.Level.TheVariants.{Types, Names}
-use Rattle.res_merge.proofs.HeaderLemmas.{and_both}
 use Rattle.res_merge.proofs.OrderLemmas.{key_total}
 
 equal : (r : Ordering) → is_eq r ≡ true → r ≡ Equal
@@ -29,7 +28,7 @@ keys_agree left right other e = ap is_eq (sym (key_total.congr left right other 
 pub agree : (level : Level) (left right other : Entry) → same_at level left right ≡ true → same_at level right other ≡ same_at level left other
 agree Types left right other e = keys_agree left.kind right.kind other.kind e
 agree Names left right other e =
-    let both = and_both (same_key left.kind right.kind) (same_key left.name right.name) e in
+    let both = and_parts (same_key left.kind right.kind) (same_key left.name right.name) e in
     ap (λ (b : Bool). b && same_key right.name other.name) (keys_agree left.kind right.kind other.kind both.0)
     ∙ ap (λ (b : Bool). same_key left.kind other.kind && b) (keys_agree left.name right.name other.name both.1)
 

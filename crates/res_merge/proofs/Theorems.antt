@@ -7,7 +7,7 @@ use Rattle.std.specs.Ordering.{ordering_then, nat_cmp, is_lt, is_eq, is_gt}
 use Rattle.std.specs.Cmp.{tied_itself}
 use Rattle.std.specs.declared.cmp.Ordering.{Ordering}
 use Rattle.std.specs.declared.cmp.Ordering.TheVariants.{Less, Equal, Greater}
-use Rattle.std.proofs.lemmas.Bool.{false≢true, true≢false, eqb-true}
+use Rattle.std.proofs.lemmas.Bool.{false≢true, true≢false, eqb-true, leb-true, and_parts}
 use Rattle.std.proofs.lemmas.List.{take-take, drop-drop, drop-take}
 use Rattle.std.proofs.lemmas.List.Elements.{recursion_from_All, All-from_recursion}
 use Rattle.std.proofs.lemmas.List.Sorted.{All-permutation}
@@ -18,7 +18,6 @@ use Rattle.res_merge.specs.Runs.{names_of, kinds_of, same_name}
 use Rattle.res_merge.specs.Tree.{tree_of, tree_size}
 use Rattle.res_merge.specs.Lookup.{leaf_data, place_in, resource_data}
 use Rattle.res_merge.specs.Found.{IsSmallKey, AreNumbered, equal_key, is_resource, data_of, kind_data}
-use Rattle.res_merge.proofs.HeaderLemmas.{and_both}
 use Rattle.res_merge.proofs.OrderLemmas.{entry_total}
 use Rattle.res_merge.proofs.SortLemmas.{Ascends, order_moves, order_ascends}
 use Rattle.res_merge.proofs.SizeLemmas.{tree_small, order_few, order_short}
@@ -33,10 +32,10 @@ module _ (kind name : Key) (language : ℕ) where
   -- of resources that differ one at most is wanted
   one_resource : (a b : Entry) → same_resource a b ≡ false → is_resource kind name language a ≡ true → is_resource kind name language b ≡ true → ⊥
   one_resource a b differ is also =
-      let first = and_both (equal_key kind a.kind) (equal_key name a.name && eqb a.language language) is in
-      let second = and_both (equal_key name a.name) (eqb a.language language) first.1 in
-      let third = and_both (equal_key kind b.kind) (equal_key name b.name && eqb b.language language) also in
-      let fourth = and_both (equal_key name b.name) (eqb b.language language) third.1 in
+      let first = and_parts (equal_key kind a.kind) (equal_key name a.name && eqb a.language language) is in
+      let second = and_parts (equal_key name a.name) (eqb a.language language) first.1 in
+      let third = and_parts (equal_key kind b.kind) (equal_key name b.name && eqb b.language language) also in
+      let fourth = and_parts (equal_key name b.name) (eqb b.language language) third.1 in
       let kinds : a.kind ≡ b.kind = sym (wanted_is kind a.kind first.0) ∙ wanted_is kind b.kind third.0 in
       let names : a.name ≡ b.name = sym (wanted_is name a.name second.0) ∙ wanted_is name b.name fourth.0 in
       let languages : a.language ≡ b.language = eqb-true a.language language second.1 ∙ sym (eqb-true b.language language fourth.1) in
@@ -131,9 +130,6 @@ part_of_part bytes start size offset count fits =
     ∙ ap (take count) (drop-take offset (size - offset) rest)
     ∙ take-take count (size - offset) (drop offset rest) (omega arith)
     ∙ ap (take count) (drop-drop offset start bytes)
-
-leb-true : (a b : ℕ) → leb a b ≡ true → a ≤ b
-leb-true a b e = grind arith
 
 in_memory : (memory : List ℕ) (rva size : ℕ) (leaf : Option ℕ) → option_map (λ (place : ℕ × ℕ). bytes_at memory place.0 place.1) (option_and_then (leaf_data (bytes_at memory rva size) rva) leaf) ≡ option_map (λ (place : ℕ × ℕ). bytes_at (bytes_at memory rva size) (place.0 - rva) place.1) (option_and_then (leaf_data (bytes_at memory rva size) rva) leaf)
 unfolding leaf_data

@@ -1,6 +1,6 @@
 -- A file is read one entry after another.
 use Rattle.std.proofs.Common.{◌≡◌, ℕ, zero, suc, ◌+◌, ◌<◌, ◌≤◌, Bool, true, false, cond, eqb, eqb-true, ltb, List, [], ◌∷◌, length, Result, Ok, Err, refl, sym, ap, ◌∙◌, lt-ltb, le-ltb, le-leb, arith}
-use Rattle.std.proofs.lemmas.Bool.{ltb-false}
+use Rattle.std.proofs.lemmas.Bool.{ltb-false, and_parts}
 use Rattle.std.specs.Prelude.{◌&&◌}
 use borrow.Author.Tests.{ltb-true}
 use Rattle.link_base.proofs.TestLemmas.{and_second}
@@ -12,7 +12,7 @@ use Rattle.res_merge.specs.declared.reader.Resources.{Resources}
 use Rattle.res_merge.specs.Entries.{Entry}
 use Rattle.res_merge.specs.ResourceFile.{EntryRead, entry_read, item_then, entries_from, entries_at, resources_of}
 use Rattle.res_merge.specs.Left.{items_left}
-use Rattle.res_merge.proofs.HeaderLemmas.{EntryEnds, entry_ends, and_both}
+use Rattle.res_merge.proofs.HeaderLemmas.{EntryEnds, entry_ends}
 
 -- how many entries may come does not matter, where the file has no more bytes
 entries_enough : (n m : ℕ) (bytes : List ℕ) (offset : ℕ) → length bytes ≤ offset + n → length bytes ≤ offset + m → entries_from n bytes offset ≡ entries_from m bytes offset
@@ -56,7 +56,7 @@ end_step bytes offset le = entries_enough (length bytes) 0 bytes offset (omega a
 pub left_cut : (reader : Resources) → (eqb reader.at 0 && ltb (length reader.bytes.now) 32) ≡ true → items_left reader ≡ Err (record { kind = bad.Header; at = 0 }) ∷ []
 unfolding resources_of
 left_cut reader cut =
-    let both = and_both (eqb reader.at 0) (ltb (length reader.bytes.now) 32) cut in
+    let both = and_parts (eqb reader.at 0) (ltb (length reader.bytes.now) 32) cut in
     rw (both.0) (by_test (has_bytes reader.bytes.now 0 32) refl (ltb-true (length reader.bytes.now) 32 both.1))
   where
     by_test : (b : Bool) → has_bytes reader.bytes.now 0 32 ≡ b → length reader.bytes.now < 32 → cond b (entries_at reader.bytes.now 32) (Err (record { kind = bad.Header; at = 0 }) ∷ []) ≡ Err (record { kind = bad.Header; at = 0 }) ∷ []
@@ -83,7 +83,7 @@ left_behind bytes at some = by_test (eqb at 0) refl
     by_test false e = refl
 
 pub cut_short : (reader : Resources) → (eqb reader.at 0 && ltb (length reader.bytes.now) 32) ≡ true → length reader.bytes.now < 32
-cut_short reader cut = ltb-true (length reader.bytes.now) 32 (and_both (eqb reader.at 0) (ltb (length reader.bytes.now) 32) cut).1
+cut_short reader cut = ltb-true (length reader.bytes.now) 32 (and_parts (eqb reader.at 0) (ltb (length reader.bytes.now) 32) cut).1
 
 pub fewer : {A : Type 0} (left rest : List A) (x : A) → left ≡ x ∷ rest → length rest < length left
 fewer left rest x e = omega (arith, ap length e)

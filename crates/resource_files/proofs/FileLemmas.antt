@@ -1,5 +1,6 @@
 -- What the entries of a resource file have: whole texts that are not too long, and no more bytes together than the file.
-use Rattle.std.proofs.Common.{◌≡◌, ℕ, zero, suc, ◌+◌, ◌-◌, ◌*◌, ◌/◌, ◌<◌, ◌≤◌, Bool, true, false, cond, eqb, leb, ltb, min, List, [], ◌∷◌, length, Option, Some, None, Result, Ok, Err, refl, ap, ◌∙◌, drop, arith}
+use Rattle.std.proofs.Common.{◌≡◌, ℕ, zero, suc, ◌+◌, ◌-◌, ◌*◌, ◌/◌, ◌<◌, ◌≤◌, Bool, true, false, cond, eqb, ltb, min, List, [], ◌∷◌, length, Option, Some, None, Result, Ok, Err, refl, ap, ◌∙◌, drop, arith}
+use Rattle.std.proofs.lemmas.Bool.{leb-true}
 use Rattle.std.specs.Prelude.{filter_map}
 use Rattle.std.specs.List.{sum_by, AllByRecursion}
 use Rattle.std.specs.Option.{option_or}
@@ -88,14 +89,11 @@ entry_fits : (bytes : List ℕ) (offset : ℕ) → EntryFits bytes offset (entry
 unfolding entry_read entry_with
 entry_fits bytes offset = headed (heading bytes offset) (heading_fits bytes offset)
   where
-    there : (a b : ℕ) → leb a b ≡ true → a ≤ b
-    there a b e = grind arith
-
     whole : (heading : Heading) (b c : Bool) → HeadingFits offset (Ok heading) → header_is_bad bytes offset heading.fields ≡ b → has_bytes bytes (data_place bytes offset) (data_size bytes offset) ≡ c → EntryFits bytes offset (cond b (Err bad.Header) (cond c (Ok (entry_with bytes offset heading)) (Err bad.Data)))
     whole heading true c fits e d = tt
     whole heading false true fits e d =
         let long = header_long bytes offset heading.fields e in
-        let inside = there (data_place bytes offset + data_size bytes offset) (length bytes) d in
+        let inside = leb-true (data_place bytes offset + data_size bytes offset) (length bytes) d in
         let count = bytes_count bytes (data_place bytes offset) (data_size bytes offset) in
         let above = aligned-above (data_place bytes offset + data_size bytes offset) in
         record {

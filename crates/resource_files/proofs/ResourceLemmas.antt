@@ -1,9 +1,9 @@
 -- The entries of a resource file, one after another.
 use Rattle.std.proofs.Common.{◌≡◌, ℕ, ◌+◌, ◌≤◌, ◌<◌, suc, Bool, true, false, cond, List, [], ◌∷◌, ◌++◌, length, map, Option, Some, None, Result, Ok, Err, refl, sym, ap, ◌∙◌, append_assoc, arith}
+use Rattle.std.proofs.lemmas.Option.{none-some}
 use Rattle.std.specs.Prelude.{filter_map, option_map}
-use Rattle.std.proofs.lemmas.List.{length-append}
+use Rattle.std.proofs.lemmas.List.{length-append, append-nil}
 use Rattle.link_base.specs.Refusals.{first_standing}
-use Rattle.link_base.specs.declared.fault.Fault.{Fault}
 use Rattle.link_base.specs.declared.stop.Refusal.{Refusal}
 use Rattle.link_base.specs.declared.stop.Refusal.TheVariants as refusal
 use Rattle.res_merge.specs.declared.resource.ResError.{ResError}
@@ -94,27 +94,17 @@ adds_again before all now left rest entry is again adds =
 pub refuses_again : (before all now : List Entry) (left rest : Items) (entry : Entry) (file : List ℕ) (r : Refusal) → left ≡ Ok entry ∷ rest → AddsOn before all now left → RefusesSaid (cond (is_again now entry) (Some (duplicate file entry)) None) r → RefusesSaid (option_map (duplicate file) (first_again before all)) r
 refuses_again before all now left rest entry file (refusal.Fault fault) is adds bad = go (is_again now entry) refl bad
   where
-    no_some : (fault : Fault) → None ≡ Some fault → ⊥
-    no_some fault e = cc
-
     go : (b : Bool) → is_again now entry ≡ b → cond b (Some (duplicate file entry)) None ≡ Some (fault_said fault) → option_map (duplicate file) (first_again before all) ≡ Some (fault_said fault)
     go true e said = ap (option_map (duplicate file)) (adds_again before all now left rest entry is e adds) ∙ said
-    go false e said = absurd (no_some (fault_said fault) said)
+    go false e said = absurd (none-some (fault_said fault) said)
 refuses_again before all now left rest entry file refusal.Memory is adds bad = tt
 
 pub adds_no_error : (before all now : List Entry) (left rest : Items) (error : ResError) → left ≡ Err error ∷ rest → AddsOn before all now left → ⊥
-adds_no_error before all now left rest error is adds = no_some error (sym adds.well ∙ ap error_of is)
-  where
-    no_some : (error : ResError) → None ≡ Some error → ⊥
-    no_some error e = cc
+adds_no_error before all now left rest error is adds = none-some error (sym adds.well ∙ ap error_of is)
 
 pub adds_all : (before all now : List Entry) (left : Items) → left ≡ [] → AddsOn before all now left → (now ≡ before ++ all) × (first_again before all ≡ None)
 unfolding first_again
 adds_all before all now left none adds = (
-  sym (nothing_behind now) ∙ sym (ap (λ (items : Items). now ++ entries_of items) none) ∙ adds.together,
+  sym (append-nil now) ∙ sym (ap (λ (items : Items). now ++ entries_of items) none) ∙ adds.together,
   sym adds.again ∙ ap (λ (items : Items). first_again now (entries_of items)) none,
 )
-  where
-    nothing_behind : (es : List Entry) → es ++ [] ≡ es
-    nothing_behind [] = refl
-    nothing_behind (e ∷ es) = ap (λ (rest : List Entry). e ∷ rest) (nothing_behind es)

@@ -1,5 +1,6 @@
 -- The faults of resource files hold no place of a text, so that each is what it says; and so of several faults.
 use Rattle.std.proofs.Common.{◌≡◌, ℕ, zero, suc, ◌+◌, Bool, true, false, cond, List, length, Option, Some, None, refl, sym, ap, ◌∙◌}
+use Rattle.std.proofs.lemmas.Option.{same_Some}
 use Rattle.std.specs.Prelude.{option_map}
 use Rattle.std.specs.Option.{option_or}
 use Rattle.link_base.specs.Refusals.{first_refusal_below, RefusesFor}
@@ -15,14 +16,11 @@ use Rattle.file_search.specs.FoundFiles.{FoundFile}
 use Rattle.resource_files.specs.SaidFaults.{name_of, fault_said, RefusesSaid}
 use Rattle.resource_files.specs.Held.{error_in, entries_in, bad_entry, first_again, duplicate, resource_fault}
 
-same_some : {A : Type 0} → (x y : A) → Some x ≡ Some y → x ≡ y
-same_some x y is = cc
-
 abbrev pub IsPlain : Option Fault → Type 0
 IsPlain o = option_map fault_said o ≡ o
 
 pub plain_fault : (o : Option Fault) (fault : Fault) → IsPlain o → o ≡ Some fault → fault_said fault ≡ fault
-plain_fault o fault plain is = same_some (fault_said fault) fault (sym (ap (option_map fault_said) is) ∙ plain ∙ is)
+plain_fault o fault plain is = same_Some (fault_said fault) fault (sym (ap (option_map fault_said) is) ∙ plain ∙ is)
 
 -- a refusal of such a fault says it
 pub refuses_said : (o : Option Fault) (r : Refusal) → IsPlain o → RefusesFor o r → RefusesSaid o r

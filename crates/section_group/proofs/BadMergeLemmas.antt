@@ -1,9 +1,10 @@
 -- A merge is bad exactly where a test says so.
-use Rattle.std.proofs.Common.{◌≡◌, ◌≢◌, ℕ, zero, suc, ◌+◌, ◌*◌, ◌<◌, ◌≤◌, ◌-◌, Bool, true, false, cond, not, ◌||◌, List, [], ◌∷◌, length, get_or, Option, Some, None, is_some, IsSome, unwrap_or, refl, sym, ap, ◌∙◌, subst, inl, inr, ◌⊎◌, arith}
+use Rattle.std.proofs.Common.{◌≡◌, ◌≢◌, ℕ, zero, suc, ◌+◌, ◌*◌, ◌<◌, ◌≤◌, ◌-◌, Bool, true, false, cond, not, ◌||◌, List, [], ◌∷◌, length, get_or, Option, Some, None, is_some, IsSome, unwrap_or, refl, sym, ap, ◌∙◌, subst, inl, inr, arith}
+use Rattle.std.proofs.lemmas.Option.{same_Some, none-some}
 use Rattle.std.specs.Option.{option_map_or}
 use Rattle.std.specs.List.{position_or_len}
 use Rattle.std.specs.Map.{lookup, keys_of}
-use Rattle.std.proofs.lemmas.Bool.{false≢true, true≢false, or_parts}
+use Rattle.std.proofs.lemmas.Bool.{false≢true, true≢false, or_parts, or_cases, not-true, not-false}
 use Rattle.std.proofs.Math.Nat.{mul-le-mul_left}
 use Rattle.std.proofs.lemmas.List.Sums.{passes_at_first}
 use Rattle.std.proofs.lemmas.Map.Entries.{length-keys_of}
@@ -153,18 +154,6 @@ target_of given k lt = given_first given (merge_at given k).0 _ (first_of_name g
 
 -- ---- the tests
 
-one_true : (a b : Bool) → (a || b) ≡ true → (a ≡ true) ⊎ (b ≡ true)
-one_true true b e = inl refl
-one_true false b e = inr e
-
-not_true : (b : Bool) → not b ≡ true → b ≡ false
-not_true true e = absurd (false≢true e)
-not_true false e = refl
-
-not_false : (b : Bool) → not b ≡ false → b ≡ true
-not_false true e = refl
-not_false false e = absurd (true≢false e)
-
 -- the test of the target at a merge, by the first merge of its name
 elsewhere_at : (given : List (List ℕ × List ℕ)) (k : ℕ) (lt : k < length given) → leads_elsewhere given (merge_at given k) ≡ not (same_name (merge_at given k).1 (merge_at given (first_of_name given k lt).at).1)
 elsewhere_at given k lt = ap (λ (o : Option (List ℕ)). not (option_map_or (same_name (merge_at given k).1) o false)) (target_of given k lt)
@@ -172,7 +161,7 @@ elsewhere_at given k lt = ap (λ (o : Option (List ℕ)). not (option_map_or (sa
 other_target : (given : List (List ℕ × List ℕ)) (k : ℕ) → k < length given → leads_elsewhere given (merge_at given k) ≡ true → HasOtherTarget given k
 other_target given k lt other =
     let f = first_of_name given k lt in
-    let differ = not_true (same_name (merge_at given k).1 (merge_at given f.at).1) (sym (elsewhere_at given k lt) ∙ other) in
+    let differ = not-true (same_name (merge_at given k).1 (merge_at given f.at).1) (sym (elsewhere_at given k lt) ∙ other) in
     let apart : f.at ≢ k = λ (e : f.at ≡ k). false≢true (sym differ ∙ ap (λ (j : ℕ). same_name (merge_at given k).1 (merge_at given j).1) e ∙ same_refl (merge_at given k).1) in
     record {
       earlier = f.at;
@@ -184,23 +173,20 @@ other_target given k lt other =
 same_right : (given : List (List ℕ × List ℕ)) (k : ℕ) (lt : k < length given) → leads_elsewhere given (merge_at given k) ≡ false → target given (merge_at given k).0 ≡ Some (merge_at given k).1
 same_right given k lt passed =
     let r = (merge_at given (first_of_name given k lt).at).1 in
-    let equal = same_is (merge_at given k).1 r (not_false (same_name (merge_at given k).1 r) (sym (elsewhere_at given k lt) ∙ passed)) in
+    let equal = same_is (merge_at given k).1 r (not-false (same_name (merge_at given k).1 r) (sym (elsewhere_at given k lt) ∙ passed)) in
     target_of given k lt ∙ ap Some (sym equal)
 
 same_targets : (given : List (List ℕ × List ℕ)) (j k : ℕ) → j < length given → k < length given → leads_elsewhere given (merge_at given j) ≡ false → leads_elsewhere given (merge_at given k) ≡ false → (merge_at given j).0 ≡ (merge_at given k).0 → (merge_at given j).1 ≡ (merge_at given k).1
 same_targets given j k lt lt' pass pass' same =
-    some_same (sym (same_right given j lt pass) ∙ ap (target given) same ∙ same_right given k lt' pass')
-  where
-    some_same : {a b : List ℕ} → Some a ≡ Some b → a ≡ b
-    some_same h = cc
+    same_Some _ _ (sym (same_right given j lt pass) ∙ ap (target given) same ∙ same_right given k lt' pass')
 
 -- a merge that fails a test is bad
 pub failed_is_bad : (given : List (List ℕ × List ℕ)) (steps k : ℕ) → k < length given → length (all_merges given) ≤ steps → fails given steps (merge_at given k) ≡ true → IsBadMerge given k
 failed_is_bad given steps k lt far e =
     let m = merge_at given k in
-    elim (one_true (leads_elsewhere given m) (goes_on given steps m.0 || names_reserved m) e) [
+    elim (or_cases (leads_elsewhere given m) (goes_on given steps m.0 || names_reserved m) e) [
       | inl other ↦ inl (other_target given k lt other)
-      | inr more ↦ inr (elim (one_true (goes_on given steps m.0) (names_reserved m) more) [
+      | inr more ↦ inr (elim (or_cases (goes_on given steps m.0) (names_reserved m) more) [
         | inl on ↦ inl (comes_back given steps m.0 far on)
         | inr reserved ↦ inr reserved
       ])
@@ -254,17 +240,11 @@ unfolding preset_merges
 presets_end = (refl, (refl, (refl, (refl, (refl, tt)))))
 
 end_of : (ms : List (List ℕ × List ℕ)) (name y : List ℕ) → AllEnd ms → target_among ms name ≡ Some y → is_some (target_among preset_merges y) ≡ false
-end_of [] name y ends e = absurd (not_some e)
-  where
-    not_some : {a : List ℕ} → None ≡ Some a → ⊥
-    not_some h = cc
+end_of [] name y ends e = absurd (none-some _ e)
 end_of (m ∷ ms) name y ends e = go (same_name name m.0) e (end_of ms name y ends.1)
   where
-    same_some : {a b : List ℕ} → Some a ≡ Some b → a ≡ b
-    same_some h = cc
-
     go : (b : Bool) → cond b (Some m.1) (target_among ms name) ≡ Some y → (target_among ms name ≡ Some y → is_some (target_among preset_merges y) ≡ false) → is_some (target_among preset_merges y) ≡ false
-    go true h rest = ap (λ (x : List ℕ). is_some (target_among preset_merges x)) (sym (same_some h)) ∙ ends.0
+    go true h rest = ap (λ (x : List ℕ). is_some (target_among preset_merges x)) (sym (same_Some _ _ h)) ∙ ends.0
     go false h rest = rest h
 
 target_is : (given : List (List ℕ × List ℕ)) (name : List ℕ) → target given name ≡ option_or (target_among given name) (target_among preset_merges name)

@@ -1,5 +1,6 @@
 -- Following merges: look-ups, chains, and where chains come back.
 use Rattle.std.proofs.Common.{◌≡◌, ℕ, zero, suc, ltb, not, map, position, unwrap_or, lt-ltb, le-ltb, ◌+◌, ◌<◌, ◌≤◌, Bool, true, false, cond, List, [], ◌∷◌, ◌++◌, length, take, get_or, Option, Some, None, refl, sym, ap, ◌∙◌, inl, inr, arith}
+use Rattle.std.proofs.lemmas.Option.{same_Some}
 use Rattle.std.proofs.lemmas.List.{take_more, get_or_default, get_or_past, length-map}
 use Rattle.std.proofs.Math.ListN.{get_or-map}
 use Rattle.std.proofs.Math.Numerals.{one-add}
@@ -75,13 +76,10 @@ adds merges i item first old new q lt is before after =
 found_place : (n m k : ℕ) → Some k ≡ cond (ltb n m) (Some n) None → (k ≡ n) × (n < m)
 found_place n m k e =
     elim (cases_lt n m) [
-      | inl lt ↦ (some_same k n (rw lt-ltb at e), lt)
+      | inl lt ↦ (same_Some k n (rw lt-ltb at e), lt)
       | inr le ↦ absurd (not_some k (rw le-ltb at e))
     ]
   where
-    some_same : (a b : ℕ) → Some a ≡ Some b → a ≡ b
-    some_same a b h = cc
-
     not_some : (a : ℕ) → Some a ≡ None → ⊥
     not_some a h = cc
 

@@ -7,7 +7,7 @@ use Rattle.std.proofs.lemmas.Cmp.{nat_cmp_total}
 use Rattle.std.specs.declared.cmp.Ordering.{Ordering}
 use Rattle.std.specs.declared.cmp.Ordering.TheVariants.{Less, Equal, Greater}
 use Rattle.std.specs.declared.alloc.Global.{Global}
-use Rattle.std.proofs.lemmas.Bool.{false≢true}
+use Rattle.std.proofs.lemmas.Bool.{false≢true, or_right}
 use Rattle.std.proofs.lemmas.List.{get_or_default}
 use Rattle.std.proofs.lemmas.List.Sorted.{Contains-permutation, IsPermutation-sym}
 use Rattle.std.proofs.lemmas.Option.{slice_get_cases}
@@ -32,11 +32,7 @@ any_there test (x ∷ xs) e = go (test x) refl e (any_there test xs)
 pub any_passes : (test : ℕ → Bool) (xs : List ℕ) (k : ℕ) (y : ℕ) → k < length xs → get_or xs k y ≡ y → test y ≡ true → list_any test xs ≡ true
 any_passes test [] k y lt is pass = absurd (omega arith)
 any_passes test (x ∷ xs) zero y lt is pass = ap (λ (b : Bool). b || list_any test xs) (ap test is ∙ pass)
-any_passes test (x ∷ xs) (suc k) y lt is pass = or_true (test x) (list_any test xs) (any_passes test xs k y (omega arith) is pass)
-  where
-    or_true : (a b : Bool) → b ≡ true → (a || b) ≡ true
-    or_true true b e = refl
-    or_true false b e = e
+any_passes test (x ∷ xs) (suc k) y lt is pass = or_right (test x) (list_any test xs) (any_passes test xs k y (omega arith) is pass)
 
 -- ---- keys
 

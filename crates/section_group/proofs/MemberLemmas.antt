@@ -5,7 +5,7 @@ use Rattle.std.specs.declared.alloc.Global.{Global}
 use Rattle.std.proofs.lemmas.Bool.{false≢true, cases_lt, eqb-true, and_parts}
 use Rattle.std.proofs.lemmas.List.{get_or_past}
 use Rattle.std.proofs.lemmas.List.Elements.{All-contains}
-use Rattle.std.proofs.lemmas.Option.{get_or_from_slice_get, slice_get_cases}
+use Rattle.std.proofs.lemmas.Option.{get_or_from_slice_get, slice_get_cases, same_Some, slice_get_within}
 use Rattle.std.proofs.lemmas.Map.Keys.{apart_from_distinct}
 use Rattle.section_group.specs.declared.homes.Home.{Home}
 use Rattle.section_group.specs.Merging.{same_name}
@@ -14,7 +14,7 @@ use Rattle.section_group.specs.Placement.{goes_to, section_attributes}
 use Rattle.section_group.specs.Gathering.{home_of, has_number, IsNumberOf, AreNumbers, members_of, AreMembers}
 use Rattle.section_group.specs.Sections.{Gathers, home_at, pieces_at, same_home}
 use Rattle.section_group.proofs.ChainLemmas.{same_is, same_refl}
-use Rattle.section_group.proofs.PartLemmas.{used_within, told_within}
+use Rattle.section_group.proofs.PartLemmas.{used_within}
 use Rattle.section_group.proofs.SectionLemmas.{pieces_read}
 use Rattle.link_base.proofs.RangeLemmas.{Passes, range_passes, range_has, range_distinct}
 
@@ -22,7 +22,7 @@ use Rattle.link_base.proofs.RangeLemmas.{Passes, range_passes, range_has, range_
 pub numbers_within : (input : Input) (homes : List Home) (count : ℕ) (numbers : List (Option ℕ)) → AreNumbers input homes count numbers → (k number : ℕ) → get_or numbers k None ≡ Some number → number < length homes
 numbers_within input homes count numbers are k number e =
     elim (cases_lt k count) [
-      | inl lt ↦ told_within homes number (home_of input k) (subst (IsNumberOf input homes k) e (are.each k lt)).1
+      | inl lt ↦ slice_get_within homes number (home_of input k) (subst (IsNumberOf input homes k) e (are.each k lt)).1
       | inr past ↦ absurd (not_some (sym (get_or_past numbers k None (omega (arith, are.same_length))) ∙ e))
     ]
   where
@@ -59,7 +59,7 @@ pub gathers : (input : Input) (homes : List Home) (numbers : List (Option ℕ)) 
 gathers input homes numbers members numbered given distinct = record {
   same_length = given.same_length;
   exact = λ section k lt. (goes section k lt, back section k lt);
-  apart = λ section other k lt lt' here there. same_some (sym (numbered_as section k lt here) ∙ numbered_as other k lt' there);
+  apart = λ section other k lt lt' here there. same_Some _ _ (sym (numbered_as section k lt here) ∙ numbered_as other k lt' there);
   distinct = λ section lt. subst (IsDistinct eqb) (sym (is section lt)) (range_distinct (λ k. has_number section (get_or numbers k None)) 0 (length numbers));
   complete = λ k used. complete k used (get_or numbers k None) refl (numbered.each k (used_within input k used));
 }
@@ -89,9 +89,6 @@ gathers input homes numbers members numbered given distinct = record {
     numbered_as : (section k : ℕ) → section < length homes → Contains (pieces_at members section) k → get_or numbers k None ≡ Some section
     numbered_as section k lt there = number_is section (get_or numbers k None) (passes_of section k lt there).passes
 
-    same_some : {a b : ℕ} → Some a ≡ Some b → a ≡ b
-    same_some h = cc
-
     goes : (section k : ℕ) → section < length homes → Contains (pieces_at members section) k → goes_to input (home_at homes section).name (home_at homes section).attributes k ≡ true
     goes section k lt there =
         let told = subst (IsNumberOf input homes k) (numbered_as section k lt there) (numbered.each k (omega (arith, (passes_of section k lt there).high, numbered.same_length))) in
@@ -106,7 +103,7 @@ gathers input homes numbers members numbered given distinct = record {
     back_by : (section k : ℕ) → section < length homes → home_of input k ≡ home_at homes section → is_used input k ≡ true → (o : Option ℕ) → get_or numbers k None ≡ o → IsNumberOf input homes k o → Contains (pieces_at members section) k
     back_by section k lt home used None e told = absurd (false≢true (sym told ∙ used))
     back_by section k lt home used (Some number) e told =
-        let same = homes_apart homes number section distinct (told_within homes number (home_of input k) told.1) lt (home_here number (home_of input k) told.1 ∙ home) in
+        let same = homes_apart homes number section distinct (slice_get_within homes number (home_of input k) told.1) lt (home_here number (home_of input k) told.1 ∙ home) in
         listed section k lt (e ∙ ap Some same) (used_within input k used)
 
     back : (section k : ℕ) → section < length homes → goes_to input (home_at homes section).name (home_at homes section).attributes k ≡ true → Contains (pieces_at members section) k
@@ -120,5 +117,5 @@ gathers input homes numbers members numbered given distinct = record {
     complete : (k : ℕ) → is_used input k ≡ true → (o : Option ℕ) → get_or numbers k None ≡ o → IsNumberOf input homes k o → (section : ℕ) × (section < length homes) × Contains (pieces_at members section) k
     complete k used None e told = absurd (false≢true (sym told ∙ used))
     complete k used (Some number) e told =
-        let lt = told_within homes number (home_of input k) told.1 in
+        let lt = slice_get_within homes number (home_of input k) told.1 in
         (number, lt, listed number k lt e (used_within input k used))

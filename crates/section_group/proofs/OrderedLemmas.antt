@@ -8,7 +8,7 @@ use Rattle.std.specs.Cmp.Rules.{comparing}
 use Rattle.std.specs.declared.alloc.Global.{Global}
 use Rattle.std.specs.declared.cmp.Ordering.TheVariants.{Equal}
 use Rattle.std.proofs.lemmas.Bool.{false≢true, cases_lt}
-use Rattle.std.proofs.lemmas.List.{append-nil, length-map, get_or_default}
+use Rattle.std.proofs.lemmas.List.{append-nil, length-map, get_or_default, map_push}
 use Rattle.std.proofs.lemmas.List.Elements.{All-push, All-nil}
 use Rattle.std.proofs.lemmas.List.Sorted.{All-permutation, Contains-permutation, IsPermutation-map}
 use Rattle.std.proofs.lemmas.Map.Keys.{apart_from_distinct, IsDistinct-IsPermutation}
@@ -31,10 +31,6 @@ section_total = search (comparing, rules) depth 9
 section_of : SectionKey → ℕ
 section_of key = key.section
 
-map-push : (f : SectionKey → ℕ) (keys : List SectionKey) (key : SectionKey) → map f (keys ++ key ∷ []) ≡ map f keys ++ f key ∷ []
-map-push f [] key = refl
-map-push f (k ∷ ks) key = ap (λ (xs : List ℕ). f k ∷ xs) (map-push f ks key)
-
 pub keys_begin : (input : Input) (homes : List Home) (members : List (Vec ℕ Global)) → AreKeys input homes members 0 []
 keys_begin input homes members = record { each = All-nil (IsKey input homes members); sections = refl }
 
@@ -42,7 +38,7 @@ pub keys_more : (input : Input) (homes : List Home) (members : List (Vec ℕ Glo
 keys_more input homes members count keys key are needed is_key here = record {
   each = All-push (IsKey input homes members) keys key are.each is_key;
   sections =
-      map-push (λ k. k.section) keys key ∙ ap (λ (xs : List ℕ). xs ++ key.section ∷ []) are.sections
+      map_push (λ k. k.section) keys key ∙ ap (λ (xs : List ℕ). xs ++ key.section ∷ []) are.sections
       ∙ ap (λ (k : ℕ). filter (is_needed input members) (range_with_len 0 count) ++ k ∷ []) here
       ∙ ap (λ (b : Bool). filter (is_needed input members) (range_with_len 0 count) ++ cond b (count ∷ []) []) (sym needed)
       ∙ sym (filter_more (is_needed input members) count);

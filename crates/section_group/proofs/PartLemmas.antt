@@ -5,7 +5,7 @@ use Rattle.std.proofs.lemmas.Map.Keys.{apart_from_distinct}
 use Rattle.section_group.proofs.ChainLemmas.{same_is, same_refl}
 use Rattle.std.proofs.lemmas.Bool.{ltb-true, false≢true, cases_lt, eqb-true}
 use Rattle.std.proofs.lemmas.List.{get_or_default, length-map}
-use Rattle.std.proofs.lemmas.Option.{get_or_from_slice_get, slice_get_cases}
+use Rattle.std.proofs.lemmas.Option.{get_or_from_slice_get, slice_get_within}
 use Rattle.std.proofs.Math.ListN.{get_or-append, get_or-map}
 use Rattle.std.proofs.Math.Seq.{get_or-append_seam}
 use Rattle.section_group.specs.declared.piece.Piece.{Piece}
@@ -27,17 +27,6 @@ cut_to name section = record {
   merged = not (same_name (base_name name) section);
   follows_owner = not (same_name (base_name name) section) || same_name section (codes ".pdata");
 }
-
--- what is read of a list stands in it
-pub told_within : {X : Type 0} (xs : List X) (n : ℕ) (x : X) → slice_get xs n ≡ Some x → n < length xs
-told_within xs n x e =
-    elim (slice_get_cases xs n).1 [
-      | inl there ↦ there.1
-      | inr past ↦ absurd (not_some (sym past.1 ∙ e))
-    ]
-  where
-    not_some : None ≡ Some x → ⊥
-    not_some h = cc
 
 -- one more piece
 pub named_more : (pieces : List Piece) (i : ℕ) (names more : List (List ℕ)) (numbers : List ℕ) (number : ℕ) → NamesPieces pieces i names numbers → KeepsNames names more → length more ≤ i + 1 → IsDistinct same_name more → slice_get more number ≡ Some (get_or pieces i no_piece).name → NamesPieces pieces (i + 1) more (numbers ++ number ∷ [])
@@ -112,7 +101,7 @@ numbered lead pieces count names cuts numbers are is = record {
             absurd (false≢true (sym e ∙ eq-eqb n m one))
 
     there : (names : List (List ℕ)) (n : ℕ) (name : List ℕ) → slice_get names n ≡ Some name → (n < length names) × (get_or names n [] ≡ name)
-    there names n name e = (told_within names n name e, get_or_from_slice_get names n name [] e)
+    there names n name e = (slice_get_within names n name e, get_or_from_slice_get names n name [] e)
 
 pub cuts_are : (pieces : List Piece) (used : List Bool) (merges : List (List ℕ × List ℕ)) (lead : List ℕ → List ℕ) (cuts : List Cut) (numbers : List ℕ) → AreNumbered lead pieces (length pieces) cuts numbers → ((name : List ℕ) → lead name ≡ final_name merges name) → AreCuts (input_from pieces used merges) cuts numbers
 cuts_are pieces used merges lead cuts numbers are leads = record {

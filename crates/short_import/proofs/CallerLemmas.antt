@@ -1,7 +1,7 @@
 -- What callers may cite of bytes that are a short import.
 use Rattle.std.proofs.Common.{◌≡◌, ℕ, ◌+◌, ◌<◌, ◌≤◌, Bool, true, false, not, eqb, List, length, slice_index, Option, None, Some, inl, inr, refl, sym, ap, ◌∙◌, arith}
 use Rattle.std.specs.Option.{option_or}
-use Rattle.std.proofs.lemmas.Bool.{false≢true, eqb-true, ltb-false}
+use Rattle.std.proofs.lemmas.Bool.{false≢true, eqb-true, ltb-false, not-false}
 use Rattle.std.proofs.lemmas.Bool.Decides.{eqb_tells}
 use Rattle.std.proofs.lemmas.List.{length-take-le, length-drop}
 use Rattle.link_base.specs.Bytes.{bytes_at, is_nul}
@@ -69,11 +69,7 @@ not_zero n e =
     ]
 
 same_machine : (n m : ℕ) → not (eqb n m) ≡ false → n ≡ m
-same_machine n m e = eqb-true n m (positive (eqb n m) e)
-  where
-    positive : (b : Bool) → not b ≡ false → b ≡ true
-    positive true e = refl
-    positive false e = absurd (false≢true (sym e))
+same_machine n m e = eqb-true n m (not-false (eqb n m) e)
 
 -- ---- the facts
 

@@ -1,5 +1,6 @@
 -- One more name that is asked for, and what directives say one after the other.
-use Rattle.std.proofs.Common.{◌≡◌, ℕ, ◌+◌, ◌<◌, List, [], ◌∷◌, ◌++◌, length, map, take, get_or, Option, Some, None, refl, sym, ap, subst, ◌∙◌, append_assoc}
+use Rattle.std.proofs.Common.{◌≡◌, ℕ, ◌+◌, ◌<◌, List, [], ◌∷◌, ◌++◌, length, map, take, get_or, Option, refl, sym, ap, subst, ◌∙◌, append_assoc}
+use Rattle.std.proofs.lemmas.List.Elements.{filter_map-append}
 use Rattle.std.specs.Prelude.{filter_map}
 use Rattle.std.specs.List.{AllZip, cons_option}
 use Rattle.std.proofs.lemmas.List.{map-append, take_more}
@@ -26,14 +27,6 @@ asked_more {X} asks before after kept earlier xs i x notes now noted lt here was
 -- the names that directives include
 abbrev pub included : List Directive → List Asked
 included directives = map asked_by_name (filter_map name_said (map said directives))
-
-filter_map-append : {A B : Type 0} (f : A → Option B) (xs ys : List A) → filter_map f (xs ++ ys) ≡ filter_map f xs ++ filter_map f ys
-filter_map-append f [] ys = refl
-filter_map-append {A} {B} f (x ∷ xs) ys = go (f x) (filter_map-append f xs ys)
-  where
-    go : (o : Option B) → filter_map f (xs ++ ys) ≡ filter_map f xs ++ filter_map f ys → cons_option o (filter_map f (xs ++ ys)) ≡ cons_option o (filter_map f xs) ++ filter_map f ys
-    go None rest = rest
-    go (Some y) rest = ap (λ (l : List B). y ∷ l) rest
 
 pub included_more : (earlier : List Asked) (directives : List Directive) (i : ℕ) (d : Directive) → i < length directives → d ≡ get_or directives i d → earlier ++ included (take (i + 1) directives) ≡ (earlier ++ included (take i directives)) ++ included (d ∷ [])
 included_more earlier directives i d lt is =

@@ -2,7 +2,7 @@
 use Rattle.std.proofs.Common.{◌≡◌, ℕ, zero, suc, ◌+◌, ◌<◌, ◌≤◌, Bool, true, false, ◌&&◌, ◌||◌, not, cond, inl, inr, List, [], ◌∷◌, ◌++◌, length, map, take, get_or, Some, None, refl, sym, ap, subst, ◌∙◌, add-one, arith}
 use Rattle.std.specs.Prelude.{is_some}
 use Rattle.std.specs.List.{All, AllZip, IsDistinct, find, list_any, flat_map, range_with_len}
-use Rattle.std.proofs.Math.Bool.{or_assoc}
+use Rattle.std.proofs.Math.Bool.{or_assoc, and-false}
 use Rattle.std.proofs.lemmas.Bool.{cases_lt}
 use Rattle.std.proofs.lemmas.Grind.{flat_map-append}
 use Rattle.std.proofs.lemmas.List.{append-nil, take_more, take_all}
@@ -121,11 +121,7 @@ module _ (names : List (List ℕ)) (name : List ℕ) (absent : Absent names name
   absent_sought asked notes zipped =
       list_any_none (asks_for name) asked
       (zip_left (NotesAsked names) (λ (a : Asked). asks_for name a ≡ false) asked notes zipped (λ a n is.
-      ap (λ (b : Bool). a.search && b) (differs names name a.name n.name absent is.named) ∙ and_false a.search))
-    where
-      and_false : (b : Bool) → (b && false) ≡ false
-      and_false true = refl
-      and_false false = refl
+      ap (λ (b : Bool). a.search && b) (differs names name a.name n.name absent is.named) ∙ and-false a.search))
 
 -- ---- what is open
 

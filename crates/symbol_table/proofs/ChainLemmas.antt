@@ -1,5 +1,6 @@
 -- Chains of links: a part that was followed is walked back with its end, and a chain that comes back to itself has none.
 use Rattle.std.proofs.Common.{◌≡◌, ◌≢◌, ℕ, zero, suc, ◌+◌, ◌<◌, Bool, true, false, cond, ◌||◌, ◌⊎◌, nat_eq, List, [], ◌∷◌, ◌++◌, length, set, Option, None, Some, is_some, Result, Err, refl, sym, ap, ◌∙◌, subst, inl, inr, arith}
+use Rattle.std.proofs.Math.Bool.{or-false}
 use Rattle.std.specs.List.{All, count_by}
 use Rattle.std.proofs.Math.ListN.{length-set}
 use Rattle.std.proofs.lemmas.Bool.{false≢true, eqb-true, eq-eqb, cases_eq, or_cases, or_parts, or_left, or_right}
@@ -54,13 +55,9 @@ no_end end next slot e = absurd cc
 
 -- ---- the names on a path
 
-or_false : (a : Bool) → (a || false) ≡ a
-or_false true = refl
-or_false false = refl
-
 on_with_last : (path : List Passed) (one : Passed) (number : ℕ) → is_on (path ++ one ∷ []) number ≡ (is_on path number || nat_eq number one.number)
 on_with_last path one number =
-    list_any-append (is_from number) path (one ∷ []) ∙ ap (λ (b : Bool). is_on path number || b) (or_false (nat_eq number one.number))
+    list_any-append (is_from number) path (one ∷ []) ∙ ap (λ (b : Bool). is_on path number || b) (or-false (nat_eq number one.number))
 
 -- the links of these names were taken for a cycle
 pub record AreTaken (path : List Passed) (before after : List Link) : Type 0 where

@@ -8,7 +8,7 @@ use Rattle.std.proofs.lemmas.Map.Keys.{IsDistinct-from_apart}
 use Rattle.std.proofs.lemmas.Map.Steps.{length-le_from_distinct_below}
 use Rattle.std.proofs.lemmas.Map.Views.{Contains-from_any}
 use Rattle.std.proofs.lemmas.List.{length-take, length-drop}
-use Rattle.std.proofs.lemmas.List.Folds.{find_at, list_any-append}
+use Rattle.std.proofs.lemmas.List.Folds.{find_at, list_any-append, list_any_at}
 use Rattle.link_base.specs.NameText.{same_name, import_prefix, begins_import, behind_import}
 use Rattle.symbol_names.specs.LinkView.{LinkView}
 use Rattle.symbol_names.specs.Alternates.{is_left, all_alternates, alternate_named}
@@ -180,11 +180,6 @@ is_itself name = (bytes_eq-Decides name name).1 refl
 
 -- ---- lists that have something
 
-any_at : {X : Type 0} (test : X → Bool) (xs : List X) (k : ℕ) (d : X) → k < length xs → test (get_or xs k d) ≡ true → list_any test xs ≡ true
-any_at test [] k d less e = absurd (omega (arith, less))
-any_at test (x ∷ xs) zero d less e = or_left (test x) _ e
-any_at test (x ∷ xs) (suc k) d less e = or_right (test x) _ (any_at test xs k d (omega (arith, less)) e)
-
 any_joined : {X Y : Type 0} (f : X → List Y) (test : X → Bool) (other : Y → Bool) (xs : List X) → list_any test xs ≡ true → ((x : X) → test x ≡ true → list_any other (f x) ≡ true) → list_any other (flat_map f xs) ≡ true
 any_joined f test other [] any each = absurd (false≢true any)
 any_joined f test other (x ∷ xs) any each =
@@ -310,7 +305,7 @@ tail_ahead view start name tail =
     let count = length text + 1 in
     let cut : tail.cut < count = omega (arith, tail.within, ap length is_text) in
     let tails = map (λ (k : ℕ). drop k text) (range_with_len 0 count) in
-    any_at (is_name name) tails tail.cut name (omega (arith, cut, length-map-range_with_len (λ (k : ℕ). drop k text) 0 count))
+    list_any_at (is_name name) tails tail.cut name (omega (arith, cut, length-map-range_with_len (λ (k : ℕ). drop k text) 0 count))
     (ap (is_name name) (get_or-map-range_with_len (λ (k : ℕ). drop k text) 0 count tail.cut tail.cut name cut (omega arith) ∙ ap (drop tail.cut) (sym is_text) ∙ sym tail.is) ∙ is_itself name))
 
 -- each has a place among them

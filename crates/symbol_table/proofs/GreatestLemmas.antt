@@ -1,10 +1,11 @@
 -- One more common: the greatest of its name.
 use Rattle.std.proofs.Common.{◌≡◌, ℕ, ◌<◌, Bool, true, false, cond, nat_eq, nat_lt, List, [], ◌∷◌, ◌++◌, length, map, get_or, replicate, Option, Some, None, inl, inr, refl, sym, ap, subst, ◌∙◌, eqb-true, arith}
+use Rattle.std.proofs.Math.Bool.{and-true}
 use Rattle.std.proofs.Math.ListN.{set}
 use Rattle.std.specs.Prelude.{option_map, filter, nat_le, is_some, ◌&&◌}
 use Rattle.std.specs.Option.{option_or}
 use Rattle.std.specs.List.{find, list_all, list_any, All, AllZip, IsDistinct}
-use Rattle.std.proofs.lemmas.Bool.{true≢false, ltb-true, ltb-false, le-leb, leb-true, lt-leb, and_from, and_left, and_right, cases_lt}
+use Rattle.std.proofs.lemmas.Bool.{true≢false, ltb-true, ltb-false, le-leb, leb-true, lt-leb, and_from, and_left, and_right, cases_lt, and_parts}
 use Rattle.std.proofs.lemmas.Option.{same_Some}
 use Rattle.std.proofs.lemmas.List.{length-replicate, append-nil}
 use Rattle.std.proofs.lemmas.List.Folds.{find-append, list_all-append}
@@ -23,14 +24,6 @@ use Rattle.symbol_names.proofs.NumberLemmas.{number_within, same_number, zip_at,
 use Rattle.symbol_table.proofs.PassLemmas.{none_at, filter_last, Changed, changed_set, changed_not, none_of_all, zip_none, none_kept, any_false, noted_at}
 
 -- ---- what is found in a list
-
-split_and : (a b : Bool) → (a && b) ≡ true → (a ≡ true) × (b ≡ true)
-split_and true b e = (refl, e)
-split_and false b e = absurd (true≢false (sym e))
-
-and_true : (b : Bool) → (b && true) ≡ b
-and_true true = refl
-and_true false = refl
 
 find_passes : {A : Type 0} (p : A → Bool) (xs : List A) (x : A) → find p xs ≡ Some x → p x ≡ true
 find_passes p [] x e = absurd cc
@@ -61,13 +54,13 @@ find_both {A} p q (y ∷ ys) x e h = go (p y) refl e (λ later. find_both p q ys
 find_neither : {A : Type 0} (p q r : A → Bool) (xs : List A) → list_all r xs ≡ true → ((y : A) → r y ≡ true → q y ≡ false) → find (λ y. p y && q y) xs ≡ None
 find_neither p q r [] all fails = refl
 find_neither {A} p q r (y ∷ ys) all fails =
-    let both = split_and (r y) (list_all r ys) all in
+    let both = and_parts (r y) (list_all r ys) all in
     ap (λ (b : Bool). cond b (Some y) (find (λ z. p z && q z) ys)) (and_right (p y) (q y) (fails y both.0)) ∙ find_neither p q r ys both.1 fails
 
 all_from : {A : Type 0} (p q : A → Bool) (xs : List A) → ((y : A) → p y ≡ true → q y ≡ true) → list_all p xs ≡ true → list_all q xs ≡ true
 all_from p q [] to all = refl
 all_from p q (y ∷ ys) to all =
-    let both = split_and (p y) (list_all p ys) all in
+    let both = and_parts (p y) (list_all p ys) all in
     and_from (q y) (list_all q ys) (to y both.0) (all_from p q ys to both.1)
 
 some_after : {A : Type 0} (p : A → Bool) (x : A) (xs : List A) → is_some (find p xs) ≡ true → is_some (find p (x ∷ xs)) ≡ true
@@ -131,7 +124,7 @@ greatest_push (x ∷ rest) e =
     both y = is_greatest xs y && reaches y
 
     same_test : (y : Offered) → test y ≡ both y
-    same_test y = list_all-append (is_at_most y.common.size) xs (e ∷ []) ∙ ap (λ (b : Bool). is_greatest xs y && b) (and_true (reaches y))
+    same_test y = list_all-append (is_at_most y.common.size) xs (e ∷ []) ∙ ap (λ (b : Bool). is_greatest xs y && b) (and-true (reaches y))
 
     size_case : (g : Offered) → greatest_of xs ≡ Some g → (b : Bool) → nat_lt g.common.size e.common.size ≡ b → option_or (find both xs) (find test (e ∷ [])) ≡ cond b (Some e) (Some g)
     size_case g is true lt =

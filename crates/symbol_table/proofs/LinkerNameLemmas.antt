@@ -1,6 +1,6 @@
 -- A name that does not begin as the linker's names do is none of them.
 use Rattle.std.proofs.Common.{◌≡◌, ℕ, Bool, true, false, not, ◌&&◌, ◌||◌, None, List, [], ◌∷◌, codes, refl, sym, ap, ◌∙◌, inl, inr}
-use Rattle.std.proofs.lemmas.Bool.{false≢true, cases_Bool}
+use Rattle.std.proofs.lemmas.Bool.{false≢true, cases_Bool, and_right}
 use Rattle.std.specs.List.{list_any}
 use Rattle.link_base.specs.NameText.{same_name, begins, begins_import, behind_import}
 use Rattle.symbol_names.proofs.NumberLemmas.{same_is}
@@ -32,11 +32,7 @@ no_meaning name none =
     rw (other name image_base_name refl none) (rw (none_of name zero_names refl none) refl)
 
 pub no_meaning_begun : (name : List ℕ) → begins (behind_import name) (codes "__") ≡ false → linker_meaning name ≡ None
-no_meaning_begun name none = no_meaning name (by (not (begins_import name)) (begins (behind_import name) (codes "__")) none)
-  where
-    by : (a b : Bool) → b ≡ false → (a && b) ≡ false
-    by true b e = e
-    by false b e = refl
+no_meaning_begun name none = no_meaning name (and_right (not (begins_import name)) (begins (behind_import name) (codes "__")) none)
 
 pub no_meaning_import : (name : List ℕ) → begins_import name ≡ true → linker_meaning name ≡ None
 no_meaning_import name is = no_meaning name (ap (λ (b : Bool). not b && begins (behind_import name) (codes "__")) is)

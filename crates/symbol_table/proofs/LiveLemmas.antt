@@ -1,5 +1,6 @@
 -- One more live definition: the first of its name, and the clash that it makes.
 use Rattle.std.proofs.Common.{◌≡◌, ℕ, zero, suc, ◌+◌, ◌<◌, Bool, true, false, cond, nat_eq, List, [], ◌∷◌, ◌++◌, length, map, take, get_or, replicate, Option, Some, None, refl, sym, ap, subst, ◌∙◌, add-one, eqb-true, arith}
+use Rattle.std.proofs.Math.Seq.{take-length}
 use Rattle.std.proofs.Math.ListN.{set}
 use Rattle.std.specs.Prelude.{option_map, option_and_then, filter, is_some}
 use Rattle.std.specs.Option.{option_or}
@@ -64,11 +65,7 @@ clash_before entries entry k lt =
 
 clash_last : (entries : List Provided) (entry : Provided) → clash_at (entries ++ entry ∷ []) (length entries) ≡ option_and_then (clash_with entry) (find (has_name entry.definition.name) entries)
 clash_last entries entry =
-    rw (entry_last entries entry, take-append-le (length entries) entries (entry ∷ []) (omega arith)) (ap (λ (es : List Provided). option_and_then (clash_with entry) (find (has_name entry.definition.name) es)) (take_whole entries))
-  where
-    take_whole : (es : List Provided) → take (length es) es ≡ es
-    take_whole [] = refl
-    take_whole (e ∷ es) = ap (λ (rest : List Provided). e ∷ rest) (take_whole es)
+    rw (entry_last entries entry, take-append-le (length entries) entries (entry ∷ []) (omega arith)) (ap (λ (es : List Provided). option_and_then (clash_with entry) (find (has_name entry.definition.name) es)) (take-length entries))
 
 kept_clash : (entry : Provided) (found : Option Provided) → option_and_then (clash_with entry) found ≡ option_and_then (clash_with_first entry) (option_map live_of found)
 kept_clash entry None = refl

@@ -1,7 +1,7 @@
 use Rattle.std.proofs.Common.{◌≡◌, ℕ, ◌-◌, ◌^◌, ◌<◌, Bool, false, eqb, List, [], ◌++◌, length, map, take, drop, get_or, replicate, option_map, refl, sym, ap, ◌∙◌, subst, arith}
 use Rattle.std.specs.List.{All, range_with_len}
 use Rattle.std.proofs.lemmas.Bool.{and_parts, eqb-true}
-use Rattle.std.proofs.lemmas.List.{length-map}
+use Rattle.std.proofs.lemmas.List.{length-map, take_rest, nil_from_length}
 use Rattle.section_group.specs.declared.piece.Piece.{Piece}
 use Rattle.section_group.specs.BarePieces.{bare}
 use Rattle.section_group.specs.PieceContents.{piece_contents}
@@ -21,8 +21,8 @@ use Rattle.link_keeping.specs.Named.{LeadsWithin}
 use Rattle.link_keeping.proofs.CallerLemmas.{count_named, aligned_named, bodies_named}
 use Rattle.link_plan.specs.Planned.{fixes_if, placed_entry}
 use Rattle.link_plan.proofs.CallerLemmas.{standing_length}
-use Rattle.link_plan.proofs.NearLemmas.{fields_stay, no_places}
-use Rattle.link_plan.proofs.LaidLemmas.{ArePlaces, pieces_planned, contents_planned, whole_count, few_planned, aligned_planned, bodies_planned, fields_planned, targets_planned, table_planned, others_fail, part_from, no_fix}
+use Rattle.link_plan.proofs.NearLemmas.{fields_stay}
+use Rattle.link_plan.proofs.LaidLemmas.{ArePlaces, pieces_planned, contents_planned, whole_count, few_planned, aligned_planned, bodies_planned, fields_planned, targets_planned, table_planned, others_fail, no_fix}
 use Rattle.link_plan.proofs.laid.keep_pieces.Goals as goal
 
 pub slice_bounds-link_imports-count : goal.slice_bounds-link_imports-count
@@ -40,7 +40,7 @@ overflow_cast-slots c = omega (arith, c.len-count.ensures, c.name_meant.new.piec
 own_imports : (link : KeptParts) (modules : List ModuleView) (flags : List Bool) (count : ℕ) (imports : LinkImports) → link.parts.modules ≡ modules → flags ≡ link.kept → count ≡ length (link_pieces link.parts) → AreImports modules (take (length flags - count) (drop count flags)) imports → AreImports link.parts.modules (kept_imports link) imports
 own_imports link modules flags count imports same flag counted are =
     subst (λ (ms : List ModuleView). AreImports ms (kept_imports link) imports) (sym same)
-    (subst (λ (kept : List Bool). AreImports modules kept imports) (part_from count flags ∙ ap (λ (n : ℕ). drop n flags) counted ∙ ap (drop (length (link_pieces link.parts))) flag) are)
+    (subst (λ (kept : List Bool). AreImports modules kept imports) (take_rest flags count ∙ ap (λ (n : ℕ). drop n flags) counted ∙ ap (drop (length (link_pieces link.parts))) flag) are)
 
 -- what the tables are made of
 are_tables : (link : KeptParts) (size room tree : ℕ) (exports : ExportsView) (debug : DebugView) (resources : ResourcesView) → size ≡ exports.size → exports ≡ link.parts.exports → room ≡ debug.size → debug ≡ link.parts.debug → tree ≡ resources.size → resources ≡ link.parts.resources → tables_for link.parts.modules (kept_imports link) size room tree ≡ tables_of link
@@ -103,7 +103,7 @@ keep_fields-requires-clause-no_import c = λ none k lt is.
     let have = subst (λ (n : ℕ). HaveFields link n c.args.fixes.fixups.items) pieces c.requires.fields in
     let both = and_parts c.in_ok-nodes.nodes.no_import (eqb (length c.deref-5.result.now) 0) (sym c.fields_stay-stays.ensures ∙ none) in
     let near = subst (λ (n : ℕ). All (LeadsWithin kept n) (field_edges link)) (ap length c.deref.ensures.value ∙ pieces) (c.in_ok-nodes.ensures.no_import both.0) in
-    let spots : c.deref-5.result.now ≡ [] = no_places c.deref-5.result.now (eqb-true (length c.deref-5.result.now) 0 both.1) in
+    let spots : c.deref-5.result.now ≡ [] = nil_from_length c.deref-5.result.now (eqb-true (length c.deref-5.result.now) 0 both.1) in
     subst (λ (ps : List ℕ). map (redirected_fix ps c.len-count.result c.slot_table.result c.deref-7.result.now) (get_or c.args.fixes.fixups.items k []) ≡ get_or c.args.fixes.fixups.items k []) (sym spots)
     (fields_stay link c.len-count.result c.slot_table.result c.deref-7.result.now kept c.args.fixes.fixups.items k count have near (omega (arith, lt, have.for_each)) (ap (λ (flags : List Bool). get_or flags k false) (sym c.deref-8.ensures.value) ∙ is))
 

@@ -1,4 +1,5 @@
-use Rattle.std.proofs.Common.{◌≡◌, ℕ, List, Some, None, map, ap, ◌∙◌, sym, subst}
+use Rattle.std.proofs.Common.{◌≡◌, ℕ, List, map, ap, ◌∙◌, sym, subst}
+use Rattle.std.proofs.lemmas.Option.{same_Some, none-some}
 use Rattle.std.specs.Prelude.{filter_map, OnOk}
 use Rattle.std.specs.BTreeSet.{BTreeSet}
 use Rattle.directives.specs.Said.{said}
@@ -10,13 +11,6 @@ use Rattle.link_plan.proofs.ReferenceLemmas.{meant_append}
 use Rattle.link_plan.proofs.references.check_module.Goals as goal
 use Rattle.link_plan.proofs.references.check_module.Goals.{in-Some+in_ok-check_object, in_default}
 
--- the object is the module's bytes
-same_bytes : (xs ys : List ℕ) → Some xs ≡ Some ys → xs ≡ ys
-same_bytes xs ys e = cc
-
-none_apart : (xs : List ℕ) → None ≡ Some xs → ⊥
-none_apart xs e = absurd cc
-
 pub returns-clause-slots : goal.returns-clause-slots
 returns-clause-slots c =
     let link = c.args.names.now in
@@ -26,9 +20,9 @@ returns-clause-slots c =
     let before = c.args.slots.now.keys in
     let noted : c.match-object.slots.keys ≡ with_meant link before (asked bytes) = elim c.match-object.branch [
       | in-Some+in_ok-check_object w ↦
-          let same = same_bytes w.in-Some.object.now bytes w.in-Some.ensures.object in
+          let same = same_Some w.in-Some.object.now bytes w.in-Some.ensures.object in
           ap (λ (s : BTreeSet (List ℕ)). s.keys) w.slots-is ∙ w.in_ok-check_object.ensures.slots ∙ ap (λ (b : List ℕ). with_meant link before (asked b)) same
-      | in_default w ↦ absurd (none_apart bytes w.in_default.ensures.object)
+      | in_default w ↦ absurd (none-some bytes w.in_default.ensures.object)
     ] in
     subst (λ (keys : List (List ℕ)). OnOk c.check_directives.result (c.check_directives.new.slots.keys ≡ keys))
     (ap (λ (slots : List (List ℕ)). with_meant link slots included) noted

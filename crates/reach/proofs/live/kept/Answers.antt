@@ -1,4 +1,5 @@
 use Rattle.std.proofs.Common.{◌≡◌, ◌<◌, ◌∷◌, [], ℕ, Bool, true, false, List, Some, length, refl, sym, ap, subst, ◌∙◌, length-append, arith}
+use Rattle.std.proofs.lemmas.List.{nil_from_length}
 use Rattle.std.specs.List.{Contains}
 use Rattle.std.proofs.lemmas.List.Elements.{Contains-append_right}
 use Rattle.std.proofs.lemmas.Option.{get_or_from_slice_get, slice_get-get_or}
@@ -45,15 +46,11 @@ loop-piece-preserved c =
 pub loop-piece-smaller : goal.loop-piece-smaller
 loop-piece-smaller c = omega (arith, c.in_ok-mark_all-2.ensures.marks.work, ap length c.in-Some.ensures.items, length-append c.pop.new.self.items (c.in-Some.piece ∷ []))
 
-empty : (list : List ℕ) → length list ≡ 0 → list ≡ []
-empty [] none = refl
-empty (x ∷ rest) none = absurd (omega arith)
-
 pub returns-clause-kept : goal.returns-clause-kept
 returns-clause-kept c piece kept =
     let flags = c.loop-piece.marking.kept.items in
     let none : c.loop-piece.marking.pending.items ≡ [] =
-    empty c.loop-piece.marking.pending.items (sym c.loop-piece.marking.pending.ok.0 ∙ c.in_default.ensures.cases.0) in
+    nil_from_length c.loop-piece.marking.pending.items (sym c.loop-piece.marking.pending.ok.0 ∙ c.in_default.ensures.cases.0) in
     let marked : IsMarked flags piece = all_marked c.args.graph.now.pieces c.args.graph.now.edges.items c.args.roots.now c.loop-piece.marking c.loop-piece.invariant none piece kept in
     slice_get-get_or flags piece false (marked_within flags piece marked) ∙ ap (λ (b : Bool). Some b) marked
 

@@ -1,7 +1,7 @@
 use Rattle.std.proofs.Common.{◌≡◌, [], sym, ap, ◌∙◌}
+use Rattle.std.proofs.lemmas.List.{get_or_default}
 use Rattle.lib_search.specs.SearchSteps.{alternate_member}
 use Rattle.lib_search.specs.AlternateParts.{pair_at}
-use Rattle.lib_search.proofs.ListingLemmas.{same_item}
 use Rattle.lib_search.proofs.WaitLemmas.{least_leads, none_leads}
 use Rattle.lib_search.proofs.alternates.Alternates.first_member.Goals as goal
 
@@ -13,7 +13,7 @@ returns-in-Some-alternate_member-clause-place c =
     let number = c.in-Some.number in
     let least = c.in-Some.ensures.some in
     let item : pair_at a.pairs.items number ≡ c.index.result.now =
-    same_item a.pairs.items number ([], []) c.index.result.now (kept.waits number least.here).0 ∙ sym c.index.ensures in
+    get_or_default a.pairs.items number ([], []) c.index.result.now (kept.waits number least.here).0 ∙ sym c.index.ensures in
     sym (least_leads s a kept number c.in-Some-alternate_member.place (c.loop-number.invariant.pairs ∙ c.requires.all) least
     (ap (alternate_member s) item ∙ sym c.alternate_member.ensures ∙ c.in-Some-alternate_member.is))
 
