@@ -1,4 +1,6 @@
 -- What callers may cite: pieces that were grouped stand once, so that they can be placed, and what a layout says of them.
+use Rattle.link_base.proofs.NameTextLemmas.{same_is}
+use Rattle.link_base.proofs.NumberLemmas.{eqb_apart}
 pub use Rattle.address_layout.proofs.BareLemmas.{layout_bare, size_bare, stand_bare}
 pub use Rattle.address_layout.proofs.RowLemmas.{layout_same_rows, size_same_rows}
 pub use Rattle.address_layout.proofs.InsideLemmas.{places_ascend, piece_end_inside, initialised_end_inside, all_ends_inside, StandsAt, stands_at, name_fits}
@@ -6,7 +8,7 @@ pub use Rattle.address_layout.proofs.RewrittenLemmas.{piece_stands, rewritten_ho
 pub use Rattle.address_layout.proofs.StandingLemmas.{row_here}
 pub use Rattle.address_layout.proofs.ArrangementLemmas.{Aligned, aligned_rows}
 pub use Rattle.address_layout.proofs.Theorems.{one_layout, one_image_size}
-use Rattle.std.proofs.Common.{◌≡◌, ◌≢◌, ℕ, zero, suc, ◌<◌, Bool, true, false, ◌&&◌, eqb, IsTrue, List, [], ◌∷◌, ◌++◌, length, get_or, refl, sym, ap, ◌∙◌, subst, inl, inr, arith}
+use Rattle.std.proofs.Common.{◌≡◌, ℕ, zero, suc, ◌<◌, false, ◌&&◌, eqb, IsTrue, List, [], ◌∷◌, ◌++◌, length, get_or, refl, sym, ap, ◌∙◌, subst, inl, inr, arith}
 use Rattle.std.specs.List.{All, AllPairs, Any, Contains, IsDistinct}
 use Rattle.std.specs.Ordering.{is_lt, nat_cmp, ordering_then}
 use Rattle.std.specs.Cmp.{IsTotalOrder, tied_itself}
@@ -26,20 +28,12 @@ use Rattle.section_group.specs.declared.piece.OutSection.{OutSection}
 use Rattle.section_group.specs.Merging.{same_name}
 use Rattle.section_group.specs.SectionOrder.{Input, is_used, section_name, place_cmp, inside_cmp, rank_of, ComesBefore}
 use Rattle.section_group.specs.Placement.{goes_to, section_attributes, needs_place, IsSection, IsGrouping}
-use Rattle.section_group.proofs.ChainLemmas.{same_is}
 use Rattle.section_group.proofs.PartLemmas.{used_within}
 use Rattle.section_group.proofs.OrderLemmas.{not_before_itself}
 use Rattle.address_layout.specs.Layout.{all_pieces, StandOnce}
 
 inside_total : (input : Input) → IsTotalOrder (inside_cmp input)
 inside_total input = search (comparing, rules) depth 12
-
-eqb_apart : (n m : ℕ) → n ≢ m → eqb n m ≡ false
-eqb_apart n m apart = go (eqb n m) refl
-  where
-    go : (b : Bool) → eqb n m ≡ b → b ≡ false
-    go false e = refl
-    go true e = absurd (apart (eqb-true n m e))
 
 -- ---- a piece that stands in a section
 

@@ -1,10 +1,9 @@
 -- What is placed is a layout, or shows the size of an image that is too large.
-use Rattle.std.proofs.Common.{◌≡◌, ℕ, ◌+◌, ◌*◌, ◌<◌, ◌≤◌, Bool, List, [], ◌∷◌, ◌++◌, length, get_or, take, refl, sym, ap, ◌∙◌, subst, arith, length-append}
+use Rattle.std.proofs.Common.{◌≡◌, ℕ, ◌+◌, ◌*◌, ◌<◌, ◌≤◌, Bool, List, [], ◌∷◌, length, get_or, take, refl, sym, ap, ◌∙◌, subst, arith, length-append}
 use Rattle.std.specs.List.{All, Contains}
 use Rattle.std.proofs.lemmas.List.{take_all}
 use Rattle.std.proofs.lemmas.List.Elements.{All-head, All-tail}
 use Rattle.std.proofs.lemmas.List.FromFn.{get_or-map-range_with_len, length-map-range_with_len}
-use Rattle.std.proofs.Math.Seq.{take-append_seam}
 use Rattle.section_group.specs.declared.piece.Piece.{Piece}
 use Rattle.section_group.specs.declared.piece.OutSection.{OutSection}
 use Rattle.address_layout.specs.declared.layout.Placed.{Placed}
@@ -14,9 +13,6 @@ use Rattle.address_layout.specs.Growth.{CanGrow}
 use Rattle.address_layout.specs.Layout.{all_pieces, placed_at, IsAlignment, StandOnce, IsLayout, HasImageSize}
 use Rattle.address_layout.specs.Rounded.{rounded, place_of, start_of, saturated_placed, placed_of, AreSections}
 use Rattle.address_layout.proofs.ArrangementLemmas.{whole_arrangement, fits, file_fits}
-
-pub whole : (xs ys : List ℕ) (n : ℕ) → n ≡ length xs → take n (xs ++ ys) ≡ xs
-whole xs ys n is = ap (λ (k : ℕ). take k (xs ++ ys)) is ∙ take-append_seam xs ys
 
 -- there are no more sections than pieces that stand
 pub sections_few : (sections : List OutSection) → All (λ section. 0 < length section.pieces.items) sections → length sections ≤ length (all_pieces sections)

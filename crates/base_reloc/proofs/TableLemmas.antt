@@ -4,8 +4,9 @@ use Rattle.std.specs.List.{flat_map, prefix_len}
 use Rattle.std.proofs.lemmas.Bool.{cases_Bool, and_from, eqb-true, ne_eqb}
 use Rattle.std.proofs.lemmas.List.{drop-drop, drop_at, get_or-take, get_or-drop, take-append-drop, length-take-le, append-nil}
 use Rattle.std.proofs.lemmas.List.Sums.{prefix_len-le-length, prefix_len_passes}
-use Rattle.link_base.specs.Bytes.{number_at, u16_at, number_bytes}
-use Rattle.link_base.proofs.CallerLemmas.{number_at-drop, number_at-number_bytes, length-number_bytes}
+use Rattle.link_base.specs.Bytes.{u16_at, number_bytes}
+use Rattle.link_base.proofs.CallerLemmas.{length-number_bytes}
+use Rattle.link_base.proofs.PartLemmas.{number_there}
 use Rattle.base_reloc.specs.declared.field.BaseField.{BaseField}
 use Rattle.base_reloc.specs.declared.entry.Entry.{Entry}
 use Rattle.base_reloc.specs.declared.entry.Entry.TheVariants.{Field}
@@ -14,13 +15,6 @@ use Rattle.base_reloc.specs.PageBlocks.{IsAscending, page_of, entry_word, filler
 use Rattle.base_reloc.proofs.PageLemmas.{is_on, fits_page, blocks_first, first_passes, ascending_rest, length-block_words, block_is_written}
 
 -- ---- numbers that stand at a place
-
-reads : (width number offset : ℕ) (bytes rest : List ℕ) → drop offset bytes ≡ number_bytes width number ++ rest → number < 256 ^ width → number_at width bytes offset ≡ number
-reads width number offset bytes rest is fits =
-    ap (number_at width bytes) (zero_more offset) ∙ sym (number_at-drop width offset 0 bytes) ∙ ap (λ (xs : List ℕ). number_at width xs 0) is ∙ number_at-number_bytes width number rest fits
-  where
-    zero_more : (n : ℕ) → n ≡ n + 0
-    zero_more n = omega arith
 
 passed : (width number offset : ℕ) (bytes rest : List ℕ) → drop offset bytes ≡ number_bytes width number ++ rest → drop (offset + width) bytes ≡ rest
 passed width number offset bytes rest is =
@@ -74,7 +68,7 @@ filler_read memory_size page count bytes rest offset = by_count (eqb (count % 2)
     by_count : (b : Bool) → drop offset bytes ≡ flat_map (number_bytes 2) (cond b [] (0 ∷ [])) ++ rest → entries_at memory_size page bytes offset (length {A = ℕ} (cond b [] (0 ∷ []))) ≡ Fields []
     by_count true is = refl
     by_count false is =
-        let word : u16_at bytes offset ≡ 0 = reads 2 0 offset bytes rest (is ∙ ap (λ (xs : List ℕ). xs ++ rest) (append-nil (number_bytes 2 0))) (omega arith) in
+        let word : u16_at bytes offset ≡ 0 = number_there 2 0 offset bytes rest (is ∙ ap (λ (xs : List ℕ). xs ++ rest) (append-nil (number_bytes 2 0))) (omega arith) in
         ap (λ (k : ℕ). with_entry offset (entry_of memory_size page k) (Fields [])) word
 
 entries_read : (memory_size page : ℕ) (fields : List BaseField) (count : ℕ) (bytes rest : List ℕ) (offset : ℕ) → OnPage memory_size page fields → drop offset bytes ≡ flat_map (number_bytes 2) (map entry_word fields ++ filler_words count) ++ rest → entries_at memory_size page bytes offset (length (map entry_word fields ++ filler_words count)) ≡ Fields fields
@@ -83,7 +77,7 @@ entries_read memory_size page [] count bytes rest offset on is = filler_read mem
 entries_read memory_size page (field ∷ fields) count bytes rest offset on is =
     let behind : List ℕ = flat_map (number_bytes 2) (map entry_word fields ++ filler_words count) in
     let first = is ∙ append_assoc (number_bytes 2 (entry_word field)) behind rest in
-    let word : u16_at bytes offset ≡ entry_word field = reads 2 (entry_word field) offset bytes (behind ++ rest) first (word_fits field.wide field.rva) in
+    let word : u16_at bytes offset ≡ entry_word field = number_there 2 (entry_word field) offset bytes (behind ++ rest) first (word_fits field.wide field.rva) in
     let here = on 0 field (omega arith) in
     let others = entries_read memory_size page fields count bytes rest (offset + 2) (λ k d lt. on (suc k) d (omega arith)) (passed 2 (entry_word field) offset bytes (behind ++ rest) first) in
     ap (λ (k : ℕ). with_entry offset (entry_of memory_size page k) (entries_at memory_size page bytes (offset + 2) (length (map entry_word fields ++ filler_words count)))) word
@@ -114,8 +108,8 @@ block_read memory_size page here bytes rest offset few low on is =
     let first = is ∙ append_assoc (number_bytes 4 page) (number_bytes 4 size ++ entries) rest in
     let second = passed 4 page offset bytes ((number_bytes 4 size ++ entries) ++ rest) first ∙ append_assoc (number_bytes 4 size) entries rest in
     let third : drop (offset + 8) bytes ≡ entries ++ rest = ap (λ (k : ℕ). drop k bytes) (eight offset) ∙ passed 4 size (offset + 4) bytes (entries ++ rest) second in
-    let page_is : block_page bytes offset ≡ page = reads 4 page offset bytes ((number_bytes 4 size ++ entries) ++ rest) first low in
-    let size_is : block_size bytes offset ≡ size = reads 4 size (offset + 4) bytes (entries ++ rest) second (omega (arith, lens)) in
+    let page_is : block_page bytes offset ≡ page = number_there 4 page offset bytes ((number_bytes 4 size ++ entries) ++ rest) first low in
+    let size_is : block_size bytes offset ≡ size = number_there 4 size (offset + 4) bytes (entries ++ rest) second (omega (arith, lens)) in
     let room : length bytes - offset ≡ 8 + 2 * length words + length rest = omega (arith, length-drop offset bytes, ap length first, length-append (number_bytes 4 page) ((number_bytes 4 size ++ entries) ++ rest), length-append (number_bytes 4 size ++ entries) rest, length-append (number_bytes 4 size) entries, length-number_bytes 4 page, length-number_bytes 4 size, length-words words) in
     let least : 8 ≤ block_size bytes offset = omega (arith, size_is) in
     let fours : block_size bytes offset % 4 ≡ 0 = omega (arith, size_is, lens) in

@@ -2,6 +2,7 @@
 use Rattle.std.proofs.Common.{◌≡◌, ℕ, zero, suc, ◌+◌, ◌-◌, ◌*◌, ◌/◌, ◌<◌, ◌≤◌, true, false, eqb, eq-eqb, List, [], length, Option, Some, None, is_some, refl, sym, ap, ◌∙◌, inl, inr, add-one, arith}
 use Rattle.std.proofs.lemmas.Bool.{and_parts, cases_Bool, leb-true, ne_eqb, false≢true}
 use Rattle.link_base.specs.Bytes.{u16_at}
+use Rattle.link_base.proofs.OptionLemmas.{none_is}
 use Rattle.base_reloc.specs.declared.entry.Entry.{Entry}
 use Rattle.base_reloc.specs.declared.entry.Entry.TheVariants.{Skip, Field, Malformed}
 use Rattle.base_reloc.specs.Blocks.{Walk, Fields, MalformedAt, entry_of, with_entry, then_walk, entries_at, block_page, block_size, has_block, block_entries, blocks_at, walk_of, malformed_place}
@@ -102,10 +103,6 @@ place_with_at offset entry rest e = ap (λ (v : Entry). malformed_place (with_en
 pub judged_first : (memory_size : ℕ) (blocks : List ℕ) (offset : ℕ) (entry : Option ℕ) → offset < length blocks → has_block blocks offset ≡ true → entry ≡ malformed_place (block_entries memory_size blocks offset) → is_some entry ≡ true → entry ≡ malformed_place (rest_walk memory_size blocks offset)
 judged_first memory_size blocks offset entry lt here e some =
     place_then_first (block_entries memory_size blocks offset) (rest_walk memory_size blocks (offset + block_size blocks offset)) entry e some ∙ ap malformed_place (sym (rest_walk_block memory_size blocks offset lt here))
-
-none_is : (entry : Option ℕ) → is_some entry ≡ false → entry ≡ None
-none_is None e = refl
-none_is (Some k) e = absurd (false≢true (sym e))
 
 -- a block of which none is
 pub judged_more : (memory_size : ℕ) (blocks : List ℕ) (offset size : ℕ) (entry whole : Option ℕ) → offset < length blocks → has_block blocks offset ≡ true → size ≡ block_size blocks offset → entry ≡ malformed_place (block_entries memory_size blocks offset) → is_some entry ≡ false → malformed_place (rest_walk memory_size blocks offset) ≡ whole → (offset + size ≤ length blocks) × (malformed_place (rest_walk memory_size blocks (offset + size)) ≡ whole)

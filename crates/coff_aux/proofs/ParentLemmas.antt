@@ -1,68 +1,16 @@
 -- Chains of parents: one that has not ended after as many steps as the list has numbers comes to a section twice.
-use Rattle.std.proofs.Common.{◌≡◌, ◌≢◌, ℕ, zero, suc, ◌+◌, ◌-◌, ◌*◌, ◌<◌, ◌≤◌, Bool, true, false, ◌||◌, eqb, List, ◌++◌, length, take, get_or, set, map, Option, Some, None, is_some, refl, sym, ap, ◌∙◌, subst, inl, inr, add-one, arith}
+use Rattle.std.proofs.Common.{◌≡◌, ◌≢◌, ℕ, zero, suc, ◌+◌, ◌-◌, ◌*◌, ◌<◌, ◌≤◌, Bool, true, false, ◌||◌, eqb, List, ◌++◌, length, take, get_or, set, Some, None, refl, sym, ap, ◌∙◌, inl, inr, add-one, arith}
 use Rattle.std.specs.List.{range_with_len, list_any}
-use Rattle.std.proofs.Math.Nat.{mul-le-mul_left}
 use Rattle.std.proofs.Math.Seq.{take-append_seam}
-use Rattle.std.proofs.lemmas.Map.Keys.{IsDistinct-from_apart}
-use Rattle.std.proofs.lemmas.Map.Steps.{length-le_from_distinct_below}
-use Rattle.std.proofs.lemmas.Map.Views.{Contains-from_any}
 use Rattle.std.proofs.lemmas.List.{get_or-set_same, get_or-set_other}
-use Rattle.std.proofs.lemmas.List.FromFn.{get_or-map-range_with_len, length-map-range_with_len}
 use Rattle.std.proofs.lemmas.Bool.{false≢true, eqb-true, eqb-false, eq-eqb, ne_eqb, cases_eq, or_parts, or_cases, or_right, not-true, not-false, not_from_false}
 use Rattle.link_base.specs.Bytes.{first_below}
 use Rattle.link_base.proofs.CallerLemmas.{first_below-some, first_below-none}
 use Rattle.link_base.proofs.RangeLemmas.{range_more}
+use Rattle.link_base.proofs.NumberLemmas.{far_enough}
+use Rattle.link_base.proofs.PigeonLemmas.{pigeon}
 use Rattle.coff_aux.specs.Parents.{parent_at, ancestor, comes_back, is_met, is_marked, AreParents, ComesTwice}
 use Rattle.coff_aux.proofs.StartLemmas.{any_more}
-
--- ---- more numbers than places: two are at one place
-
--- two numbers below n at one place
-record Meet (f : ℕ → ℕ) (n : ℕ) : Type 0 where
-  early : ℕ
-  late : ℕ
-  apart : early < late
-  within : late < n
-  same : f early ≡ f late
-
-too_many : (f : ℕ → ℕ) (n : ℕ) → ((k : ℕ) → k ≤ n → f k < n) → ((i j : ℕ) → i < j → j < suc n → eqb (f i) (f j) ≡ false) → ⊥
-too_many f n fits apart =
-    let xs = map f (range_with_len 0 (suc n)) in
-    let len : length xs ≡ suc n = length-map-range_with_len f 0 (suc n) in
-    let at = λ (i d : ℕ) (lt : i < suc n). get_or-map-range_with_len f 0 (suc n) i i d lt (omega arith) in
-    let distinct = IsDistinct-from_apart eqb xs (λ i j d lt below. let lt' : j < suc n = omega (arith, len) in ap (λ (a : ℕ). eqb a (get_or xs j d)) (at i d (omega arith)) ∙ ap (eqb (f i)) (at j d lt') ∙ apart i j lt lt') in
-    let below = λ (q : ℕ) (e : list_any (eqb q) xs ≡ true). let found = Contains-from_any eqb-true q xs e in (let lt : found.0 < suc n = omega (arith, found.1, len) in subst (λ (k : ℕ). k < n) (sym (at found.0 q lt) ∙ found.2) (fits found.0 (omega arith))) in
-    absurd (omega (arith, length-le_from_distinct_below xs n distinct below, len))
-
--- the first number with the place of a later one
-twin : (ℕ → ℕ) → ℕ → Option ℕ
-twin f late = first_below late (λ early. eqb (f early) (f late))
-
-is_none : (o : Option ℕ) → is_some o ≡ false → o ≡ None
-is_none None e = refl
-is_none (Some k) e = absurd cc
-
--- of n + 1 numbers at n places two meet
-pigeon : (f : ℕ → ℕ) (n : ℕ) → ((k : ℕ) → k ≤ n → f k < n) → Meet f (suc n)
-unfolding twin
-pigeon f n fits = search_all (first_below (suc n) has_twin) refl
-  where
-    has_twin : ℕ → Bool
-    has_twin late = is_some (twin f late)
-
-    met_at : (late : ℕ) → late < suc n → (o : Option ℕ) → twin f late ≡ o → is_some o ≡ true → Meet f (suc n)
-    met_at late lt None e some = absurd (false≢true some)
-    met_at late lt (Some early) e some =
-        let found = first_below-some late early (λ k. eqb (f k) (f late)) e in
-        record { early = early; late = late; apart = found.0; within = lt; same = eqb-true (f early) (f late) found.1.0 }
-
-    search_all : (o : Option ℕ) → first_below (suc n) has_twin ≡ o → Meet f (suc n)
-    search_all (Some late) e =
-        let found = first_below-some (suc n) late has_twin e in
-        met_at late found.0 (twin f late) refl found.1.0
-    search_all None e =
-        absurd (too_many f n fits (λ early late lt below.
-        first_below-none late (λ k. eqb (f k) (f late)) (is_none (twin f late) (first_below-none (suc n) has_twin e late below)) early lt))
 
 -- ---- the end of a chain
 
@@ -99,14 +47,14 @@ goes_round parents section are lt on =
     let place = λ (k : ℕ). ancestor parents k section - 1 in
     let above = λ (k : ℕ) (below : k < n). above_zero (ancestor parents k section) (on k below) in
     let met = pigeon place (n - 1) (λ k le. omega (arith, above k (omega arith), ancestor-within parents k section are lt)) in
-    let first : met.early < n = omega (arith, met.apart, met.within) in
-    let later : met.late < n = omega (arith, met.within) in
+    let first : met.first < n = omega (arith, met.apart, met.within) in
+    let later : met.other < n = omega (arith, met.within) in
     record {
-      early = met.early;
-      late = met.late;
+      early = met.first;
+      late = met.other;
       apart = met.apart;
-      there = on met.early first;
-      again = omega (arith, met.same, above met.early first, above met.late later);
+      there = on met.first first;
+      again = omega (arith, met.same, above met.first first, above met.other later);
     }
   where
     above_zero : (x : ℕ) → x ≢ 0 → 0 < x
@@ -121,9 +69,6 @@ round parents section early gap again (suc turns) =
     let more : early + suc turns * gap ≡ (early + turns * gap) + gap = omega arith in
     ap (λ (n : ℕ). ancestor parents n section) more ∙ ancestor-add parents (early + turns * gap) gap section
     ∙ ap (ancestor parents gap) (round parents section early gap again turns) ∙ sym (ancestor-add parents early gap section) ∙ again
-
-far_enough : (n gap : ℕ) → 0 < gap → n ≤ n * gap
-far_enough n gap pos = omega (arith, mul-le-mul_left n pos)
 
 pub endless : (parents : List ℕ) (section : ℕ) → AreParents parents → ComesTwice parents section → (steps : ℕ) → ancestor parents steps section ≢ 0
 endless parents section are twice steps ended =

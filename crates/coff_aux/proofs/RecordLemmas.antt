@@ -7,7 +7,7 @@ use Rattle.std.proofs.lemmas.Bool.{cases_lt, false≢true}
 use Rattle.std.proofs.lemmas.List.{length-map, get_or_past}
 use Rattle.std.proofs.lemmas.List.FromFn.{get_or-map-range_with_len, length-map-range_with_len}
 use Rattle.link_base.specs.Bytes.{first_below}
-use Rattle.link_base.proofs.CallerLemmas.{first_below-all_fail}
+use Rattle.link_base.proofs.CallerLemmas.{first_below-all_fail, first_below-same}
 use Rattle.link_base.specs.declared.kinds.object.ObjFault.TheVariants as kind
 use Rattle.coff_records.specs.ObjectFile.{section_total, record_total, symbol_entries}
 use Rattle.coff_object.specs.ObjectFaults.{first_of, least_place}
@@ -27,12 +27,6 @@ weak_stands bytes index is = rw is refl
 
 -- ---- the faults of sections, by their records
 
-below_same : (n : ℕ) (test other : ℕ → Bool) → ((k : ℕ) → k < n → test k ≡ other k) → first_below n test ≡ first_below n other
-unfolding first_below
-below_same zero test other same = refl
-below_same (suc n) test other same =
-    rw (below_same n test other (λ k lt. same k (omega arith)), same n (omega arith)) refl
-
 pub record_at : (bytes : List ℕ) (k : ℕ) → k < section_total bytes → get_or (all_comdat_records bytes) k None ≡ comdat_record_of bytes (k + 1)
 record_at bytes k lt =
     get_or-map-range_with_len (comdat_record_of bytes) 1 (section_total bytes) k (k + 1) None lt (omega arith)
@@ -44,7 +38,7 @@ first_by_records : (bytes : List ℕ) (fails : ComdatRecord → Bool) → first_
 first_by_records bytes fails =
     ap (option_map (λ (k : ℕ). k + 1))
     (ap (λ (n : ℕ). first_below n (λ k. fails_of fails (get_or (all_comdat_records bytes) k None))) (record_count bytes)
-    ∙ below_same (section_total bytes) (λ k. fails_of fails (get_or (all_comdat_records bytes) k None)) (λ k. fails_of fails (comdat_record_of bytes (k + 1))) (λ k lt. ap (fails_of fails) (record_at bytes k lt)))
+    ∙ first_below-same (section_total bytes) (λ k. fails_of fails (get_or (all_comdat_records bytes) k None)) (λ k. fails_of fails (comdat_record_of bytes (k + 1))) (λ k lt. ap (fails_of fails) (record_at bytes k lt)))
 
 parents_by_records : (bytes : List ℕ) → parents_in (all_comdat_records bytes) ≡ parents_of bytes
 unfolding parents_of

@@ -1,10 +1,9 @@
 -- Where symbols start, told by the symbols of an object; marks, and one more of a list that passes.
-use Rattle.std.proofs.Common.{◌≡◌, ℕ, zero, suc, ◌<◌, Bool, true, false, ◌||◌, eqb, List, [], ◌∷◌, ◌++◌, length, map, replicate, get_or, set, inl, inr, refl, sym, ap, ◌∙◌, arith}
-use Rattle.std.proofs.Math.Bool.{or-false, or_assoc, or-true}
+use Rattle.std.proofs.Common.{◌≡◌, ℕ, zero, suc, ◌<◌, Bool, true, false, ◌||◌, eqb, List, [], ◌∷◌, ◌++◌, length, map, replicate, get_or, set, refl, sym, ap, ◌∙◌}
+use Rattle.std.proofs.Math.Bool.{or-false, or_assoc}
 use Rattle.std.specs.List.{list_any}
-use Rattle.std.proofs.lemmas.Bool.Decides.{eqb_tells}
-use Rattle.std.proofs.lemmas.List.{get_or-set_same, get_or-set_other}
 use Rattle.std.proofs.lemmas.List.Folds.{list_any-append}
+use Rattle.link_base.proofs.ListLemmas.{marked}
 use Rattle.coff_records.specs.ObjectFile.{SymbolEntry, symbols_of, symbol_entry, symbol_entries, starts_symbol}
 
 any_entry : (f : ℕ → SymbolEntry) (j : ℕ) (indexes : List ℕ) → ((i : ℕ) → (f i).0 ≡ i) → list_any (λ e. eqb e.0 j) (map f indexes) ≡ list_any (λ i. eqb i j) indexes
@@ -54,17 +53,7 @@ one_noted {X} test before after x noted b whole is was said =
 
 -- ---- marks where symbols start
 
-mark : (marks : List Bool) (at j : ℕ) → at < length marks → get_or (set marks at true) j false ≡ (get_or marks j false || eqb at j)
-mark marks at j lt =
-    elim (eqb_tells at j) [
-      | inl here ↦
-          let same : j ≡ at = omega arith in
-          rw here.0 (ap (λ (k : ℕ). get_or (set marks at true) k false) same ∙ get_or-set_same marks at true false lt ∙ sym (or-true (get_or marks j false)))
-      | inr other ↦
-          rw other.0 (get_or-set_other marks at j true false (λ same. other.1 (sym same)) ∙ sym (or-false (get_or marks j false)))
-    ]
-
 pub marks_more : (before after : List SymbolEntry) (entry : SymbolEntry) (marks : List Bool) (j : ℕ) (whole : Bool) → before ≡ entry ∷ after → entry.0 < length marks → (get_or marks j false || list_any (λ e. eqb e.0 j) before) ≡ whole → (get_or (set marks entry.0 true) j false || list_any (λ e. eqb e.0 j) after) ≡ whole
 marks_more before after entry marks j whole is lt was =
-    ap (λ (b : Bool). b || list_any (λ (e : SymbolEntry). eqb e.0 j) after) (mark marks entry.0 j lt)
+    ap (λ (b : Bool). b || list_any (λ (e : SymbolEntry). eqb e.0 j) after) (marked marks entry.0 j lt)
     ∙ one_noted (λ (e : SymbolEntry). eqb e.0 j) before after entry (get_or marks j false) (eqb entry.0 j) whole is was refl

@@ -11,7 +11,9 @@ use Rattle.std.proofs.lemmas.List.{get_or-set_same, get_or-set_other, get_or-map
 use Rattle.std.proofs.lemmas.List.FromFn.{length-map-range_with_len, get_or-map-range_with_len}
 use Rattle.link_base.specs.Bytes.{first_below}
 use Rattle.link_base.specs.NameText.{same_name}
-use Rattle.link_base.proofs.CallerLemmas.{first_below-some, first_below-none}
+use Rattle.link_base.proofs.CallerLemmas.{first_below-some, first_below-none, first_below-same}
+use Rattle.link_base.proofs.NameTextLemmas.{same_refl}
+use Rattle.link_base.proofs.RefusalLemmas.{none_below}
 use Rattle.coff_aux.specs.AuxRecords.{COMDAT_SELECT_ANY}
 use Rattle.module_view.specs.Module.{ModuleView}
 use Rattle.symbol_names.proofs.NumberLemmas.{same_number}
@@ -23,8 +25,6 @@ use Rattle.comdat.specs.Entries.{no_entry, entry_at, named_by, IsSection, KeepsE
 use Rattle.comdat.specs.Groups.{Named, no_named, name_at, has_name, candidate_of, group_of, is_same_section, is_selected, module_in, conflict_at, first_conflict}
 use Rattle.comdat.specs.Numbering.{is_first, candidate_at}
 use Rattle.comdat.proofs.ChoiceLemmas.{any_chosen, any_agree}
-use Rattle.comdat.proofs.GroupLemmas.{none_below}
-use Rattle.comdat.proofs.NameLemmas.{same_refl}
 use Rattle.comdat.proofs.NumberingLemmas.{number_at, numbered_at}
 
 -- ---- which are the first, in a loop over sections
@@ -80,11 +80,6 @@ firsts_more entries count done seen flags was before lt in_count read =
           (get_or-set_same flags done (not was) false (omega (arith, lt, before.full)) ∙ ap not (read ∙ before.met name in_count));
     }
 
-first_alike : (n : ℕ) (test other : ℕ → Bool) → ((k : ℕ) → k < n → test k ≡ other k) → first_below n test ≡ first_below n other
-unfolding first_below
-first_alike zero test other same = refl
-first_alike (suc n) test other same = λ i. option_or (first_alike n test other (λ k lt. same k (omega (arith, lt))) i) (cond (same n (omega arith) i) (Some n) None)
-
 none_not : (o : Option ℕ) → not (is_some o) ≡ is_none o
 none_not None = refl
 none_not (Some k) = refl
@@ -97,7 +92,7 @@ firsts_all keys modules entries count done seen flags distinct kept are all =
     let within : k < length entries = omega (arith, lt, are.full) in
     are.first k (omega (arith, within, all))
     ∙ none_not (first_below k (λ j. eqb (number_at entries j) (number_at entries k)))
-    ∙ ap is_none (first_alike k (λ j. eqb (number_at entries j) (number_at entries k)) (λ j. same_name (name_at named j) (name_at named k)) (λ j less.
+    ∙ ap is_none (first_below-same k (λ j. eqb (number_at entries j) (number_at entries k)) (λ j. same_name (name_at named j) (name_at named k)) (λ j less.
     sym (same_number keys (number_at entries k) (number_at entries j) (name_at named k) (name_at named j) distinct (numbered_at keys modules entries k kept within) (numbered_at keys modules entries j kept (omega (arith, less, within))))))
     ∙ sym (get_or-map-range_with_len (is_first named) 0 (length entries) k k false within (omega arith)))
 

@@ -1,5 +1,5 @@
 -- The choices of groups, in a loop over their numbers.
-use Rattle.std.proofs.Common.{◌≡◌, ℕ, zero, suc, ◌+◌, ◌<◌, Bool, true, false, cond, List, [], ◌∷◌, ◌++◌, length, get_or, filter, map, Vec, Option, None, Some, refl, sym, ap, ◌∙◌, subst, eq-eqb, length-append, arith}
+use Rattle.std.proofs.Common.{◌≡◌, ℕ, zero, suc, ◌+◌, ◌<◌, Bool, true, false, cond, List, [], ◌∷◌, ◌++◌, length, get_or, filter, map, Vec, Option, None, Some, sym, ap, ◌∙◌, subst, eq-eqb, length-append, arith}
 use Rattle.std.specs.Prelude.{option_map, option_and_then, slice_get}
 use Rattle.std.specs.List.{All}
 use Rattle.std.specs.Option.{option_map_or}
@@ -8,8 +8,8 @@ use borrow.Author.Count.{below_more}
 use Rattle.std.proofs.lemmas.List.{get_or_append_left, get_or_push, get_or_read, get_or-map, length-map}
 use Rattle.std.proofs.lemmas.Option.{slice_get-get_or}
 use Rattle.link_base.specs.NameText.{same_name}
-use Rattle.link_base.specs.Refusals.{first_refusal_below}
-use Rattle.link_base.proofs.RefusalLemmas.{first_refusal_below-found}
+use Rattle.link_base.proofs.RefusalLemmas.{first_refusal_below-found, none_below}
+use Rattle.link_base.proofs.NameTextLemmas.{same_is, same_refl}
 use Rattle.module_view.specs.Module.{ModuleView}
 use Rattle.comdat.specs.declared.candidate.Candidate.{Candidate}
 use Rattle.comdat.specs.declared.error.ChooseError.{ChooseError}
@@ -19,7 +19,6 @@ use Rattle.comdat.specs.Choice.{no_candidate, chosen_place, conflict_place}
 use Rattle.comdat.specs.Groups.{Named, no_named, name_at, has_name, candidate_of, group_of, chosen_of, is_same_section, is_selected, module_in, conflict_in, conflict_at, first_conflict, RefusesChoice}
 use Rattle.comdat.specs.Entries.{no_entry, entry_at, named_by}
 use Rattle.comdat.specs.Numbering.{AreNumbers, AreLists, AreWinners, places_of, candidate_at, candidates_at}
-use Rattle.comdat.proofs.NameLemmas.{same_is, same_refl}
 use Rattle.comdat.proofs.ChoiceLemmas.{place_within}
 use Rattle.comdat.proofs.EntryLemmas.{named_at}
 use Rattle.comdat.proofs.ListLemmas.{places_are, list_is_group}
@@ -79,11 +78,6 @@ winners_more entries firsts done winners more list winner are is chosen agreed p
     })
 
 -- ---- conflicts
-
-pub none_below : {A : Type 0} (n : ℕ) (f : ℕ → Option A) → ((k : ℕ) → k < n → f k ≡ None) → first_refusal_below n f ≡ None
-unfolding first_refusal_below
-none_below zero f none = refl
-none_below (suc n) f none = rw (none_below n f (λ k lt. none k (omega arith)), none n (omega arith)) refl
 
 same_conflict : (entries : List Named) (numbers firsts : List ℕ) (k : ℕ) → AreNumbers entries numbers firsts → k < length entries → conflict_at entries k ≡ conflict_at entries (get_or firsts (get_or numbers k 0) 0)
 same_conflict entries numbers firsts k are lt =

@@ -1,7 +1,6 @@
 pub mod GreatestLemmas
 pub mod ChoiceLemmas
 pub mod CallerLemmas
-pub mod NameLemmas
 pub mod EntryLemmas
 pub mod NumberingLemmas
 pub mod NotedLemmas

@@ -11,6 +11,7 @@ use Rattle.coff_records.specs.ObjectFile.{section_total}
 use Rattle.link_base.specs.Refusals.{first_standing}
 use Rattle.link_base.specs.declared.kinds.form.Kind.TheVariants as form
 use Rattle.link_base.specs.declared.kinds.object.ObjFault.TheVariants as kind
+use Rattle.link_base.proofs.OptionLemmas.{none_mapped}
 use Rattle.module_view.specs.declared.error.ModuleError.TheVariants as error
 use Rattle.module_view.specs.Module.{ModuleView, module_at}
 use Rattle.coff_aux.specs.AuxFaults.{has_no_selection, has_no_parent, first_comdat, aux_place, parent_place, aux_fault}
@@ -33,10 +34,6 @@ third_none None None None more none = refl
 third_none (Some x) two three more none = absurd cc
 third_none None (Some x) three more none = absurd cc
 third_none None None (Some x) more none = absurd cc
-
-none_mapped : {A B : Type 0} (f : A → B) (o : Option A) → option_map f o ≡ None → o ≡ None
-none_mapped f None none = refl
-none_mapped f (Some x) none = absurd cc
 
 no_place : (one other : Option ℕ) → least_place one other ≡ None → other ≡ None
 no_place None other none = none

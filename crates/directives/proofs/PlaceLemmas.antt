@@ -1,19 +1,11 @@
 -- Where the first byte that passes stands, and what stands before it, from it on and after it.
-use Rattle.std.proofs.Common.{◌≡◌, ℕ, ◌+◌, ◌<◌, ◌≤◌, Bool, true, false, cond, ltb, List, [], length, take, drop, Some, None, sym, ap, ◌∙◌, inl, inr, arith, lt-ltb}
+use Rattle.std.proofs.Common.{◌≡◌, ℕ, ◌+◌, ◌≤◌, Bool, true, false, cond, ltb, List, [], length, take, drop, Some, None, sym, ap, ◌∙◌, inl, inr, arith, lt-ltb}
 use Rattle.std.specs.List.{position, position_or_len, before_first, after_first}
 use Rattle.std.proofs.Math.Seq.{take-length}
 use Rattle.std.proofs.Math.ListN.{drop_of_length-le}
 use Rattle.std.proofs.lemmas.List.Sums.{prefix_len-le-length}
 use Rattle.std.proofs.lemmas.Bool.{cases_lt}
-use Rattle.memchr.specs.Find.{IsFirstByte}
 use mathlib.Core.Bool.{not}
-
-pub place_some : (p : ℕ → Bool) (text : List ℕ) (k : ℕ) → Some k ≡ position p text → k ≡ position_or_len p text
-place_some p text k e = by_cases (ltb (position_or_len p text) (length text)) e
-  where
-    by_cases : (b : Bool) → Some k ≡ cond b (Some (position_or_len p text)) None → k ≡ position_or_len p text
-    by_cases true h = cc
-    by_cases false h = absurd cc
 
 pub place_none : (p : ℕ → Bool) (text : List ℕ) → None ≡ position p text → length text ≡ position_or_len p text
 place_none p text e =
@@ -33,6 +25,3 @@ before_none p text e = sym (ap (λ (k : ℕ). take k text) (sym (place_none p te
 
 pub after_none : (p : ℕ → Bool) (text : List ℕ) → None ≡ position p text → [] ≡ after_first p text
 after_none p text e = sym (ap (λ (k : ℕ). drop (k + 1) text) (sym (place_none p text e)) ∙ drop_of_length-le text (omega arith))
-
-pub first_within : (test : ℕ → Bool) (text : List ℕ) (k : ℕ) → IsFirstByte test text (Some k) → k < length text
-first_within test text k h = h.0.high

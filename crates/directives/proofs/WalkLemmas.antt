@@ -93,7 +93,3 @@ module _ (left rest : List (Result Said BadDirective)) (word : Option (Result Sa
 pub word_len-more : (text : List ℕ) → 0 < length text → is_blank (get_or text 0 0) ≡ false → 0 < word_len text
 word_len-more [] lt e = absurd (omega arith)
 word_len-more (b ∷ text) lt e = word_len-positive b text e
-
--- an item less
-pub fewer : {A : Type 0} (left rest : List A) (x : A) → left ≡ x ∷ rest → length rest < length left
-fewer left rest x e = omega (arith, ap length e)

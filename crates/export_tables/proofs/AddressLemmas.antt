@@ -3,6 +3,7 @@ use Rattle.std.proofs.Common.{◌≡◌, ◌≢◌, ℕ, ◌+◌, ◌*◌, ◌^�
 use Rattle.std.specs.List.{sum_by, flat_map}
 use Rattle.std.proofs.lemmas.Bool.{lt-leb, ne_eqb, and_left, and_right}
 use Rattle.link_base.specs.Bytes.{number_bytes, field, text_at}
+use Rattle.link_base.proofs.HeldLemmas.{held_text}
 use Rattle.export_tables.specs.declared.row.ExportTo.{ExportTo}
 use Rattle.export_tables.specs.declared.row.ExportTo.TheVariants.{Rva, Forward}
 use Rattle.export_tables.specs.declared.directory.Directory.{Directory}
@@ -12,7 +13,7 @@ use Rattle.export_tables.specs.ExportDirectory.{is_forwarder, if_export, is_expo
 use Rattle.export_tables.specs.ExportTable.{text_size, target_size, target_address, text_rva, addresses, target_bytes}
 use Rattle.export_tables.specs.ReadBack.{Holds, HasNoNul, forward_text, IsApart, exported_what}
 use Rattle.export_tables.proofs.FillLemmas.{rva_more, rva_within}
-use Rattle.export_tables.proofs.HeldLemmas.{held_field, held_text}
+use Rattle.export_tables.proofs.HeldLemmas.{held_field}
 use Rattle.export_tables.proofs.StandLemmas.{address_there, forwarder_there}
 
 abbrev pub exported_target : Option ExportTo → Exported

@@ -1,6 +1,5 @@
 -- Ordinals that are assigned differ and have 16 bits, where no fault stands.
 use Rattle.std.proofs.Common.{◌≡◌, ◌≢◌, ℕ, zero, suc, ◌+◌, ◌<◌, ◌≤◌, Bool, true, false, cond, ◌||◌, eqb, max, List, [], ◌∷◌, length, take, map, fold, get_or, count_by, Option, Some, None, is_none, option_map, unwrap_or, refl, sym, ap, ◌∙◌, subst, inl, inr, ◌⊎◌, eq-eqb, All, ◌^◌, arith}
-use Rattle.std.specs.Option.{option_or}
 use Rattle.std.specs.List.{list_any, cons_option}
 use Rattle.std.specs.Cmp.Lexicographic.{slice_cmp, texts_ties}
 use Rattle.std.specs.Ordering.{is_lt, is_eq, ordering_reverse, nat_cmp}
@@ -15,19 +14,12 @@ use Rattle.directives.specs.declared.item.Export.{Export}
 use Rattle.link_base.specs.Bytes.{first_below}
 use Rattle.link_base.specs.NameText.{same_name}
 use Rattle.link_base.proofs.CallerLemmas.{first_below-none}
+use Rattle.link_base.proofs.OptionLemmas.{none_mapped, both_none}
 use Rattle.export_tables.specs.declared.error.ExportError.{ExportError}
 use Rattle.export_tables.specs.Ordinals.{no_export, row_at, asked, greatest, free_name, free_names, comes_before, ordinal_above, ordinal_of, ordinals_of, is_zero, asks_for_zero, has_earlier_name, is_among, has_earlier_ordinal, has_great_ordinal, ordinal_fault}
 use Rattle.export_tables.proofs.OrdinalLemmas.{by_bytes}
 
 -- ---- no fault
-
-or_none : {A : Type 0} (first later : Option A) → option_or first later ≡ None → (first ≡ None) × (later ≡ None)
-or_none None later e = (refl, e)
-or_none (Some x) later e = absurd cc
-
-map_none : {A B : Type 0} (f : A → B) (o : Option A) → option_map f o ≡ None → o ≡ None
-map_none f None e = refl
-map_none f (Some x) e = absurd cc
 
 pub record Faultless (rows : List Export) : Type 0 where
   pub zero : (k : ℕ) → k < length rows → is_zero (row_at rows k).ordinal ≡ false
@@ -36,15 +28,15 @@ pub record Faultless (rows : List Export) : Type 0 where
   pub great : (k : ℕ) → k < length rows → has_great_ordinal rows k ≡ false
 
 none_fails : (rows : List Export) (kind : ℕ → ExportError) (test : ℕ → Bool) → option_map kind (first_below (length rows) test) ≡ None → (k : ℕ) → k < length rows → test k ≡ false
-none_fails rows kind test e k lt = first_below-none (length rows) test (map_none kind (first_below (length rows) test) e) k lt
+none_fails rows kind test e k lt = first_below-none (length rows) test (none_mapped kind (first_below (length rows) test) e) k lt
 
 pub faultless : (rows : List Export) → ordinal_fault rows ≡ None → Faultless rows
 unfolding ordinal_fault
 faultless rows none =
-    let first = or_none _ _ none in
-    let second = or_none _ _ first.1 in
-    let third = or_none _ _ second.1 in
-    let fourth = or_none _ _ third.1 in
+    let first = both_none _ _ none in
+    let second = both_none _ _ first.1 in
+    let third = both_none _ _ second.1 in
+    let fourth = both_none _ _ third.1 in
     record {
       zero = none_fails rows _ (asks_for_zero rows) first.0;
       name = none_fails rows _ (has_earlier_name rows) second.0;

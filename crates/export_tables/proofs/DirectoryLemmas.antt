@@ -3,11 +3,12 @@ use Rattle.std.proofs.Common.{◌≡◌, ℕ, ◌+◌, ◌^◌, ◌<◌, ◌≤�
 use Rattle.link_base.specs.Bytes.{number_at, number_bytes}
 use Rattle.link_base.specs.Fields.{fields, field_bytes}
 use Rattle.link_base.specs.declared.numbers.LeNumber.TheVariants.{U32}
+use Rattle.link_base.proofs.HeldLemmas.{held_fits, held_number}
 use Rattle.export_tables.specs.declared.directory.Directory.{Directory}
 use Rattle.export_tables.specs.ExportDirectory.{directory_in, directory_at}
 use Rattle.export_tables.specs.ExportTable.{directory_fields}
 use Rattle.export_tables.specs.ReadBack.{Holds}
-use Rattle.export_tables.proofs.HeldLemmas.{held_item, held_number, held_fits}
+use Rattle.export_tables.proofs.HeldLemmas.{held_item}
 use Rattle.export_tables.proofs.LengthLemmas.{directory_len}
 
 -- each field has four bytes

@@ -2,20 +2,19 @@
 use Rattle.std.proofs.Common.{◌≡◌, ℕ, zero, suc, ◌+◌, ◌-◌, ◌*◌, ◌<◌, ◌≤◌, Bool, true, false, cond, List, [], ◌∷◌, ◌++◌, length, take, get_or, Option, Some, None, refl, ap, ◌∙◌, subst, arith, rules}
 use Rattle.std.specs.List.{sum_by, filter_map, range_with_len}
 use Rattle.std.specs.Option.{option_to_list}
-use Rattle.std.specs.Ordering.{nat_cmp, ordering_then, is_lt, is_gt, is_eq, MatchOrdering}
-use Rattle.std.specs.Cmp.{IsTotalOrder, ranks}
+use Rattle.std.specs.Ordering.{nat_cmp}
+use Rattle.std.specs.Cmp.{IsTotalOrder}
 use Rattle.std.specs.Cmp.Rules.{comparing}
-use Rattle.std.specs.Cmp.Lexicographic.{slice_cmp, texts_ties}
-use Rattle.std.specs.declared.cmp.Ordering.{Ordering}
-use Rattle.std.specs.declared.cmp.Ordering.TheVariants.{Less, Equal, Greater}
-use Rattle.std.proofs.lemmas.Bool.{true≢false}
-use Rattle.std.proofs.lemmas.Slice.Eq.{bytes_eq-Decides}
+use Rattle.std.specs.Cmp.Lexicographic.{slice_cmp}
+use Rattle.std.specs.declared.cmp.Ordering.TheVariants.{Equal}
 use Rattle.std.proofs.lemmas.List.Elements.{filter_map-append}
 use Rattle.std.proofs.lemmas.List.Sums.{sum_by-append, sum_by-cons, sum_by_more}
 use Rattle.std.proofs.lemmas.List.Sorted.{sum_by-IsPermutation}
 use Rattle.std.proofs.lemmas.List.{take_all}
 use Rattle.sorted_lists.specs.Order.{in_order}
 use Rattle.sorted_lists.proofs.CallerLemmas.{order_permutes}
+use Rattle.link_base.proofs.OrderingLemmas.{one_number, then_both, one_text}
+use Rattle.link_base.proofs.RangeLemmas.{range_more}
 use Rattle.export_tables.specs.declared.row.ExportRow.{ExportRow}
 use Rattle.export_tables.specs.declared.names.NameEntry.{NameEntry}
 use Rattle.export_tables.specs.ExportTable.{no_row, row_at, least, address_count, targets_in, entry_of, entry_at, entries_before, entry_cmp, names_of, text_size, name_size, target_size, forwarder_size, row_size, rows_size, AreNumbered}
@@ -26,17 +25,6 @@ use Rattle.export_tables.proofs.TargetLemmas.{least_below, place_within, sum_tar
 pub entry_total : IsTotalOrder entry_cmp
 entry_total = search (comparing, rules) depth 8
 
-then_both : (r s : Ordering) → ordering_then r s ≡ Equal → (r ≡ Equal) × (s ≡ Equal)
-then_both Less s e = absurd (true≢false (ap is_lt e))
-then_both Equal s e = (refl, e)
-then_both Greater s e = absurd (true≢false (ap is_gt e))
-
-one_number : (x y : ℕ) → nat_cmp x y ≡ Equal → x ≡ y
-one_number x y e = subst (λ (r : Ordering). MatchOrdering r (x < y) (x ≡ y) (y < x)) e (ranks x y)
-
-pub one_text : (x y : List ℕ) → slice_cmp nat_cmp x y ≡ Equal → x ≡ y
-one_text x y e = (bytes_eq-Decides x y).0 (texts_ties x y ∙ ap is_eq e)
-
 pub one_entry : (a b : NameEntry) → entry_cmp a b ≡ Equal → a ≡ b
 one_entry a b e =
     let both = then_both (slice_cmp nat_cmp a.name b.name) _ e in
@@ -45,12 +33,6 @@ one_entry a b e =
     λ i. record { name = name i; index = index i }
 
 -- ---- one row more
-
-pub range_more : (a n j : ℕ) → a + n ≡ j → range_with_len a (n + 1) ≡ range_with_len a n ++ j ∷ []
-range_more a zero j e = ap (λ (k : ℕ). k ∷ []) (omega (arith, e))
-range_more a (suc n) j e =
-    let one : suc n + 1 ≡ suc (n + 1) = omega arith in
-    ap (range_with_len a) one ∙ ap (λ (xs : List ℕ). a ∷ xs) (range_more (a + 1) n j (omega (arith, e)))
 
 pub entries_more : (rows : List ExportRow) (ordinals : List ℕ) (k : ℕ) → entries_before rows ordinals (k + 1) ≡ entries_before rows ordinals k ++ option_to_list (entry_at rows ordinals k)
 unfolding entries_before

@@ -6,6 +6,7 @@ use Rattle.std.proofs.lemmas.List.FromFn.{length-map-range_with_len}
 use Rattle.link_base.specs.Bytes.{number_bytes}
 use Rattle.link_base.specs.Fields.{fields}
 use Rattle.link_base.proofs.CallerLemmas.{length-number_bytes}
+use Rattle.link_base.proofs.PartLemmas.{numbers_len}
 use Rattle.export_tables.specs.declared.row.ExportRow.{ExportRow}
 use Rattle.export_tables.specs.declared.row.ExportTo.{ExportTo}
 use Rattle.export_tables.specs.declared.row.ExportTo.TheVariants.{Rva, Forward}
@@ -18,11 +19,6 @@ use Rattle.export_tables.proofs.FillLemmas.{parts_size}
 pub directory_len : (time : ℕ) (directory : Directory) → length (fields (directory_fields time directory)) ≡ 40
 unfolding number_bytes
 directory_len time directory = refl
-
-pub numbers_len : (numbers : List ℕ) → length (flat_map (number_bytes 4) numbers) ≡ 4 * length numbers
-numbers_len [] = refl
-numbers_len (n ∷ numbers) =
-    omega (arith, length-append (number_bytes 4 n) (flat_map (number_bytes 4) numbers), length-number_bytes 4 n, numbers_len numbers)
 
 pub addresses_len : (start : ℕ) (targets : List (Option ExportTo)) (count : ℕ) → length (addresses start targets count) ≡ 4 * count
 unfolding addresses

@@ -1,5 +1,5 @@
 -- The first entry of a name, in a loop that counts up.
-use Rattle.std.proofs.Common.{◌≡◌, ℕ, zero, suc, ◌+◌, ◌*◌, ◌-◌, ◌<◌, ◌≤◌, false, List, length, Option, Some, None, is_some, true, refl, sym, ap, ◌∙◌, arith}
+use Rattle.std.proofs.Common.{◌≡◌, ℕ, zero, suc, ◌+◌, ◌*◌, ◌-◌, ◌<◌, ◌≤◌, List, length, Option, Some, None, is_some, true, refl, sym, ap, ◌∙◌, arith}
 use Rattle.std.proofs.lemmas.Bool.{lt-leb}
 use Rattle.std.specs.Option.{option_or}
 use Rattle.link_base.specs.Refusals.{first_refusal_below}
@@ -39,7 +39,3 @@ unfolding name_address
 first_named memory directory name index address lt none is some =
     let there = some_is address some in
     there.1 ∙ sym (first_refusal_below-found index directory.name_count (named_address memory directory name) there.0 lt none (sym is ∙ there.1))
-
-pub none_is : {A : Type 0} (o : Option A) → is_some o ≡ false → o ≡ None
-none_is None e = refl
-none_is (Some x) e = absurd cc

@@ -1,5 +1,5 @@
 -- The order of names: it is one, and names that differ ascend in it.
-use Rattle.std.proofs.Common.{◌≡◌, ◌≢◌, ℕ, ◌+◌, ◌<◌, Bool, true, false, List, [], ◌∷◌, ◌++◌, length, map, get_or, None, IsPermutation, IsSorted, refl, sym, ap, ◌∙◌, subst, arith}
+use Rattle.std.proofs.Common.{◌≡◌, ◌≢◌, ℕ, ◌+◌, ◌<◌, false, List, [], ◌∷◌, ◌++◌, length, map, get_or, None, IsPermutation, IsSorted, refl, sym, ap, ◌∙◌, subst, arith}
 use Rattle.std.specs.List.{All, range_with_len, AllPairs}
 use Rattle.std.specs.Bool.{Decides}
 use Rattle.std.specs.Ordering.{is_lt, nat_cmp, ordering_then, ordering_reverse}
@@ -17,13 +17,16 @@ use Rattle.std.proofs.lemmas.Map.Made.{AllPairs-from_IsDistinct, IsDistinct-from
 use Rattle.std.proofs.lemmas.Slice.Eq.{bytes_eq-Decides}
 use Rattle.directives.specs.declared.item.Export.{Export}
 use Rattle.link_base.specs.NameText.{same_name}
+use Rattle.link_base.proofs.NameTextLemmas.{same_flip}
+use Rattle.link_base.proofs.OrderingLemmas.{one_text}
+use Rattle.link_base.proofs.RangeLemmas.{range_more}
 use Rattle.sorted_lists.specs.Order.{in_order}
 use Rattle.sorted_lists.proofs.CallerLemmas.{order_permutes, order_sorted, is_in_order}
 use Rattle.export_tables.specs.declared.names.NameEntry.{NameEntry}
 use Rattle.export_tables.specs.ExportTable.{entry_cmp}
 use Rattle.export_tables.specs.Ordinals.{row_at, ordinal_fault}
 use Rattle.export_tables.specs.NameOrder.{row_entry, row_entries, name_order}
-use Rattle.export_tables.proofs.EntryLemmas.{entry_total, one_entry, range_more, one_text}
+use Rattle.export_tables.proofs.EntryLemmas.{entry_total, one_entry}
 use Rattle.export_tables.proofs.AssignedLemmas.{Faultless, faultless, names_differ}
 
 -- ---- the order of the entries is one
@@ -53,15 +56,6 @@ order_is rows entries sorted view order is moved up view_is read =
 names_decide : (x y : List ℕ) → Decides (same_name x y) (x ≡ y)
 names_decide x y = bytes_eq-Decides x y
 
-names_flip : (x y : List ℕ) → same_name x y ≡ same_name y x
-names_flip x y = go (same_name x y) (same_name y x) refl refl
-  where
-    go : (a b : Bool) → same_name x y ≡ a → same_name y x ≡ b → a ≡ b
-    go true true e f = refl
-    go false false e f = refl
-    go true false e f = absurd (false≢true (sym f ∙ (names_decide y x).1 (sym ((names_decide x y).0 e))))
-    go false true e f = absurd (false≢true (sym e ∙ (names_decide x y).1 (sym ((names_decide y x).0 f))))
-
 entries_apart : (rows : List Export) → Faultless rows → AllPairs (λ x y. x ≢ y) (map (λ entry. entry.name) (row_entries rows))
 entries_apart rows ok i j d lt within same =
     let n = length rows in
@@ -83,7 +77,7 @@ sorted_apart rows ok =
     let name : NameEntry → List ℕ = λ entry. entry.name in
     let entries = row_entries rows in
     AllPairs-from_IsDistinct names_decide (map name (in_order entry_cmp entries))
-    (IsDistinct-IsPermutation same_name names_flip (map name entries) (map name (in_order entry_cmp entries)) (IsPermutation-map name entries (in_order entry_cmp entries) (order_permutes entry_cmp entries))
+    (IsDistinct-IsPermutation same_name same_flip (map name entries) (map name (in_order entry_cmp entries)) (IsPermutation-map name entries (in_order entry_cmp entries) (order_permutes entry_cmp entries))
     (IsDistinct-from_AllPairs names_decide (map name entries) (entries_apart rows ok)))
 
 comes_first : (r s t : Ordering) → r ≡ ordering_reverse s → is_lt (ordering_then r t) ≡ false → (s ≡ Equal → ⊥) → s ≡ Less

@@ -6,6 +6,7 @@ use Rattle.std.proofs.lemmas.Bool.{cases_Bool, cases_lt, and_parts, not-true}
 use Rattle.std.proofs.lemmas.Slice.Eq.{bytes_eq-Decides}
 use Rattle.link_base.specs.NameText.{same_name}
 use Rattle.link_base.specs.Refusals.{first_refusal_below}
+use Rattle.link_base.proofs.RefusalLemmas.{none_below}
 use Rattle.export_tables.specs.declared.row.ExportRow.{ExportRow}
 use Rattle.export_tables.specs.declared.names.NameEntry.{NameEntry}
 use Rattle.export_tables.specs.declared.directory.Directory.{Directory}
@@ -19,11 +20,6 @@ use Rattle.export_tables.proofs.RowLemmas.{target_of_row, entry_is, names_pass, 
 use Rattle.export_tables.proofs.TargetLemmas.{place_within}
 
 -- ---- the first of several
-
-none_of_all : {A : Type 0} (n : ℕ) (at : ℕ → Option A) → ((k : ℕ) → k < n → at k ≡ None) → first_refusal_below n at ≡ None
-unfolding first_refusal_below
-none_of_all zero at none = refl
-none_of_all (suc n) at none = rw (none_of_all n at (λ k lt. none k (omega (arith, lt))), none n (omega arith)) refl
 
 abbrev IsNoneOr : {A : Type 0} → A → Option A → Type 0
 IsNoneOr x o = (o ≡ None) ⊎ (o ≡ Some x)
@@ -88,7 +84,7 @@ module _ (memory : List ℕ) (rows : List ExportRow) (ordinals dll : List ℕ) (
       names_pass OtherName rows ordinals (λ i entry lt is.
       let one = entry_is (row_at rows i) (get_or ordinals i 0 - least ordinals) entry is in
       subst OtherName one.1 (not_as_name name (row_at rows i) (none_found (is_exported_as name) rows none i lt) one.0)) in
-      none_of_all (length names) (named_address memory directory name) (λ k lt.
+      none_below (length names) (named_address memory directory name) (λ k lt.
       named_says memory rows ordinals dll rva holds name k (named (row_at rows 0) 0) lt
       ∙ ap (λ (b : Bool). cond b (entry_address memory directory (get_or names k (named (row_at rows 0) 0)).index) None) (others k (named (row_at rows 0) 0) lt))
 

@@ -10,11 +10,12 @@ use Rattle.std.proofs.lemmas.List.Sums.{sum_by-append, sum_by-cons, sum_by-set}
 use Rattle.std.proofs.lemmas.List.Sorted.{sum_by-IsPermutation}
 use Rattle.std.proofs.lemmas.List.FromFn.{length-map-range_with_len, get_or-map-range_with_len, map-range_with_len_more, fill_by_all}
 use Rattle.sorted_lists.proofs.CallerLemmas.{is_order_of_sums}
+use Rattle.link_base.proofs.NumberLemmas.{eqb_apart}
 use Rattle.export_tables.specs.declared.row.ExportRow.{ExportRow}
 use Rattle.export_tables.specs.declared.names.NameEntry.{NameEntry}
 use Rattle.export_tables.specs.ExportTable.{least, address_count, entry_at, entries_before, entry_cmp, names_of, place_in, places_in, places_of, AreNumbered}
 use Rattle.export_tables.proofs.EntryLemmas.{entry_total, one_entry, entries_more}
-use Rattle.export_tables.proofs.TargetLemmas.{Differ, least_below, place_within, place_of_other, place_of_new, same_no, no_earlier}
+use Rattle.export_tables.proofs.TargetLemmas.{Differ, least_below, place_within, place_of_other, place_of_new, no_earlier}
 
 pub length_places : (rows : List ExportRow) (all : List ℕ) (count : ℕ) (ordinals : List ℕ) → length (places_in rows all count ordinals) ≡ count
 unfolding places_in
@@ -33,7 +34,7 @@ module _ (rows : List ExportRow) (ordinals : List ℕ) (differ : Differ ordinals
   other_place k other =
       ap (option_and_then (entry_at rows ordinals))
       (ap (position (eqb (least ordinals + k))) (take_more ordinals i 0 lt)
-      ∙ place_of_other (eqb (least ordinals + k)) (take i ordinals) (get_or ordinals i 0) (same_no (least ordinals + k) (get_or ordinals i 0) other))
+      ∙ place_of_other (eqb (least ordinals + k)) (take i ordinals) (get_or ordinals i 0) (eqb_apart (least ordinals + k) (get_or ordinals i 0) other))
 
   -- that of the row, which no earlier one has
   no_place : (k : ℕ) → least ordinals + k ≡ get_or ordinals i 0 → place_in rows ordinals (take i ordinals) k ≡ None

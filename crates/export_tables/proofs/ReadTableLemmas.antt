@@ -4,6 +4,7 @@ use Rattle.std.specs.List.{sum_by}
 use Rattle.std.specs.Option.{option_and_then}
 use Rattle.link_base.specs.Bytes.{field, text_at}
 use Rattle.link_base.specs.NameText.{same_name}
+use Rattle.link_base.proofs.HeldLemmas.{held_text}
 use Rattle.export_tables.specs.declared.row.ExportRow.{ExportRow}
 use Rattle.export_tables.specs.declared.names.NameEntry.{NameEntry}
 use Rattle.export_tables.specs.declared.directory.Directory.{Directory}
@@ -13,7 +14,7 @@ use Rattle.export_tables.specs.ReadBack.{Holds, HasNoNul, AreReadable}
 use Rattle.export_tables.proofs.AddressLemmas.{IsGood, Says, entry_says}
 use Rattle.export_tables.proofs.DirectoryLemmas.{directory_read}
 use Rattle.export_tables.proofs.FillLemmas.{parts_size, rva_within}
-use Rattle.export_tables.proofs.HeldLemmas.{held_field, held_text}
+use Rattle.export_tables.proofs.HeldLemmas.{held_field}
 use Rattle.export_tables.proofs.RowLemmas.{target_at, target_passes, entry_is, names_pass}
 use Rattle.export_tables.proofs.StandLemmas.{Stands, parts_stand, name_rva_there, index_there, name_there}
 use Rattle.export_tables.proofs.TargetLemmas.{falls, length_targets}

@@ -5,13 +5,14 @@ use Rattle.std.proofs.lemmas.List.{length-take-le}
 use Rattle.std.proofs.lemmas.List.FromFn.{length-map-range_with_len, get_or-map-range_with_len}
 use Rattle.link_base.specs.Bytes.{number_bytes}
 use Rattle.link_base.specs.Fields.{fields}
+use Rattle.link_base.proofs.PartLemmas.{numbers_len}
 use Rattle.export_tables.specs.declared.row.ExportTo.{ExportTo}
 use Rattle.export_tables.specs.declared.names.NameEntry.{NameEntry}
 use Rattle.export_tables.specs.declared.directory.Directory.{Directory}
 use Rattle.export_tables.specs.ExportTable.{address_count, text_size, name_size, target_size, text_rva, address_at, addresses, name_rvas, directory_of, directory_fields, tables_end, index_bytes, name_bytes, text_bytes, target_bytes, tables_bytes, texts_bytes, table_by}
 use Rattle.export_tables.specs.ReadBack.{Holds}
 use Rattle.export_tables.proofs.HeldLemmas.{held_first, held_rest, held_item}
-use Rattle.export_tables.proofs.LengthLemmas.{directory_len, numbers_len, addresses_len, rvas_len, indexes_len, names_len, targets_len, tables_len}
+use Rattle.export_tables.proofs.LengthLemmas.{directory_len, addresses_len, rvas_len, indexes_len, names_len, targets_len, tables_len}
 
 -- ---- the parts
 

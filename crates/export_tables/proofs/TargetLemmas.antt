@@ -2,11 +2,11 @@
 use Rattle.std.proofs.Common.{◌≡◌, ◌≢◌, ℕ, zero, suc, ◌+◌, ◌-◌, ◌<◌, ◌≤◌, Bool, true, false, eqb, min, max, List, [], ◌∷◌, ◌++◌, length, take, map, fold, get_or, set, Option, Some, None, option_map, refl, sym, ap, ◌∙◌, inl, inr, lt-ltb, le-ltb, eq-eqb, arith}
 use Rattle.std.specs.List.{sum_by, position, position_or_len, range_with_len}
 use Rattle.std.proofs.lemmas.Bool.{cases_Bool, cases_lt, cases_eq}
-use Rattle.std.proofs.lemmas.Bool.Decides.{eqb_tells}
 use Rattle.std.proofs.lemmas.Grind.{get_or-set_at}
 use Rattle.std.proofs.lemmas.List.{take_more, length-take, length-set, get_or-set_other, get_or-take, get_or_default}
 use Rattle.std.proofs.lemmas.List.Sums.{sum_by-set, sum_by-cons}
 use Rattle.std.proofs.lemmas.List.FromFn.{length-map-range_with_len, get_or-map-range_with_len, map-range_with_len_more, fill_by_all}
+use Rattle.link_base.proofs.NumberLemmas.{eqb_apart}
 use Rattle.export_tables.specs.declared.row.ExportRow.{ExportRow}
 use Rattle.export_tables.specs.declared.row.ExportTo.{ExportTo}
 use Rattle.export_tables.specs.ExportTable.{row_at, least, address_count, target_in, targets_in, target_size}
@@ -84,13 +84,6 @@ place_within ordinals i lt = omega (arith, at_least ordinals 65535 i lt, at_most
 
 -- ---- one row more
 
-pub same_no : (a b : ℕ) → a ≢ b → eqb a b ≡ false
-same_no a b differ =
-    elim (eqb_tells a b) [
-      | inl same ↦ absurd (differ same.1)
-      | inr other ↦ other.0
-    ]
-
 pub length_targets : (rows : List ExportRow) (base count : ℕ) (ordinals : List ℕ) → length (targets_in rows base count ordinals) ≡ count
 unfolding targets_in
 length_targets rows base count ordinals = length-map-range_with_len (target_in rows base ordinals) 0 count
@@ -105,14 +98,14 @@ module _ (rows : List ExportRow) (base : ℕ) (ordinals : List ℕ) (i : ℕ) (l
   other_target k differ =
       ap (option_map (λ (row : ℕ). (row_at rows row).what))
       (ap (position (eqb (base + k))) (take_more ordinals i 0 lt)
-      ∙ place_of_other (eqb (base + k)) (take i ordinals) (get_or ordinals i 0) (same_no (base + k) (get_or ordinals i 0) differ))
+      ∙ place_of_other (eqb (base + k)) (take i ordinals) (get_or ordinals i 0) (eqb_apart (base + k) (get_or ordinals i 0) differ))
 
   -- that of the row, which no earlier one has
   pub no_earlier : (k : ℕ) → Differ ordinals → base + k ≡ get_or ordinals i 0 → position (eqb (base + k)) (take i ordinals) ≡ None
   no_earlier k differ is =
       place_of_none (eqb (base + k)) (take i ordinals) (λ j d less.
       let before : j < i = omega (arith, less, length-take i ordinals) in
-      same_no (base + k) (get_or (take i ordinals) j d) (λ same.
+      eqb_apart (base + k) (get_or (take i ordinals) j d) (λ same.
       differ j i before lt (sym (is_get j d before less) ∙ sym same ∙ is)))
     where
       is_get : (j d : ℕ) → j < i → j < length (take i ordinals) → get_or (take i ordinals) j d ≡ get_or ordinals j 0

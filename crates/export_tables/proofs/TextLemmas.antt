@@ -93,20 +93,3 @@ named_in_window memory name rest window rva n text from len cut is =
     let one : n + 1 ≡ suc (length name) = omega (arith, len) in
     ap (λ (t : Option (List ℕ)). is_text t name) (is ∙ ap (λ (w : List ℕ). text_at w 0) (cut ∙ ap (λ (k : ℕ). take k rest) one ∙ ap (take (suc (length name))) from))
     ∙ windowed name (drop rva memory)
-
--- the bytes behind the RVA are too few
-few_named : (name xs : List ℕ) → length xs ≤ length name → is_text (text_at xs 0) name ≡ false
-few_named name [] few = refl
-few_named [] (x ∷ xs) few = absurd (omega (arith, few))
-few_named (y ∷ name) (x ∷ xs) few =
-    elim (cases_Bool (is_nul x)) [
-      | inl nul ↦ rw (text_of_nul x xs nul) refl
-      | inr other ↦
-          ap (λ (t : Option (List ℕ)). is_text t (y ∷ name)) (text_of_more x xs other)
-          ∙ more_named x y name (text_at xs 0)
-          ∙ ap (λ (b : Bool). nat_eq x y && b) (few_named name xs (omega (arith, few)))
-          ∙ and_right (nat_eq x y) false refl
-    ]
-
-pub named_nowhere : (memory name rest : List ℕ) (rva : ℕ) → rest ≡ drop rva memory → length rest ≤ length name → is_text (text_at memory rva) name ≡ false
-named_nowhere memory name rest rva from few = few_named name (drop rva memory) (omega (arith, few, ap length from))

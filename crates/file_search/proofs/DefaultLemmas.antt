@@ -6,7 +6,7 @@ use Rattle.std.proofs.Math.Seq.{take-append_seam, get_or-append_seam}
 use Rattle.std.proofs.lemmas.Bool.{true≢false}
 use Rattle.std.proofs.lemmas.List.{append-nil, map-append, take_more, take_all, take-append-le, get_or_append_left, length_push}
 use Rattle.std.proofs.lemmas.List.Elements.{filter_map-append}
-use Rattle.link_base.proofs.RangeLemmas.{range_more, joined_more}
+use Rattle.link_base.proofs.RangeLemmas.{range_more, joined_more, same_joined}
 use Rattle.directives.specs.Said.{Said, said}
 use Rattle.directives.specs.declared.item.Directive.{Directive}
 use Rattle.module_view.specs.Module.{ModuleView, no_module, module_at}
@@ -26,12 +26,6 @@ same_filter_map f g a zero same = refl
 same_filter_map {B} f g a (suc n) same =
     ap (λ (o : Option B). cons_option o (filter_map f (range_with_len (a + 1) n))) (same a (omega arith) (omega arith))
     ∙ ap (cons_option (g a)) (same_filter_map f g (a + 1) n (λ k low high. same k (omega arith) (omega arith)))
-
-same_flat_map : {B : Type 0} (f g : ℕ → List B) (a n : ℕ) → ((k : ℕ) → a ≤ k → k < a + n → f k ≡ g k) → flat_map f (range_with_len a n) ≡ flat_map g (range_with_len a n)
-same_flat_map f g a zero same = refl
-same_flat_map {B} f g a (suc n) same =
-    ap (λ (xs : List B). xs ++ flat_map f (range_with_len (a + 1) n)) (same a (omega arith) (omega arith))
-    ∙ ap (λ (xs : List B). g a ++ xs) (same_flat_map f g (a + 1) n (λ k low high. same k (omega arith) (omega arith)))
 
 -- ---- one more name
 
@@ -123,7 +117,7 @@ of_all_more {A} list modules m =
     let g = λ (k : ℕ). list k (module_at modules k).bytes in
     ap (λ (len : ℕ). flat_map f (range_with_len 0 len)) (length_push modules m)
     ∙ joined_more f 0 n n (omega arith)
-    ∙ ap (λ (xs : List A). xs ++ f n) (same_flat_map f g 0 n (λ k low high. ap (λ (v : ModuleView). list k v.bytes) (get_or_append_left modules (m ∷ []) no_module k (omega arith))))
+    ∙ ap (λ (xs : List A). xs ++ f n) (same_joined f g 0 n (λ k low high. ap (λ (v : ModuleView). list k v.bytes) (get_or_append_left modules (m ∷ []) no_module k (omega arith))))
     ∙ ap (λ (v : ModuleView). flat_map g (range_with_len 0 n) ++ list n v.bytes) (get_or-append_seam modules m [] no_module)
 
 pub default_names_more : (options : LinkOptions) (modules : List ModuleView) (m : ModuleView) → default_names options (modules ++ m ∷ []) ≡ default_names options modules ++ map completed (filter_map default_said (module_directives m.bytes))
@@ -150,7 +144,3 @@ said_all options modules m directives index le said_are =
     ap (λ (list : List Directive). default_names options modules ++ map completed (filter_map default_said (map said list))) (take_all index directives le)
     ∙ ap (λ (list : List Said). default_names options modules ++ map completed (filter_map default_said list)) said_are
     ∙ sym (default_names_more options modules m)
-
--- those of the command line alone
-pub default_names_none : (options : LinkOptions) → map completed options.default_libs ≡ default_names options []
-default_names_none options = ap (map completed) (sym (append-nil options.default_libs))

@@ -11,7 +11,7 @@ use Rattle.std.proofs.lemmas.List.Folds.{list_any-append}
 use Rattle.std.proofs.lemmas.Map.Text.{hash_set_updates_text}
 use Rattle.std.proofs.lemmas.Slice.Eq.{bytes_eq-Decides}
 use Rattle.file_search.specs.DefaultLibraries.{is_among_names}
-use Rattle.file_search.specs.DefaultSteps.{has_noted, NotesOnly, NotesMore}
+use Rattle.file_search.specs.DefaultSteps.{has_noted, NotesMore}
 
 -- ---- names in either case
 
@@ -27,9 +27,6 @@ pub among_more : (names : List (List ℕ)) (name other : List ℕ) → is_among_
 among_more names name other =
     list_any-append (str_eq_ignore_ascii_case other) names (name ∷ [])
     ∙ ap (λ (b : Bool). is_among_names names other || b) (or-false (str_eq_ignore_ascii_case other name))
-
-pub among_append : (names more : List (List ℕ)) (other : List ℕ) → is_among_names (names ++ more) other ≡ (is_among_names names other || is_among_names more other)
-among_append names more other = list_any-append (str_eq_ignore_ascii_case other) names more
 
 -- ---- a name is noted
 
@@ -56,9 +53,6 @@ noted_before {Y} seen key name added there key_is is was =
 
 -- ---- the names of a list
 
-pub notes_none : {Y S : Type 0} (seen : HashSet (String Y) S) → NotesMore seen seen []
-notes_none seen = record { has = λ name. sym (or-false (has_noted seen name)) }
-
 notes_further : {Y S : Type 0} (before mid after : HashSet (String Y) S) (names : List (List ℕ)) (key : String Y) (name : List ℕ) → string_bytes key ≡ str_to_ascii_lowercase name → Updates string_eq mid after key true → NotesMore before mid names → NotesMore before after (names ++ name ∷ [])
 notes_further before mid after names key name key_is updates so_far = record {
   has = λ other.
@@ -82,15 +76,3 @@ pub notes_name : {X Y S : Type 0} (name_of : List ℕ → List ℕ) (text_of : X
 notes_name name_of text_of items index default before mid after key lt key_is updates so_far =
     subst (NotesMore before after) (sym (names_more name_of text_of items index default lt))
     (notes_further before mid after (map name_of (map text_of (take index items))) key (name_of (text_of (get_or items index default))) key_is updates so_far)
-
--- ---- those that are ruled out
-
-pub notes_both : {Y S : Type 0} (start mid after : HashSet (String Y) S) (names more : List (List ℕ)) → start.keys ≡ [] → NotesMore start mid names → NotesMore mid after more → NotesOnly after (names ++ more)
-notes_both {Y} start mid after names more empty first second = record {
-  has = λ other.
-      second.has other
-      ∙ ap (λ (b : Bool). b || is_among_names more other)
-      (first.has other
-      ∙ ap (λ (keys : List (String Y)). list_any (λ k. bytes_eq (str_to_ascii_lowercase other) (string_bytes k)) keys || is_among_names names other) empty)
-      ∙ sym (among_append names more other);
-}

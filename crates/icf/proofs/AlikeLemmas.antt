@@ -6,6 +6,7 @@ use Rattle.std.specs.List.{Contains}
 use Rattle.std.proofs.lemmas.Bool.{cases_lt}
 use Rattle.std.proofs.lemmas.List.Elements.{All-contains}
 use Rattle.std.proofs.lemmas.Option.{slice_get_within, slice_get_past}
+use Rattle.link_base.proofs.ListLemmas.{contains_map}
 use Rattle.relocate.specs.declared.fix.Fix.{Fix}
 use Rattle.relocate.specs.declared.fix.Target.TheVariants as target
 use Rattle.icf.specs.declared.field.Owner.{Owner}
@@ -21,7 +22,7 @@ use Rattle.icf.specs.Contents.{contents_of, Shown, shown, AreFirstClasses}
 use Rattle.icf.specs.Rounds.{renamed_field, renamed_place, renamed, IsPlaceBelow, AreListsWithin, JoinsAll, StaysTogether, AreSettled}
 use Rattle.icf.proofs.SectionLemmas.{candidate_there, section_there, one_section}
 use Rattle.icf.proofs.ListLemmas.{any_item, listed_read}
-use Rattle.icf.proofs.GatherLemmas.{contains_map, map_contains}
+use Rattle.icf.proofs.GatherLemmas.{map_contains}
 use Rattle.icf.proofs.ContentLemmas.{shown_same, shown_each, shown_length}
 use Rattle.icf.proofs.OrderLemmas.{same_fields, renamed_rises}
 use Rattle.icf.proofs.AgreeLemmas.{agree_places, places_agree}

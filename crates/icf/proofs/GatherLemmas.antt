@@ -10,6 +10,7 @@ use Rattle.std.proofs.lemmas.List.Sorted.{Contains-permutation, IsPermutation-sy
 use Rattle.std.proofs.lemmas.Option.{slice_get-get_or}
 use Rattle.std.proofs.Math.ListN.{get_or-append}
 use Rattle.std.proofs.Math.Seq.{get_or-append_right}
+use Rattle.link_base.proofs.ListLemmas.{contains_map}
 use Rattle.relocate.specs.declared.fix.Fix.{Fix}
 use Rattle.relocate.specs.Field.{has_field, no_fix}
 use Rattle.relocate.specs.FieldFaults.{overlaps_earlier}
@@ -21,14 +22,6 @@ use Rattle.icf.specs.Fields.{field_in, IsBefore, IsAmong, AreFieldsBelow, AreFie
 use Rattle.icf.proofs.SectionLemmas.{one_section}
 
 -- ---- items of a list that a function makes
-
-pub contains_map : {X Y : Type 0} (f : X → Y) (xs : List X) (x : X) → Contains xs x → Contains (map f xs) (f x)
-contains_map f xs x there =
-    let lt = there.1 in (
-      there.0,
-      omega (arith, length-map xs f),
-      get_or-map f xs there.0 x (f x) lt ∙ ap f there.2,
-    )
 
 pub map_contains : {X Y : Type 0} (f : X → Y) (xs : List X) (d : X) (y : Y) → Contains (map f xs) y → (x : X) × (Contains xs x × (y ≡ f x))
 map_contains f xs d y there =

@@ -7,6 +7,7 @@ use Rattle.std.proofs.lemmas.Bool.{cases_lt, eqb-true}
 use Rattle.std.proofs.lemmas.Grind.{flat_map-append}
 use Rattle.std.proofs.lemmas.List.{get_or_append_left}
 use Rattle.std.proofs.lemmas.List.Elements.{All-append, All-cons, All-nil, All-weaker}
+use Rattle.link_base.proofs.ListLemmas.{all_front, all_back}
 use Rattle.section_group.specs.declared.piece.Piece.{Piece}
 use Rattle.section_group.specs.declared.piece.OutSection.{OutSection}
 use Rattle.section_group.specs.SectionOrder.{no_piece}
@@ -18,7 +19,6 @@ use Rattle.address_layout.specs.Growth.{last_end, raw_end, grown_size, Appends}
 use Rattle.address_layout.proofs.CallerLemmas.{row_here}
 use Rattle.image_writer.specs.HeaderTable.{size_of_headers}
 use Rattle.image_writer.specs.WrittenImage.{place_in, IsSectionLaidOut, IsLaidOut}
-use Rattle.image_writer.proofs.LaidOutLemmas.{all_front, all_back}
 use Rattle.image_writer.proofs.FileEndLemmas.{raw_end_small}
 use Rattle.image_writer.proofs.PlaceLemmas.{least_is_next, section_laid_out}
 

@@ -1,8 +1,8 @@
 -- The file of a plan passes each test of an image.
-use Rattle.std.proofs.Common.{◌≡◌, ℕ, zero, suc, ◌+◌, ◌<◌, ◌≤◌, ◌==◌, nat_le, Bool, true, ◌||◌, length, None, refl, sym, inl, inr, arith, eq-eqb, le-leb, lt-ltb}
+use Rattle.std.proofs.Common.{◌≡◌, ℕ, zero, suc, ◌+◌, ◌<◌, ◌≤◌, ◌==◌, nat_le, true, ◌||◌, length, None, refl, sym, inl, inr, arith, eq-eqb, le-leb, lt-ltb}
 use Rattle.std.proofs.lemmas.Bool.{and_from, or_left, or_right, cases_lt}
-use Rattle.link_base.specs.Bytes.{all_below}
 use Rattle.link_base.specs.Limits.{IMAGE_LIMIT}
+use Rattle.link_base.proofs.CallerLemmas.{all_below-from_each}
 use Rattle.image_writer.specs.HeaderTable.{size_of_headers}
 use Rattle.pe_loader.specs.LoadedImage.{has_dos_header, has_signature, has_machine, has_optional_header, has_magic, has_alignments, has_directories, has_size, has_headers, has_sections, has_raw_bytes, has_blocks, section_floor, is_section_placed, is_section_in_file, image_fault}
 use Rattle.image_writer.specs.ExpectedImage.{ImagePlan, image_file}
@@ -66,11 +66,6 @@ headers_pass plan placed =
 
 -- ---- the sections
 
-all_pass : (n : ℕ) (test : ℕ → Bool) → ((k : ℕ) → k < n → test k ≡ true) → all_below n test ≡ true
-unfolding all_below
-all_pass zero test passes = refl
-all_pass (suc n) test passes = and_from _ _ (all_pass n test (λ k lt. passes k (omega arith))) (passes n (omega arith))
-
 section_floor_is : (plan : ImagePlan) (k : ℕ) → IsLoadable plan → k < length plan.rows → section_floor (image_file plan) k ≡ end_at plan.rows (size_of_headers (length plan.rows)) k
 section_floor_is plan zero placed lt = headers_size_reads plan placed
 section_floor_is plan (suc k) placed lt =
@@ -89,7 +84,7 @@ section_passes plan k placed lt =
 sections_pass : (plan : ImagePlan) → IsLoadable plan → has_sections (image_file plan) ≡ true
 unfolding has_sections
 sections_pass plan placed =
-    rw (count_reads plan placed) (all_pass (length plan.rows) (is_section_placed (image_file plan)) (λ k lt. section_passes plan k placed lt))
+    rw (count_reads plan placed) (all_below-from_each (length plan.rows) (is_section_placed (image_file plan)) (λ k lt. section_passes plan k placed lt))
 
 raw_passes : (plan : ImagePlan) (k : ℕ) → IsLoadable plan → k < length plan.rows → is_section_in_file (image_file plan) k ≡ true
 raw_passes plan k placed lt =
@@ -107,7 +102,7 @@ raw_passes plan k placed lt =
 all_raw_pass : (plan : ImagePlan) → IsLoadable plan → has_raw_bytes (image_file plan) ≡ true
 unfolding has_raw_bytes
 all_raw_pass plan placed =
-    rw (count_reads plan placed) (all_pass (length plan.rows) (is_section_in_file (image_file plan)) (λ k lt. raw_passes plan k placed lt))
+    rw (count_reads plan placed) (all_below-from_each (length plan.rows) (is_section_in_file (image_file plan)) (λ k lt. raw_passes plan k placed lt))
 
 -- ---- the base relocations
 

@@ -25,7 +25,7 @@ use Rattle.image_writer.proofs.LaidOutLemmas.{laid_out_written}
 use Rattle.image_writer.proofs.TableLemmas.{length-section_rows}
 use Rattle.image_writer.proofs.LoadableLemmas.{written_writable}
 use Rattle.image_writer.proofs.RowPlaces.{holder, file_after}
-use Rattle.image_writer.proofs.FileBytes.{raw_place, file_length, header_byte, offset_is_place, raw_byte_reads, raw_in_file}
+use Rattle.image_writer.proofs.FileBytes.{file_length, header_byte, offset_is_place, raw_byte_reads, raw_in_file}
 use Rattle.image_writer.proofs.PieceLemmas.{pieces_of, LiesIn, lies_in, owner, IsApart, all_changed}
 use Rattle.image_writer.proofs.PatchLemmas.{bytes_are, length-patched, patched_before, patched_inside, patched_after}
 
@@ -208,11 +208,6 @@ address_apart rvas old k i m y o mine other lies before after here lt at out =
                 ])
           ])
     ]
-
--- the number of raw bytes, and the place of the raw data, of each section are the same with other contents
-place_same : (headers : Headers) (sections : List OutSection) (layout : Layout) (old new : ℕ → List (List ℕ)) (m : ℕ) → raw_place (layout_plan headers sections layout new) m ≡ raw_place (layout_plan headers sections layout old) m
-unfolding written_plan
-place_same headers sections layout old new m = refl
 
 byte_same : (headers : Headers) (sections : List OutSection) (layout : Layout) (old new : ℕ → List (List ℕ)) (k rva : ℕ) → DiffersAt k (old headers.base) (new headers.base) → IsApart layout.pieces.items (old headers.base) k rva → piece_byte (own_bytes (layout_plan headers sections layout new)) rva ≡ piece_byte (own_bytes (layout_plan headers sections layout old)) rva
 unfolding written_plan

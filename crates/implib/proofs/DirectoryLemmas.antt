@@ -1,5 +1,5 @@
 -- What is read of the linker members.
-use Rattle.std.proofs.Common.{◌≡◌, ℕ, zero, suc, ◌+◌, ◌-◌, ◌*◌, ◌^◌, ◌<◌, ◌≤◌, Bool, true, false, ◌||◌, not, ltb, leb, List, [], ◌∷◌, ◌++◌, length, map, take, drop, get_or, slice_index, refl, sym, ap, ◌∙◌, append_assoc, le-ltb, lt-ltb, le-leb, length-append, arith}
+use Rattle.std.proofs.Common.{◌≡◌, ℕ, suc, ◌+◌, ◌-◌, ◌*◌, ◌^◌, ◌<◌, ◌≤◌, Bool, true, false, ◌||◌, not, ltb, leb, List, [], ◌∷◌, ◌++◌, length, map, take, drop, get_or, slice_index, refl, sym, ap, ◌∙◌, append_assoc, le-ltb, lt-ltb, le-leb, length-append, arith}
 use Rattle.std.proofs.lemmas.Bool.{and_from}
 use Rattle.std.specs.Prelude.{is_some}
 use Rattle.std.specs.List.{All, list_any, flat_map}
@@ -8,8 +8,8 @@ use Rattle.std.proofs.lemmas.List.Concat.{flat_map-append}
 use Rattle.std.proofs.lemmas.List.Elements.{All-tail}
 use Rattle.byteorder.specs.Endian.{big_bytes}
 use Rattle.byteorder.specs.Numbers.{big_number-reads_back, length-bytes_high_first}
-use Rattle.link_base.specs.Bytes.{is_nul, text_at, all_below, number_bytes, u16_at, u32_at}
-use Rattle.link_base.proofs.CallerLemmas.{length-number_bytes}
+use Rattle.link_base.specs.Bytes.{is_nul, text_at, number_bytes, u16_at, u32_at}
+use Rattle.link_base.proofs.CallerLemmas.{length-number_bytes, all_below-from_each}
 use Rattle.lib_reader.specs.Texts.{first_text, behind_text, texts_end}
 use Rattle.lib_reader.specs.FirstDirectory.{big_u32_at, first_count, first_table_leaves}
 use Rattle.lib_reader.specs.SecondDirectory.{member_count, name_count_place, second_count, member_index, second_offset, second_names_place, second_counts_leave, has_member, second_table_leaves}
@@ -173,11 +173,6 @@ listed_read headers listings k d few are lt =
     ∙ offset_read headers listings ((get_or listings k d).member - 1) small (omega (arith, is.first, is.last))
     ∙ is.header
 
-all_pass : (n : ℕ) (test : ℕ → Bool) → ((k : ℕ) → k < n → test k ≡ true) → all_below n test ≡ true
-unfolding all_below
-all_pass zero test each = refl
-all_pass (suc n) test each = rw (all_pass n test (λ k lt. each k (omega (arith, lt))), each n (omega arith)) refl
-
 none_of_three : (a b c : Bool) → a ≡ false → b ≡ false → c ≡ false → (a || (b || c)) ≡ false
 none_of_three a b c first second third = rw (first, second, third) refl
 
@@ -207,7 +202,7 @@ unfolding second_table_leaves
 table_stays headers listings few short are =
     let directory = second_directory headers listings in
     let count = second_counted headers listings few short in
-    let all = all_pass (second_count directory) (has_member directory) (λ k lt. member_there headers listings k few are (omega (arith, lt, count))) in
+    let all = all_below-from_each (second_count directory) (has_member directory) (λ k lt. member_there headers listings k few are (omega (arith, lt, count))) in
     rw (counts_stay headers listings few short) (ap not all)
 
 names_of_second : (headers : List ℕ) (listings : List Listing) → length headers < 2 ^ 32 → length listings < 2 ^ 32 → drop (second_names_place (second_directory headers listings)) (second_directory headers listings) ≡ listed_names listings

@@ -1,5 +1,5 @@
 -- The listings of rows and the offsets of their headers, one row after the other.
-use Rattle.std.proofs.Common.{◌≡◌, ℕ, ◌+◌, ◌<◌, ◌≤◌, Bool, true, false, cond, List, [], ◌∷◌, ◌++◌, length, map, get_or, take, drop, refl, sym, ap, ◌∙◌, append_assoc, append-nil, length-append, arith}
+use Rattle.std.proofs.Common.{◌≡◌, ℕ, ◌+◌, ◌<◌, ◌≤◌, Bool, true, cond, List, [], ◌∷◌, ◌++◌, length, map, get_or, take, drop, refl, sym, ap, ◌∙◌, append_assoc, append-nil, length-append, arith}
 use Rattle.std.specs.List.{sum_by, flat_map}
 use Rattle.std.proofs.lemmas.List.{drop_more, drop_all, take_at, drop_at}
 use Rattle.std.proofs.lemmas.List.Sums.{sum_by-cons}
@@ -80,12 +80,6 @@ symbol_text row names rest len is lists size =
     ap (λ (xs : List ℕ). take (length row.symbol) (drop (len + 1) xs)) (is ∙ ap (λ (b : Bool). (slot ++ flat_map text_bytes (cond b (row.symbol ∷ []) [])) ++ rest) lists ∙ append_assoc slot (text_bytes row.symbol ++ []) rest)
     ∙ ap (take (length row.symbol)) (drop_at slot ((text_bytes row.symbol ++ []) ++ rest) (len + 1) long ∙ append_assoc (text_bytes row.symbol) [] rest ∙ append_assoc row.symbol (0 ∷ []) rest)
     ∙ take_at row.symbol (0 ∷ [] ++ rest) (length row.symbol) refl
-
-pub one_listed : (row : LibraryRow) (names rest slot : List ℕ) (len number header : ℕ) (found new : List Listing) → names ≡ row_names row ++ rest → lists_symbol row.kind ≡ false → len ≡ 6 + length row.symbol → slot ≡ take len names
-    → new ≡ found ++ listed number header slot ∷ [] → new ≡ found ++ map (listed number header) (names_of row)
-one_listed row names rest slot len number header found new is lists size text grown =
-    grown ∙ ap (λ (name : List ℕ). found ++ listed number header name ∷ []) (text ∙ slot_text row names rest len is size)
-    ∙ ap (λ (b : Bool). found ++ map (listed number header) ((import_prefix ++ row.symbol) ∷ cond b (row.symbol ∷ []) [])) (sym lists)
 
 pub both_listed : (row : LibraryRow) (names rest slot behind symbol : List ℕ) (len size number header : ℕ) (found one new : List Listing) → names ≡ row_names row ++ rest → lists_symbol row.kind ≡ true → len ≡ 6 + length row.symbol → size ≡ length row.symbol → slot ≡ take len names → behind ≡ drop (len + 1) names
     → symbol ≡ take size behind → one ≡ found ++ listed number header slot ∷ [] → new ≡ one ++ listed number header symbol ∷ [] → new ≡ found ++ map (listed number header) (names_of row)

@@ -11,6 +11,7 @@ use Rattle.byteorder.specs.Endian.{big_bytes}
 use Rattle.byteorder.specs.Numbers.{length-bytes_high_first}
 use Rattle.link_base.specs.Bytes.{number_bytes}
 use Rattle.link_base.proofs.CallerLemmas.{length-number_bytes}
+use Rattle.link_base.proofs.PartLemmas.{numbers_len}
 use Rattle.sorted_lists.proofs.CallerLemmas.{order_permutes}
 use Rattle.implib.specs.declared.row.LibraryRow.{LibraryRow}
 use Rattle.implib.specs.declared.listing.Listing.{Listing}
@@ -99,11 +100,6 @@ big_length [] = refl
 big_length (listing ∷ listings) =
     omega (arith, length-append (big_bytes 4 listing.header) (flat_map (λ (listing : Listing). big_bytes 4 listing.header) listings), length-bytes_high_first 4 listing.header, big_length listings)
 
-little_length : (numbers : List ℕ) → length (flat_map (number_bytes 4) numbers) ≡ 4 * length numbers
-little_length [] = refl
-little_length (n ∷ numbers) =
-    omega (arith, length-append (number_bytes 4 n) (flat_map (number_bytes 4) numbers), length-number_bytes 4 n, little_length numbers)
-
 member_length : (listings : List Listing) → length (flat_map (λ (listing : Listing). number_bytes 2 listing.member) listings) ≡ 2 * length listings
 member_length [] = refl
 member_length (listing ∷ listings) =
@@ -120,4 +116,4 @@ unfolding second_directory
 length-second_directory dll number header start rows =
     let listings = listings_from dll number header rows in
     let headers = headers_from dll start rows in
-    simp (length-append) (omega (arith, length-number_bytes 4 (length headers), little_length headers, length-number_bytes 4 (length (by_name listings)), member_length (by_name listings), length-listed_names (by_name listings), length-headers_from dll start rows, length-by_name listings, size-by_name listings, length-listings_from dll number header rows, size-listings_from dll number header rows))
+    simp (length-append) (omega (arith, length-number_bytes 4 (length headers), numbers_len headers, length-number_bytes 4 (length (by_name listings)), member_length (by_name listings), length-listed_names (by_name listings), length-headers_from dll start rows, length-by_name listings, size-by_name listings, length-listings_from dll number header rows, size-listings_from dll number header rows))

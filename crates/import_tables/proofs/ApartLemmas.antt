@@ -7,9 +7,10 @@ use Rattle.std.proofs.Math.Numerals.{one-add}
 use Rattle.std.proofs.lemmas.List.{take-append-drop, take-take}
 use Rattle.std.proofs.lemmas.List.Folds.{list_any-append}
 use Rattle.std.proofs.lemmas.List.Sums.{sum_by-cons, sum_by-take-le}
+use Rattle.link_base.proofs.NameTextLemmas.{same_is, same_refl, same_flip}
 use Rattle.import_tables.specs.declared.row.ImportRow.{ImportRow}
 use Rattle.import_tables.specs.ImportShape.{same_name, is_of, dlls_of, count_of, entry_count, table_start, entry_behind, dll_at, slot_offset}
-use Rattle.import_tables.proofs.DllLemmas.{same_is, same_refl, same_flip, any_dll}
+use Rattle.import_tables.proofs.DllLemmas.{any_dll}
 use Rattle.import_tables.proofs.TallyLemmas.{count_more_row, any_more_row}
 
 -- ---- the tables of DLLs

@@ -8,17 +8,17 @@ use Rattle.std.proofs.lemmas.List.Elements.{recursion_from_All}
 use Rattle.std.proofs.lemmas.List.Sums.{sum_by-append}
 use Rattle.std.proofs.Math.Numerals.{one-add}
 use Rattle.link_base.specs.Bytes.{number_at, number_bytes, u32_at, u64_at, text_at}
+use Rattle.link_base.proofs.NameTextLemmas.{same_refl, same_flip}
+use Rattle.link_base.proofs.HeldLemmas.{held_part, held_fits, held_number, held_text}
 use Rattle.short_import.specs.declared.import.ImportBy.{ImportBy}
 use Rattle.import_tables.specs.declared.row.ImportRow.{ImportRow}
 use Rattle.import_tables.specs.ImportDirectory.{Walk, Imports, then_walk, entries_of, is_last, descriptor_imports, imports_of}
 use Rattle.import_tables.specs.ImportShape.{same_name, is_of, with_dll, dlls_of, count_of, entry_count, table_start, names_size, extent_of, sizes_of}
 use Rattle.import_tables.specs.ImportTables.{EndBelow4G, lookups_rva, slots_rva, hints_rva, names_rva, text_bytes, dll_entries, entries_in_order, name_start, descriptor, dll_descriptor, directory_end, directory_table, name_table}
 use Rattle.import_tables.specs.ReadBack.{Holds, HoldsTables, StandAboveZero, HasNoNul, IsReadable, AreReadable, found_from, found_of_dll, found_of}
-use Rattle.import_tables.proofs.DllLemmas.{same_refl, same_flip}
 use Rattle.import_tables.proofs.ApartLemmas.{listed}
 use Rattle.import_tables.proofs.WalkLemmas.{rest_entries, entries_start, rest_descriptors, descriptors_start, descriptors_last, descriptors_step}
 use Rattle.import_tables.proofs.EntryLemmas.{IsDistinct, dlls_distinct, entries_so_far, length_so_far, all_among}
-use Rattle.import_tables.proofs.HeldLemmas.{held_part, held_fits, held_number, held_text}
 use Rattle.import_tables.proofs.SizeLemmas.{length_dll_descriptor, length_descriptors, length_hints}
 use Rattle.import_tables.proofs.DirectoryLemmas.{length_names}
 use Rattle.import_tables.proofs.ReadBackLemmas.{EntriesStand, walk_dll}

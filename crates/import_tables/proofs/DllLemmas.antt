@@ -3,24 +3,11 @@ use Rattle.std.proofs.Common.{◌≡◌, ℕ, ◌+◌, ◌≤◌, Bool, true, fa
 use Rattle.std.proofs.Math.Bool.{or-false, or_assoc}
 use Rattle.std.specs.List.{list_any, count_by}
 use Rattle.std.proofs.lemmas.Bool.{cases_Bool}
-use Rattle.std.proofs.lemmas.Bool.Decides.{same_from_decides}
 use Rattle.std.proofs.lemmas.List.Folds.{list_any-append}
 use Rattle.std.proofs.lemmas.List.Sums.{sum_by-cons, sum_by-append, count_by-le-length}
-use Rattle.std.proofs.lemmas.Slice.Eq.{bytes_eq-Decides}
+use Rattle.link_base.proofs.NameTextLemmas.{same_is, same_flip}
 use Rattle.import_tables.specs.declared.row.ImportRow.{ImportRow}
 use Rattle.import_tables.specs.ImportShape.{same_name, is_of, with_dll, dlls_of, count_of, entry_count}
-
--- ---- equal names
-
-pub same_is : (a b : List ℕ) → same_name a b ≡ true → a ≡ b
-same_is a b e = (bytes_eq-Decides a b).0 e
-
-pub same_refl : (a : List ℕ) → same_name a a ≡ true
-same_refl a = (bytes_eq-Decides a a).1 refl
-
-pub same_flip : (a b : List ℕ) → same_name a b ≡ same_name b a
-same_flip a b =
-    same_from_decides (same_name a b) (same_name b a) (bytes_eq-Decides a b) (λ e. sym (same_is b a e), λ e. (bytes_eq-Decides b a).1 (sym e))
 
 -- ---- one more import
 

@@ -5,13 +5,13 @@ use Rattle.std.proofs.lemmas.Bool.{cases_Bool, false≢true}
 use Rattle.std.proofs.lemmas.List.{append_assoc, take-append-drop}
 use Rattle.std.proofs.lemmas.List.Elements.{Contains-append_left, Contains-append_right, filter-append, filter_more}
 use Rattle.std.proofs.lemmas.List.Sums.{length-filter}
+use Rattle.link_base.proofs.NameTextLemmas.{same_is, same_refl}
 use Rattle.import_tables.specs.declared.row.ImportRow.{ImportRow}
 use Rattle.import_tables.specs.declared.found.ImportFound.{ImportFound}
 use Rattle.import_tables.specs.ImportDirectory.{import_of}
 use Rattle.import_tables.specs.ImportShape.{same_name, is_of, dlls_of, count_of, table_start, no_row, dll_at, by_at, slot_offset}
 use Rattle.import_tables.specs.ImportTables.{slots_rva}
 use Rattle.import_tables.specs.ReadBack.{found_from, found_of_dll, found_of}
-use Rattle.import_tables.proofs.DllLemmas.{same_is, same_refl}
 use Rattle.import_tables.proofs.ApartLemmas.{any_later, listed}
 
 -- ---- among the imports of a DLL

@@ -7,6 +7,7 @@ use Rattle.std.proofs.lemmas.List.Concat.{flat_map-append}
 use Rattle.std.proofs.lemmas.List.FromFn.{length-map-range_with_len, get_or-map-range_with_len}
 use Rattle.link_base.specs.Bytes.{number_at, number_bytes, u64_at}
 use Rattle.link_base.proofs.CallerLemmas.{length-number_bytes}
+use Rattle.link_base.proofs.HeldLemmas.{held_part, held_fits, held_number, held_text}
 use Rattle.short_import.specs.declared.import.ImportBy.{ImportBy}
 use Rattle.short_import.specs.declared.import.ImportBy.TheVariants.{Ordinal, Named}
 use Rattle.import_tables.specs.declared.row.ImportRow.{ImportRow}
@@ -17,7 +18,7 @@ use Rattle.import_tables.specs.ImportDirectory.{Imports, then_walk, with_entry, 
 use Rattle.import_tables.specs.ImportTables.{hint_bytes, entry_hint, hint_table, entry_number, number_at_place, entry_numbers, number_table}
 use Rattle.import_tables.specs.ReadBack.{Holds, IsReadable, found_from}
 use Rattle.import_tables.proofs.WalkLemmas.{rest_entries, entries_step}
-use Rattle.import_tables.proofs.HeldLemmas.{held_part, held_fits, held_number, held_entry, held_text}
+use Rattle.import_tables.proofs.HeldLemmas.{held_entry}
 
 -- ---- an entry at its place
 

@@ -9,12 +9,12 @@ use Rattle.std.proofs.lemmas.List.FromFn.{length-map-range_with_len}
 use Rattle.std.proofs.lemmas.List.Sums.{sum_by-cons}
 use Rattle.link_base.specs.Bytes.{number_bytes}
 use Rattle.link_base.proofs.CallerLemmas.{length-number_bytes}
+use Rattle.link_base.proofs.NameTextLemmas.{same_is, same_flip}
 use Rattle.short_import.specs.declared.import.ImportBy.{ImportBy}
 use Rattle.short_import.specs.declared.import.ImportBy.TheVariants.{Ordinal, Named}
 use Rattle.import_tables.specs.declared.row.ImportRow.{ImportRow}
 use Rattle.import_tables.specs.ImportShape.{same_name, is_of, dlls_of, entry_count, no_row, extent_of, hint_size, hints_size, directory_size, sizes_of}
 use Rattle.import_tables.specs.ImportTables.{hint_bytes, dll_entries, entries_in_order, entry_hint, hint_table, number_at_place, entry_numbers, number_table, descriptor, dll_descriptor, directory_end, directory_table, tables_of, hints_rva}
-use Rattle.import_tables.proofs.DllLemmas.{same_is, same_flip}
 use Rattle.import_tables.proofs.ApartLemmas.{listed}
 use Rattle.import_tables.proofs.EntryLemmas.{IsDistinct, dlls_distinct, length_so_far, all_so_far}
 use Rattle.import_tables.proofs.DirectoryLemmas.{length_names}

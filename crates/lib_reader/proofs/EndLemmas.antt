@@ -15,10 +15,6 @@ use Rattle.link_base.proofs.RefusalLemmas.{or_none}
 
 -- ---- the next header, and the first
 
-pub header_first : (bytes : List ℕ) → header_at bytes 0 ≡ 8
-unfolding header_at
-header_first bytes = refl
-
 pub header_next : (bytes : List ℕ) (at position : ℕ) → at ≡ header_at bytes position → next_header bytes at ≡ header_at bytes (position + 1)
 unfolding header_at
 header_next bytes at position place = ap (next_header bytes) place ∙ rw add-one refl

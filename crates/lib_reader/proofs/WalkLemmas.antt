@@ -1,5 +1,5 @@
 -- The walk, one member on: the directories and the long names among one more member, and where the walk ends.
-use Rattle.std.proofs.Common.{Bor, ◌≡◌, ℕ, ◌+◌, Bool, true, false, cond, ◌&&◌, List, Option, Some, None, option_map, refl, sym, ap, ◌∙◌, inl, inr, add-one}
+use Rattle.std.proofs.Common.{Bor, ◌≡◌, ℕ, ◌+◌, Bool, true, false, cond, ◌&&◌, List, Option, Some, None, option_map, refl, sym, ap, ◌∙◌, inl, inr}
 use Rattle.std.specs.Prelude.{is_some, is_none}
 use Rattle.std.specs.Option.{option_copied}
 use Rattle.std.proofs.lemmas.Bool.{false≢true, and_left}
@@ -10,21 +10,18 @@ use Rattle.lib_reader.specs.ArchiveMember.{name_text, data_of}
 use Rattle.lib_reader.specs.Listing.{Entry, directory_is_bad, listings_in}
 use Rattle.lib_reader.specs.LibraryWalk.{header_at, text_at_position, data_at_position, is_directory, first_directory, is_later_directory, second_directory, is_long_names, first_long_names, long_names_data, directory_fails, has_directory_fault, first_listed, second_listed}
 use Rattle.link_base.proofs.RefusalLemmas.{or_none}
+use Rattle.link_base.proofs.CallerLemmas.{first_below-next}
 
 -- ---- the least position that passes, one member on
 
-next_below : (n : ℕ) (test : ℕ → Bool) → first_below (n + 1) test ≡ option_or (first_below n test) (cond (test n) (Some n) None)
-unfolding first_below
-next_below n test = rw add-one refl
-
 passed_by : (n : ℕ) (test : ℕ → Bool) → test n ≡ false → first_below (n + 1) test ≡ first_below n test
 passed_by n test fails =
-    next_below n test
+    first_below-next n test
     ∙ (ap (λ (b : Bool). option_or (first_below n test) (cond b (Some n) None)) fails ∙ or_none (first_below n test))
 
 found_by : (n : ℕ) (test : ℕ → Bool) (b : Bool) → test n ≡ b → first_below (n + 1) test ≡ option_or (first_below n test) (cond b (Some n) None)
 found_by n test b is =
-    next_below n test ∙ ap (λ (b : Bool). option_or (first_below n test) (cond b (Some n) None)) is
+    first_below-next n test ∙ ap (λ (b : Bool). option_or (first_below n test) (cond b (Some n) None)) is
 
 -- ---- a member that is a directory
 

@@ -3,23 +3,18 @@ use Rattle.std.proofs.Common.{◌≡◌, ℕ, ◌+◌, ◌<◌, List, [], ◌∷
 use Rattle.std.specs.Option.{option_or}
 use Rattle.std.proofs.lemmas.List.{map-append, take_more, take-append-drop}
 use Rattle.link_base.specs.Refusals.{first_standing}
-use Rattle.link_base.proofs.RefusalLemmas.{or_none}
+use Rattle.link_base.proofs.RefusalLemmas.{or_none, standing_append}
 
 or_or : {A : Type 0} (a b c : Option A) → option_or (option_or a b) c ≡ option_or a (option_or b c)
 or_or None b c = refl
 or_or (Some x) b c = refl
-
-pub standing-append : {A : Type 0} (xs ys : List (Option A)) → first_standing (xs ++ ys) ≡ option_or (first_standing xs) (first_standing ys)
-standing-append [] ys = refl
-standing-append (x ∷ xs) ys =
-    ap (option_or x) (standing-append xs ys) ∙ sym (or_or x (first_standing xs) (first_standing ys))
 
 -- of some things that each give something or nothing
 abbrev pub first_of : {X A : Type 0} → (X → Option A) → List X → Option A
 first_of f xs = first_standing (map f xs)
 
 pub first_of-append : {X A : Type 0} (f : X → Option A) (xs ys : List X) → first_of f (xs ++ ys) ≡ option_or (first_of f xs) (first_of f ys)
-first_of-append f xs ys = ap first_standing (map-append f xs ys) ∙ standing-append (map f xs) (map f ys)
+first_of-append f xs ys = ap first_standing (map-append f xs ys) ∙ standing_append (map f xs) (map f ys)
 
 one_more : {X A : Type 0} (f : X → Option A) (xs : List X) (i : ℕ) (x : X) → i < length xs → x ≡ get_or xs i x → first_of f (take i xs) ≡ None → first_of f (take (i + 1) xs) ≡ f x
 one_more {X} f xs i x lt is none =

@@ -1,11 +1,10 @@
 -- The first open reference from a number on, and what is passed over before it.
-use Rattle.std.proofs.Common.{◌≡◌, ℕ, zero, suc, ◌+◌, ◌-◌, ◌<◌, ◌≤◌, Bool, true, false, cond, List, length, Option, Some, None, inl, inr, refl, sym, ap, ◌∙◌, add-one, arith}
+use Rattle.std.proofs.Common.{◌≡◌, ℕ, zero, suc, ◌+◌, ◌-◌, ◌<◌, ◌≤◌, Bool, true, false, cond, List, length, Option, Some, None, inl, inr, refl, sym, ap, ◌∙◌, arith}
 use Rattle.std.proofs.lemmas.Option.{some_pair_parts}
 use Rattle.std.specs.Prelude.{option_map}
 use Rattle.std.specs.List.{find, range_with_len}
 use Rattle.std.proofs.lemmas.Bool.{cases_lt}
-use Rattle.link_base.specs.Refusals.{first_refusal_below}
-use Rattle.link_base.proofs.RefusalLemmas.{first_refusal_below-more, first_refusal_below-found}
+use Rattle.link_base.proofs.RefusalLemmas.{first_refusal_below-found, none_below}
 use Rattle.symbol_names.specs.LinkView.{LinkView}
 use Rattle.symbol_names.specs.References.{all_asked}
 use Rattle.symbol_table.specs.OpenNames.{asked_at, is_open_at, named_at, open_from}
@@ -135,13 +134,6 @@ passed_all s from count over none is = record {
 }
 
 -- ---- the member
-
-none_below : {A : Type 0} (n : ℕ) (f : ℕ → Option A) → ((k : ℕ) → k < n → f k ≡ None) → first_refusal_below n f ≡ None
-unfolding first_refusal_below
-none_below zero f none = refl
-none_below {A} (suc n) f none =
-    ap (λ (m : ℕ). first_refusal_below m f) (sym (add-one n))
-    ∙ first_refusal_below-more n f (none_below n f (λ k lt. none k (omega (arith, lt)))) (none n (omega arith))
 
 pub member_found : (s : Searched) (from number : ℕ) (name : List ℕ) (place : MemberPlace) → IsPassed s from → IsFirstOpen s.link from number name → listed_member s name ≡ Some place → member_by_reference s ≡ Some place
 unfolding member_by_reference

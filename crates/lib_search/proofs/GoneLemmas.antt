@@ -21,19 +21,12 @@ use Rattle.lib_search.specs.SearchSteps.{MemberPlace, Searched, SearchState, Goe
 use Rattle.lib_search.specs.Loading.{Reaches}
 use Rattle.lib_search.specs.LinkOf.{link_of}
 use Rattle.lib_search.specs.LoadingSteps.{state_now, modules_now, KeepsLoading, ReadsNext, ReadsDefault, GivesFrom, CompletesFrom}
-use Rattle.lib_search.proofs.LoadingLemmas.{untouched, untouched_further, failed_further, left_further, state_of, wants_member, reaches_next, faults_there}
+use Rattle.lib_search.proofs.LoadingLemmas.{untouched_further, failed_further, left_further, state_of, wants_member, reaches_next, faults_there}
 
 pub record GoneOn (options : LinkOptions) (state : SearchState) (before after : FilesView) (loading : Loading) (total : ℕ) : Type 0 where
   pub files : AreUntouched before after
   pub kept : KeepsLoading options loading
   pub told : ForSome before.store (λ store. Reaches store options state → Reaches store options (state_now loading total))
-
-pub gone_nowhere : (options : LinkOptions) (files : FilesView) (loading : Loading) (total : ℕ) → KeepsLoading options loading → GoneOn options (state_now loading total) files files loading total
-gone_nowhere options files loading total keeps = record {
-  files = untouched files;
-  kept = keeps;
-  told = λ store is reached. reached;
-}
 
 -- ---- default libraries
 

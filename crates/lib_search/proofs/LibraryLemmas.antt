@@ -1,11 +1,11 @@
 -- One more listing, of which the first of its name counts; one more library; and a member that is opened.
-use Rattle.std.proofs.Common.{◌≡◌, ℕ, ◌<◌, ◌+◌, zero, suc, Bool, true, false, cond, List, [], ◌∷◌, ◌++◌, length, get_or, Option, Some, None, refl, sym, ap, ◌∙◌, subst, add-one, arith}
+use Rattle.std.proofs.Common.{◌≡◌, ℕ, ◌<◌, ◌+◌, Bool, true, false, cond, List, [], ◌∷◌, ◌++◌, length, get_or, Option, Some, None, refl, sym, ap, ◌∙◌, subst, add-one, arith}
 use Rattle.std.specs.Prelude.{is_none, option_map}
 use Rattle.std.specs.Option.{option_or}
-use Rattle.std.proofs.lemmas.Slice.Eq.{bytes_eq-Decides}
 use Rattle.std.proofs.lemmas.List.{length-append, get_or_append_left, get_or_default}
 use Rattle.link_base.specs.Refusals.{first_refusal_below}
 use Rattle.link_base.specs.NameText.{same_name}
+use Rattle.link_base.proofs.RefusalLemmas.{same_below}
 use Rattle.lib_reader.specs.Listing.{Entry, first_of_name}
 use Rattle.lib_reader.specs.declared.error.LibError.{LibError}
 use Rattle.lib_reader.specs.ArchiveMember.{data_of}
@@ -17,9 +17,6 @@ use Rattle.par_read.specs.Joining.{joining_fault}
 use Rattle.lib_search.specs.LibraryFaults.{bad_library}
 use Rattle.lib_search.specs.OpenLibraries.{ListsBelow, ListsSoFar}
 use Rattle.lib_search.specs.SearchSteps.{MemberPlace, place_in, listing_at, name_of_member, member_fault_in}
-
-pub same_is : (a b : List ℕ) → same_name a b ≡ true → a ≡ b
-same_is a b e = (bytes_eq-Decides a b).0 e
 
 step_of : (name other : List ℕ) (k at : ℕ) (left : List Entry) → option_map (place_in k) (first_of_name other ((name, at) ∷ left)) ≡ cond (same_name name other) (Some (k, at)) (option_map (place_in k) (first_of_name other left))
 unfolding first_of_name
@@ -73,13 +70,6 @@ unfolding first_refusal_below
 lists_none libraries place_of none = record { first = none }
 
 -- ---- one library more
-
-same_below : {A : Type 0} (n : ℕ) (f g : ℕ → Option A) → ((k : ℕ) → k < n → f k ≡ g k) → first_refusal_below n f ≡ first_refusal_below n g
-unfolding first_refusal_below
-same_below zero f g same = refl
-same_below {A} (suc n) f g same =
-    ap (λ (o : Option A). option_or o (f n)) (same_below n f g (λ k lt. same k (omega (arith, lt))))
-    ∙ ap (option_or (first_refusal_below n g)) (same n (omega arith))
 
 -- the libraries before it list what they listed
 pub lists_more : (libraries : List FoundFile) (library : FoundFile) (k : ℕ) (place_of : List ℕ → Option MemberPlace) → k ≡ length libraries → ListsBelow place_of (length libraries) libraries → ListsBelow place_of k (libraries ++ library ∷ [])

@@ -1,6 +1,5 @@
 -- The steps of a loading.
-use Rattle.std.proofs.Common.{◌≡◌, ℕ, suc, ◌+◌, ◌<◌, ◌≤◌, Bool, true, false, cond, List, [], ◌∷◌, ◌++◌, length, Option, Some, None, Err, refl, sym, ap, subst, ◌∙◌, lt-ltb, le-ltb, ◌⊎◌, inl, inr, arith}
-use Rattle.std.proofs.lemmas.Bool.{cases_lt}
+use Rattle.std.proofs.Common.{◌≡◌, ℕ, suc, ◌+◌, ◌<◌, ◌≤◌, Bool, true, false, cond, List, [], ◌∷◌, ◌++◌, length, Option, Some, None, Err, refl, sym, ap, subst, ◌∙◌, lt-ltb, le-ltb, arith}
 use Rattle.std.specs.Prelude.{unwrap_or}
 use Rattle.std.specs.Option.{option_or}
 use Rattle.std.proofs.lemmas.List.{length-append}
@@ -112,16 +111,6 @@ pub none_wanted : (options : LinkOptions) (loading : Loading) (total : ℕ) → 
 none_wanted options loading total keeps le =
     let long = ap (λ (names : List (List ℕ)). length names) keeps.defaults.wanted in
     le-ltb loading.read (length (default_libraries options (modules_now loading))) (omega (arith, le, long))
-
-pub next_within : (options : LinkOptions) (loading : Loading) (total : ℕ) → KeepsLoading options loading → wants_library options (state_now loading total) ≡ true → loading.read < length (wanted_by loading.defaults)
-next_within options loading total keeps wants = go (cases_lt loading.read (length (wanted_by loading.defaults)))
-  where
-    go : (loading.read < length (wanted_by loading.defaults)) ⊎ (length (wanted_by loading.defaults) ≤ loading.read) → loading.read < length (wanted_by loading.defaults)
-    go (inl lt) = lt
-    go (inr le) = absurd (clash (sym wants ∙ none_wanted options loading total keeps le))
-      where
-        clash : true ≡ false → ⊥
-        clash e = cc
 
 abbrev pub state_of : Searched → ℕ → ℕ → SearchState
 state_of searched total defaults = record { searched = searched; total = total; defaults = defaults }

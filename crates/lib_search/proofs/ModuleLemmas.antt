@@ -1,8 +1,8 @@
 -- The lists of all modules, with one module more.
-use Rattle.std.proofs.Common.{◌≡◌, ℕ, zero, suc, ◌+◌, ◌<◌, ◌≤◌, List, [], ◌∷◌, ◌++◌, length, refl, sym, ap, ◌∙◌, arith}
+use Rattle.std.proofs.Common.{◌≡◌, ℕ, ◌+◌, ◌<◌, List, [], ◌∷◌, ◌++◌, length, refl, sym, ap, ◌∙◌, arith}
 use Rattle.std.specs.List.{flat_map, range_with_len}
 use Rattle.std.proofs.lemmas.List.{length-append, get_or_append_left, get_or_push}
-use Rattle.link_base.proofs.RangeLemmas.{joined_more}
+use Rattle.link_base.proofs.RangeLemmas.{joined_more, same_joined}
 use Rattle.module_view.specs.Module.{ModuleView, no_module, module_at}
 use Rattle.symbol_names.specs.Lists.{of_each, of_all}
 
@@ -14,12 +14,6 @@ pub each_first_more : {A : Type 0} (list : ℕ → ModuleView → List A) (modul
 each_first_more {A} list modules n m lt is =
     joined_more (λ k. list k (module_at modules k)) 0 n n (omega arith)
     ∙ ap (λ (v : ModuleView). each_first list modules n ++ list n v) (sym is)
-
-same_joined : {A : Type 0} (f g : ℕ → List A) (a n : ℕ) → ((k : ℕ) → a ≤ k → k < a + n → f k ≡ g k) → flat_map f (range_with_len a n) ≡ flat_map g (range_with_len a n)
-same_joined f g a zero same = refl
-same_joined {A} f g a (suc n) same =
-    ap (λ (xs : List A). xs ++ flat_map f (range_with_len (a + 1) n)) (same a (omega arith) (omega arith))
-    ∙ ap (λ (ys : List A). g a ++ ys) (same_joined f g (a + 1) n (λ k low high. same k (omega arith) (omega arith)))
 
 -- those of one module more come after the others
 pub of_each_push : {A : Type 0} (list : ℕ → ModuleView → List A) (modules : List ModuleView) (m : ModuleView) → of_each list (modules ++ m ∷ []) ≡ of_each list modules ++ list (length modules) m

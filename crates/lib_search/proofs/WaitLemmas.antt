@@ -6,13 +6,13 @@ use Rattle.std.specs.BTreeSet.{BTreeSet}
 use Rattle.std.specs.Ordering.{nat_cmp, is_eq}
 use Rattle.std.proofs.lemmas.Bool.{cases_lt, and_parts, or_parts, or_left}
 use Rattle.std.proofs.lemmas.Bool.Decides.{nat_tests}
-use Rattle.std.proofs.lemmas.Slice.Eq.{bytes_eq-Decides}
 use Rattle.std.proofs.lemmas.List.Elements.{filter_map-append}
 use Rattle.directives.specs.Said.{said}
 use Rattle.directives.specs.declared.item.Directive.{Directive}
 use Rattle.std.proofs.lemmas.List.{map-append, length-append, get_or_append_left, get_or_push, take_more, take_all, get_or_default}
 use Rattle.std.proofs.lemmas.List.Folds.{list_any-append, list_any_at, list_any_none, list_any_more}
 use Rattle.link_base.specs.NameText.{same_name}
+use Rattle.link_base.proofs.NameTextLemmas.{same_is, same_refl}
 use Rattle.module_view.specs.Module.{ModuleView}
 use Rattle.symbol_names.specs.LinkView.{LinkView}
 use Rattle.symbol_names.specs.Alternates.{alternate_said, alternates_by, all_alternates}
@@ -24,7 +24,6 @@ use Rattle.lib_search.specs.AlternateParts.{is_waiting, IsLeast, is_among, noted
 use Rattle.lib_search.specs.declared.alternates.Alternates.{Alternates}
 use Rattle.lib_search.proofs.AlternateLemmas.{first_of, none_more, some_found}
 use Rattle.lib_search.proofs.FromLemmas.{IsFirstOpen, none_open}
-use Rattle.lib_search.proofs.LibraryLemmas.{same_is}
 use Rattle.lib_search.proofs.PassedLemmas.{asked_push, asked_same, provided_more, closed_stays, unlisted_more, passed_joined}
 use Rattle.lib_search.proofs.ModuleLemmas.{of_all_push}
 
@@ -46,9 +45,6 @@ same_number n k e = grind (arith, nat_tests)
 
 other_number : (n k : ℕ) → is_eq (nat_cmp n k) ≡ false → k ≡ n → ⊥
 other_number n k e is = clash (sym (ap (λ (m : ℕ). is_eq (nat_cmp n m)) is ∙ number_self n) ∙ e)
-
-same_self : (name : List ℕ) → same_name name name ≡ true
-same_self name = (bytes_eq-Decides name name).1 refl
 
 -- ---- open names
 
@@ -177,7 +173,7 @@ module _ (s : Searched) (seen number : ℕ) (name : List ℕ) (before after : Al
   name_asked : is_asked_name s.link name ≡ true
   name_asked =
       asked_by_open s.link name number first.high first.here
-      (ap (λ (n : List ℕ). same_name n name) (sym first.named) ∙ same_self name)
+      (ap (λ (n : List ℕ). same_name n name) (sym first.named) ∙ same_refl name)
 
   still_quiet : (other : List ℕ) → same_name name other ≡ false → IsQuiet s.link seen other → IsQuiet s.link (number + 1) other
   still_quiet other differs quiet k lt opens = elim (cases_lt k seen) [
@@ -242,14 +238,6 @@ all_woken s seen a within none keeps = record {
           | inr above ↦ absurd (clash (sym opens ∙ none_open s.link seen within none j (omega (arith, above)) lt))
         ],
       );
-  gone = keeps.gone;
-}
-
--- where none is asleep
-pub none_asleep : (s : Searched) (seen later : ℕ) (a : Alternates) → ((name : List ℕ) → noted_under a.asleep name ≡ []) → KeepsAlternates s seen a → KeepsAlternates s later a
-none_asleep s seen later a none keeps = record {
-  waits = keeps.waits;
-  sleeps = λ name k here. absurd (clash (sym here ∙ ap (λ (ns : List ℕ). is_among ns k) (none name)));
   gone = keeps.gone;
 }
 
@@ -335,7 +323,7 @@ module _ (s : Searched) (pair : List ℕ × List ℕ) (before after : Alternates
           let is : k ≡ length before.pairs.items = omega (arith, high, lt, count) in
           let out = (or_parts (is_among (noted_under before.asleep pair.0) k) (same_name pair.0 pair.0 && is_eq (nat_cmp (length before.pairs.items) k))
           (sym (noted_now noted pair.0 k) ∙ ap (λ (p : List ℕ × List ℕ). is_among (noted_under after.asleep p.0) k) (sym (last_pair k is)) ∙ up)).1 in
-          absurd (clash (sym (ap (λ (b : Bool). b && is_eq (nat_cmp (length before.pairs.items) k)) (same_self pair.0) ∙ ap (λ (n : ℕ). is_eq (nat_cmp (length before.pairs.items) n)) is ∙ number_self (length before.pairs.items)) ∙ out))
+          absurd (clash (sym (ap (λ (b : Bool). b && is_eq (nat_cmp (length before.pairs.items) k)) (same_refl pair.0) ∙ ap (λ (n : ℕ). is_eq (nat_cmp (length before.pairs.items) n)) is ∙ number_self (length before.pairs.items)) ∙ out))
     ];
   }
 

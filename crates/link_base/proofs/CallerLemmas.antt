@@ -24,6 +24,18 @@ first_below-found n (suc m) test lt none passes =
       | inr above ↦ let same : m ≡ n = omega arith in rw (same, none, passes) refl
     ]
 
+-- the least below one more
+pub first_below-next : (n : ℕ) (test : ℕ → Bool) → first_below (n + 1) test ≡ option_or (first_below n test) (cond (test n) (Some n) None)
+unfolding first_below
+first_below-next n test = rw add-one refl
+
+-- the same pass: the least is the same
+pub first_below-same : (n : ℕ) (test other : ℕ → Bool) → ((k : ℕ) → k < n → test k ≡ other k) → first_below n test ≡ first_below n other
+unfolding first_below
+first_below-same zero test other same = refl
+first_below-same (suc n) test other same =
+    rw (first_below-same n test other (λ k lt. same k (omega arith)), same n (omega arith)) refl
+
 neither : (earlier : Option ℕ) (b : Bool) (n : ℕ) → option_or earlier (cond b (Some n) None) ≡ None → (earlier ≡ None) × (b ≡ false)
 neither None false n e = (refl, refl)
 neither None true n e = absurd cc
@@ -68,6 +80,13 @@ first_below-some (suc n) k test e =
 pub all_below-more : (n : ℕ) (test : ℕ → Bool) → all_below n test ≡ true → test n ≡ true → all_below (n + 1) test ≡ true
 unfolding all_below
 all_below-more n test all passes = rw (add-one, all, passes) refl
+
+-- each passes: all pass
+pub all_below-from_each : (n : ℕ) (test : ℕ → Bool) → ((k : ℕ) → k < n → test k ≡ true) → all_below n test ≡ true
+unfolding all_below
+all_below-from_each zero test each = refl
+all_below-from_each (suc n) test each =
+    rw (all_below-from_each n test (λ k lt. each k (omega (arith, lt))), each n (omega arith)) refl
 
 -- all pass: each passes
 pub all_below-each : (n : ℕ) (test : ℕ → Bool) → all_below n test ≡ true → (k : ℕ) → k < n → test k ≡ true

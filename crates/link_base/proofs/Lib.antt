@@ -6,3 +6,11 @@ pub mod TestLemmas
 pub mod RefusalLemmas
 pub mod FoundLemmas
 pub mod PutLemmas
+pub mod NameTextLemmas
+pub mod NumberLemmas
+pub mod OptionLemmas
+pub mod OrderingLemmas
+pub mod ListLemmas
+pub mod PartLemmas
+pub mod PigeonLemmas
+pub mod HeldLemmas

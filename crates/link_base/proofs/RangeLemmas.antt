@@ -1,10 +1,10 @@
 -- Lists over a range of numbers: those that pass a test, one number more at a time, and what each item is.
-use Rattle.std.proofs.Common.{◌≡◌, ℕ, zero, suc, ◌+◌, ◌<◌, ◌≤◌, Bool, true, false, cond, eqb, List, [], ◌∷◌, ◌++◌, map, filter, refl, sym, ap, ◌∙◌, inl, inr, append_assoc, add-one, arith}
+use Rattle.std.proofs.Common.{◌≡◌, ℕ, zero, suc, ◌+◌, ◌<◌, ◌≤◌, Bool, true, false, cond, eqb, List, [], ◌∷◌, ◌++◌, map, filter, refl, sym, ap, ◌∙◌, subst, inl, inr, append_assoc, add-one, arith}
 use Rattle.std.specs.List.{All, Contains, IsDistinct, range_with_len, flat_map}
 use Rattle.std.proofs.lemmas.Bool.{false≢true, cases_lt, eqb-true}
 use Rattle.std.proofs.lemmas.List.{append-nil, map-append}
 use Rattle.std.proofs.lemmas.List.Concat.{flat_map-append}
-use Rattle.std.proofs.lemmas.List.Elements.{All-nil, All-cons, All-append, All-map, All-weaker, filter-append, recursion_from_All}
+use Rattle.std.proofs.lemmas.List.Elements.{All-nil, All-cons, All-append, All-map, All-weaker, Contains-append_left, Contains-append_right, filter-append, recursion_from_All}
 use Rattle.std.proofs.lemmas.Map.Keys.{IsDistinct-cons}
 
 -- ---- those that pass
@@ -78,6 +78,10 @@ pub range_more : (a n j : ℕ) → a + n ≡ j → range_with_len a (n + 1) ≡ 
 range_more a n j place =
     ap (range_with_len a) (add-one n) ∙ range_suc a n ∙ ap (λ (k : ℕ). range_with_len a n ++ k ∷ []) place
 
+-- those that pass
+pub filter_more : (test : ℕ → Bool) (n : ℕ) → filter test (range_with_len 0 (n + 1)) ≡ filter test (range_with_len 0 n) ++ cond (test n) (n ∷ []) []
+filter_more test n = ap (filter test) (range_more 0 n n (omega arith)) ∙ filter-append test (range_with_len 0 n) (n ∷ [])
+
 -- of those that pass
 pub kept_more : {X : Type 0} (f : ℕ → X) (test : ℕ → Bool) (a n j : ℕ) → a + n ≡ j → map f (filter test (range_with_len a (n + 1))) ≡ map f (filter test (range_with_len a n)) ++ cond (test j) (f j ∷ []) []
 kept_more {X} f test a n j place =
@@ -117,8 +121,25 @@ joined_grows {X} f a n j now after last place was grown is =
 pub one_added : {X : Type 0} (xs ys : List X) (x y : X) (b : Bool) → b ≡ true → ys ≡ xs ++ x ∷ [] → x ≡ y → ys ≡ xs ++ cond b (y ∷ []) []
 one_added {X} xs ys x y b adds is same = rw adds (is ∙ ap (λ (z : X). xs ++ z ∷ []) same)
 
-pub none_added : {X : Type 0} (xs : List X) (x : X) (b : Bool) → b ≡ false → xs ≡ xs ++ cond b (x ∷ []) []
-none_added xs x b none = rw none (sym (append-nil xs))
+-- ---- a list for each number
+
+-- the same lists are joined to the same
+pub same_joined : {X : Type 0} (f g : ℕ → List X) (a n : ℕ) → ((k : ℕ) → a ≤ k → k < a + n → f k ≡ g k) → flat_map f (range_with_len a n) ≡ flat_map g (range_with_len a n)
+same_joined f g a zero same = refl
+same_joined {X} f g a (suc n) same =
+    ap (λ (xs : List X). xs ++ flat_map f (range_with_len (a + 1) n)) (same a (omega arith) (omega arith))
+    ∙ ap (λ (ys : List X). g a ++ ys) (same_joined f g (a + 1) n (λ k low high. same k (omega arith) (omega arith)))
+
+-- what stands in one of them stands in all, joined
+pub joined_there : {X : Type 0} (f : ℕ → List X) (a n k : ℕ) (x : X) → a ≤ k → k < a + n → Contains (f k) x → Contains (flat_map f (range_with_len a n)) x
+joined_there f a zero k x low high there = absurd (omega arith)
+joined_there f a (suc n) k x low high there =
+    elim (cases_lt a k) [
+      | inl later ↦ Contains-append_right (f a) (flat_map f (range_with_len (a + 1) n)) x (joined_there f (a + 1) n k x (omega arith) (omega arith) there)
+      | inr here ↦
+          let same : k ≡ a = omega arith in
+          Contains-append_left (f a) (flat_map f (range_with_len (a + 1) n)) x (subst (λ (j : ℕ). Contains (f j) x) same there)
+    ]
 
 -- ---- what each item is
 

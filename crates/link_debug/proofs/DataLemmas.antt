@@ -2,6 +2,7 @@
 use Rattle.std.proofs.Common.{◌≡◌, ℕ, ◌+◌, ◌<◌, Bool, true, false, cond, eqb, List, [], ◌∷◌, ◌++◌, length, length-append, refl, sym, ◌∙◌, arith}
 use Rattle.std.proofs.lemmas.Bool.{eqb-true}
 use Rattle.link_base.specs.Bytes.{number_bytes}
+use Rattle.link_base.proofs.NumberLemmas.{above_zero}
 use Rattle.address_layout.specs.declared.layout.Placed.{Placed}
 use Rattle.debug_entry.specs.DebugDirectory.{debug_entry, debug_data}
 use Rattle.link_words.specs.Outcome.{LinkOptions}
@@ -29,9 +30,6 @@ sized options some = by options.debug some
     by : (b : Bool) → 0 < cond b (data_size options.pdb) 0 → cond b (data_size options.pdb) 0 ≡ data_size options.pdb
     by true some = refl
     by false some = absurd (omega (arith, some))
-
-above_zero : (size : ℕ) → eqb size 0 ≡ false → 0 < size
-above_zero size some = grind (arith, some)
 
 pub length-entry : (debug : DebugView) (sections : List Placed) (rva : ℕ) → length (entry_bytes debug sections rva) ≡ cond (eqb debug.size 0) 0 28
 unfolding entry_bytes debug_entry number_bytes

@@ -3,9 +3,9 @@ use Rattle.std.proofs.Common.{◌≡◌, ℕ, ◌≤◌, Bool, true, false, cond
 use Rattle.std.proofs.Math.Pow.{pow_mono}
 use Rattle.std.proofs.lemmas.Bool.{cases_lt}
 use Rattle.link_base.specs.NameText.{same_name}
+use Rattle.link_base.proofs.NameTextLemmas.{same_is}
 use Rattle.link_directives.specs.LinkDirectives.{asked_alignment}
 use Rattle.link_directives.specs.Alignments.{raised_by}
-use Rattle.link_directives.proofs.NameLemmas.{same_is}
 
 asked_more : (log other : ℕ) → log ≤ other → asked_alignment log ≤ asked_alignment other
 asked_more log other le = pow_mono (omega arith)

@@ -1,5 +1,5 @@
 -- One more key and its value: the first value of its key, and the mismatch that it makes.
-use Rattle.std.proofs.Common.{◌≡◌, ℕ, zero, suc, ◌+◌, ◌<◌, Bool, true, false, cond, List, [], ◌∷◌, ◌++◌, length, Option, Some, None, refl, sym, ap, subst, ◌∙◌, append_assoc, add-one, arith}
+use Rattle.std.proofs.Common.{◌≡◌, ℕ, zero, suc, ◌<◌, Bool, true, false, cond, List, [], ◌∷◌, ◌++◌, length, Option, Some, None, refl, sym, ap, subst, ◌∙◌, append_assoc, arith}
 use Rattle.std.proofs.Math.Seq.{take-length}
 use Rattle.std.specs.Prelude.{option_map, option_and_then}
 use Rattle.std.specs.Option.{option_or}
@@ -8,17 +8,14 @@ use Rattle.std.proofs.lemmas.List.{append-nil, take-append-le, length-append}
 use Rattle.std.proofs.lemmas.List.Folds.{find-append}
 use Rattle.link_base.specs.NameText.{same_name}
 use Rattle.link_base.specs.Refusals.{first_refusal_below}
-use Rattle.link_base.proofs.RefusalLemmas.{or_none}
+use Rattle.link_base.proofs.RefusalLemmas.{or_none, same_below, one_more}
+use Rattle.link_base.proofs.NameTextLemmas.{same_is}
+use Rattle.link_base.proofs.OptionLemmas.{map_or}
 use Rattle.link_directives.specs.declared.mismatch.Mismatch.{Mismatch}
 use Rattle.link_directives.specs.LinkDirectives.{entry_at, has_key, mismatch_with, mismatch_at, mismatch_in}
 use Rattle.link_directives.specs.Passes.{value_of, first_value, KeepsFirsts}
-use Rattle.link_directives.proofs.NameLemmas.{same_is}
 
 -- ---- the first value of a key
-
-map_or : {A B : Type 0} (f : A → B) (a b : Option A) → option_map f (option_or a b) ≡ option_or (option_map f a) (option_map f b)
-map_or f None b = refl
-map_or f (Some x) b = refl
 
 map_cond : (entry : List ℕ × List ℕ) (b : Bool) → option_map value_of (cond b (Some entry) None) ≡ cond b (Some entry.1) None
 map_cond entry true = refl
@@ -31,16 +28,6 @@ first_more entries key value other =
     ∙ ap (option_or (first_value entries other)) (map_cond (key, value) (same_name key other))
 
 -- ---- mismatches
-
-same_below : {A : Type 0} (n : ℕ) (f g : ℕ → Option A) → ((k : ℕ) → k < n → f k ≡ g k) → first_refusal_below n f ≡ first_refusal_below n g
-unfolding first_refusal_below
-same_below zero f g same = refl
-same_below (suc n) f g same =
-    rw (same_below n f g (λ k lt. same k (omega arith)), same n (omega arith)) refl
-
-one_more : {A : Type 0} (n : ℕ) (f : ℕ → Option A) → first_refusal_below (n + 1) f ≡ option_or (first_refusal_below n f) (f n)
-unfolding first_refusal_below
-one_more n f = rw add-one refl
 
 entry_before : (entries : List (List ℕ × List ℕ)) (entry : List ℕ × List ℕ) (k : ℕ) → k < length entries → entry_at (entries ++ entry ∷ []) k ≡ entry_at entries k
 entry_before [] entry k lt = absurd (omega arith)

@@ -1,5 +1,4 @@
 pub mod AlignmentLemmas
 pub mod CallerLemmas
 pub mod FirstLemmas
-pub mod NameLemmas
 pub mod PassLemmas

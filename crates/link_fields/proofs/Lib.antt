@@ -5,6 +5,5 @@ pub mod CallerLemmas
 pub mod EntryLemmas
 pub mod StandingLemmas
 pub mod ListLemmas
-pub mod PlaceLemmas
 pub mod PdataLemmas
 pub mod EdgeLemmas

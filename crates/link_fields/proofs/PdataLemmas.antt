@@ -8,6 +8,7 @@ use Rattle.link_base.specs.declared.kinds.target.TargetFault.{TargetFault}
 use Rattle.link_base.specs.declared.kinds.target.TargetFault.TheVariants as target
 use Rattle.link_base.specs.declared.kinds.target.RelocKind.{RelocKind}
 use Rattle.link_base.specs.declared.kinds.target.RelocKind.TheVariants as kind
+use Rattle.link_base.proofs.OptionLemmas.{both_none}
 use Rattle.section_group.specs.declared.piece.Piece.{Piece}
 use Rattle.relocate.specs.declared.fix.Fix.{Fix}
 use Rattle.relocate.specs.declared.error.FieldError.{FieldError}
@@ -15,7 +16,7 @@ use Rattle.relocate.specs.declared.error.FieldError.TheVariants as error
 use Rattle.relocate.specs.Field.{has_field, fix_at}
 use Rattle.relocate.specs.FieldFaults.{leaves_body, own_fault, is_absolute, is_image_base, place_faults, target_faults, overlaps_earlier, faults_of, fault_of, fault_at, field_fault}
 use Rattle.relocate.specs.PatchedBytes.{is_based, IsSuited, AreSuited, HaveNoBased}
-use Rattle.relocate.proofs.JudgeLemmas.{or_none, shown_none}
+use Rattle.relocate.proofs.JudgeLemmas.{shown_none}
 use Rattle.relocate.proofs.PatchableLemmas.{none_each}
 use Rattle.relocate.proofs.CallerLemmas.{judged_suited}
 use Rattle.link_pieces.specs.LinkParts.{LinkParts}
@@ -97,11 +98,11 @@ fixes_suited link large k lt none =
 one_not_based : (large : Bool) (fix : Fix) → IsSuited large true fix → is_based fix ≡ false
 unfolding target_faults
 one_not_based large fix suits =
-    let own = or_none (option_map (error.Target fix.index) (own_fault fix.target)) _ suits.1 in
-    let relative = or_none (shown (nat_le 3 fix.kind && is_absolute fix.target) (error.Target fix.index target.AbsRelative)) _ own.1 in
-    let section = or_none (shown (nat_le 10 fix.kind && is_image_base fix.target) (error.Target fix.index target.NoSection)) _ relative.1 in
-    let low = or_none (shown (eqb fix.kind 2 && (not (is_absolute fix.target) && large)) (error.Target fix.index target.NeedsLow)) _ section.1 in
-    let field = or_none (shown (not (eqb fix.kind 3)) (error.Target fix.index target.PdataField)) _ low.1 in
+    let own = both_none (option_map (error.Target fix.index) (own_fault fix.target)) _ suits.1 in
+    let relative = both_none (shown (nat_le 3 fix.kind && is_absolute fix.target) (error.Target fix.index target.AbsRelative)) _ own.1 in
+    let section = both_none (shown (nat_le 10 fix.kind && is_image_base fix.target) (error.Target fix.index target.NoSection)) _ relative.1 in
+    let low = both_none (shown (eqb fix.kind 2 && (not (is_absolute fix.target) && large)) (error.Target fix.index target.NeedsLow)) _ section.1 in
+    let field = both_none (shown (not (eqb fix.kind 3)) (error.Target fix.index target.PdataField)) _ low.1 in
     let is : fix.kind ≡ 3 = eqb-true fix.kind 3 (not-false (eqb fix.kind 3) (shown_none (not (eqb fix.kind 3)) (error.Target fix.index target.PdataField) field.0)) in
     rw is refl
 

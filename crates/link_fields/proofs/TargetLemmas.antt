@@ -1,37 +1,14 @@
 -- What the symbols of an object mean, one symbol more at a time.
-use Rattle.std.proofs.Common.{◌≡◌, ℕ, zero, suc, ◌<◌, Bool, true, false, ◌||◌, cond, eqb, List, [], ◌∷◌, length, map, get_or, set, replicate, Option, Some, None, option_map, Result, Ok, Err, inl, inr, refl, sym, ap, ◌∙◌, arith}
+use Rattle.std.proofs.Common.{◌≡◌, ℕ, zero, suc, Bool, true, false, ◌||◌, cond, eqb, List, [], ◌∷◌, map, get_or, replicate, Option, Some, None, option_map, Result, Ok, Err, inl, inr, refl, sym, ap, ◌∙◌}
 use Rattle.std.specs.List.{find, list_any}
 use Rattle.std.specs.Option.{option_or}
 use Rattle.std.specs.Result.{result_ok}
 use Rattle.std.proofs.lemmas.Bool.Decides.{eqb_tells}
-use Rattle.std.proofs.lemmas.List.{get_or-set_same, get_or-set_other}
-use Rattle.link_base.proofs.RefusalLemmas.{or_none}
 use Rattle.coff_records.specs.ObjectFile.{SymbolEntry, symbols_of, symbol_entry, symbol_entries, starts_symbol}
 use Rattle.link_pieces.specs.LinkParts.{LinkParts}
 use Rattle.symbol_table.specs.declared.meaning.Meaning.{Meaning}
 use Rattle.symbol_table.specs.declared.meaning.NoMeaning.{NoMeaning}
 use Rattle.link_fields.specs.Targets.{is_record, known_target, meant_target}
-
--- a place of a list that is set, where nothing stood there
-pub put_first : {A : Type 0} (row : List (Option A)) (at other : ℕ) (x : A) → at < length row → get_or row at None ≡ None → get_or (set row at (Some x)) other None ≡ option_or (get_or row other None) (cond (eqb at other) (Some x) None)
-put_first row at other x lt none =
-    elim (eqb_tells at other) [
-      | inl here ↦
-          let same : other ≡ at = omega arith in
-          rw (here.0, same, none) (get_or-set_same row at (Some x) None lt)
-      | inr apart ↦
-          rw apart.0 (get_or-set_other row at other (Some x) None (λ same. apart.1 (sym same)) ∙ sym (or_none (get_or row other None)))
-    ]
-
--- and where something did, nothing changes
-pub put_later : {A : Type 0} (row : List (Option A)) (at other : ℕ) (x y : A) → get_or row at None ≡ Some y → get_or row other None ≡ option_or (get_or row other None) (cond (eqb at other) (Some x) None)
-put_later row at other x y some =
-    elim (eqb_tells at other) [
-      | inl here ↦
-          let same : other ≡ at = omega arith in
-          rw (here.0, same, some) refl
-      | inr apart ↦ rw apart.0 (sym (or_none (get_or row other None)))
-    ]
 
 -- nothing is noted at first
 abbrev none : (A : Type 0) → Option A

@@ -3,8 +3,8 @@ use Rattle.std.proofs.Common.{◌≡◌, ℕ, ◌+◌, ◌<◌, Option, List, []
 use Rattle.std.proofs.lemmas.List.{take_more, get_or-map}
 use Rattle.link_files.specs.Store.{Store, told_with_file}
 use Rattle.link_files.specs.Outside.{FilesView}
-use Rattle.link_files.specs.Outputs.{NamedBytes, no_output, output_at, told_with_files, FirstWritten, NextTorn}
-use Rattle.link_files.specs.Writing.{PutsFile, TearsFile, LeavesFiles}
+use Rattle.link_files.specs.Outputs.{NamedBytes, no_output, output_at, told_with_files, FirstWritten}
+use Rattle.link_files.specs.Writing.{PutsFile}
 
 -- one output more
 files_push : (store : Option Store) (outputs : List NamedBytes) (last : NamedBytes) → told_with_files store (outputs ++ last ∷ []) ≡ told_with_file (told_with_files store outputs) last.name last.bytes
@@ -27,27 +27,6 @@ one_written before now later outputs k output lt is first put reads = record {
       ∙ ap (told_with_files before.store) (sym (take_more outputs k no_output lt));
   reads = reads ∙ first.reads;
   writes = put.none_failed ∙ first.writes;
-}
-
-pub next_torn : (before now later : FilesView) (outputs : List NamedBytes) (k : ℕ) (output : NamedBytes) → k < length outputs → output ≡ output_at outputs k → FirstWritten before now outputs k → TearsFile now.store later.store output.name output.bytes now.write_faults later.write_faults → later.read_faults ≡ now.read_faults → NextTorn before later outputs k
-next_torn before now later outputs k output lt is first torn reads = record {
-  within = lt;
-  store = (
-    torn.torn.0,
-    torn.torn.1
-        ∙ ap (λ (s : Option Store). told_with_file s output.name (take torn.torn.0 output.bytes)) first.store
-        ∙ ap (λ (o : NamedBytes). told_with_file (told_with_files before.store (take k outputs)) o.name (take torn.torn.0 o.bytes)) is,
-  );
-  reads = reads ∙ first.reads;
-  writes = let same : now.write_faults ≡ before.write_faults = first.writes in omega (arith, torn.failed);
-}
-
-pub left_written : (before now later : FilesView) (outputs : List NamedBytes) (k : ℕ) → FirstWritten before now outputs k → LeavesFiles now.store later.store now.write_faults later.write_faults → later.read_faults ≡ now.read_faults → FirstWritten before later outputs k
-left_written before now later outputs k first kept reads = record {
-  within = first.within;
-  store = kept.kept ∙ first.store;
-  reads = reads ∙ first.reads;
-  writes = kept.none_failed ∙ first.writes;
 }
 
 -- an output of the list, by its index

@@ -7,6 +7,7 @@ use Rattle.std.proofs.lemmas.List.{append-nil, length-map, length-set, get_or-ma
 use Rattle.std.proofs.lemmas.List.Elements.{filter_map-append}
 use Rattle.std.proofs.lemmas.Option.{slice_get_within, slice_get-get_or, same_Some}
 use Rattle.link_base.proofs.RangeLemmas.{range_more, range_passes}
+use Rattle.link_base.proofs.NumberLemmas.{eqb_flip}
 use Rattle.coff_records.specs.ObjectFile.{section_total}
 use Rattle.coff_aux.specs.Comdats.{parents_of}
 use Rattle.module_view.specs.Module.{module_at}
@@ -23,12 +24,6 @@ use Rattle.link_folding.specs.Candidates.{candidate_pieces, children_of, kept_pi
 use Rattle.link_folding.specs.Steps.{AreNumbers, sections_done, first_children, HasChildren, AreGathered, kept_child, number_at, candidate_at}
 use Rattle.link_folding.proofs.NumberLemmas.{AreOwn}
 use Rattle.link_folding.proofs.PieceLemmas.{index_of}
-
-turned : (a b : ℕ) → eqb a b ≡ eqb b a
-turned a b = elim (cases_eq a b) [
-  | inl same ↦ ap (λ (n : ℕ). eqb n b) same ∙ ap (λ (n : ℕ). eqb b n) (sym same)
-  | inr apart ↦ ne_eqb a b apart ∙ sym (ne_eqb b a (λ same. apart (sym same)))
-]
 
 none_some : {X : Type 0} (o : Option X) (x : X) → o ≡ None → o ≡ Some x → ⊥
 none_some o x none some = cc
@@ -191,7 +186,7 @@ module _ (link : LinkParts) (kept : List Bool) where
           ∙ elim (cases_eq end number) [
             | inl same ↦
                 rw (eq-eqb end number same)
-                (ap (λ (b : Bool). cond (not b) given_here None) (turned section number ∙ ap (λ (n : ℕ). eqb n section) (sym same)) ∙ flipped (eqb end section))
+                (ap (λ (b : Bool). cond (not b) given_here None) (eqb_flip section number ∙ ap (λ (n : ℕ). eqb n section) (sym same)) ∙ flipped (eqb end section))
             | inr apart ↦ rw (ne_eqb end number apart) refl
           ]
         where

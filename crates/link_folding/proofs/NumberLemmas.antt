@@ -3,9 +3,9 @@ use Rattle.std.proofs.Common.{◌≡◌, ℕ, zero, suc, ◌+◌, ◌<◌, ◌�
 use Rattle.std.specs.List.{All, range_with_len}
 use Rattle.std.proofs.lemmas.Bool.{cases_lt}
 use Rattle.std.proofs.lemmas.List.{append-nil, length-append, length-map, get_or_past, get_or_append_left}
-use Rattle.std.proofs.lemmas.List.Elements.{filter-append}
 use Rattle.std.proofs.lemmas.Option.{slice_get_within, slice_get-get_or, get_or_from_slice_get, same_Some}
-use Rattle.link_base.proofs.RangeLemmas.{range_more}
+use Rattle.link_base.proofs.RangeLemmas.{filter_more}
+use Rattle.link_base.proofs.ListLemmas.{at_end}
 use Rattle.link_pieces.specs.LinkParts.{LinkParts}
 use Rattle.link_folding.specs.declared.candidates.Candidates.{Candidates}
 use Rattle.link_folding.specs.Candidates.{is_candidate}
@@ -31,10 +31,6 @@ slice_get_cases (z ∷ xs) y x (suc k) there = elim (slice_get_cases xs y x k th
   | inr here ↦ inr (omega (arith, here.0), here.1)
 ]
 
-get_or_next : {X : Type 0} (xs : List X) (x d : X) → get_or (xs ++ x ∷ []) (length xs) d ≡ x
-get_or_next [] x d = refl
-get_or_next (y ∷ xs) x d = get_or_next xs x d
-
 none_some : (o : Option ℕ) (k : ℕ) → o ≡ None → o ≡ Some k → ⊥
 none_some o k none some = cc
 
@@ -53,7 +49,7 @@ numbers_more roots numbers k true count are = record {
     | inr past ↦
         let within = numbered_within (numbers ++ Some (length roots) ∷ []) piece number is in
         let here : piece ≡ length numbers = omega (arith, within, past, length-append numbers (Some (length roots) ∷ [])) in
-        let number_is : length roots ≡ number = same_Some (length roots) number (sym (get_or_next numbers (Some (length roots)) None) ∙ ap (λ (p : ℕ). get_or (numbers ++ Some (length roots) ∷ []) p None) (sym here) ∙ is) in
+        let number_is : length roots ≡ number = same_Some (length roots) number (sym (at_end numbers (Some (length roots)) None) ∙ ap (λ (p : ℕ). get_or (numbers ++ Some (length roots) ∷ []) p None) (sym here) ∙ is) in
         subst (λ (n : ℕ). slice_get (roots ++ k ∷ []) n ≡ Some piece) number_is (slice_get_next roots k ∙ ap Some (sym count ∙ sym here))
   ];
   every = λ piece number there. elim (slice_get_cases roots k piece number there) [
@@ -62,7 +58,7 @@ numbers_more roots numbers k true count are = record {
         get_or_append_left numbers (Some (length roots) ∷ []) None piece (numbered_within numbers piece number old) ∙ old
     | inr here ↦
         ap (λ (p : ℕ). get_or (numbers ++ Some (length roots) ∷ []) p None) (here.1 ∙ sym count)
-        ∙ get_or_next numbers (Some (length roots)) None ∙ ap Some (sym here.0)
+        ∙ at_end numbers (Some (length roots)) None ∙ ap Some (sym here.0)
   ];
 }
 numbers_more roots numbers k false count are = record {
@@ -71,7 +67,7 @@ numbers_more roots numbers k false count are = record {
     | inr past ↦
         let within = numbered_within (numbers ++ None ∷ []) piece number is in
         let here : piece ≡ length numbers = omega (arith, within, past, length-append numbers (None ∷ [])) in
-        absurd (none_some _ number (ap (λ (p : ℕ). get_or (numbers ++ None ∷ []) p None) here ∙ get_or_next numbers None None) is)
+        absurd (none_some _ number (ap (λ (p : ℕ). get_or (numbers ++ None ∷ []) p None) here ∙ at_end numbers None None) is)
   ];
   every = λ piece number there.
       let old = are.every piece number (ap (λ (xs : List ℕ). slice_get xs number) (sym (append-nil roots)) ∙ there) in
@@ -87,24 +83,6 @@ pub record AreOwn (link : LinkParts) (kept : List Bool) (count : ℕ) (found : C
   pub few : length found.list.items ≤ count
   pub none : All has_none found.list.items
 
--- none, before the first piece
-pub none_own : (link : LinkParts) (kept : List Bool) (found : Candidates) → found.list.items ≡ [] → found.numbers.items ≡ [] → AreOwn link kept 0 found
-none_own link kept found list numbers = record {
-  pieces = ap (map (λ candidate. candidate.piece)) list;
-  numbers = record {
-    right = λ piece number is. absurd (none_some _ number (ap (λ (xs : List (Option ℕ)). get_or xs piece None) numbers) is);
-    every = λ piece number there. let none : Option ℕ = None in absurd (none_some none piece refl there);
-  };
-  looked_at = ap length numbers;
-  few = omega (arith, ap length list);
-  none = λ k d lt. absurd (omega (arith, lt, ap length list));
-}
-
-filter_next : (test : ℕ → Bool) (k : ℕ) → filter test (range_with_len 0 (k + 1)) ≡ filter test (range_with_len 0 k) ++ cond (test k) (k ∷ []) []
-filter_next test k =
-    ap (filter test) (range_more 0 k k (omega arith))
-    ∙ filter-append test (range_with_len 0 k) (k ∷ [])
-
 one_fewer : (b : Bool) (k : ℕ) (found longer : ℕ) → longer ≡ found + length (cond b (k ∷ []) []) → found ≤ k → longer ≤ k + 1
 one_fewer true k found longer e le = omega (arith, e, le)
 one_fewer false k found longer e le = omega (arith, e, le)
@@ -115,7 +93,7 @@ own_more link kept k b old new is noted own =
     let test = is_candidate link kept in
     let roots = filter test (range_with_len 0 k) in
     let pieces = λ (found : Candidates). map (λ candidate. candidate.piece) found.list.items in
-    let next : filter test (range_with_len 0 (k + 1)) ≡ roots ++ cond b (k ∷ []) [] = filter_next test k ∙ ap (λ (c : Bool). roots ++ cond c (k ∷ []) []) (sym is) in
+    let next : filter test (range_with_len 0 (k + 1)) ≡ roots ++ cond b (k ∷ []) [] = filter_more test k ∙ ap (λ (c : Bool). roots ++ cond c (k ∷ []) []) (sym is) in
     let count : length old.list.items ≡ length roots = sym (length-map old.list.items (λ candidate. candidate.piece)) ∙ ap length own.pieces in
     let listed : pieces new ≡ roots ++ cond b (k ∷ []) [] = noted.pieces ∙ ap (λ (xs : List ℕ). xs ++ cond b (k ∷ []) []) own.pieces in
     let numbers : new.numbers.items ≡ old.numbers.items ++ cond b (Some (length roots)) None ∷ [] = noted.numbers ∙ ap (λ (n : ℕ). old.numbers.items ++ cond b (Some n) None ∷ []) count in

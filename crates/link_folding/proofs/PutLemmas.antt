@@ -1,5 +1,5 @@
 -- Where pieces stand, one section more, and one candidate more.
-use Rattle.std.proofs.Common.{◌≡◌, ℕ, zero, suc, ◌+◌, ◌<◌, ◌⊎◌, inl, inr, List, [], ◌∷◌, ◌++◌, length, get_or, set, Some, slice_get, refl, sym, ap, ◌∙◌, subst, arith}
+use Rattle.std.proofs.Common.{◌≡◌, ℕ, zero, suc, ◌+◌, ◌<◌, ◌⊎◌, inl, inr, List, [], ◌∷◌, ◌++◌, length, get_or, set, Some, slice_get, sym, ap, ◌∙◌, subst, arith}
 use Rattle.std.specs.List.{range_with_len}
 use Rattle.std.proofs.lemmas.Bool.{cases_eq, cases_lt}
 use Rattle.std.proofs.lemmas.List.{length-set, get_or-set_same, get_or-set_other, get_or_past}
@@ -15,14 +15,6 @@ use Rattle.link_folding.specs.Places.{ArePlaces}
 use Rattle.link_folding.specs.Steps.{ArePut, ArePlacesBelow, HaveSections}
 
 -- ---- the sections of one candidate
-
--- none is put
-pub put_none : (sections others places : List ℕ) → ArePut sections others 0 places places
-put_none sections others places = record {
-  same_length = refl;
-  put = λ rank piece lt there. absurd (omega (arith, lt));
-  stays = λ piece apart. refl;
-}
 
 -- one more is
 pub put_more : (sections others : List ℕ) (count : ℕ) (old now new : List ℕ) (piece other : ℕ) → ArePut sections others count old now → slice_get sections count ≡ Some piece → slice_get others count ≡ Some other → piece < length old

@@ -1,9 +1,10 @@
 -- The fields that hold addresses, as they are listed, are all of a link, ascend and share no byte.
-use Rattle.std.proofs.Common.{◌≡◌, ℕ, zero, suc, ◌+◌, ◌^◌, ◌<◌, ◌≤◌, Bool, true, false, cond, nat_lt, List, [], ◌∷◌, ◌++◌, length, get_or, map, filter, flat_map, refl, sym, ap, ◌∙◌, subst, inl, inr, arith}
+use Rattle.std.proofs.Common.{◌≡◌, ℕ, zero, suc, ◌+◌, ◌^◌, ◌<◌, ◌≤◌, Bool, true, false, cond, nat_lt, List, [], ◌∷◌, ◌++◌, length, get_or, filter, flat_map, refl, sym, ap, ◌∙◌, subst, inl, inr, arith}
 use Rattle.std.specs.List.{All, Contains}
 use Rattle.std.proofs.lemmas.List.Concat.{flat_map-append}
 use Rattle.std.proofs.lemmas.List.Elements.{All-nil, All-append, All-map, All-filter, All-from_get_or, All-contains, filter_passes, Contains-get_or, Contains-append_left, Contains-append_right}
 use Rattle.std.proofs.lemmas.List.Sorted.{All-permutation}
+use Rattle.link_base.proofs.ListLemmas.{contains_map}
 use Rattle.section_group.specs.declared.piece.Piece.{Piece}
 use Rattle.section_group.specs.declared.piece.OutSection.{OutSection}
 use Rattle.section_group.specs.SectionOrder.{no_piece}
@@ -38,12 +39,6 @@ contains_flat : {X A : Type 0} (f : X → List A) (xs : List X) (x : X) (a : A) 
 contains_flat f [] x a there here = absurd (omega (arith, there.1))
 contains_flat f (y ∷ xs) x a (zero, lt, is) here = Contains-append_left (f y) (flat_map f xs) a (subst (λ each. Contains (f each) a) (sym is) here)
 contains_flat f (y ∷ xs) x a (suc k, lt, is) here = Contains-append_right (f y) (flat_map f xs) a (contains_flat f xs x a (k, omega (arith, lt), is) here)
-
-contains_map : {X A : Type 0} (f : X → A) (xs : List X) (x : X) → Contains xs x → Contains (map f xs) (f x)
-contains_map f [] x there = absurd (omega (arith, there.1))
-contains_map f (y ∷ xs) x (zero, lt, is) = (0, omega arith, ap f is)
-contains_map f (y ∷ xs) x (suc k, lt, is) =
-    let rest = contains_map f xs x (k, omega (arith, lt), is) in (suc rest.0, omega (arith, rest.1), rest.2)
 
 contains_later : {X : Type 0} (passes : Bool) (y : X) (xs : List X) (x : X) → Contains xs x → Contains (cond passes (y ∷ xs) xs) x
 contains_later true y xs x there = (suc there.0, omega (arith, there.1), there.2)

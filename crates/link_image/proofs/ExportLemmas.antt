@@ -5,6 +5,7 @@ use Rattle.std.specs.List.{AllZip}
 use Rattle.std.proofs.Math.ListN.{get_or-map}
 use Rattle.std.proofs.lemmas.Bool.{eqb-true}
 use Rattle.std.proofs.lemmas.List.{map-append, get_or_append_left, get_or-append_right}
+use Rattle.link_base.proofs.NumberLemmas.{above_zero}
 use Rattle.address_layout.specs.declared.layout.Layout.{Layout}
 use Rattle.directives.specs.declared.item.Export.{Export}
 use Rattle.symbol_names.specs.Exports.{forwarder}
@@ -133,9 +134,6 @@ export_table_none : (link : KeptParts) (layout : Layout) → eqb link.parts.expo
 unfolding export_table_at
 export_table_none link layout none =
     ap (λ (b : Bool). cond b [] (export_table (exported_rows link layout.pieces.items) link.parts.exports.ordinals link.parts.exports.dll link.parts.exports.time (table_rva link layout EXPORTS))) none
-
-above_zero : (size : ℕ) → eqb size 0 ≡ false → 0 < size
-above_zero size some = grind (arith, some)
 
 pub export_length : (link : KeptParts) (layout : Layout) (rows : List Export) (dll : List ℕ) (time : ℕ) → link.parts.exports ≡ exports_from rows dll time → AreTold link.parts.exports → length (export_table_at link layout) ≡ link.parts.exports.size
 export_length link layout rows dll time is told = go (eqb link.parts.exports.size 0) refl

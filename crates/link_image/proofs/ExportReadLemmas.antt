@@ -14,6 +14,7 @@ use Rattle.link_base.specs.declared.fault.Fault.{Fault}
 use Rattle.link_base.specs.declared.fault.Fault.TheVariants as faults
 use Rattle.link_base.specs.declared.kinds.export.ExportFault.{ExportFault}
 use Rattle.link_base.specs.declared.kinds.export.ExportFault.TheVariants.{ZeroOrdinal, TwoNames, TwoOrdinals, TooMany, InTable}
+use Rattle.link_base.proofs.OptionLemmas.{both_none}
 use Rattle.address_layout.specs.declared.layout.Layout.{Layout}
 use Rattle.directives.specs.declared.item.Export.{Export}
 use Rattle.symbol_names.specs.Exports.{forwarder}
@@ -49,10 +50,6 @@ not_zero : (link : KeptParts) → HasTable link → eqb link.parts.exports.size 
 not_zero link has = let some = some_size link has in ne_eqb link.parts.exports.size 0 (λ same. omega (arith, some, same))
 
 -- ---- the first of several
-
-both_none : {A : Type 0} (first later : Option A) → option_or first later ≡ None → (first ≡ None) × (later ≡ None)
-both_none None later none = (refl, none)
-both_none (Some x) later none = absurd cc
 
 -- where none stands, none is there
 none_stand : (f : Export → Option Fault) (rows : List Export) → first_standing (map f rows) ≡ None → All (λ row. f row ≡ None) rows

@@ -1,12 +1,12 @@
 -- The export table of a plan whose pieces have places.
-use Rattle.std.proofs.Common.{◌≡◌, ℕ, ◌+◌, ◌<◌, ◌≤◌, eqb, false, List, [], ◌∷◌, length, map, get_or, Option, Some, None, refl, sym, ap, ◌∙◌, subst, inl, inr, arith}
+use Rattle.std.proofs.Common.{◌≡◌, ℕ, ◌+◌, ◌<◌, ◌≤◌, List, [], ◌∷◌, length, map, get_or, Option, Some, None, refl, sym, ap, ◌∙◌, subst, inl, inr, arith}
 use Rattle.std.proofs.lemmas.Option.{none-some}
 use Rattle.std.specs.List.{All}
 use Rattle.std.proofs.lemmas.Bool.{cases_lt}
-use Rattle.std.proofs.lemmas.Bool.Decides.{eqb_tells}
 use Rattle.link_base.specs.Limits.{IMAGE_LIMIT}
 use Rattle.link_base.specs.Refusals.{first_standing}
 use Rattle.link_base.specs.declared.fault.Fault.{Fault}
+use Rattle.link_base.proofs.NumberLemmas.{not_zero}
 use Rattle.directives.specs.declared.item.Export.{Export}
 use Rattle.address_layout.specs.declared.layout.Layout.{Layout}
 use Rattle.export_tables.specs.declared.row.ExportRow.{ExportRow}
@@ -53,13 +53,6 @@ pub rows_placed : (link : KeptParts) (placed : List ExportRow) (rvas own : List 
 unfolding exported_rows
 rows_placed link placed rvas own rows is same all =
     is ∙ ap (λ (rs : List ℕ). map (exported_row link rs) rows) same ∙ ap (map (exported_row link own)) all
-
-not_zero : (size : ℕ) → 0 < size → eqb size 0 ≡ false
-not_zero size some =
-    elim (eqb_tells size 0) [
-      | inl same ↦ absurd (omega (arith, some, same.1))
-      | inr other ↦ other.0
-    ]
 
 inside_all : (link : KeptParts) (rvas : List ℕ) (rva : ℕ) (rows : List Export) → map (inside_of rva link.parts.exports.size) (map (exported_row link rvas) rows) ≡ map (inside_fault link rvas rva) rows
 inside_all link rvas rva [] = refl

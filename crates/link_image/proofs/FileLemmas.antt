@@ -1,5 +1,5 @@
 -- What is written of the pieces of a plan and of the tables.
-use Rattle.std.proofs.Common.{◌≡◌, ℕ, zero, suc, ◌+◌, ◌<◌, ◌≤◌, Bool, true, false, cond, List, [], ◌∷◌, ◌++◌, length, map, take, get_or, refl, sym, ap, ◌∙◌, subst, arith}
+use Rattle.std.proofs.Common.{◌≡◌, ℕ, zero, suc, ◌<◌, ◌≤◌, Bool, true, false, cond, List, [], ◌∷◌, ◌++◌, length, map, get_or, refl, sym, ap, ◌∙◌, subst, arith}
 use Rattle.std.specs.List.{All}
 use Rattle.std.proofs.Math.ListN.{get_or-map}
 use Rattle.std.proofs.lemmas.List.{length-map, ext_get_or}
@@ -23,32 +23,8 @@ use Rattle.link_plan.specs.declared.planning.LinkPlan.{LinkPlan}
 use Rattle.link_plan.specs.Plan.{IsPlanOf, kept_parts}
 use Rattle.link_image.specs.declared.placement.Placement.{Placement}
 use Rattle.link_image.specs.LinkedBytes.{tables_at, contents_at, placed_contents}
-use Rattle.link_image.specs.Steps.{HoldTables, CanBeGiven, AreWhole, IsPlaced, IsWritten, given_contents, reloc_tables}
+use Rattle.link_image.specs.Steps.{CanBeGiven, AreWhole, IsPlaced, IsWritten, given_contents, reloc_tables}
 use Rattle.link_image.proofs.HeldLemmas.{table_behind, piece_count, planned_is, same_test, held_at, other_is, table_contents, all_held, length-placed, placed_read, placed_held}
-
--- ---- what holds a table of base relocations
-
--- no table, and one
-pub no_tables : HoldTables [] []
-no_tables = record { contents = refl; sizes = λ j lt. absurd (omega arith) }
-
-pub one_table : (piece : Piece) (table : List ℕ) → piece_contents piece ≡ table → piece.size ≡ length table → HoldTables (table ∷ []) (piece ∷ [])
-one_table piece table contents size = record {
-  contents = ap (λ (bytes : List ℕ). bytes ∷ []) contents;
-  sizes = λ j lt. by j (omega (arith, lt));
-}
-  where
-    by : (j : ℕ) → j ≡ 0 → (get_or (piece ∷ []) j no_piece).size ≡ length (get_or (table ∷ []) j [])
-    by j none = subst (λ (i : ℕ). (get_or (piece ∷ []) i no_piece).size ≡ length (get_or (table ∷ []) i [])) (sym none) size
-
--- one piece more
-pub mapped_more : {Y : Type 0} (f g : Piece → Y) (pieces whole after : List Piece) (i : ℕ) (piece given : Piece) → i < length pieces → piece ≡ get_or pieces i piece → after ≡ whole ++ given ∷ [] → f given ≡ g piece → map f whole ≡ map g (take i pieces) → map f after ≡ map g (take (i + 1) pieces)
-mapped_more f g pieces whole after i piece given lt read is same before =
-    ap (map f) is
-    ∙ lists.map-append f whole (given ∷ [])
-    ∙ ap (λ (ys : List _). ys ++ f given ∷ []) before
-    ∙ ap (λ (y : _). map g (take i pieces) ++ y ∷ []) (same ∙ ap g read)
-    ∙ sym (lists.map_more g pieces i piece lt)
 
 -- ---- pieces with other bytes are laid out as they were
 

@@ -12,6 +12,7 @@ use Rattle.export_tables.specs.ReadBack.{exported_name, exported_ordinal, AreRea
 use Rattle.std.proofs.lemmas.Bool.{cases_lt, eqb-true, false≢true}
 use Rattle.std.proofs.lemmas.List.FromFn.{get_or-map-range_with_len}
 use Rattle.link_base.specs.Bytes.{bytes_at}
+use Rattle.link_base.proofs.OptionLemmas.{both_none}
 use Rattle.section_group.specs.declared.piece.Piece.{Piece}
 use Rattle.section_group.specs.declared.piece.OutSection.{OutSection}
 use Rattle.section_group.specs.SectionOrder.{no_piece}
@@ -58,7 +59,6 @@ use Rattle.link_image.proofs.MemoryLemmas.{directory_reads, directory_sized, abo
 use Rattle.link_image.proofs.MoveLemmas.{replaced_room}
 use Rattle.link_image.proofs.IdentityLemmas.{other_read, IsReplaced, data_replaced}
 use Rattle.pdata_table.specs.SortedContents.{is_among}
-use Rattle.relocate.proofs.JudgeLemmas.{or_none}
 use Rattle.link_image.specs.NamedSections.{pdata_pieces}
 use Rattle.link_image.specs.TableFaults.{pdata_fault}
 use Rattle.link_image.proofs.PieceMoves.{piece_read}
@@ -103,7 +103,7 @@ extent_rva pieces rvas (Some k) = refl
 pub exports_unrefused : (options : LinkOptions) (plan : LinkPlan) (placement : Placement) → IsPlanOf options plan.modules.items plan → IsPlaced options plan placement → (plan.names.exports.fault ≡ None) × (ordinal_fault plan.names.exports.rows ≡ None)
 exports_unrefused options plan placement planned placed =
     unrefused (kept_parts plan) (export_rows options plan.modules.items) (dll_name options.out) options.time (exports_are options plan planned)
-    (or_none (pdata_fault (kept_parts plan)) (export_fault (kept_parts plan)) placed.means.grouped.tables).1
+    (both_none (pdata_fault (kept_parts plan)) (export_fault (kept_parts plan)) placed.means.grouped.tables).1
 
 module _ (options : LinkOptions) (plan : LinkPlan) (placement : Placement) (owner : List ℕ) (planned : IsPlanOf options plan.modules.items plan) (placed : IsPlaced options plan placement)
     (ready : IsReady (kept_parts plan) plan.pieces.items plan.fixes.items placement.sections.items placement.layout owner (reloc_tables placement.table))
@@ -316,7 +316,7 @@ module _ (options : LinkOptions) (plan : LinkPlan) (placement : Placement) (owne
       are_readable some = readable (kept_parts plan) placement.layout.pieces.items (table_has some) planned.told (given some) outside
 
       without : plan.names.exports.size ≡ 0 → length plan.names.exports.rows ≡ 0
-      without none = ap length (no_rows (kept_parts plan) (export_rows options plan.modules.items) (dll_name options.out) options.time (exports_are options plan planned) (or_none (pdata_fault (kept_parts plan)) (export_fault (kept_parts plan)) placed.means.grouped.tables).1 none)
+      without none = ap length (no_rows (kept_parts plan) (export_rows options plan.modules.items) (dll_name options.out) options.time (exports_are options plan planned) (both_none (pdata_fault (kept_parts plan)) (export_fault (kept_parts plan)) placed.means.grouped.tables).1 none)
 
       record Extends : Type 0 where
         rva_zero : plan.names.exports.size ≡ 0 → (table_extent (kept_parts plan) placement.layout EXPORTS) ≡ (0, 0)

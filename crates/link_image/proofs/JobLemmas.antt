@@ -1,5 +1,5 @@
 -- The jobs that patch the fields of the pieces in the file of the image, and what they leave.
-use Rattle.std.proofs.Common.{◌≡◌, ◌⊎◌, ℕ, zero, suc, eqb, ltb, ◌+◌, ◌<◌, Bool, true, false, ◌||◌, List, [], ◌∷◌, ◌++◌, length, map, get_or, set, Option, Some, None, refl, sym, ap, subst, ◌∙◌, inl, inr, eq-eqb, length-set, arith}
+use Rattle.std.proofs.Common.{◌≡◌, ◌⊎◌, ℕ, suc, eqb, ltb, ◌+◌, ◌<◌, Bool, true, false, ◌||◌, List, [], ◌∷◌, ◌++◌, length, map, get_or, set, Option, Some, None, refl, sym, ap, subst, ◌∙◌, inl, inr, eq-eqb, length-set, arith}
 use Rattle.std.specs.List.{All, AllPairs, Contains, list_any, range_with_len}
 use Rattle.std.proofs.lemmas.Bool.{false≢true, cases_lt, cases_eq, ltb-true, eqb-true, lt-ltb, and_parts}
 use Rattle.std.proofs.lemmas.List.{get_or_default, get_or_append_left, get_or_past, get_or-map, get_or-set_same, get_or-set_other, ext_get_or, length-map}
@@ -7,10 +7,9 @@ use Rattle.std.proofs.lemmas.List.Elements.{All-head, All-tail, All-contains}
 use Rattle.std.proofs.lemmas.List.Folds.{list_any_at}
 use Rattle.std.proofs.lemmas.List.FromFn.{get_or-map-range_with_len, length-map-range_with_len}
 use Rattle.link_base.specs.Bytes.{bytes_at}
-use Rattle.link_base.specs.Refusals.{first_refusal_below}
 use Rattle.link_base.specs.declared.fault.Fault.{Fault}
 use Rattle.link_base.specs.declared.fault.Fault.TheVariants as faults
-use Rattle.link_base.proofs.RefusalLemmas.{neither_stands, first_refusal_below-found}
+use Rattle.link_base.proofs.RefusalLemmas.{first_refusal_below-found, none_below}
 use Rattle.section_group.specs.declared.piece.Piece.{Piece}
 use Rattle.section_group.specs.declared.piece.OutSection.{OutSection}
 use Rattle.section_group.specs.BarePieces.{bare}
@@ -52,13 +51,6 @@ use Rattle.link_image.proofs.JobPlaceLemmas.{EndsFirst, IsPlace, all_are, all_ap
 not_some : {X : Type 0} (xs : List X) → ltb 0 (length xs) ≡ false → length xs ≡ 0
 not_some [] none = refl
 not_some (x ∷ xs) none = absurd (false≢true (sym none ∙ lt-ltb 0 (length (x ∷ xs)) (omega arith)))
-
--- no refusal stands where none does
-none_below : {A : Type 0} (n : ℕ) (refusal_at : ℕ → Option A) → ((k : ℕ) → k < n → refusal_at k ≡ None) → first_refusal_below n refusal_at ≡ None
-unfolding first_refusal_below
-none_below zero refusal_at none = refl
-none_below (suc n) refusal_at none =
-    neither_stands (first_refusal_below n refusal_at) (refusal_at n) (none_below n refusal_at (λ k lt. none k (omega (arith, lt)))) (none n (omega arith))
 
 -- a job of a piece, among those of which something holds
 record HasJobOf (P : Job → Type 0) (k : ℕ) : Type 0 where

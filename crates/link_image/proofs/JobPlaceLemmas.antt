@@ -1,11 +1,11 @@
 -- Where the pieces with fields stand in the file: each ends before the next one begins.
 use Rattle.std.proofs.Common.{◌≡◌, ℕ, zero, suc, ◌+◌, ◌<◌, ◌≤◌, Bool, true, false, cond, eqb, List, [], ◌∷◌, ◌++◌, length, map, filter, take, get_or, append_assoc, append-nil, refl, sym, ap, ◌∙◌, subst, inl, inr, arith}
-use Rattle.std.specs.List.{All, AllPairs, Contains, flat_map, range_with_len}
+use Rattle.std.specs.List.{All, AllPairs, Contains}
 use Rattle.std.proofs.lemmas.Bool.{cases_lt, false≢true, eqb-true}
 use Rattle.std.proofs.lemmas.List.{get_or_default, map-append}
-use Rattle.std.proofs.lemmas.List.Elements.{All-nil, All-cons, All-map, All-weaker, Contains-append_left, Contains-append_right, filter_more}
+use Rattle.std.proofs.lemmas.List.Elements.{All-nil, All-cons, All-map, All-weaker, filter_more}
 use Rattle.std.proofs.lemmas.List.Kept.{AllPairs-filter}
-use Rattle.link_base.proofs.RangeLemmas.{all_joined, joined_grows}
+use Rattle.link_base.proofs.RangeLemmas.{all_joined, joined_grows, joined_there}
 use Rattle.section_group.specs.declared.piece.Piece.{Piece}
 use Rattle.section_group.specs.declared.piece.OutSection.{OutSection}
 use Rattle.section_group.specs.SectionOrder.{no_piece}
@@ -43,17 +43,6 @@ kept_there {Y} f test (x ∷ xs) (suc j) lt is = by (test x) (kept_there f test 
     by : (b : Bool) → Contains (map f (filter test xs)) (f (get_or xs j 0)) → Contains (map f (cond b (x ∷ filter test xs) (filter test xs))) (f (get_or xs j 0))
     by true there = (suc there.0, omega (arith, there.1), there.2)
     by false there = there
-
-joined_there : {Y : Type 0} (f : ℕ → List Y) (a n k : ℕ) (y : Y) → a ≤ k → k < a + n → Contains (f k) y → Contains (flat_map f (range_with_len a n)) y
-joined_there f a zero k y low high there = absurd (omega (arith, low, high))
-joined_there f a (suc n) k y low high there =
-    elim (cases_lt a k) [
-      | inl above ↦
-          Contains-append_right (f a) (flat_map f (range_with_len (a + 1) n)) y (joined_there f (a + 1) n k y (omega (arith, above)) (omega (arith, high)) there)
-      | inr level ↦
-          let same : k ≡ a = omega (arith, low, level) in
-          Contains-append_left (f a) (flat_map f (range_with_len (a + 1) n)) y (subst (λ (m : ℕ). Contains (f m) y) same there)
-    ]
 
 -- raw data stand in the file where there are some
 file_is : (raw file before : ℕ) → file ≡ cond (eqb raw 0) 0 before → 0 < raw → file ≡ before

@@ -7,10 +7,10 @@ use Rattle.std.specs.Map.{lookup}
 use Rattle.std.proofs.lemmas.Bool.{false≢true, and_parts, cases_lt, or_right}
 use Rattle.std.proofs.lemmas.List.{length-map, length-append, append-nil, get_or_append_left, get_or-append_right}
 use Rattle.std.proofs.lemmas.List.Elements.{All-append, All-nil, All-cons}
-use Rattle.std.proofs.lemmas.Slice.Eq.{bytes_eq-Decides}
 use Rattle.link_base.specs.NameText.{same_name}
 use Rattle.link_base.specs.SectionName.{base_name}
 use Rattle.link_base.proofs.CallerLemmas.{first_below-some}
+use Rattle.link_base.proofs.NameTextLemmas.{same_is}
 use Rattle.section_group.specs.declared.piece.Piece.{Piece}
 use Rattle.section_group.specs.declared.piece.OutSection.{OutSection}
 use Rattle.section_group.specs.SectionOrder.{no_piece, section_name, is_used}
@@ -78,9 +78,6 @@ led_from given well (suc steps) name e = led_from given well steps name (by (tar
     by : (o : Option (List ℕ)) → target given (led given steps name) ≡ o → unwrap_or o (led given steps name) ≡ PDATA → led given steps name ≡ PDATA
     by None is e = e
     by (Some other) is e = absurd (no_target given (led given steps name) well (is ∙ ap (λ (n : List ℕ). Some n) e))
-
-same_is : (name other : List ℕ) → same_name name other ≡ true → name ≡ other
-same_is name other e = (bytes_eq-Decides name other).0 e
 
 -- ---- no table is one of it
 

@@ -1,6 +1,7 @@
 -- A member of the section of the exception table holds whole rows, and none of its fields holds an address.
 use Rattle.std.proofs.Common.{◌≡◌, ℕ, zero, suc, ◌%◌, ◌<◌, Bool, true, false, cond, ◌||◌, ◌&&◌, not, eqb, ltb, nat_lt, List, [], ◌∷◌, length, get_or, Some, None, inl, inr, refl, sym, ap, ◌∙◌, eqb-true, lt-ltb, ltb-true, arith}
 use Rattle.std.proofs.lemmas.Bool.{false≢true, and_parts, and_from, cases_lt}
+use Rattle.link_base.proofs.OptionLemmas.{both_none}
 use Rattle.section_group.specs.declared.piece.Piece.{Piece}
 use Rattle.section_group.specs.declared.piece.OutSection.{OutSection}
 use Rattle.section_group.specs.BarePieces.{bare}
@@ -8,7 +9,6 @@ use Rattle.section_group.specs.SectionOrder.{no_piece}
 use Rattle.section_group.specs.Uniqueness.{row_of, rows_of}
 use Rattle.address_layout.specs.declared.layout.Layout.{Layout}
 use Rattle.relocate.proofs.PatchableLemmas.{none_each}
-use Rattle.relocate.proofs.JudgeLemmas.{or_none}
 use Rattle.link_words.specs.Outcome.{LinkOptions}
 use Rattle.link_pieces.specs.LinkParts.{LinkParts}
 use Rattle.link_pieces.specs.Pieces.{link_pieces}
@@ -100,9 +100,9 @@ held_rows piece bytes good held = by piece.init refl
 fields_none : (options : LinkOptions) (link : LinkParts) → plan_fault options link ≡ None → fields_fault options link ≡ None
 unfolding plan_fault
 fields_none options link none =
-    let later = (or_none (mismatch_fault link.modules) _ none).1 in
-    let meant = (or_none (choice_fault link) _ later).1 in
-    (or_none (meaning_fault options link) (fields_fault options link) meant).1
+    let later = (both_none (mismatch_fault link.modules) _ none).1 in
+    let meant = (both_none (choice_fault link) _ later).1 in
+    (both_none (meaning_fault options link) (fields_fault options link) meant).1
 
 good_same : (a b : Piece) → unnamed a ≡ unnamed b → IsGood a → IsGood b
 good_same a b same good = record {
@@ -125,7 +125,7 @@ member_row options plan layout k planned none member =
     let at : whole_piece link k ≡ piece_at link.parts k = whole_at link k inside in
     let own : is_pdata (piece_at link.parts k) ≡ true = ap is_pdata (sym at) ∙ is in
     let kept : is_kept link k ≡ true = and_from _ _ (lt-ltb k (length (link_pieces link.parts)) inside) (sym (used_first options link k planned.link_is.kept_are inside) ∙ used.1) in
-    let good = good_of (piece_at link.parts k) own (not_bad link k inside kept (or_none (pdata_fault link) (export_fault link) none).0) in
+    let good = good_of (piece_at link.parts k) own (not_bad link k inside kept (both_none (pdata_fault link) (export_fault link) none).0) in
     let here : unnamed (piece_at link.parts k) ≡ unnamed (bare (get_or plan.pieces.items k no_piece)) = ap unnamed (sym at) ∙ sym (planned_is options plan planned k) in
     let rows = held_rows (get_or plan.pieces.items k no_piece) (contents_at link layout k) (good_bare (get_or plan.pieces.items k no_piece) (good_same (piece_at link.parts k) (bare (get_or plan.pieces.items k no_piece)) here good)) (held_at options plan planned layout k lt) in
     record {

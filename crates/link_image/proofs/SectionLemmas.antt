@@ -1,5 +1,5 @@
 -- From what grouping and placing say of the pieces of a plan to what they say of the modules.
-use Rattle.std.proofs.Common.{eqb, eq-eqb, ◌≡◌, ℕ, suc, ◌+◌, ◌<◌, ◌^◌, ◌⊎◌, Bool, true, false, ◌≤◌, List, [], ◌∷◌, ◌++◌, length, length-append, map, get_or, Some, None, refl, sym, ap, ◌∙◌, subst, inl, inr, arith}
+use Rattle.std.proofs.Common.{eqb, eq-eqb, ◌≡◌, ℕ, ◌+◌, ◌<◌, ◌^◌, ◌⊎◌, Bool, true, false, ◌≤◌, List, [], ◌∷◌, ◌++◌, length, length-append, map, get_or, Some, None, refl, sym, ap, ◌∙◌, subst, inl, inr, arith}
 use Rattle.std.specs.Prelude.{codes}
 use Rattle.std.specs.List.{All, Contains, IsDistinct}
 use Rattle.std.proofs.lemmas.Bool.{lt-ltb, and_from, or_left, or_right}
@@ -12,7 +12,6 @@ use Rattle.section_group.specs.declared.piece.OutSection.{OutSection}
 use Rattle.section_group.specs.BarePieces.{bare}
 use Rattle.section_group.specs.Placement.{IsGrouping, needs_place}
 use Rattle.section_group.specs.SectionOrder.{Input, no_piece, input_from, is_used}
-use Rattle.section_group.specs.Merging.{HasNoBadMerge, NamesFirstBad}
 use Rattle.section_group.specs.Uniqueness.{SectionRow as OutRow, row_of, rows_of}
 use Rattle.section_group.proofs.CallerLemmas.{grouping_bare}
 use Rattle.address_layout.specs.declared.base.BaseRule.{BaseRule}
@@ -27,7 +26,7 @@ use Rattle.address_layout.proofs.CallerLemmas.{stand_once, stands, stands_at, pi
 use Rattle.image_writer.specs.declared.headers.Headers.{Headers}
 use Rattle.link_base.specs.declared.fault.Fault.{Fault}
 use Rattle.section_group.specs.PieceContents.{piece_contents}
-use Rattle.image_writer.specs.WrittenImage.{section_rows, written_plan, layout_plan, IsLaidOut}
+use Rattle.image_writer.specs.WrittenImage.{IsLaidOut}
 use Rattle.image_writer.proofs.CallerLemmas.{laid_out, appended_laid_out}
 use Rattle.link_pieces.specs.TablePieces.{KeptParts}
 use Rattle.link_plan.specs.Plan.{merges_of, IsPlanOf, kept_parts}
@@ -44,12 +43,11 @@ use Rattle.link_base.specs.Refusals.{RefusesFor}
 use Rattle.link_base.specs.declared.stop.Refusal.{Refusal}
 use Rattle.link_base.specs.declared.stop.Refusal.TheVariants as refusal
 use Rattle.link_pieces.specs.LinkParts.{LinkParts}
-use Rattle.piece_bytes.specs.Owners.{owners, no_row}
+use Rattle.piece_bytes.specs.Owners.{no_row}
 use Rattle.link_image.specs.declared.placement.Placement.{Placement}
 use Rattle.link_image.specs.BaseFields.{is_relocated, AreBaseFields}
 use Rattle.link_image.specs.LinkedBytes.{owners_in, fields_range_fault}
 use Rattle.link_image.specs.ExportFaults.{in_table_fault}
-use Rattle.link_image.specs.TableFaults.{tables_fault}
 use Rattle.link_image.specs.Steps.{reloc_tables, EndsWithTable, IsPlaced, IsReady, IsWritten}
 use Rattle.link_image.specs.LinkedImage.{link_input, base_rule, table_row, AreGrouped, ArePlaced, IsWhole, IsPlacement}
 use Rattle.link_image.specs.BuildFaults.{IsBuildFault, RefusesBuild}
@@ -88,9 +86,6 @@ pub standing : (options : LinkOptions) (link : KeptParts) (pieces : List Piece) 
 standing options link pieces sections grouped = stand_once (link_input options link pieces) sections grouped.grouping
 
 -- ---- why there is no image
-
-pub bad_merge : (options : LinkOptions) (link : KeptParts) (name : List ℕ) → NamesFirstBad (merges_of options link.parts) name → IsBuildFault options link (faults.BadMerge name)
-bad_merge options link name named = inl (inl (record { name = name; named = named; is = refl }))
 
 pub too_many : (options : LinkOptions) (link : KeptParts) (pieces : List Piece) (sections : List OutSection) (reloc : Bool) (count : ℕ) → map bare pieces ≡ plan_pieces options link → AreGrouped options link pieces sections → reloc ≡ is_relocated options link → IsPlaceRefusal pieces sections reloc (bad.TooManySections count) → IsBuildFault options link (faults.TooManySections count)
 too_many options link pieces sections reloc count are grouped same refused =
@@ -144,10 +139,6 @@ range_refusal options link rows layout tables (refusal.Fault fault) placement pe
     bad_range options link rows layout tables fault placement permitted outside is
 range_refusal options link rows layout tables refusal.Memory placement permitted outside is = tt
 
--- a bad table: the exception table, or else that of the exports
-pub bad_table : (options : LinkOptions) (link : KeptParts) (fault : Fault) → HasNoBadMerge (merges_of options link.parts) → tables_fault link ≡ Some fault → IsBuildFault options link fault
-bad_table options link fault merges is = inl (inr (inl (record { merges = merges; is = is })))
-
 -- one that lies in the table
 pub export_in_table : (options : LinkOptions) (link : KeptParts) (rows : List OutRow) (layout : Layout) (tables : List (List ℕ)) (fault : Fault) → IsPlacement options link rows layout tables → is_permitted (base_rule options) layout.image options.base ≡ true → in_table_fault link layout.pieces.items ≡ Some fault → IsBuildFault options link fault
 export_in_table options link rows layout tables fault placement permitted is =
@@ -193,18 +184,6 @@ not_permitted rule image (bad.ImageTooLarge size) refused = absurd refused
 not_permitted rule image bad.Memory refused = absurd refused
 
 -- ---- what is written
-
--- as many rows as sections
-rows_count : (rows : List OutRow) (placed : List Placed) → length placed ≡ length rows → length (section_rows rows placed) ≡ length rows
-rows_count [] placed same = refl
-rows_count (row ∷ rows) [] same = absurd (omega (arith, same))
-rows_count (row ∷ rows) (place ∷ placed) same = ap suc (rows_count rows placed (omega (arith, same)))
-
-plan_rows : (headers : Headers) (sections : List OutSection) (layout : Layout) (contents : ℕ → List (List ℕ)) → length layout.sections.items ≡ length sections → length (layout_plan headers sections layout contents).rows ≡ length sections
-unfolding written_plan
-plan_rows headers sections layout contents same =
-    let count : length (rows_of sections) ≡ length sections = length-map sections row_of in
-    rows_count (rows_of sections) layout.sections.items (same ∙ sym count) ∙ count
 
 -- what is placed without a table can be written
 laid : (options : LinkOptions) (link : KeptParts) (pieces : List Piece) (sections : List OutSection) (layout : Layout) → AreGrouped options link pieces sections → ArePlaced pieces sections false layout → IsLaidOut pieces sections layout
@@ -336,11 +315,6 @@ rows_apart options plan placement planned placed = by (pdata_pieces (rows_of pla
         first k ks = rw (eq-eqb k k refl) refl
 
 -- ---- what is ready
-
--- the sections of pieces, counted by their number, are those of the layout
-pub owner_there : (placement : Placement) (sections : List OutSection) (count : ℕ) (owner : List ℕ) → owner ≡ owners (rows_of sections) count → sections ≡ placement.sections.items → count ≡ length placement.layout.pieces.items → owner ≡ owners_in (rows_of placement.sections.items) placement.layout
-owner_there placement sections count owner is same long =
-    is ∙ ap (λ (ss : List OutSection). owners (rows_of ss) count) same ∙ ap (owners (rows_of placement.sections.items)) long
 
 -- the pieces of a plan with their fields, where they stand
 pub ready : (options : LinkOptions) (plan : LinkPlan) (placement : Placement) (headers : Headers) (image owner : List ℕ) → IsPlanOf options plan.modules.items plan → IsPlaced options plan placement → IsWritten headers placement (kept_parts plan) image → owner ≡ owners_in (rows_of placement.sections.items) placement.layout → IsReady (kept_parts plan) plan.pieces.items plan.fixes.items placement.sections.items placement.layout owner (reloc_tables placement.table)

@@ -1,5 +1,5 @@
 -- The pieces of the import tables, where they stand, and that they end below 4 GiB.
-use Rattle.std.proofs.Common.{◌≡◌, ℕ, zero, suc, ◌+◌, ◌^◌, ◌<◌, ◌≤◌, Bool, true, false, cond, eqb, ltb, List, length, map, take, get_or, slice_index, Option, Some, None, IfSome, inl, inr, refl, sym, ap, ◌∙◌, subst, lt-ltb, arith}
+use Rattle.std.proofs.Common.{◌≡◌, ℕ, suc, ◌+◌, ◌^◌, ◌<◌, ◌≤◌, Bool, true, false, cond, eqb, ltb, List, length, map, take, get_or, slice_index, Option, Some, None, IfSome, inl, inr, refl, sym, ap, ◌∙◌, subst, lt-ltb, arith}
 use Rattle.std.specs.List.{All, range_with_len}
 use Rattle.std.specs.Option.{option_or}
 use Rattle.std.proofs.Math.Path.{fun_ext}
@@ -7,7 +7,7 @@ use Rattle.std.proofs.lemmas.Bool.{cases_lt, and_parts, and_from, eqb-true}
 use Rattle.std.proofs.lemmas.List.{ext_get_or, get_or_default}
 use Rattle.std.proofs.lemmas.List.FromFn.{get_or-map-range_with_len, length-map-range_with_len}
 use Rattle.link_base.specs.Bytes.{first_below}
-use Rattle.link_base.proofs.CallerLemmas.{first_below-some}
+use Rattle.link_base.proofs.CallerLemmas.{first_below-some, first_below-same}
 use Rattle.section_group.specs.declared.piece.Piece.{Piece}
 use Rattle.section_group.specs.SectionOrder.{no_piece}
 use Rattle.address_layout.specs.declared.layout.Layout.{Layout}
@@ -31,11 +31,6 @@ use Rattle.link_image.proofs.HeldLemmas.{table_behind, piece_count, planned_is, 
 use Rattle.link_image.proofs.ExportLemmas.{import_size, tree_size_is}
 
 -- ---- the first piece of a number
-
-first_same : (n : ℕ) (f g : ℕ → Bool) → ((k : ℕ) → k < n → f k ≡ g k) → first_below n f ≡ first_below n g
-unfolding first_below
-first_same zero f g same = refl
-first_same (suc n) f g same = rw (first_same n f g (λ k lt. same k (omega arith)), same n (omega arith)) refl
 
 -- one piece more
 pub noted_more : (position number k : ℕ) (pieces : List Piece) (piece : Piece) (old new : Option ℕ) → k < length pieces → piece ≡ get_or pieces k piece → old ≡ first_below k (holds (is_numbered position number) pieces) → new ≡ option_or old (cond (is_numbered position number piece) (Some k) None) → new ≡ first_below (k + 1) (holds (is_numbered position number) pieces)
@@ -92,7 +87,7 @@ module _ (options : LinkOptions) (plan : LinkPlan) (planned : IsPlanOf options p
   numbered_is : (number : ℕ) → numbered_index (length plan.modules.items) plan.pieces.items number ≡ table_index (kept_parts plan) number
   numbered_is number =
       ap (λ (count : ℕ). numbered_index count plan.pieces.items number) (names_count options plan planned)
-      ∙ first_same (length plan.pieces.items) (holds (is_numbered (length plan.names.modules) number) plan.pieces.items) (holds (is_numbered (length plan.names.modules) number) (whole_pieces (kept_parts plan))) (λ k lt. ap (is_numbered (length plan.names.modules) number) (planned_is options plan planned k))
+      ∙ first_below-same (length plan.pieces.items) (holds (is_numbered (length plan.names.modules) number) plan.pieces.items) (holds (is_numbered (length plan.names.modules) number) (whole_pieces (kept_parts plan))) (λ k lt. ap (is_numbered (length plan.names.modules) number) (planned_is options plan planned k))
       ∙ ap (λ (n : ℕ). first_below n (holds (is_numbered (length plan.names.modules) number) (whole_pieces (kept_parts plan)))) (piece_count options plan planned)
 
   pub places_are : (places : List (Option ℕ)) → places ≡ numbered_indexes (length plan.modules.items) plan.pieces.items → places ≡ map (table_index (kept_parts plan)) (range_with_len 0 9)

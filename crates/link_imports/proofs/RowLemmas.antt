@@ -1,18 +1,15 @@
 -- The rows of imports, one module more at a time.
-use Rattle.std.proofs.Common.{◌≡◌, ℕ, zero, suc, ◌+◌, ◌-◌, ◌<◌, ◌≤◌, Bool, false, List, [], ◌∷◌, ◌++◌, length, get_or, Option, Some, None, inl, inr, refl, sym, ap, subst, ◌∙◌, arith}
-use Rattle.std.specs.List.{All, cons_option, filter_map, range_with_len}
+use Rattle.std.proofs.Common.{◌≡◌, ℕ, zero, suc, ◌+◌, ◌-◌, ◌<◌, ◌≤◌, Bool, false, List, [], ◌∷◌, ◌++◌, length, get_or, Option, Some, None, inl, inr, sym, ap, subst, ◌∙◌, arith}
+use Rattle.std.specs.List.{cons_option, filter_map, range_with_len}
 use Rattle.link_base.proofs.RangeLemmas.{range_more}
 use Rattle.std.proofs.lemmas.Bool.{cases_lt}
 use Rattle.std.proofs.lemmas.List.{length-append, get_or_push, get_or_append_left, get_or_past}
-use Rattle.std.proofs.lemmas.List.Elements.{filter_map-append, All-weaker}
+use Rattle.std.proofs.lemmas.List.Elements.{filter_map-append}
 use Rattle.std.proofs.lemmas.List.FromFn.{length-map-range_with_len}
-use Rattle.link_base.specs.Limits.{MODULE_LIMIT, NAME_LIMIT}
 use Rattle.module_view.specs.Module.{ModuleView, module_at}
 use Rattle.import_tables.specs.declared.row.ImportRow.{ImportRow}
 use Rattle.import_tables.specs.ImportShape.{name_len, slot_offset as row_offset, slots_of, AreWithinLimits}
 use Rattle.link_imports.specs.Imports.{row_if, row_at, rows_below, import_rows, import_slots, slot_offset}
-use Rattle.import_tables.specs.ReadBack.{HasNoNul, IsReadable, AreReadable}
-use Rattle.link_imports.specs.Steps.{CanBeTold}
 
 -- ---- rows
 
@@ -41,20 +38,6 @@ pub count_more : (now after : List ImportRow) (o : Option ImportRow) (k : ℕ) �
 count_more now after o k grown few =
     omega (arith, few, ap length grown, length-append now (cons_option o []), at_most_one o)
 
-pub within_limits : (rows : List ImportRow) → length rows ≤ MODULE_LIMIT → All CanBeTold rows → AreWithinLimits rows
-within_limits rows few told = record {
-  few = few;
-  dlls = All-weaker CanBeTold (λ (row : ImportRow). length row.dll ≤ NAME_LIMIT) (λ row is. is.short_dll) rows told;
-  names = All-weaker CanBeTold (λ (row : ImportRow). name_len row.by ≤ NAME_LIMIT) (λ row is. is.short_name) rows told;
-}
-
-pub all_readable : (rows own : List ImportRow) → rows ≡ own → All CanBeTold rows → AreReadable own
-all_readable rows own same told =
-    subst AreReadable same (record {
-      dlls = All-weaker CanBeTold (λ (row : ImportRow). HasNoNul row.dll) (λ row is. is.dll) rows told;
-      imports = All-weaker CanBeTold (λ (row : ImportRow). IsReadable row.by) (λ row is. is.by) rows told;
-    })
-
 -- ---- offsets
 
 -- how many rows stand before the next module
@@ -82,14 +65,6 @@ pub record AreOffsets (modules : List ModuleView) (kept : List Bool) (k before :
   pub count : before ≡ length (rows_below modules kept k)
   pub few : before ≤ k
   pub each : (p : ℕ) → p < k → get_or offsets p 0 ≡ slot_offset modules kept p
-
-pub no_offsets : (modules : List ModuleView) (kept : List Bool) (offsets : List ℕ) → offsets ≡ [] → AreOffsets modules kept 0 0 offsets
-no_offsets modules kept offsets none = record {
-  for_each = ap length none;
-  count = refl;
-  few = omega arith;
-  each = λ p lt. absurd (omega arith);
-}
 
 pub offsets_more : (modules : List ModuleView) (kept : List Bool) (k : ℕ) (m : ModuleView) (is_kept : Bool) (before next offset : ℕ) (offsets after : List ℕ) → m ≡ module_at modules k → is_kept ≡ get_or kept k false → offset ≡ get_or (import_slots modules kept) before 0 → after ≡ offsets ++ offset ∷ [] → next ≡ before + length (cons_option (row_if is_kept m) []) → AreOffsets modules kept k before offsets → AreOffsets modules kept (k + 1) next after
 offsets_more modules kept k m is_kept before next offset offsets after read told here grown counted are = record {

@@ -1,9 +1,9 @@
 -- What is kept, as paths say it.
-use Rattle.std.proofs.Common.{◌≡◌, ℕ, zero, suc, ◌<◌, Bool, true, false, List, length, get_or, replicate, Some, inl, inr, refl, sym, ap, subst, ◌∙◌, arith}
+use Rattle.std.proofs.Common.{◌≡◌, ℕ, ◌<◌, Bool, true, false, List, length, get_or, Some, inl, inr, sym, ap, subst, ◌∙◌}
 use Rattle.std.specs.Cmp.{both_ways}
 use Rattle.std.specs.List.{Contains, slice_get}
 use Rattle.std.proofs.lemmas.Bool.{cases_lt, false≢true}
-use Rattle.std.proofs.lemmas.List.{get_or_past, length-replicate, ext_get_or}
+use Rattle.std.proofs.lemmas.List.{get_or_past, ext_get_or}
 use Rattle.std.proofs.lemmas.Option.{get_or_from_slice_get, slice_get-get_or}
 use Rattle.reach.specs.Paths.{IsKept}
 use Rattle.link_words.specs.Outcome.{LinkOptions}
@@ -51,28 +51,6 @@ reached options link kept count edges roots dropped counted same roots_are long 
 
     forth : {node : ℕ} → IsKept count edges roots node → IsKept (node_count link) (link_edges link) (link_roots options link) node
     forth {node} path = kept_by_same (node_count link) edges (link_edges link) (link_roots options link) node same.only (rw (sym counted, sym roots_are) path)
-
--- where they are not
-pub all_stay : (options : LinkOptions) (link : LinkParts) (kept : List Bool) (count : ℕ) → drops options ≡ false → count ≡ node_count link → kept ≡ replicate count true → AreKept options link kept
-all_stay options link kept count dropped counted is =
-    let long : length kept ≡ count = ap length is ∙ length-replicate count true in
-    record {
-      for_each = long ∙ counted;
-      kept = λ node within.
-          let lt : node < node_count link = subst (λ (b : Bool). IsToKeep b options link node) dropped within in
-          ap (λ (bs : List Bool). get_or bs node false) is ∙ each count node (omega (arith, lt, counted));
-      only = λ node there.
-          subst (λ (b : Bool). IsToKeep b options link node) (sym dropped)
-          (elim (cases_lt node (length kept)) [
-            | inl lt ↦ omega (arith, lt, long, counted)
-            | inr past ↦ absurd (false≢true (sym (get_or_past kept node false past) ∙ there))
-          ]);
-    }
-  where
-    each : (n k : ℕ) → k < n → get_or (replicate n true) k false ≡ true
-    each zero k lt = absurd (omega arith)
-    each (suc n) zero lt = refl
-    each (suc n) (suc k) lt = each n k (omega arith)
 
 -- a list that is kept is the only one
 pub one_kept : (options : LinkOptions) (link : LinkParts) (a b : List Bool) → AreKept options link a → AreKept options link b → a ≡ b

@@ -1,25 +1,16 @@
 -- Pieces that are marked, one after the other, and named by their marks.
-use Rattle.std.proofs.Common.{◌≡◌, ℕ, ◌+◌, ◌<◌, ◌≤◌, Bool, true, false, ◌||◌, eqb, List, [], ◌∷◌, ◌++◌, length, map, get_or, set, take, inl, inr, sym, ap, ◌∙◌, add-one, subst, arith}
+use Rattle.std.proofs.Common.{◌≡◌, ℕ, ◌+◌, ◌<◌, ◌≤◌, Bool, true, false, ◌||◌, List, [], ◌∷◌, ◌++◌, length, map, get_or, take, inl, inr, sym, ap, ◌∙◌, add-one, subst, arith}
 use Rattle.std.specs.List.{list_any, range_with_len}
 use Rattle.std.proofs.Math.Bool.{or_assoc, or-true, or-false}
 use Rattle.std.proofs.Math.Seq.{take-suc}
 use Rattle.std.proofs.lemmas.Bool.{cases_lt}
-use Rattle.std.proofs.lemmas.Bool.Decides.{eqb_tells}
-use Rattle.std.proofs.lemmas.List.{get_or-set_same, get_or-set_other, get_or_default, length-set, ext_get_or}
+use Rattle.std.proofs.lemmas.List.{get_or_default, ext_get_or}
 use Rattle.std.proofs.lemmas.List.Folds.{list_any-append}
 use Rattle.std.proofs.lemmas.List.FromFn.{get_or-map-range_with_len, length-map-range_with_len}
 use Rattle.link_base.proofs.RangeLemmas.{range_more}
 use Rattle.section_group.specs.declared.piece.Piece.{Piece}
 use Rattle.section_group.specs.SectionOrder.{no_piece}
 use Rattle.link_keeping.specs.Named.{LeadsWithin, named_if}
-
--- one beyond the list marks none of it
-pub marked_beyond : (marks : List Bool) (at k : ℕ) → length marks ≤ at → k < length marks → get_or marks k false ≡ (get_or marks k false || eqb at k)
-marked_beyond marks at k ge lt =
-    elim (eqb_tells at k) [
-      | inl here ↦ absurd (omega arith)
-      | inr other ↦ rw other.0 (sym (or-false (get_or marks k false)))
-    ]
 
 -- one more that a test passes
 pub marks_more : {X : Type 0} (test : X → Bool) (xs : List X) (i : ℕ) (x : X) (first was now : Bool) → i < length xs → x ≡ get_or xs i x → was ≡ (first || list_any test (take i xs)) → now ≡ (was || test x) → now ≡ (first || list_any test (take (i + 1) xs))
@@ -53,46 +44,12 @@ pub record AreNamedUpTo (old : List Piece) (meant : List Bool) (count : ℕ) (no
   pub named : (k : ℕ) → k < count → get_or now k no_piece ≡ named_if (get_or meant k false) (get_or old k no_piece)
   pub others : (k : ℕ) → count ≤ k → get_or now k no_piece ≡ get_or old k no_piece
 
-or_false_named : (piece : Piece) → piece ≡ named_if false piece
-or_false_named piece = ap (λ (b : Bool). record piece { named = b }) (sym (or-false piece.named))
-
 pub all_named : (old : List Piece) (meant : List Bool) (count : ℕ) (now : List Piece) → length old ≤ count → AreNamedUpTo old meant count now → now ≡ map (λ k. named_if (get_or meant k false) (get_or old k no_piece)) (range_with_len 0 (length old))
 all_named old meant count now all are =
     let f = λ (k : ℕ). named_if (get_or meant k false) (get_or old k no_piece) in
     ext_get_or no_piece now (map f (range_with_len 0 (length old))) (are.same_length ∙ sym (length-map-range_with_len f 0 (length old))) (λ i lt.
     let within : i < length old = omega (arith, are.same_length) in
     are.named i (omega arith) ∙ sym (get_or-map-range_with_len f 0 (length old) i i no_piece within (omega arith)))
-
--- a piece that is marked
-pub named_more : (old : List Piece) (meant : List Bool) (k : ℕ) (now : List Piece) (piece : Piece) → k < length old → AreNamedUpTo old meant k now → get_or meant k false ≡ true → piece ≡ get_or now k piece → AreNamedUpTo old meant (k + 1) (set now k (record piece { named = true }))
-named_more old meant k now piece lt are marked read = record {
-  same_length = length-set now k _ ∙ are.same_length;
-  named = λ i below. elim (cases_lt i k) [
-    | inl before ↦ get_or-set_other now k i _ no_piece (λ same. absurd (omega arith)) ∙ are.named i before
-    | inr here ↦
-        let same : i ≡ k = omega arith in
-        let within : k < length now = omega (arith, are.same_length) in
-        let is : piece ≡ get_or old k no_piece = read ∙ get_or_default now k piece no_piece within ∙ are.others k (omega arith) in
-        rw same (get_or-set_same now k _ no_piece within ∙ ap (λ (p : Piece). record p { named = true }) is ∙ sym (marked_named (get_or old k no_piece) (get_or meant k false) marked))
-  ];
-  others = λ i above. get_or-set_other now k i _ no_piece (λ same. absurd (omega arith)) ∙ are.others i (omega arith);
-}
-  where
-    marked_named : (p : Piece) (b : Bool) → b ≡ true → named_if b p ≡ record p { named = true }
-    marked_named p b e = rw e (ap (λ (n : Bool). record p { named = n }) (or-true p.named))
-
--- one that is not
-pub named_same : (old : List Piece) (meant : List Bool) (k : ℕ) (now : List Piece) → AreNamedUpTo old meant k now → get_or meant k false ≡ false → AreNamedUpTo old meant (k + 1) now
-named_same old meant k now are unmarked = record {
-  same_length = are.same_length;
-  named = λ i below. elim (cases_lt i k) [
-    | inl before ↦ are.named i before
-    | inr here ↦
-        let same : i ≡ k = omega arith in
-        rw (same, unmarked) (are.others k (omega arith) ∙ or_false_named (get_or old k no_piece))
-  ];
-  others = λ i above. are.others i (omega arith);
-}
 
 -- one more edge leads to one of the first nodes, where its mark says so
 pub leads_within : (kept : List Bool) (count : ℕ) (edges : List (ℕ × ℕ)) (i : ℕ) (marked wanted : Bool) → i < length edges → wanted ≡ get_or kept (get_or edges i (0, 0)).0 false → (marked ≡ true → wanted ≡ true → (get_or edges i (0, 0)).1 < count) → marked ≡ true

@@ -20,9 +20,6 @@ use Rattle.link_library.specs.LinkLibrary.{by_of, row_of, is_listed, library_row
 
 -- ---- how many there are
 
-pub ordinals_same : (exports : ExportsView) → AreTold exports → exports.fault ≡ None → length exports.ordinals ≡ length exports.rows
-ordinals_same exports told none = (told.numbered none).same_many ∙ length-map exports.rows unplaced_row
-
 pub rows_few : (exports : ExportsView) → AreTold exports → exports.fault ≡ None → length exports.rows ≤ 65535
 rows_few exports told none = let few = (told.numbered none).few in omega (arith, few, length-map exports.rows unplaced_row)
 

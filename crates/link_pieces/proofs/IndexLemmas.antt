@@ -1,12 +1,12 @@
 -- An index of pieces, one piece more at a time.
-use Rattle.std.proofs.Common.{◌≡◌, ℕ, zero, suc, ◌+◌, ◌-◌, ◌<◌, ◌≤◌, Bool, true, false, cond, ◌&&◌, eqb, ltb, List, [], ◌∷◌, ◌++◌, length, map, get_or, set, replicate, Option, Some, None, inl, inr, refl, sym, ap, subst, ◌∙◌, add-one, arith}
+use Rattle.std.proofs.Common.{◌≡◌, ℕ, zero, suc, ◌+◌, ◌-◌, ◌<◌, ◌≤◌, Bool, true, false, cond, ◌&&◌, eqb, ltb, List, [], ◌∷◌, ◌++◌, length, map, get_or, set, replicate, Option, Some, None, inl, inr, refl, sym, ap, subst, ◌∙◌, arith}
 use Rattle.std.proofs.Math.Bool.{and-false}
 use Rattle.std.specs.Prelude.{is_some}
 use Rattle.std.specs.Option.{option_or}
 use Rattle.std.specs.List.{All}
 use Rattle.std.proofs.lemmas.Bool.{cases_lt, eq-eqb, lt-ltb, le-ltb, ne_eqb}
 use Rattle.std.proofs.lemmas.Bool.Decides.{eqb_tells}
-use Rattle.std.proofs.lemmas.List.{get_or-set_same, get_or-set_other, get_or_default, get_or_past, get_or_push, get_or_append_left, length-append, length-replicate}
+use Rattle.std.proofs.lemmas.List.{get_or-set_same, get_or-set_other, get_or_default, get_or_past, get_or_push, get_or_append_left, length-append}
 use Rattle.std.proofs.Math.ListN.{get_or-map as get_or-map_same}
 use Rattle.link_base.specs.Bytes.{first_below}
 use Rattle.section_group.specs.declared.piece.Piece.{Piece}
@@ -27,6 +27,7 @@ use Rattle.link_pieces.proofs.CommonLemmas.{common_place}
 use Rattle.link_pieces.specs.PieceIndex.{RowsView, row_start, is_section_of, is_common_of, holds, indexed}
 use Rattle.link_pieces.specs.Rows.{rows_of, section_places, common_places, AreRows, HasStarts, HasRows, HasPlace, HasLinkerPlace, HasSomePlace}
 use Rattle.link_base.proofs.RefusalLemmas.{or_none}
+use Rattle.link_base.proofs.CallerLemmas.{first_below-next}
 
 -- what a place of a list holds, once a piece is noted where none was
 pub put_at : (row : List (Option ℕ)) (at index s : ℕ) → at < length row → get_or (set row at (option_or (get_or row at None) (Some index))) s None ≡ option_or (get_or row s None) (cond (eqb at s) (Some index) None)
@@ -128,33 +129,6 @@ nothing_at starts n m s =
 
 -- ---- where rows start
 
-pub starts_none : (places : List ℕ → ℕ) (modules : List ModuleView) (starts : List ℕ) → starts ≡ 0 ∷ [] → HasStarts places modules 0 starts 0
-starts_none places modules starts is = record {
-  for_each = ap length is;
-  next = λ m lt. absurd (omega arith);
-  last = ap (λ (ns : List ℕ). get_or ns 0 0) is;
-}
-
-pub starts_more : (places : List ℕ → ℕ) (modules : List ModuleView) (k : ℕ) (here : ModuleView) (starts after : List ℕ) (start end count : ℕ) → k < length modules → here ≡ get_or modules k here → count ≡ places here.bytes → end ≡ start + count → after ≡ starts ++ end ∷ [] → HasStarts places modules k starts start → HasStarts places modules (k + 1) after end
-starts_more places modules k here starts after start end count lt read counted sum grown has =
-    let long = has.for_each in
-    let pushed : get_or (starts ++ end ∷ []) (k + 1) 0 ≡ end = get_or_push starts end 0 (k + 1) long in
-    let kept = λ (m : ℕ) (below : m < k + 1). ap (λ (ns : List ℕ). get_or ns m 0) grown ∙ get_or_append_left starts (end ∷ []) 0 m (omega (arith, long, below)) in
-    record {
-      for_each = let len = ap length grown in let whole = length-append starts (end ∷ []) in omega (arith, len, whole, long);
-      next = λ m below.
-          elim (cases_lt m k) [
-            | inl earlier ↦ kept (m + 1) (omega arith) ∙ has.next m earlier ∙ ap (λ (n : ℕ). n + places (module_at modules m).bytes) (sym (kept m below))
-            | inr later ↦
-                let same : m ≡ k = omega arith in
-                let size = ap (λ (view : ModuleView). places view.bytes) (read ∙ get_or_default modules k here no_module lt) in
-                let value = ap (λ (ns : List ℕ). get_or ns (k + 1) 0) grown ∙ pushed in
-                let before = kept k (omega arith) ∙ has.last in
-                subst (λ (j : ℕ). get_or after (j + 1) 0 ≡ get_or after j 0 + places (module_at modules j).bytes) (sym same) (omega (arith, value, before, sum, counted, size))
-          ];
-      last = ap (λ (ns : List ℕ). get_or ns (k + 1) 0) grown ∙ pushed;
-    }
-
 starts_ascend : (places : List ℕ → ℕ) (modules : List ModuleView) (count : ℕ) (starts : List ℕ) (end d i j : ℕ) → HasStarts places modules count starts end → j ≡ i + d → j ≤ count → get_or starts i 0 ≤ get_or starts j 0
 starts_ascend places modules count starts end zero i j has is within =
     let same : j ≡ i = omega (arith, is) in
@@ -179,21 +153,7 @@ rows_are places modules rows has = record {
       ];
 }
 
--- rows that are empty, as they are made
-pub rows_made : (places : List ℕ → ℕ) (modules : List ModuleView) (k : ℕ) (starts : List ℕ) (end : ℕ) (rows : RowsView) → k ≡ length modules → HasStarts places modules k starts end → rows.starts ≡ starts → rows.pieces ≡ replicate end None → HasRows places modules rows
-rows_made places modules k starts end rows all has same empty =
-    let long : end ≡ length rows.pieces = sym (ap length empty ∙ length-replicate end None) in
-    record {
-      starts = subst (λ (ns : List ℕ). HasStarts places modules (length modules) ns (length rows.pieces)) (sym same) (subst (λ (e : ℕ). HasStarts places modules (length modules) starts e) long (subst (λ (n : ℕ). HasStarts places modules n starts end) all has));
-      empty = empty ∙ ap (λ (n : ℕ). replicate n None) long;
-    }
-
 -- ---- a loop over pieces
-
--- one more piece
-pub found_more : (k : ℕ) (test : ℕ → Bool) → first_below (k + 1) test ≡ option_or (first_below k test) (cond (test k) (Some k) None)
-unfolding first_below
-found_more k test = rw add-one refl
 
 holds_read : (test : Piece → Bool) (pieces : List Piece) (k : ℕ) (piece : Piece) → k < length pieces → piece ≡ get_or pieces k piece → holds test (map bare pieces) k ≡ test (bare piece)
 holds_read test pieces k piece lt is =
@@ -206,7 +166,7 @@ index_more test pieces k piece here before after lt read passes was is =
     is
     ∙ ap (λ (o : Option ℕ). option_or o (cond here (Some k) None)) was
     ∙ ap (λ (b : Bool). option_or (first_below k (holds test (map bare pieces))) (cond b (Some k) None)) (passes ∙ sym (holds_read test pieces k piece lt read))
-    ∙ sym (found_more k (holds test (map bare pieces)))
+    ∙ sym (first_below-next k (holds test (map bare pieces)))
 
 -- and stays as it was where it does not
 pub index_same : (test : Piece → Bool) (pieces : List Piece) (k : ℕ) (piece : Piece) (before : Option ℕ) → k < length pieces → piece ≡ get_or pieces k piece → test (bare piece) ≡ false → before ≡ first_below k (holds test (map bare pieces)) → before ≡ first_below (k + 1) (holds test (map bare pieces))

@@ -1,20 +1,19 @@
 -- The rows of the pieces that the linker makes, one piece more at a time.
-use Rattle.std.proofs.Common.{◌≡◌, ℕ, zero, suc, ◌+◌, ◌-◌, ◌<◌, ◌≤◌, Bool, true, false, cond, eqb, ltb, List, length, map, get_or, set, replicate, Option, Some, None, inl, inr, refl, sym, ap, ◌∙◌, eq-eqb, arith}
+use Rattle.std.proofs.Common.{◌≡◌, ℕ, zero, suc, ◌+◌, ◌-◌, ◌<◌, ◌≤◌, Bool, true, false, cond, eqb, ltb, List, length, map, get_or, replicate, Option, Some, None, inl, inr, refl, sym, ap, ◌∙◌, eq-eqb, arith}
 use Rattle.std.specs.Option.{option_or}
-use Rattle.std.proofs.lemmas.Bool.{cases_lt, lt-ltb, le-ltb, ne_eqb}
+use Rattle.std.proofs.lemmas.Bool.{ne_eqb}
 use Rattle.std.proofs.lemmas.Bool.Decides.{eqb_tells}
 use Rattle.std.proofs.lemmas.List.{length-replicate}
 use Rattle.link_base.specs.Bytes.{first_below}
 use Rattle.link_base.specs.Limits.{MODULE_LIMIT}
-use Rattle.link_base.proofs.RefusalLemmas.{or_none}
 use Rattle.section_group.specs.declared.piece.Piece.{Piece}
 use Rattle.section_group.specs.BarePieces.{bare}
 use Rattle.module_view.specs.Module.{ModuleView}
 use Rattle.synthetic_sections.specs.LinkerPieces.{FIRST_THUNK, FIRST_LOCAL_SLOT}
 use Rattle.link_pieces.specs.LinkerPieces.{IsLinkerNumber}
 use Rattle.link_pieces.specs.PieceIndex.{LinkerView, is_numbered, holds, linker_indexed}
-use Rattle.link_pieces.specs.Rows.{linker_rows_of, HasLinkerRows, HasLinkerRoom}
-use Rattle.link_pieces.proofs.IndexLemmas.{put_at, index_more, index_same}
+use Rattle.link_pieces.specs.Rows.{HasLinkerRows, HasLinkerRoom}
+use Rattle.link_pieces.proofs.IndexLemmas.{index_more, index_same}
 
 -- ---- one number more
 
@@ -24,30 +23,6 @@ shifted number n first low least =
     elim (eqb_tells number n) [
       | inl same ↦ eq-eqb (number - first) (n - first) (omega (arith, same.1)) ∙ sym same.0
       | inr other ↦ ne_eqb (number - first) (n - first) (λ e. other.1 (omega (arith, e, low, least))) ∙ sym other.0
-    ]
-
-unchanged : (o : Option ℕ) (index number n : ℕ) → (number ≡ n → ⊥) → o ≡ option_or o (cond (eqb number n) (Some index) None)
-unchanged o index number n other = rw (ne_eqb number n other) (sym (or_none o))
-
-pub made_noted : (made after slots : List (Option ℕ)) (number index n : ℕ) → number < FIRST_LOCAL_SLOT → number < length made → after ≡ set made number (option_or (get_or made number None) (Some index)) → linker_indexed (linker_rows_of after slots) n ≡ option_or (linker_indexed (linker_rows_of made slots) n) (cond (eqb number n) (Some index) None)
-made_noted made after slots number index n small room is =
-    elim (cases_lt n FIRST_LOCAL_SLOT) [
-      | inl low ↦
-          rw (lt-ltb n FIRST_LOCAL_SLOT low) (ap (λ (row : List (Option ℕ)). get_or row n None) is ∙ put_at made number index n room)
-      | inr high ↦
-          rw (le-ltb n FIRST_LOCAL_SLOT high) (unchanged (get_or slots (n - FIRST_LOCAL_SLOT) None) index number n (λ e. absurd (omega (arith, small, high, e))))
-    ]
-
-pub slot_noted : (made slots after : List (Option ℕ)) (number index n : ℕ) → FIRST_LOCAL_SLOT ≤ number → number - FIRST_LOCAL_SLOT < length slots → after ≡ set slots (number - FIRST_LOCAL_SLOT) (option_or (get_or slots (number - FIRST_LOCAL_SLOT) None) (Some index)) → linker_indexed (linker_rows_of made after) n ≡ option_or (linker_indexed (linker_rows_of made slots) n) (cond (eqb number n) (Some index) None)
-slot_noted made slots after number index n large room is =
-    elim (cases_lt n FIRST_LOCAL_SLOT) [
-      | inl low ↦
-          rw (lt-ltb n FIRST_LOCAL_SLOT low) (unchanged (get_or made n None) index number n (λ e. absurd (omega (arith, large, low, e))))
-      | inr high ↦
-          rw (le-ltb n FIRST_LOCAL_SLOT high)
-          (ap (λ (row : List (Option ℕ)). get_or row (n - FIRST_LOCAL_SLOT) None) is
-          ∙ put_at slots (number - FIRST_LOCAL_SLOT) index (n - FIRST_LOCAL_SLOT) room
-          ∙ ap (λ (b : Bool). option_or (get_or slots (n - FIRST_LOCAL_SLOT) None) (cond b (Some index) None)) (shifted number n FIRST_LOCAL_SLOT large high))
     ]
 
 -- ---- rows with what is noted of the first pieces

@@ -1,10 +1,7 @@
 -- The sections that definitions stand in, in a loop over definitions.
-use Rattle.std.proofs.Common.{◌≡◌, ℕ, ◌+◌, ◌<◌, ◌≤◌, Bool, true, false, ◌||◌, eqb, List, [], ◌∷◌, ◌++◌, length, take, get_or, set, None, inl, inr, sym, ap, subst, ◌∙◌, arith}
+use Rattle.std.proofs.Common.{◌≡◌, ℕ, ◌<◌, ◌≤◌, List, [], ◌++◌, length, take, get_or, None, sym, ap, subst, ◌∙◌, arith}
 use Rattle.std.specs.List.{list_any, All}
-use Rattle.std.proofs.lemmas.Bool.Decides.{eqb_tells}
-use Rattle.std.proofs.lemmas.List.{get_or-set_same, get_or-set_other, take_more, take_all}
-use Rattle.std.proofs.lemmas.List.Folds.{list_any-append}
-use Rattle.std.proofs.Math.Bool.{or-true, or-false}
+use Rattle.std.proofs.lemmas.List.{take_all}
 use Rattle.std.proofs.Math.Seq.{take-append_seam}
 use Rattle.coff_records.specs.ObjectFile.{section_total}
 use Rattle.module_view.specs.declared.definition.Definition.{Definition}
@@ -15,27 +12,6 @@ use Rattle.module_view.proofs.CallerLemmas.{IsPlaceIn, definitions_stand}
 use Rattle.link_pieces.specs.Steps.{IsWithin}
 use Rattle.link_pieces.specs.Pieces.{stands_in, is_named}
 use Rattle.module_view.specs.SymbolLists.{definitions_of}
-
--- a mark at one section
-pub marked : (named : List Bool) (at section : ℕ) → at < length named → get_or (set named at true) section false ≡ (get_or named section false || eqb at section)
-marked named at section lt =
-    elim (eqb_tells at section) [
-      | inl here ↦
-          let same : section ≡ at = omega arith in
-          rw here.0 (ap (λ (k : ℕ). get_or (set named at true) k false) same ∙ get_or-set_same named at true false lt ∙ sym (or-true (get_or named section false)))
-      | inr other ↦
-          rw other.0 (get_or-set_other named at section true false (λ same. other.1 (sym same)) ∙ sym (or-false (get_or named section false)))
-    ]
-
--- marks after one more definition
-pub marks_more : (definitions : List Definition) (i section : ℕ) (definition : Definition) (before after : Bool) → i < length definitions → definition ≡ get_or definitions i definition → before ≡ list_any (stands_in section) (take i definitions) → after ≡ (before || stands_in section definition) → after ≡ list_any (stands_in section) (take (i + 1) definitions)
-marks_more definitions i section definition before after lt read was is =
-    is
-    ∙ ap (λ (b : Bool). b || stands_in section definition) was
-    ∙ ap (λ (b : Bool). list_any (stands_in section) (take i definitions) || b) (sym (or-false (stands_in section definition)))
-    ∙ sym (list_any-append (stands_in section) (take i definitions) (definition ∷ []))
-    ∙ ap (λ (d : Definition). list_any (stands_in section) (take i definitions ++ d ∷ [])) read
-    ∙ ap (list_any (stands_in section)) (sym (take_more definitions i definition lt))
 
 -- a list whose slice was written
 pub written : {X : Type 0} (n : ℕ) (xs ys : List X) → n ≡ length xs → take n (xs ++ ys) ≡ xs

@@ -8,7 +8,8 @@ use Rattle.std.specs.Cmp.Lexicographic.{slice_cmp}
 use Rattle.std.proofs.lemmas.Bool.{false≢true}
 use Rattle.std.proofs.lemmas.Map.Text.{is_eq-slice_cmp}
 use Rattle.link_base.specs.NameText.{same_name}
-use Rattle.symbol_names.proofs.NumberLemmas.{same_is, same_from}
+use Rattle.link_base.proofs.NameTextLemmas.{same_is}
+use Rattle.symbol_names.proofs.NumberLemmas.{same_from}
 
 not_before_itself : (x : List ℕ) → slice_cmp nat_cmp x x ≡ Less → ⊥
 not_before_itself x less = false≢true (sym (ap is_eq less) ∙ is_eq-slice_cmp x x ∙ same_from x x refl)

@@ -1,12 +1,12 @@
 -- Where the names stand that a link asks for and that symbols define, those do that its modules ask for.
-use Rattle.std.proofs.Common.{◌≡◌, ℕ, zero, suc, ◌+◌, ◌<◌, ◌≤◌, Bool, true, false, cond, ◌||◌, List, [], ◌∷◌, ◌++◌, length, get_or, map, filter, Option, None, Some, refl, sym, subst, ◌∙◌, inl, inr, arith}
+use Rattle.std.proofs.Common.{◌≡◌, ℕ, zero, suc, ◌+◌, ◌<◌, ◌≤◌, Bool, true, false, cond, ◌||◌, List, [], ◌∷◌, length, get_or, map, filter, Option, None, Some, refl, sym, subst, ◌∙◌, inl, inr, arith}
 use Rattle.std.specs.Prelude.{filter_map}
 use Rattle.std.specs.Option.{IfSome}
 use Rattle.std.specs.List.{All, cons_option, flat_map, range_with_len}
 use Rattle.std.proofs.lemmas.Bool.{false≢true, cases_lt, and_parts}
-use Rattle.std.proofs.lemmas.List.{get_or_append_left, length-append}
 use Rattle.std.proofs.lemmas.List.Elements.{All-append, All-cons, All-nil, All-tail}
 use Rattle.link_base.proofs.RangeLemmas.{all_joined}
+use Rattle.link_base.proofs.ListLemmas.{all_front, all_back}
 use Rattle.coff_records.specs.ObjectFile.{SymbolEntry, name_in, symbol_entries}
 use Rattle.module_view.specs.Module.{module_at}
 use Rattle.module_view.specs.SymbolLists.{is_definition, definition_of, defines, definitions_of, is_reference, reference_of, refers, references_of}
@@ -20,13 +20,6 @@ use Rattle.link_pieces.specs.LocalSlots.{is_lost, asks, name_asked, names_asked,
 use Rattle.link_pieces.specs.NameMeaning.{StandsIn}
 
 -- ---- what holds of each of a list
-
-pub all_front : {X : Type 0} (P : X → Type 0) (xs ys : List X) → All P (xs ++ ys) → All P xs
-all_front P xs ys all = λ k d lt. subst P (get_or_append_left xs ys d k lt) (all k d (omega (arith, lt, length-append xs ys)))
-
-pub all_back : {X : Type 0} (P : X → Type 0) (xs ys : List X) → All P (xs ++ ys) → All P ys
-all_back P [] ys all = all
-all_back P (x ∷ xs) ys all = all_back P xs ys (λ k d lt. all (suc k) d (omega arith))
 
 all_unmapped : {X Y : Type 0} (f : X → Y) (P : Y → Type 0) (xs : List X) → All P (map f xs) → All (λ x. P (f x)) xs
 all_unmapped f P [] all = λ k d lt. absurd (omega arith)

@@ -3,11 +3,11 @@ use Rattle.std.proofs.Common.{◌≡◌, ℕ, zero, suc, ◌-◌, ◌<◌, ◌�
 use Rattle.std.specs.Prelude.{codes}
 use Rattle.std.specs.List.{All, list_any}
 use Rattle.std.proofs.Math.Bool.{or-true}
-use Rattle.std.proofs.lemmas.Bool.{cases_lt, false≢true, lt-ltb}
-use Rattle.std.proofs.lemmas.Bool.Decides.{eqb_tells}
+use Rattle.std.proofs.lemmas.Bool.{cases_lt, lt-ltb}
 use Rattle.std.proofs.lemmas.List.{get_or_append_left, get_or-append_right, length-append}
 use Rattle.std.proofs.lemmas.List.Elements.{All-nil, All-cons, All-append}
 use Rattle.std.proofs.lemmas.List.Folds.{list_any-append}
+use Rattle.link_base.proofs.NumberLemmas.{above_zero, not_zero}
 use Rattle.section_group.specs.declared.piece.Piece.{Piece}
 use Rattle.address_layout.specs.Layout.{IsAlignment}
 use Rattle.import_tables.specs.ImportShape.{sizes_of}
@@ -24,22 +24,11 @@ all_if : (P : Piece → Type 0) (none : Bool) (piece : Piece) → (none ≡ fals
 all_if P true piece holds = All-nil P
 all_if P false piece holds = All-cons P piece [] (holds refl) (All-nil P)
 
-some_bytes : (size : ℕ) → eqb size 0 ≡ false → 0 < size
-some_bytes size made =
-    elim (eqb_tells size 0) [
-      | inl same ↦ absurd (false≢true (sym made ∙ same.0))
-      | inr other ↦ above size other.1
-    ]
-  where
-    above : (size : ℕ) → (size ≡ 0 → ⊥) → 0 < size
-    above zero other = absurd (other refl)
-    above (suc size) other = omega arith
-
 -- what holds of the table of each number holds of all import tables
 all_imports : (P : Piece → Type 0) (count : ℕ) (sizes : List ℕ) → ((number : ℕ) (name : List ℕ) (align : ℕ) → number < 5 → IsAlignment align → 0 < size_at sizes number → P (table_piece count number name align (size_at sizes number))) → All P (table_pieces count sizes)
 unfolding table_pieces
 all_imports P count sizes each =
-    let one = λ (number : ℕ) (name : List ℕ) (align : ℕ) (few : number < 5) (is : IsAlignment align). all_if P (eqb (size_at sizes number) 0) (table_piece count number name align (size_at sizes number)) (λ made. each number name align few is (some_bytes (size_at sizes number) made)) in
+    let one = λ (number : ℕ) (name : List ℕ) (align : ℕ) (few : number < 5) (is : IsAlignment align). all_if P (eqb (size_at sizes number) 0) (table_piece count number name align (size_at sizes number)) (λ made. each number name align few is (above_zero (size_at sizes number) made)) in
     All-append P _ _ (one 0 (codes ".idata$2") 4 (omega arith) (record { positive = omega arith; divides = refl }))
     (All-append P _ _ (one 1 (codes ".idata$4") 8 (omega arith) (record { positive = omega arith; divides = refl }))
     (All-append P _ _ (one SLOTS (codes ".idata$5") 8 (omega arith) (record { positive = omega arith; divides = refl }))
@@ -49,19 +38,19 @@ all_imports P count sizes each =
 all_exports : (P : Piece → Type 0) (count size : ℕ) → (0 < size → P (table_piece count EXPORTS (codes ".edata") 4 size)) → All P (export_table_pieces count size)
 unfolding export_table_pieces
 all_exports P count size holds =
-    all_if P (eqb size 0) (table_piece count EXPORTS (codes ".edata") 4 size) (λ made. holds (some_bytes size made))
+    all_if P (eqb size 0) (table_piece count EXPORTS (codes ".edata") 4 size) (λ made. holds (above_zero size made))
 
 -- and what holds of the two pieces of the debug directory holds of both
 all_debug : (P : Piece → Type 0) (count size : ℕ) → (0 < entry_size size → P (table_piece count DEBUG_ENTRY (codes ".rdata") 4 (entry_size size))) → (0 < size → P (table_piece count DEBUG_DATA (codes ".rdata") 4 size)) → All P (debug_pieces count size)
 unfolding debug_pieces
 all_debug P count size entry holds =
-    All-append P _ _ (all_if P (eqb (entry_size size) 0) (table_piece count DEBUG_ENTRY (codes ".rdata") 4 (entry_size size)) (λ made. entry (some_bytes (entry_size size) made)))
-    (all_if P (eqb size 0) (table_piece count DEBUG_DATA (codes ".rdata") 4 size) (λ made. holds (some_bytes size made)))
+    All-append P _ _ (all_if P (eqb (entry_size size) 0) (table_piece count DEBUG_ENTRY (codes ".rdata") 4 (entry_size size)) (λ made. entry (above_zero (entry_size size) made)))
+    (all_if P (eqb size 0) (table_piece count DEBUG_DATA (codes ".rdata") 4 size) (λ made. holds (above_zero size made)))
 
 all_resources : (P : Piece → Type 0) (count size : ℕ) → (0 < size → P (table_piece count RESOURCES (codes ".rsrc") 4 size)) → All P (resource_pieces count size)
 unfolding resource_pieces
 all_resources P count size holds =
-    all_if P (eqb size 0) (table_piece count RESOURCES (codes ".rsrc") 4 size) (λ made. holds (some_bytes size made))
+    all_if P (eqb size 0) (table_piece count RESOURCES (codes ".rsrc") 4 size) (λ made. holds (above_zero size made))
 
 -- ---- what each is
 
@@ -193,13 +182,6 @@ either_any test xs ys here = list_any-append test xs ys ∙ ap (λ (b : Bool). b
 pub later_any : (test : Piece → Bool) (xs ys : List Piece) → list_any test ys ≡ true → list_any test (xs ++ ys) ≡ true
 later_any test xs ys here = list_any-append test xs ys ∙ ap (λ (b : Bool). list_any test xs || b) here ∙ or-true (list_any test xs)
 
-none_false : (size : ℕ) → 0 < size → eqb size 0 ≡ false
-none_false size some =
-    elim (eqb_tells size 0) [
-      | inl same ↦ absurd (omega (arith, some, same.1))
-      | inr other ↦ other.0
-    ]
-
 -- one of five lists, by its number
 abbrev of_five : (a b c d e : List Piece) → ℕ → List Piece
 of_five a b c d e zero = a
@@ -220,7 +202,7 @@ any_of_five test a b c d e (suc (suc (suc (suc more)))) here =
 
 table_found : (count : ℕ) (sizes : List ℕ) (number : ℕ) (name : List ℕ) (align : ℕ) → 0 < size_at sizes number → list_any (is_numbered count number) (table_if count number name align (size_at sizes number)) ≡ true
 table_found count sizes number name align sized =
-    found_in (is_numbered count number) (eqb (size_at sizes number) 0) (table_piece count number name align (size_at sizes number)) (none_false (size_at sizes number) sized)
+    found_in (is_numbered count number) (eqb (size_at sizes number) 0) (table_piece count number name align (size_at sizes number)) (not_zero (size_at sizes number) sized)
     (rw (eq-eqb count count refl, eq-eqb number number refl) refl)
 
 table_of_number : (count : ℕ) (sizes : List ℕ) (number : ℕ) → number < 5 → 0 < size_at sizes number → list_any (is_numbered count number) (of_five (table_if count 0 (codes ".idata$2") 4 (size_at sizes 0)) (table_if count 1 (codes ".idata$4") 8 (size_at sizes 1)) (table_if count SLOTS (codes ".idata$5") 8 (size_at sizes SLOTS)) (table_if count 3 (codes ".idata$6") 2 (size_at sizes 3)) (table_if count 4 (codes ".idata$7") 1 (size_at sizes 4)) number) ≡ true
@@ -240,24 +222,24 @@ import_made count sizes number few sized =
 export_made : (count size : ℕ) → 0 < size → list_any (is_numbered count EXPORTS) (export_table_pieces count size) ≡ true
 unfolding export_table_pieces
 export_made count size some =
-    found_in (is_numbered count EXPORTS) (eqb size 0) (table_piece count EXPORTS (codes ".edata") 4 size) (none_false size some) (rw (eq-eqb count count refl) refl)
+    found_in (is_numbered count EXPORTS) (eqb size 0) (table_piece count EXPORTS (codes ".edata") 4 size) (not_zero size some) (rw (eq-eqb count count refl) refl)
 
 entry_made : (count size : ℕ) → 0 < entry_size size → list_any (is_numbered count DEBUG_ENTRY) (debug_pieces count size) ≡ true
 unfolding debug_pieces
 entry_made count size some =
     either_any (is_numbered count DEBUG_ENTRY) (table_if count DEBUG_ENTRY (codes ".rdata") 4 (entry_size size)) _
-    (found_in (is_numbered count DEBUG_ENTRY) (eqb (entry_size size) 0) (table_piece count DEBUG_ENTRY (codes ".rdata") 4 (entry_size size)) (none_false (entry_size size) some) (rw (eq-eqb count count refl) refl))
+    (found_in (is_numbered count DEBUG_ENTRY) (eqb (entry_size size) 0) (table_piece count DEBUG_ENTRY (codes ".rdata") 4 (entry_size size)) (not_zero (entry_size size) some) (rw (eq-eqb count count refl) refl))
 
 data_made : (count size : ℕ) → 0 < size → list_any (is_numbered count DEBUG_DATA) (debug_pieces count size) ≡ true
 unfolding debug_pieces
 data_made count size some =
     later_any (is_numbered count DEBUG_DATA) (table_if count DEBUG_ENTRY (codes ".rdata") 4 (entry_size size)) _
-    (found_in (is_numbered count DEBUG_DATA) (eqb size 0) (table_piece count DEBUG_DATA (codes ".rdata") 4 size) (none_false size some) (rw (eq-eqb count count refl) refl))
+    (found_in (is_numbered count DEBUG_DATA) (eqb size 0) (table_piece count DEBUG_DATA (codes ".rdata") 4 size) (not_zero size some) (rw (eq-eqb count count refl) refl))
 
 tree_made : (count size : ℕ) → 0 < size → list_any (is_numbered count RESOURCES) (resource_pieces count size) ≡ true
 unfolding resource_pieces
 tree_made count size some =
-    found_in (is_numbered count RESOURCES) (eqb size 0) (table_piece count RESOURCES (codes ".rsrc") 4 size) (none_false size some) (rw (eq-eqb count count refl) refl)
+    found_in (is_numbered count RESOURCES) (eqb size 0) (table_piece count RESOURCES (codes ".rsrc") 4 size) (not_zero size some) (rw (eq-eqb count count refl) refl)
 
 -- one of the last four, by its number
 module _ (link : KeptParts) (number : ℕ) (sized : 0 < size_at (table_sizes link) number) where

@@ -2,7 +2,7 @@
 -- exported, the entry and what the loader of a program looks for; no field of the exception table holds an address.
 use Rattle.std.proofs.Common.{◌≡◌, ◌⊎◌, ℕ, zero, suc, ◌+◌, ◌-◌, ◌<◌, ◌≤◌, Bool, true, false, cond, ◌&&◌, ◌||◌, eqb, ltb, List, [], ◌∷◌, ◌++◌, length, map, filter, take, get_or, replicate, Option, Some, None, option_map, option_and_then, Result, Ok, Err, inl, inr, refl, sym, ap, subst, ◌∙◌, eq-eqb, arith}
 use Rattle.std.specs.Prelude.{filter_map, unwrap_or}
-use Rattle.std.specs.List.{All, Contains, list_any, range_with_len, flat_map, cons_option}
+use Rattle.std.specs.List.{All, Contains, list_any, range_with_len, cons_option}
 use Rattle.std.proofs.lemmas.Bool.{cases_lt, and_parts, ltb-true, lt-ltb, le-ltb, or_right, or_left}
 use Rattle.std.proofs.lemmas.List.{get_or_append_left, get_or-append_right, get_or_past, get_or-take, get_or-drop, get_or-map, length-append, length-map, length-replicate, length-take}
 use Rattle.std.proofs.lemmas.List.Elements.{All-nil, All-cons, All-head, All-tail, All-contains, Contains-get_or, Contains-append_left, Contains-append_right, Contains-append_cases}
@@ -18,8 +18,9 @@ use Rattle.relocate.specs.Value.{meant}
 use Rattle.relocate.specs.Redirected.{place_of, redirected_if}
 use Rattle.relocate.specs.PatchedBytes.{is_based, AreNumbered, AreSuited, HaveNoBased}
 use Rattle.relocate.proofs.CallerLemmas.{numbered_redirected, suited_redirected}
-use Rattle.relocate.proofs.JudgeLemmas.{or_none}
 use Rattle.link_base.specs.declared.kinds.target.TargetFault.{TargetFault}
+use Rattle.link_base.proofs.OptionLemmas.{both_none}
+use Rattle.link_base.proofs.RangeLemmas.{joined_there}
 use Rattle.synthetic_sections.specs.LinkerPieces.{SLOTS, size_at}
 use Rattle.link_imports.proofs.CallerLemmas.{slots_made}
 use Rattle.link_words.specs.Outcome.{LinkOptions}
@@ -150,17 +151,6 @@ made_there {X} {Y} f (x ∷ xs) (suc i) d y lt is = by (f x) (made_there f xs i 
     by : (o : Option Y) → Contains (filter_map f xs) y → Contains (cons_option o (filter_map f xs)) y
     by None later = later
     by (Some z) later = later_there z (filter_map f xs) y later
-
--- and what is in the list made of one of them
-joined_there : {Y : Type 0} (f : ℕ → List Y) (a n k : ℕ) (y : Y) → a ≤ k → k < a + n → Contains (f k) y → Contains (flat_map f (range_with_len a n)) y
-joined_there f a zero k y low high there = absurd (omega arith)
-joined_there f a (suc n) k y low high there =
-    elim (cases_lt a k) [
-      | inl later ↦ Contains-append_right (f a) (flat_map f (range_with_len (a + 1) n)) y (joined_there f (a + 1) n k y (omega arith) (omega arith) there)
-      | inr here ↦
-          let same : k ≡ a = omega arith in
-          Contains-append_left (f a) (flat_map f (range_with_len (a + 1) n)) y (subst (λ (j : ℕ). Contains (f j) y) same there)
-    ]
 
 -- ---- where imports stand
 
@@ -380,7 +370,7 @@ pdata_not_based options link k lt none table = by (is_kept link k)
     judged : AreSuited options.large true (piece_fixes link.parts k)
     judged =
         subst (λ (b : Bool). AreSuited options.large b (piece_fixes link.parts k)) table
-        (fixes_suited link.parts options.large k lt (or_none (places_fault link.parts (entry_meant link.parts options.entry_name)) (fixes_fault link.parts options.large) none).1)
+        (fixes_suited link.parts options.large k lt (both_none (places_fault link.parts (entry_meant link.parts options.entry_name)) (fixes_fault link.parts options.large) none).1)
 
     by : (b : Bool) → HaveNoBased (fixes_if b (map (placed_fix link) (piece_fixes link.parts k)))
     by true =

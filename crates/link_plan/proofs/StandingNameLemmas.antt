@@ -7,6 +7,7 @@ use Rattle.std.proofs.lemmas.List.Elements.{All-tail}
 use Rattle.link_base.specs.Refusals.{first_standing, first_refusal_below}
 use Rattle.link_base.specs.declared.fault.Fault.{Fault}
 use Rattle.link_base.proofs.RefusalLemmas.{first_refusal_below-more}
+use Rattle.link_base.proofs.ListLemmas.{all_front, all_back}
 use Rattle.coff_records.specs.ObjectFile.{SymbolEntry, name_in, symbol_entries}
 use Rattle.module_view.specs.Module.{module_at}
 use Rattle.symbol_names.specs.References.{names_by}
@@ -17,7 +18,7 @@ use Rattle.symbol_table.specs.Meant.{is_standing}
 use Rattle.link_pieces.specs.LinkParts.{LinkParts}
 use Rattle.link_pieces.specs.NameMeaning.{name_meaning, StandsIn}
 use Rattle.link_pieces.specs.LocalSlots.{asks, name_asked, names_asked, modules_asked, slot_in, slot_meant, with_slots, with_meant}
-use Rattle.link_pieces.proofs.StandLemmas.{all_front, all_back, joined_part}
+use Rattle.link_pieces.proofs.StandLemmas.{joined_part}
 use Rattle.link_plan.specs.References.{no_meaning_fault, name_fault, symbol_fault, asked_fault, names_fault, references_fault_at, references_fault}
 
 -- ---- a name

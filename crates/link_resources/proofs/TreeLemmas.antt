@@ -1,6 +1,7 @@
 -- The tree of some resources has its size, and without any it has none.
 use Rattle.std.proofs.Common.{◌≡◌, ℕ, ◌<◌, Bool, true, false, cond, eqb, List, [], ◌∷◌, length, map, refl, sym, ◌∙◌, arith}
 use Rattle.std.proofs.lemmas.Bool.{eqb-true}
+use Rattle.link_base.proofs.NumberLemmas.{above_zero}
 use Rattle.res_merge.specs.Entries.{Entry}
 use Rattle.res_merge.specs.Order.{in_order}
 use Rattle.res_merge.specs.Tree.{tree_of, tree_size}
@@ -28,9 +29,6 @@ pub has_tree : {A : Type 0} (entry_of : A → Entry) (list : List A) → 0 < len
 unfolding size_of
 has_tree entry_of [] some = absurd (omega (arith, some))
 has_tree entry_of (first ∷ rest) some = refl
-
-pub above_zero : (size : ℕ) → eqb size 0 ≡ false → 0 < size
-above_zero size some = grind (arith, some)
 
 -- the bytes of a tree are as many as its size
 pub length-bytes : (resources : ResourcesView) (rva : ℕ) → IsSized resources → length (tree_bytes resources rva) ≡ resources.size

@@ -30,7 +30,6 @@ use Rattle.link_words.specs.declared.errors.UsageKind.{UsageKind}
 use Rattle.link_words.specs.UsageWord.{usage_word}
 use Rattle.link_words.specs.Commands.{words_say}
 use Rattle.link_plan.specs.PlanFaults.{plan_fault}
-use Rattle.file_search.specs.Reading.{LeavesFiles}
 use Rattle.link_pieces.specs.TablePieces.{KeptParts}
 use Rattle.link_plan.specs.Plan.{link_parts, plan_resources, IsLinkOf}
 use Rattle.lib_search.specs.Loading.{HasLoadingFault}
@@ -312,10 +311,6 @@ on_nothing (Err error) has before after kept = nothing_written has before after 
 pub on_unread : (r : Result Answer Memory) (has : Store → Outcome → Type 0) (before after : FilesView) → ReadFailed before after → OnErr r (LeftByMemory has before after)
 on_unread (Ok answer) has before after failed = tt
 on_unread (Err error) has before after failed = inl (record { store = failed.store; writes = failed.writes })
-
--- memory was wanting before anything was written
-pub left_alone : (has : Store → Outcome → Type 0) (before after : FilesView) → LeavesFiles before after → LeftByMemory has before after
-left_alone has before after leaves = inl (record { store = leaves.store; writes = leaves.writes })
 
 -- ---- the image of a plan
 

@@ -86,14 +86,6 @@ none_kept bytes definitions choices none nothing =
       };
     })
 
--- nothing says the same of all definitions
-pub nothing_kept_of : (bytes : List ℕ) (definitions others : List Definition) → AreChoices bytes definitions [] → AreChoices bytes others []
-nothing_kept_of bytes definitions others are = record {
-  some = are.some;
-  count = are.count;
-  each = λ section first last. record { says = (are.each section first last).says; leads = tt };
-}
-
 pub all_kept : (bytes : List ℕ) (choices : List (Option ComdatChoice)) (definitions : List Definition) → has_comdat bytes ≡ true → definitions ≡ definitions_of bytes → AreChoicesBy bytes definitions choices → AreChoices bytes (definitions_of bytes) choices
 all_kept bytes choices definitions some defined made = record {
   some = some ∙ sym (ap not (ne_eqb (length choices) 0 (λ empty. absurd (omega (arith, empty, made.count, some_section bytes some)))));

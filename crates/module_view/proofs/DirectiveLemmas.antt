@@ -1,5 +1,5 @@
 -- The directives of a text, of a section and of an object, one part after another.
-use Rattle.std.proofs.Common.{◌≡◌, ℕ, suc, ◌+◌, ◌-◌, ◌<◌, ◌≤◌, Bool, false, List, [], ◌∷◌, ◌++◌, map, filter, Option, Some, None, Result, refl, sym, ap, subst, ◌∙◌, append_assoc, arith}
+use Rattle.std.proofs.Common.{◌≡◌, ℕ, suc, ◌+◌, ◌-◌, ◌<◌, Bool, false, List, [], ◌∷◌, ◌++◌, map, filter, Option, Some, None, Result, refl, sym, ap, subst, ◌∙◌, append_assoc, arith}
 use Rattle.std.specs.Prelude.{flat_map, filter_map, option_map}
 use Rattle.std.specs.List.{list_any, range_with_len}
 use Rattle.std.specs.Option.{option_or}
@@ -71,11 +71,6 @@ unfolding module_says
 all_left bytes =
     let whole : section_total bytes - 0 ≡ section_total bytes = omega arith in
     ap (λ (count : ℕ). sections_say bytes (range_with_len 1 count)) whole
-
-pub none_left : (bytes : List ℕ) (done : ℕ) → section_total bytes ≤ done → sections_say bytes (sections_left bytes done) ≡ []
-none_left bytes done ended =
-    let none : section_total bytes - done ≡ 0 = omega arith in
-    ap (λ (count : ℕ). sections_say bytes (range_with_len (done + 1) count)) none
 
 sections_say-append : (bytes : List ℕ) (xs ys : List ℕ) → sections_say bytes (xs ++ ys) ≡ sections_say bytes xs ++ sections_say bytes ys
 sections_say-append bytes xs ys =

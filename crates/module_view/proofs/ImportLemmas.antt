@@ -1,5 +1,5 @@
 -- The object of nothing, as which a short import goes, opens, and has no lists.
-use Rattle.std.proofs.Common.{◌≡◌, ◌<◌, ℕ, false, List, [], length, None, refl, sym, subst, arith}
+use Rattle.std.proofs.Common.{◌≡◌, ℕ, false, List, [], None, refl, sym, subst}
 use Rattle.module_view.specs.ModuleDirectives.{module_says, module_directives}
 use Rattle.link_base.specs.Bytes.{number_at, first_below}
 use Rattle.coff_records.specs.FileRanges.{is_truncated, table_leaves}
@@ -22,10 +22,6 @@ use Rattle.module_view.proofs.ChoiceLemmas.{none_kept}
 pub nothing_opens : opening_error no_object ≡ None
 unfolding module_says number_at first_below is_truncated table_leaves first_section first_of is_other_machine first_torn_record symbol_range_fault string_table_fault object_fault starts_within big_object_class is_big_object header_size symbol_size machine_of section_total section_headers_offset symbols_offset record_total string_table_offset string_table_size string_table parents_of ancestor aux_place parent_place aux_fault no_object resource_start form_shown content_error opening_error
 nothing_opens = refl
-
-pub nothing_is_short : length no_object < 4294967296
-unfolding no_object
-nothing_is_short = omega arith
 
 -- its object is well formed
 pub nothing_is_sound : object_fault no_object ≡ None

@@ -4,13 +4,14 @@ use Rattle.std.proofs.Math.Nat.{add-sub_of_le, sub-add-eq}
 use Rattle.std.proofs.lemmas.List.{length-take-le}
 use Rattle.std.proofs.lemmas.List.Elements.{All-head, All-tail}
 use Rattle.std.specs.List.{All}
+use Rattle.link_base.proofs.PutLemmas.{length-put_over}
 use Rattle.address_layout.specs.declared.layout.Layout.{Layout}
 use Rattle.relocate.proofs.CallerLemmas.{length_patched}
 use Rattle.relocate.specs.PatchedBytes.{patched_bytes}
 use Rattle.par_patch.specs.declared.job.Job.{Job}
 use Rattle.par_patch.specs.PatchedJobs.{EndsWithin, bytes_of, patched_job, patched_jobs, put_over, rva_of}
 use Rattle.par_patch.specs.Slices.{shifted}
-use Rattle.par_patch.proofs.PlaceLemmas.{put_in_front, bytes_in_front, put_behind, bytes_behind, length-put}
+use Rattle.par_patch.proofs.PlaceLemmas.{put_in_front, bytes_in_front, put_behind, bytes_behind}
 
 -- ---- lengths
 
@@ -24,7 +25,7 @@ length-new base layout owner job image within =
 
 pub length-patched_job : (base : ℕ) (layout : Layout) (owner : List ℕ) (job : Job) (image : List ℕ) → EndsWithin (length image) job → length (patched_job base layout owner job image) ≡ length image
 length-patched_job base layout owner job image within =
-    length-put job.start (new_bytes base layout owner job image) image (omega (arith, length-new base layout owner job image within))
+    length-put_over job.start (new_bytes base layout owner job image) image (omega (arith, length-new base layout owner job image within))
 
 pub length-patched_jobs : (base : ℕ) (layout : Layout) (owner : List ℕ) (jobs : List Job) (image : List ℕ) → All (EndsWithin (length image)) jobs → length (patched_jobs base layout owner jobs image) ≡ length image
 unfolding patched_jobs

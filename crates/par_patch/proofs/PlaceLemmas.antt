@@ -1,7 +1,7 @@
 -- Bytes that are put over others in one of two lists that are joined.
-use Rattle.std.proofs.Common.{◌≡◌, ℕ, ◌+◌, ◌≤◌, List, ◌++◌, length, take, drop, ap, ◌∙◌, length-append, length-drop, arith}
+use Rattle.std.proofs.Common.{◌≡◌, ℕ, ◌+◌, ◌≤◌, List, ◌++◌, length, take, drop, ap, ◌∙◌, length-drop, arith}
 use Rattle.std.proofs.Math.Nat.{add_assoc}
-use Rattle.std.proofs.lemmas.List.{append_assoc, take-append-le, drop-append-le, length-take-le}
+use Rattle.std.proofs.lemmas.List.{append_assoc, take-append-le, drop-append-le}
 use Rattle.std.proofs.Math.Seq.{take-append-add, drop-append-add}
 use Rattle.link_base.specs.Bytes.{bytes_at}
 use Rattle.par_patch.specs.PatchedJobs.{put_over}
@@ -26,9 +26,3 @@ put_behind place part xs ys =
 
 pub bytes_behind : (place count : ℕ) (xs ys : List ℕ) → bytes_at (xs ++ ys) (length xs + place) count ≡ bytes_at ys place count
 bytes_behind place count xs ys = ap (take count) (drop-append-add xs ys place)
-
--- ---- the length
-
-pub length-put : (place : ℕ) (part bytes : List ℕ) → place + length part ≤ length bytes → length (put_over place part bytes) ≡ length bytes
-length-put place part bytes within =
-    omega (arith, length-append (take place bytes) (part ++ drop (place + length part) bytes), length-append part (drop (place + length part) bytes), length-take-le place bytes (omega arith), length-drop (place + length part) bytes)

@@ -1,28 +1,20 @@
 -- The order of rows is total, and rows that tie are one.
-use Rattle.std.proofs.Common.{◌≡◌, ℕ, ◌<◌, ◌+◌, false, List, get_or, Option, Some, refl, ap, ◌∙◌, subst, rules}
+use Rattle.std.proofs.Common.{◌≡◌, ◌+◌, false, List, get_or, Option, Some, refl, ap, ◌∙◌, rules}
 use Rattle.std.specs.List.Sorted.{IsSorted, IsPermutation, IsNonDecreasingBy}
-use Rattle.std.specs.Ordering.{is_lt, is_gt, is_some_and, nat_cmp, ordering_then, partial_ordering_then, MatchOrdering}
-use Rattle.std.specs.Cmp.{IsTotalOrder, ranks, Some-then}
+use Rattle.std.specs.Ordering.{is_lt, is_some_and, nat_cmp, ordering_then, partial_ordering_then}
+use Rattle.std.specs.Cmp.{IsTotalOrder, Some-then}
 use Rattle.std.specs.Cmp.Rules.{comparing}
 use Rattle.std.specs.declared.cmp.Ordering.{Ordering}
 use Rattle.std.specs.declared.cmp.Ordering.TheVariants.{Less, Equal, Greater}
-use Rattle.std.proofs.lemmas.Bool.{true≢false}
 use Rattle.std.proofs.lemmas.List.Sorted.{IsNonDecreasingBy-from_sort}
 use Rattle.sorted_lists.specs.Order.{in_order}
 use Rattle.sorted_lists.proofs.CallerLemmas.{is_in_order}
+use Rattle.link_base.proofs.OrderingLemmas.{one_number, then_both}
 use Rattle.pdata_table.specs.declared.row.Row.{Row}
 use Rattle.pdata_table.specs.Rows.{row_cmp}
 
 pub row_total : IsTotalOrder row_cmp
 row_total = search (comparing, rules) depth 8
-
-then_both : (r s : Ordering) → ordering_then r s ≡ Equal → (r ≡ Equal) × (s ≡ Equal)
-then_both Less s e = absurd (true≢false (ap is_lt e))
-then_both Equal s e = (refl, e)
-then_both Greater s e = absurd (true≢false (ap is_gt e))
-
-one_number : (x y : ℕ) → nat_cmp x y ≡ Equal → x ≡ y
-one_number x y e = subst (λ (r : Ordering). MatchOrdering r (x < y) (x ≡ y) (y < x)) e (ranks x y)
 
 one_row : (a b : Row) → row_cmp a b ≡ Equal → a ≡ b
 one_row a b e =

@@ -11,6 +11,7 @@ use Rattle.link_base.specs.Fields.{fields}
 use Rattle.link_base.proofs.CallerLemmas.{number_at-drop}
 use Rattle.link_base.specs.declared.numbers.LeNumber.{LeNumber}
 use Rattle.link_base.specs.declared.numbers.LeNumber.TheVariants.{U16, U32}
+use Rattle.link_base.proofs.ListLemmas.{length_each}
 use Rattle.pdb_dbi.specs.declared.rows.Contribution.{Contribution}
 use Rattle.pdb_dbi.specs.declared.rows.ModuleName.{ModuleName}
 use Rattle.pdb_dbi.specs.declared.form.Form.{Form}
@@ -21,7 +22,7 @@ use Rattle.pdb_dbi.specs.SectionMap.{section_map}
 use Rattle.pdb_dbi.specs.DbiStream.{DBI_SIGNATURE, header_front, header_sizes, header_end, dbi_header, file_part, optional_streams, dbi_of_parts, dbi_of}
 use Rattle.pdb_dbi.specs.DbiReading.{has_header, part_place, part_size, part_of, form_of, record_in, records_of, records_by, contributions_by, contributions_in}
 use Rattle.pdb_dbi.proofs.FieldLemmas.{number_behind, field_read}
-use Rattle.pdb_dbi.proofs.SizeLemmas.{length_ver60, length_v2, length_front, length_header, parts_within, length_each}
+use Rattle.pdb_dbi.proofs.SizeLemmas.{length_ver60, length_v2, length_front, length_header, parts_within}
 
 -- ---- a record
 

@@ -7,6 +7,7 @@ use Rattle.std.proofs.lemmas.Bool.{eqb-true, eqb-false, cases_Bool}
 use Rattle.std.proofs.lemmas.List.{append-nil, take_all, get_or-set_same, get_or-set_other}
 use Rattle.std.proofs.lemmas.List.Folds.{find-append}
 use Rattle.std.proofs.lemmas.List.FromFn.{fill_by_all, get_or-map-range_with_len}
+use Rattle.link_base.proofs.RefusalLemmas.{or_none}
 use Rattle.pdb_dbi.specs.declared.rows.Contribution.{Contribution}
 use Rattle.pdb_dbi.specs.declared.rows.ModuleName.{ModuleName}
 use Rattle.pdb_dbi.specs.ModuleInfo.{is_of, no_contribution, first_of, module_header, module_text, padded, module_record, module_part}
@@ -16,10 +17,6 @@ use Rattle.pdb_dbi.specs.ModuleInfo.{is_of, no_contribution, first_of, module_he
 -- of the modules below a number, the first among some contributions
 abbrev pub AreFirsts : List (Option Contribution) → List Contribution → ℕ → Type 0
 AreFirsts firsts list count = (k : ℕ) → k < count → get_or firsts k None ≡ find (is_of k) list
-
-or_none : {X : Type 0} (o : Option X) → option_or o None ≡ o
-or_none None = refl
-or_none (Some x) = refl
 
 some_stays : {X : Type 0} (o p : Option X) → is_none o ≡ false → option_or o p ≡ o
 some_stays None p e = absurd cc

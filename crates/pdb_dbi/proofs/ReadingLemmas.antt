@@ -1,5 +1,5 @@
 -- What the reader of contributions meets.
-use Rattle.std.proofs.Common.{◌≡◌, ℕ, ◌+◌, ◌-◌, ◌*◌, ◌/◌, ◌<◌, ◌≤◌, List, [], ◌∷◌, ◌++◌, length, map, Option, Some, None, Err, refl, sym, ap, subst, ◌∙◌, arith}
+use Rattle.std.proofs.Common.{◌≡◌, ℕ, ◌+◌, ◌-◌, ◌/◌, ◌≤◌, List, [], ◌∷◌, ◌++◌, length, map, Option, Some, None, Err, refl, sym, ap, subst, ◌∙◌, arith}
 use Rattle.std.specs.List.{range_with_len}
 use Rattle.std.specs.Option.{unwrap_or}
 use Rattle.std.proofs.lemmas.List.FromFn.{map-range_with_len_more}
@@ -10,14 +10,8 @@ use Rattle.pdb_msf.specs.Streams.{stream_of, GivesStream}
 use Rattle.pdb_dbi.specs.declared.reading.DbiError.TheVariants.{Kind}
 use Rattle.pdb_dbi.specs.declared.rows.Contribution.{Contribution}
 use Rattle.pdb_dbi.specs.declared.form.Form.{Form}
-use Rattle.pdb_dbi.specs.declared.form.Form.TheVariants.{Ver60, V2}
 use Rattle.pdb_dbi.specs.Contribution.{record_size}
 use Rattle.pdb_dbi.specs.DbiReading.{has_header, part_of, record_in, records_of, contributions_in, contributions_of, GivesContributions}
-
--- a record lies in its part
-pub record_lies : (form : Form) (size index n : ℕ) → size ≡ record_size form → index < (n - 4) / size → 4 + size * index + size ≤ n
-record_lies Ver60 size index n is lt = rw is (omega (arith, rw is at lt))
-record_lies V2 size index n is lt = rw is (omega (arith, rw is at lt))
 
 pub one_read : (form : Form) (part : List ℕ) (index : ℕ) (row : Contribution) (now after : List Contribution) → row ≡ record_in form part index → now ≡ map (record_in form part) (range_with_len 0 index) → after ≡ now ++ row ∷ [] → after ≡ map (record_in form part) (range_with_len 0 (index + 1))
 one_read form part index row now after is was grown =

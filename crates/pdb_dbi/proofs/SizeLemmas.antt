@@ -7,22 +7,13 @@ use Rattle.std.proofs.lemmas.List.Sums.{sum_by-cons}
 use Rattle.link_base.specs.Bytes.{number_bytes}
 use Rattle.link_base.specs.Fields.{fields}
 use Rattle.link_base.specs.declared.numbers.LeNumber.TheVariants.{U16, U32}
+use Rattle.link_base.proofs.ListLemmas.{length_each}
 use Rattle.pdb_dbi.specs.declared.rows.Contribution.{Contribution}
 use Rattle.pdb_dbi.specs.declared.rows.ModuleName.{ModuleName}
 use Rattle.pdb_dbi.specs.Contribution.{record_ver60, record_v2, contribution_part}
 use Rattle.pdb_dbi.specs.ModuleInfo.{first_of, module_header, module_text, padding, padded, module_record, module_part, text_size, module_size}
 use Rattle.pdb_dbi.specs.SectionMap.{SECTION_ABSOLUTE, descriptor, section_descriptor, section_count, section_map}
 use Rattle.pdb_dbi.specs.DbiStream.{header_front, header_sizes, header_end, dbi_header, file_part, optional_streams, dbi_of_parts, dbi_of, dbi_size}
-
--- ---- lists of equal length, joined
-
-pub length_each : {X : Type 0} (f : X → List ℕ) (n : ℕ) (xs : List X) → ((x : X) → length (f x) ≡ n) → length (flat_map f xs) ≡ n * length xs
-length_each f n [] each = omega arith
-length_each f n (x ∷ xs) each =
-    let both = length-append (f x) (flat_map f xs) in
-    let first = each x in
-    let rest = length_each f n xs each in
-    grind (arith, both, first, rest)
 
 -- ---- contributions
 

@@ -1,17 +1,14 @@
 -- Streams that stand one after the other, one more at a time.
-use Rattle.std.proofs.Common.{◌≡◌, ℕ, suc, ◌+◌, ◌<◌, ◌≤◌, Bool, true, false, nat_lt, List, [], ◌∷◌, ◌++◌, length, map, take, drop, Result, Ok, Err, Vec, inl, inr, refl, sym, ap, ◌∙◌, subst, arith}
+use Rattle.std.proofs.Common.{◌≡◌, ℕ, suc, ◌<◌, ◌≤◌, Bool, true, false, nat_lt, List, [], ◌∷◌, ◌++◌, length, map, take, drop, Result, Ok, Err, Vec, inl, inr, refl, sym, ap, ◌∙◌, subst, arith}
 use Rattle.std.specs.Prelude.{IfErr}
 use Rattle.std.specs.List.{sum}
-use Rattle.std.proofs.lemmas.Bool.{cases_lt, le-ltb, true≢false}
-use Rattle.std.proofs.lemmas.List.Sums.{sum_by-cons}
 use Rattle.std.proofs.lemmas.List.{take_all, take-append-le, drop-append-le, length-drop}
+use Rattle.link_base.proofs.NumberLemmas.{is_below}
+use Rattle.link_base.proofs.ListLemmas.{more_bytes}
 use Rattle.pdb_msf.specs.declared.writing.MsfError.{MsfError}
 use Rattle.pdb_msf.specs.declared.writing.MsfError.TheVariants.{TooLarge}
 use Rattle.pdb_msf.specs.WrittenFile.{MSF_LIMIT, file_size, msf_of, parted, Writes, WritesFor}
 use Rattle.pdb_file.specs.PdbFile.{IsTooLarge}
-
-more_bytes : (len : ℕ) (lengths : List ℕ) → sum (len ∷ lengths) ≡ len + sum lengths
-more_bytes len lengths = sum_by-cons (λ n. n) len lengths
 
 -- a list is its first bytes, so many as it has
 first_all : (joined stream : List ℕ) → 0 ≡ length joined → take (length stream) (joined ++ stream) ≡ stream
@@ -36,13 +33,6 @@ length-parted joined (len ∷ lengths) = ap suc (length-parted (drop len joined)
 
 -- ---- what writing them answers
 
-above : (limit size : ℕ) → nat_lt limit size ≡ true → limit < size
-above limit size e =
-    elim (cases_lt limit size) [
-      | inl less ↦ less
-      | inr not ↦ absurd (true≢false (sym e ∙ le-ltb limit size not))
-    ]
-
 pub too_large : {A : Type 0} (sizes : List ℕ) (streams : List (List ℕ)) (result : Result (Vec ℕ A) MsfError) → map length streams ≡ sizes → Writes sizes streams result → IfErr result (IsTooLarge streams)
 too_large sizes streams (Ok file) same writes = tt
 too_large {A} sizes streams (Err error) same writes = go (nat_lt MSF_LIMIT (file_size sizes)) refl writes
@@ -55,5 +45,5 @@ too_large {A} sizes streams (Err error) same writes = go (nat_lt MSF_LIMIT (file
     error_or e (Err other) = other
 
     go : (b : Bool) → nat_lt MSF_LIMIT (file_size sizes) ≡ b → WritesFor b (file_size sizes) (msf_of streams) (refused error) → IsTooLarge streams error
-    go true e large = inr (ap (error_or error) large ∙ ap (λ (ss : List ℕ). TooLarge (file_size ss)) (sym same), subst (λ (ss : List ℕ). MSF_LIMIT < file_size ss) (sym same) (above MSF_LIMIT (file_size sizes) e))
+    go true e large = inr (ap (error_or error) large ∙ ap (λ (ss : List ℕ). TooLarge (file_size ss)) (sym same), subst (λ (ss : List ℕ). MSF_LIMIT < file_size ss) (sym same) (is_below MSF_LIMIT (file_size sizes) e))
     go false e none = inl none

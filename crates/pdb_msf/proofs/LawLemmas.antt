@@ -9,7 +9,7 @@ use Rattle.std.proofs.lemmas.Grind.{same_number_lists}
 use Rattle.std.proofs.lemmas.Option.{slice_get-get_or, slice_get_past}
 use Rattle.link_base.specs.Bytes.{number_at, bytes_at}
 use Rattle.link_base.specs.NameText.{begins}
-use Rattle.link_base.proofs.CallerLemmas.{number_at-drop}
+use Rattle.link_base.proofs.CallerLemmas.{number_at-drop, all_below-from_each}
 use Rattle.pdb_msf.specs.BlockFile.{signature, blocks_for, size_of_blocks, block_count, directory_size, map_block as map_block_of, is_block, directory_block, directory_len, entry, stream_count, stream_size, blocks_before, list_of, has_superblock, has_size, has_map, directory_blocks, directory_is_there, listed_len, lists_are_there, has_blocks, has_directory, msf_fault}
 use Rattle.pdb_msf.specs.Streams.{stream_block, joined_blocks, stream_bytes, stream_of}
 use Rattle.pdb_msf.specs.WrittenFile.{block_number, stream_total, directory_extent, directory_total, block_total, file_size, superblock, block_numbers, directory, cut_block, in_blocks, blocks_of_data, padded, map_block, laid, msf_of}
@@ -20,7 +20,7 @@ use Rattle.pdb_msf.proofs.BlockLemmas.{length_in_blocks, get_in_blocks}
 use Rattle.pdb_msf.proofs.WritingLemmas.{length_directory, laid_first, length_in_blocks_of, length_numbers}
 use Rattle.pdb_msf.proofs.PlaceLemmas.{AreSmall, length_padded, length_map, map_at_place, length_laid, byte_at_place, number_at_place, numbered_first}
 use Rattle.pdb_msf.proofs.DataLemmas.{AreNumbers, listed, length_listed, numbers_from, numbers_listed, number_in_list, entries, directory_listed, length_entries, entry_of_size, entry_of_block, length_cut, byte_in_cut, block_in_blocks, number_in_cut, length_streams, length_directory_blocks, block_of_stream, no_total}
-use Rattle.pdb_msf.proofs.ListLemmas.{small_cons, small_append, small_cut, small_streams, number_cons, number_append, are_numbers_from, size_small, total_more, total_within, all_pass, length_signature, begins_so, none_there}
+use Rattle.pdb_msf.proofs.ListLemmas.{small_cons, small_append, small_cut, small_streams, number_cons, number_append, are_numbers_from, size_small, total_more, total_within, length_signature, begins_so, none_there}
 
 -- ---- a written file
 
@@ -268,7 +268,7 @@ module _ (streams : List (List ℕ)) (few : length streams ≤ 64) (fits : file_
   directory_passes =
       let extent = extent_is in
       and_from _ _ map_passes
-      (all_pass (directory_blocks (file_of streams)) (λ (k : ℕ). is_block (file_of streams) (directory_block (file_of streams) k))
+      (all_below-from_each (directory_blocks (file_of streams)) (λ (k : ℕ). is_block (file_of streams) (directory_block (file_of streams) k))
       (λ k lt.
       let here : k < directory_total (sizes_of streams) = omega (arith, lt, extent) in
       ap (is_block (file_of streams)) (directory_block_is k here) ∙ lies_in (2 + k) (omega (arith, here))))
@@ -292,7 +292,7 @@ module _ (streams : List (List ℕ)) (few : length streams ≤ 64) (fits : file_
   lists_pass =
       let len = len_is in
       let n = streams_are in
-      all_pass (listed_len (file_of streams)) (λ (k : ℕ). is_block (file_of streams) (entry (file_of streams) (1 + stream_count (file_of streams) + k)))
+      all_below-from_each (listed_len (file_of streams)) (λ (k : ℕ). is_block (file_of streams) (entry (file_of streams) (1 + stream_count (file_of streams) + k)))
       (λ k lt.
       let there = listed_there (file_of streams) k lt in
       let here : k < stream_total (sizes_of streams) = omega (arith, there.within, len, n) in

@@ -1,12 +1,11 @@
 -- Lists of blocks and of numbers that are small, and the sizes of the first streams.
-use Rattle.std.proofs.Common.{◌≡◌, ℕ, zero, suc, ◌+◌, ◌*◌, ◌<◌, ◌≤◌, Bool, true, le-ltb, List, [], ◌∷◌, ◌++◌, length, get_or, take, None, refl, ap, ◌∙◌, arith}
+use Rattle.std.proofs.Common.{◌≡◌, ℕ, zero, suc, ◌+◌, ◌*◌, ◌<◌, ◌≤◌, true, le-ltb, List, [], ◌∷◌, ◌++◌, length, get_or, take, None, refl, ap, ◌∙◌, arith}
 use Rattle.std.specs.List.{flat_map}
 use Rattle.std.proofs.Math.Seq.{take-append_seam, take-suc}
 use Rattle.std.specs.Str.{bytes_eq}
 use Rattle.std.proofs.lemmas.Slice.Eq.{bytes_eq-Decides}
 use Rattle.std.proofs.lemmas.List.FromFn.{get_or-map-range_with_len, length-map-range_with_len}
 use Rattle.std.proofs.lemmas.List.Sums.{sum_by-append, sum_by-cons}
-use Rattle.link_base.specs.Bytes.{all_below}
 use Rattle.link_base.specs.NameText.{begins}
 use Rattle.pdb_msf.specs.BlockFile.{signature, blocks_for, stream_count}
 use Rattle.pdb_msf.specs.Streams.{stream_of}
@@ -85,11 +84,6 @@ total_within (size ∷ sizes) (suc i) lt =
     let front = more_total size (take i sizes) in
     let rest = total_within sizes i (omega (arith, lt)) in
     omega (arith, more, front, rest)
-
-pub all_pass : (n : ℕ) (test : ℕ → Bool) → ((k : ℕ) → k < n → test k ≡ true) → all_below n test ≡ true
-unfolding all_below
-all_pass zero test each = refl
-all_pass (suc n) test each = rw (all_pass n test (λ k lt. each k (omega (arith, lt))), each n (omega arith)) refl
 
 pub length_signature : length signature ≡ 32
 unfolding signature

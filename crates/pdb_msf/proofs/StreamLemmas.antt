@@ -1,12 +1,13 @@
 -- What an opened file holds.
-use Rattle.std.proofs.Common.{◌≡◌, ℕ, zero, suc, ◌+◌, ◌-◌, ◌*◌, ◌/◌, ◌%◌, ◌<◌, ◌≤◌, Bool, true, false, cond, ltb, lt-ltb, List, [], ◌++◌, length, get_or, take, drop, Option, Some, None, refl, sym, subst, ap, ◌∙◌, inl, inr, arith, min, length-drop}
+use Rattle.std.proofs.Common.{◌≡◌, ℕ, zero, suc, ◌+◌, ◌-◌, ◌*◌, ◌/◌, ◌%◌, ◌<◌, ◌≤◌, Bool, true, false, cond, ltb, lt-ltb, List, [], ◌++◌, length, get_or, take, Option, Some, None, refl, sym, subst, ap, ◌∙◌, inl, inr, arith, min}
 use Rattle.std.proofs.lemmas.List.{length-take, get_or-take}
-use Rattle.std.proofs.lemmas.Option.{slice_get-get_or, slice_get_past}
+use Rattle.std.proofs.lemmas.Option.{slice_get-get_or}
 use Rattle.link_base.specs.Bytes.{bytes_at, all_below}
 use Rattle.link_base.proofs.RangeLemmas.{joined_more}
 use Rattle.std.proofs.lemmas.Bool.{and_parts, leb-true, ltb-true, cases_lt}
 use Rattle.link_base.proofs.CallerLemmas.{all_below-each}
 use Rattle.link_base.specs.declared.kinds.database.PdbKind.TheVariants as bad
+use Rattle.link_base.proofs.PartLemmas.{length_part}
 use Rattle.pdb_msf.specs.BlockFile.{blocks_for, is_block, directory_len, entry, stream_count, stream_size, blocks_before, list_of, directory_is_there, listed_len, lists_are_there, has_superblock, has_blocks, has_directory, msf_fault}
 use Rattle.pdb_msf.specs.Streams.{stream_block, joined_blocks, stream_bytes, stream_of, stream_len, byte_of, stream_byte}
 use Rattle.pdb_msf.proofs.BlockLemmas.{length_in_blocks, get_in_blocks}
@@ -75,12 +76,6 @@ listed_in file place none first last =
 pub list_within : (file : List ℕ) (stream index : ℕ) → stream < stream_count file → index < blocks_for (stream_size file stream) → list_of file stream + index < list_of file (stream_count file)
 list_within file stream index lt inside = let grows = list_grows file stream (stream_count file) lt in omega (arith, grows, inside)
 
-length_part : (file : List ℕ) (offset count : ℕ) → offset + count ≤ length file → length (bytes_at file offset count) ≡ count
-length_part file offset count fits =
-    let rest = length-drop offset file in
-    let cut = length-take count (drop offset file) in
-    omega (arith, cut, rest, fits)
-
 pub length_block : (file : List ℕ) (stream index : ℕ) → msf_fault file ≡ None → stream < stream_count file → index < blocks_for (stream_size file stream) → length (stream_block file stream index) ≡ 4096
 unfolding stream_block
 length_block file stream index none lt inside =
@@ -99,13 +94,6 @@ stream_there file stream len e = go (ltb stream (stream_count file)) refl e
     go : (b : Bool) → ltb stream (stream_count file) ≡ b → Some len ≡ cond b (Some (stream_size file stream)) None → HasStream file stream len
     go true is h = record { there = ltb-true _ _ is; len_is = cc }
     go false is h = absurd (some_none len h)
-
-pub stream_missing : (file : List ℕ) (stream : ℕ) → None ≡ stream_len file stream → stream_of file stream ≡ None
-stream_missing file stream e = go (ltb stream (stream_count file)) refl e
-  where
-    go : (b : Bool) → ltb stream (stream_count file) ≡ b → None ≡ cond b (Some (stream_size file stream)) None → cond b (Some (stream_bytes file stream)) None ≡ None
-    go true is h = absurd (some_none (stream_size file stream) (sym h))
-    go false is h = refl
 
 pub stream_is : (file : List ℕ) (stream : ℕ) → stream < stream_count file → stream_of file stream ≡ Some (stream_bytes file stream)
 stream_is file stream lt = rw (lt-ltb _ _ lt) refl
@@ -130,13 +118,6 @@ byte_there file stream offset block none lt inside is =
     ∙ ap Some (sym (get_or-take size all offset 0 inside ∙ get_in_blocks (stream_block file stream) 0 count offset each (omega (arith, inside)) ∙ ap (λ (k : ℕ). get_or (stream_block file stream k) (offset % 4096) 0) first))
     ∙ sym (slice_get-get_or (take size all) offset 0 here)
     ∙ ap (λ (s : Option (List ℕ)). byte_of s offset) (sym (stream_is file stream lt))
-
-pub byte_missing : (file : List ℕ) (stream offset : ℕ) → stream < stream_count file → stream_size file stream ≤ offset → None ≡ stream_byte file stream offset
-byte_missing file stream offset lt past =
-    let size = stream_size file stream in
-    let all = joined_blocks file stream (blocks_for size) in
-    let cut = length-take size all in
-    sym (ap (λ (s : Option (List ℕ)). byte_of s offset) (stream_is file stream lt) ∙ slice_get_past (take size all) offset (omega (arith, cut, past)))
 
 pub no_blocks : (file : List ℕ) (stream : ℕ) → joined_blocks file stream 0 ≡ []
 unfolding joined_blocks

@@ -7,6 +7,7 @@ use Rattle.std.proofs.lemmas.List.Sums.{sum_by-cons}
 use Rattle.link_base.specs.Bytes.{number_bytes, bytes_at}
 use Rattle.link_base.proofs.CallerLemmas.{length-number_bytes}
 use Rattle.link_base.proofs.RangeLemmas.{joined_more}
+use Rattle.link_base.proofs.ListLemmas.{length_each, more_bytes}
 use Rattle.pdb_msf.specs.BlockFile.{blocks_for}
 use Rattle.pdb_msf.specs.WrittenFile.{block_number, map_byte, map_block, file_size, Writes, stream_total, directory_extent, directory_total, block_total, superblock, block_numbers, directory, cut_block, in_blocks, blocks_of_data, numbered_block, laid, msf_of_sizes, parted}
 
@@ -89,9 +90,6 @@ pub more_total : (size : ℕ) (sizes : List ℕ) → stream_total (size ∷ size
 unfolding stream_total
 more_total size sizes = sum_by-cons blocks_for size sizes
 
-more_bytes : (size : ℕ) (sizes : List ℕ) → sum (size ∷ sizes) ≡ size + sum sizes
-more_bytes size sizes = sum_by-cons (λ x. x) size sizes
-
 pub record StreamsLaid (total n : ℕ) (rest tail new whole : List ℕ) (end : ℕ) : Type 0 where
   pub left : sum tail ≡ length rest
   pub counted : n + stream_total tail ≡ end
@@ -152,28 +150,17 @@ parted_sizes joined (size ∷ sizes) e =
 
 -- ---- the directory
 
-length_of_each : {X : Type 0} (f : X → List ℕ) (width : ℕ) (xs : List X) → ((x : X) → length (f x) ≡ width) → length (flat_map f xs) ≡ width * length xs
-length_of_each f width [] each = omega arith
-length_of_each f width (x ∷ xs) each =
-    let both = length-append (f x) (flat_map f xs) in
-    let rest = length_of_each f width xs each in
-    let first = each x in
-    both ∙ ap (λ (k : ℕ). k + length (flat_map f xs)) first ∙ ap (λ (k : ℕ). width + k) rest ∙ times_suc width (length xs)
-  where
-    times_suc : (a b : ℕ) → a + a * b ≡ a * suc b
-    times_suc a b = grind arith
-
 pub length_numbers : (n count : ℕ) → length (block_numbers n count) ≡ 4 * count
 unfolding block_numbers
 length_numbers n count =
-    length_of_each (λ (k : ℕ). number_bytes 4 (block_number k)) 4 (range_with_len n count) (λ k. length-number_bytes 4 (block_number k))
+    length_each (λ (k : ℕ). number_bytes 4 (block_number k)) 4 (range_with_len n count) (λ k. length-number_bytes 4 (block_number k))
     ∙ ap (λ (k : ℕ). 4 * k) (length-range_with_len n count)
 
 pub length_directory : (sizes : List ℕ) → length (directory sizes) ≡ directory_extent sizes
 unfolding directory
 length_directory sizes =
     let front = length-number_bytes 4 (length sizes) in
-    let middle = length_of_each (number_bytes 4) 4 sizes (λ size. length-number_bytes 4 size) in
+    let middle = length_each (number_bytes 4) 4 sizes (λ size. length-number_bytes 4 size) in
     let last = length_numbers (2 + directory_total sizes) (stream_total sizes) in
     let both = length-append (flat_map (number_bytes 4) sizes) (block_numbers (2 + directory_total sizes) (stream_total sizes)) in
     let all = length-append (number_bytes 4 (length sizes)) (flat_map (number_bytes 4) sizes ++ block_numbers (2 + directory_total sizes) (stream_total sizes)) in

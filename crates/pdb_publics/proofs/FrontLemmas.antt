@@ -4,7 +4,7 @@ use Rattle.std.proofs.Common.{◌≡◌, ℕ, zero, suc, ◌+◌, ◌*◌, ◌<�
 use Rattle.std.specs.List.{All}
 use Rattle.std.specs.List.Sorted.{IsSorted, IsPermutation}
 use Rattle.std.specs.Ordering.{nat_cmp, is_lt, ordering_then, ordering_reverse}
-use Rattle.std.specs.Cmp.{IsTotalOrder, nat_cmp_is}
+use Rattle.std.specs.Cmp.{IsTotalOrder}
 use Rattle.std.specs.Cmp.Lexicographic.{slice_cmp}
 use Rattle.std.specs.declared.cmp.Ordering.{Ordering}
 use Rattle.std.specs.declared.cmp.Ordering.TheVariants.{Less, Equal}
@@ -13,6 +13,7 @@ use Rattle.std.proofs.lemmas.Bool.{true≢false, cases_lt, cases_order}
 use Rattle.std.proofs.lemmas.List.Sorted.{IsPermutation-map, All-permutation}
 use Rattle.sorted_lists.specs.Order.{in_order}
 use Rattle.sorted_lists.proofs.CallerLemmas.{sorted_cons, sorted_first, sorted_tail, is_in_order}
+use Rattle.link_base.proofs.OrderingLemmas.{less_number, equal_number}
 use Rattle.pdb_publics.specs.declared.fronts.Fronted.{Fronted}
 use Rattle.pdb_publics.specs.declared.rows.PublicRow.{PublicRow}
 use Rattle.pdb_publics.specs.declared.keys.HashKey.{HashKey}
@@ -75,12 +76,6 @@ then_less r s e = ap (λ (o : Ordering). ordering_then o s) e
 
 then_next : (r s : Ordering) → r ≡ Equal → s ≡ Less → ordering_then r s ≡ Less
 then_next r s e less = ap (λ (o : Ordering). ordering_then o s) e ∙ less
-
-less_number : (x y : ℕ) → x < y → nat_cmp x y ≡ Less
-less_number x y lt = sym (nat_cmp_is x y Less lt)
-
-equal_number : (x y : ℕ) → x ≡ y → nat_cmp x y ≡ Equal
-equal_number x y e = sym (nat_cmp_is x y Equal e)
 
 -- the first byte that differs decides
 first_difference : (n : ℕ) (xs ys : List ℕ) → ((k : ℕ) → k < n → get_or xs k 0 ≡ get_or ys k 0) → get_or xs n 0 < get_or ys n 0 → slice_cmp nat_cmp xs ys ≡ Less

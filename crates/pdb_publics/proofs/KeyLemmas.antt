@@ -1,21 +1,20 @@
 -- The orders of publics, and the keys of rows whose records stand one behind the other.
-use Rattle.std.proofs.Common.{◌≡◌, ℕ, ◌+◌, ◌*◌, ◌<◌, ◌≤◌, Bool, true, false, List, [], ◌∷◌, ◌++◌, length, get_or, take, drop, refl, sym, ap, ◌∙◌, subst, arith, rules}
+use Rattle.std.proofs.Common.{◌≡◌, ℕ, ◌+◌, ◌*◌, ◌<◌, ◌≤◌, Bool, true, false, List, [], ◌∷◌, ◌++◌, length, get_or, take, drop, refl, sym, ap, ◌∙◌, arith, rules}
 use Rattle.std.specs.List.{All, flat_map}
 use Rattle.std.specs.List.Sorted.{IsSorted, IsPermutation}
-use Rattle.std.specs.Ordering.{is_lt, is_gt, nat_cmp, bool_cmp, ordering_then, MatchOrdering}
-use Rattle.std.specs.Cmp.{IsTotalOrder, ranks}
+use Rattle.std.specs.Ordering.{is_lt, is_gt, nat_cmp, bool_cmp}
+use Rattle.std.specs.Cmp.{IsTotalOrder}
 use Rattle.std.specs.Cmp.Lexicographic.{slice_cmp}
 use Rattle.std.specs.Cmp.Rules.{comparing}
-use Rattle.std.specs.declared.cmp.Ordering.{Ordering}
-use Rattle.std.specs.declared.cmp.Ordering.TheVariants.{Less, Equal, Greater}
+use Rattle.std.specs.declared.cmp.Ordering.TheVariants.{Equal}
 use Rattle.std.specs.Char.{to_ascii_lowercase}
 use Rattle.std.proofs.lemmas.Bool.{true≢false}
 use Rattle.std.proofs.lemmas.List.{take_more, drop_more, take_at, drop_at, length-map}
 use Rattle.std.proofs.lemmas.List.Sums.{sum_by-cons, sum_by_more}
 use Rattle.std.proofs.lemmas.List.Elements.{All-nil, All-cons}
 use Rattle.std.proofs.lemmas.List.Sorted.{All-permutation, length_permutation}
-use Rattle.sorted_lists.specs.Order.{in_order}
 use Rattle.sorted_lists.proofs.CallerLemmas.{is_in_order, order_permutes}
+use Rattle.link_base.proofs.OrderingLemmas.{one_number, then_both, one_text}
 use Rattle.pdb_publics.specs.declared.rows.PublicRow.{PublicRow}
 use Rattle.pdb_publics.specs.declared.keys.HashKey.{HashKey}
 use Rattle.pdb_publics.specs.declared.keys.PlaceKey.{PlaceKey}
@@ -33,27 +32,11 @@ hash_total = search (comparing, rules) depth 8
 pub place_total : IsTotalOrder place_cmp
 place_total = search (comparing, rules) depth 8
 
-then_both : (r s : Ordering) → ordering_then r s ≡ Equal → (r ≡ Equal) × (s ≡ Equal)
-then_both Less s e = absurd (true≢false (ap is_lt e))
-then_both Equal s e = (refl, e)
-then_both Greater s e = absurd (true≢false (ap is_gt e))
-
-pub one_number : (x y : ℕ) → nat_cmp x y ≡ Equal → x ≡ y
-one_number x y e = subst (λ (r : Ordering). MatchOrdering r (x < y) (x ≡ y) (y < x)) e (ranks x y)
-
 one_bool : (x y : Bool) → bool_cmp x y ≡ Equal → x ≡ y
 one_bool true true e = refl
 one_bool false false e = refl
 one_bool true false e = absurd (true≢false (ap is_gt e))
 one_bool false true e = absurd (true≢false (ap is_lt e))
-
-one_text : (xs ys : List ℕ) → slice_cmp nat_cmp xs ys ≡ Equal → xs ≡ ys
-one_text [] [] e = refl
-one_text [] (y ∷ ys) e = absurd (true≢false (ap is_lt e))
-one_text (x ∷ xs) [] e = absurd (true≢false (ap is_gt e))
-one_text (x ∷ xs) (y ∷ ys) e =
-    let both = then_both (nat_cmp x y) (slice_cmp nat_cmp xs ys) e in
-    ap (λ (z : ℕ). z ∷ xs) (one_number x y both.0) ∙ ap (λ (zs : List ℕ). y ∷ zs) (one_text xs ys both.1)
 
 pub one_row : (a b : PublicRow) → row_cmp a b ≡ Equal → a ≡ b
 one_row a b e =
@@ -94,15 +77,6 @@ hash_keys_one_order rows sorted moved up = is_in_order hash_cmp hash_total one_h
 
 pub place_keys_one_order : (rows : List PublicRow) (sorted : List PlaceKey) → IsPermutation (place_keys 0 rows) sorted → IsSorted place_cmp sorted → sorted ≡ by_place rows
 place_keys_one_order rows sorted moved up = is_in_order place_cmp place_total one_place_key (place_keys 0 rows) sorted moved up
-
-pub rows_in_order : (rows given sorted : List PublicRow) → given ≡ rows → IsPermutation given sorted → IsSorted row_cmp sorted → sorted ≡ by_name rows
-rows_in_order rows given sorted is moved up = is_in_order row_cmp row_total one_row given sorted moved up ∙ ap by_name is
-
-pub hash_keys_in_order : (rows : List PublicRow) (given sorted : List HashKey) → given ≡ hash_keys 0 rows → IsPermutation given sorted → IsSorted hash_cmp sorted → sorted ≡ by_hash rows
-hash_keys_in_order rows given sorted is moved up = is_in_order hash_cmp hash_total one_hash_key given sorted moved up ∙ ap (in_order hash_cmp) is
-
-pub place_keys_in_order : (rows : List PublicRow) (given sorted : List PlaceKey) → given ≡ place_keys 0 rows → IsPermutation given sorted → IsSorted place_cmp sorted → sorted ≡ by_place rows
-place_keys_in_order rows given sorted is moved up = is_in_order place_cmp place_total one_place_key given sorted moved up ∙ ap (in_order place_cmp) is
 
 -- ---- one row more
 

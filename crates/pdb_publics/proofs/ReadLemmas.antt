@@ -2,12 +2,13 @@
 use Rattle.std.proofs.Common.{◌≡◌, ◌≢◌, ℕ, suc, ◌+◌, ◌-◌, ◌*◌, ◌<◌, ◌≤◌, Bool, true, false, cond, eqb, lt-ltb, le-ltb, ◌&&◌, List, [], ◌∷◌, ◌++◌, length, get_or, take, drop, Option, Some, None, option_map, unwrap_or, refl, sym, ap, ◌∙◌, arith, rules, length-drop, length-append}
 use Rattle.std.specs.List.{slice_get, position, position_or_len}
 use Rattle.std.specs.Cmp.Lexicographic.{bytes_decides}
-use Rattle.std.proofs.lemmas.List.{length-take, get_or-take, get_or-drop, take-append-drop, take-take, drop-drop, drop-take, ext_get_or}
+use Rattle.std.proofs.lemmas.List.{get_or-take, get_or-drop, take-append-drop, take-take, drop-drop, drop-take, ext_get_or}
 use Rattle.std.proofs.lemmas.List.Sums.{position_or_len_is}
 use Rattle.std.proofs.lemmas.Option.{unwrap_or-slice_get}
-use lib.Pointwise.{pointwise}
 use Rattle.link_base.specs.Bytes.{number_at, bytes_at, is_nul, text_at}
 use Rattle.link_base.specs.NameText.{same_name, import_prefix, import_prefix_of, begins_import, behind_import}
+use Rattle.link_base.proofs.NameTextLemmas.{same_refl}
+use Rattle.link_base.proofs.PartLemmas.{length_part}
 use Rattle.pdb_msf.specs.Streams.{stream_of, byte_of, stream_byte}
 use Rattle.pdb_publics.specs.Lookup.{stream_bytes_of}
 use Rattle.pdb_publics.proofs.HashLemmas.{whole_import, whole_other}
@@ -39,21 +40,8 @@ four_bytes bytes at low high is_low is_high =
 
 -- ---- texts
 
-pub length_at : (bytes : List ℕ) (at n : ℕ) → at + n ≤ length bytes → length (bytes_at bytes at n) ≡ n
-length_at bytes at n fits =
-    let rest = length-drop at bytes in
-    let cut = length-take n (drop at bytes) in
-    omega (arith, rest, cut, fits)
-
 pub byte_at : (bytes : List ℕ) (at n k : ℕ) → k < n → get_or (bytes_at bytes at n) k 0 ≡ get_or bytes (at + k) 0
 byte_at bytes at n k lt = get_or-take n (drop at bytes) k 0 lt ∙ get_or-drop at bytes k 0
-
-pub same_itself : (xs : List ℕ) → same_name xs xs ≡ true
-same_itself [] = refl
-same_itself (x ∷ xs) = ap (λ (b : Bool). b && pointwise eqb xs xs) (itself x) ∙ same_itself xs
-  where
-    itself : (n : ℕ) → eqb n n ≡ true
-    itself n = search rules
 
 pub other_byte : (xs ys : List ℕ) (k : ℕ) → get_or xs k 0 ≢ get_or ys k 0 → false ≡ same_name xs ys
 other_byte xs ys k differ = go (same_name xs ys) refl
@@ -70,9 +58,9 @@ other_text bytes text at k byte lt is differ =
 -- each is that of the text
 pub one_text : (bytes text : List ℕ) (at : ℕ) → at + length text ≤ length bytes → ((k : ℕ) → k < length text → get_or bytes (at + k) 0 ≡ get_or text k 0) → true ≡ same_name (bytes_at bytes at (length text)) text
 one_text bytes text at fits each =
-    let len = length_at bytes at (length text) fits in
+    let len = length_part bytes at (length text) fits in
     let same : bytes_at bytes at (length text) ≡ text = ext_get_or 0 (bytes_at bytes at (length text)) text len (λ k lt. let here : k < length text = omega (arith, lt, len) in byte_at bytes at (length text) k here ∙ each k here) in
-    sym (ap (λ (xs : List ℕ). same_name xs text) same ∙ same_itself text)
+    sym (ap (λ (xs : List ℕ). same_name xs text) same ∙ same_refl text)
 
 same_behind : (xs ys zs : List ℕ) → same_name (xs ++ ys) (xs ++ zs) ≡ same_name ys zs
 same_behind [] ys zs = refl
@@ -115,7 +103,7 @@ tail_byte bytes at size k lt =
     get_or-drop 14 (bytes_at bytes at size) k 0 ∙ byte_at bytes at size (14 + k) lt ∙ ap (λ (n : ℕ). get_or bytes n 0) place
 
 length_tail : (bytes : List ℕ) (at size : ℕ) → at + size ≤ length bytes → length (drop 14 (bytes_at bytes at size)) ≡ size - 14
-length_tail bytes at size fits = length-drop 14 (bytes_at bytes at size) ∙ ap (λ (n : ℕ). n - 14) (length_at bytes at size fits)
+length_tail bytes at size fits = length-drop 14 (bytes_at bytes at size) ∙ ap (λ (n : ℕ). n - 14) (length_part bytes at size fits)
 
 pub nul_found : (bytes : List ℕ) (at size len byte : ℕ) → at + size ≤ length bytes → 14 + len < size → ((k : ℕ) → k < len → eqb (get_or bytes (at + 14 + k) 0) 0 ≡ false) → byte ≡ get_or bytes (at + 14 + len) 0 → byte ≡ 0 → Some (bytes_at bytes (at + 14) len) ≡ text_at (bytes_at bytes at size) 14
 nul_found bytes at size len byte fits inside before is zero =

@@ -1,5 +1,5 @@
 -- A symbol record as it is read back.
-use Rattle.std.proofs.Common.{◌≡◌, ℕ, zero, suc, ◌+◌, ◌-◌, ◌<◌, ◌≤◌, Bool, true, false, eqb, leb, le-leb, lt-ltb, List, [], ◌∷◌, ◌++◌, length, get_or, take, drop, replicate, Some, option_map, refl, sym, ap, ◌∙◌, append_assoc, arith, rules, length-append, length-drop}
+use Rattle.std.proofs.Common.{◌≡◌, ℕ, zero, suc, ◌+◌, ◌-◌, ◌<◌, ◌≤◌, Bool, true, false, eqb, leb, le-leb, lt-ltb, List, [], ◌∷◌, ◌++◌, length, get_or, take, drop, replicate, Some, option_map, refl, sym, ap, ◌∙◌, append_assoc, arith, length-append, length-drop}
 use Rattle.std.specs.List.{position, position_or_len}
 use Rattle.std.proofs.lemmas.List.{drop-drop, drop_at, take_at, length-replicate, get_or-replicate, get_or_append_left, get_or-append-add}
 use Rattle.std.proofs.lemmas.List.Sums.{sum_by-cons, position_or_len_is}
@@ -8,6 +8,7 @@ use Rattle.link_base.specs.Fields.{fields, field_bytes}
 use Rattle.link_base.specs.declared.numbers.LeNumber.{LeNumber}
 use Rattle.link_base.specs.declared.numbers.LeNumber.TheVariants.{U16, U32}
 use Rattle.link_base.proofs.CallerLemmas.{number_at-number_bytes, number_at-drop}
+use Rattle.link_base.proofs.NumberLemmas.{not_zero}
 use Rattle.pdb_publics.specs.declared.rows.PublicRow.{PublicRow}
 use Rattle.pdb_publics.specs.PublicOrder.{record_size, extent}
 use Rattle.pdb_publics.specs.PublicStreams.{flags_of, record_of, records_of}
@@ -116,9 +117,6 @@ public_read offset records rest row is stands = λ i. record { section = section
 
 -- ---- its name
 
-above_zero : (n : ℕ) → 0 < n → eqb n 0 ≡ false
-above_zero n lt = search rules
-
 name_ends : (row : PublicRow) → IsRow row → position is_nul (row.name ++ zeros_of row) ≡ Some (length row.name)
 unfolding zeros_of
 name_ends row is =
@@ -130,7 +128,7 @@ name_ends row is =
     let e : length row.name ≡ length row.name + 0 = omega arith in
     let here : position_or_len is_nul text ≡ length row.name =
     position_or_len_is is_nul text (length row.name) 0 (omega (arith, both))
-    (λ k lt. ap (λ (n : ℕ). eqb n 0) (get_or_append_left row.name (zeros_of row) 0 k lt) ∙ above_zero (get_or row.name k 0) (is.no_nul k 0 lt))
+    (λ k lt. ap (λ (n : ℕ). eqb n 0) (get_or_append_left row.name (zeros_of row) 0 k lt) ∙ not_zero (get_or row.name k 0) (is.no_nul k 0 lt))
     (λ lt. ap (λ (n : ℕ). eqb n 0) (ap (λ (n : ℕ). get_or text n 0) e ∙ get_or-append-add row.name (zeros_of row) 0 0 ∙ get_or-replicate count 0 0 0 some)) in
     rw here (rw (lt-ltb (length row.name) (length text) (omega (arith, both, zeros, some))) refl)
 

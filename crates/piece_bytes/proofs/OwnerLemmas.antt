@@ -1,13 +1,10 @@
 -- The sections of pieces, one section more at a time.
-use Rattle.std.proofs.Common.{◌≡◌, ◌≢◌, ℕ, ◌+◌, ◌<◌, Bool, true, false, cond, ◌&&◌, ◌||◌, eqb, List, [], ◌∷◌, length, map, get_or, take, replicate, Option, Some, None, unwrap_or, refl, sym, ap, ◌∙◌, add-one, arith}
+use Rattle.std.proofs.Common.{◌≡◌, ◌≢◌, ℕ, ◌+◌, ◌<◌, Bool, true, false, cond, ◌&&◌, eqb, List, [], length, map, get_or, replicate, Option, Some, None, unwrap_or, refl, sym, ap, ◌∙◌, add-one, arith}
 use Rattle.std.specs.List.{list_any, range_with_len}
 use Rattle.std.specs.Option.{option_or}
-use Rattle.std.proofs.Math.Bool.{or-false}
-use Rattle.std.proofs.Math.Seq.{take-suc}
 use Rattle.std.proofs.Math.ListN.{get_or-map}
 use Rattle.std.proofs.lemmas.Bool.{ne_eqb, eq-eqb}
 use Rattle.std.proofs.lemmas.List.{get_or_default, length-map, ext_get_or, get_or-replicate}
-use Rattle.std.proofs.lemmas.List.Folds.{list_any-append}
 use Rattle.std.proofs.lemmas.List.FromFn.{get_or-map-range_with_len, length-map-range_with_len}
 use Rattle.link_base.specs.Bytes.{first_below}
 use Rattle.link_base.proofs.CallerLemmas.{first_below-some}
@@ -19,30 +16,6 @@ use Rattle.piece_bytes.specs.Owners.{no_row, row_holds, section_of, owners}
 
 abbrev pub noted : Bool → ℕ → ℕ → ℕ → ℕ
 noted there none section old = cond (there && eqb old none) section old
-
--- one more member
-pub noted_more : (members : List ℕ) (t k none section old : ℕ) (member : ℕ) → t < length members → member ≡ get_or members t member → section ≢ none → cond (eqb member k && eqb (noted (list_any (λ m. eqb m k) (take t members)) none section old) none) section (noted (list_any (λ m. eqb m k) (take t members)) none section old) ≡ noted (list_any (λ m. eqb m k) (take (t + 1) members)) none section old
-noted_more members t k none section old member lt read apart =
-    go (list_any (λ m. eqb m k) (take t members)) (eqb member k) (eqb old none) refl
-    ∙ ap (λ (b : Bool). noted b none section old) (sym grown)
-  where
-    grown : list_any (λ m. eqb m k) (take (t + 1) members) ≡ (list_any (λ m. eqb m k) (take t members) || eqb member k)
-    grown =
-        ap (λ (n : ℕ). list_any (λ m. eqb m k) (take n members)) (add-one t)
-        ∙ ap (list_any (λ m. eqb m k)) (take-suc members t member lt)
-        ∙ list_any-append (λ m. eqb m k) (take t members) (get_or members t member ∷ [])
-        ∙ ap (λ (m : ℕ). list_any (λ m. eqb m k) (take t members) || (eqb m k || false)) (sym read)
-        ∙ ap (λ (b : Bool). list_any (λ m. eqb m k) (take t members) || b) (or-false (eqb member k))
-
-    go : (a b c : Bool) → eqb old none ≡ c → cond (b && eqb (cond (a && c) section old) none) section (cond (a && c) section old) ≡ cond ((a || b) && c) section old
-    go true true true e = rw (ne_eqb section none apart) refl
-    go true true false e = rw e refl
-    go true false true e = refl
-    go true false false e = refl
-    go false true true e = rw e refl
-    go false true false e = rw e refl
-    go false false true e = refl
-    go false false false e = refl
 
 -- ---- one more section
 

@@ -5,15 +5,12 @@ use Rattle.std.proofs.lemmas.Bool.{cases_lt}
 use Rattle.std.proofs.lemmas.List.{get_or_append_left}
 use Rattle.std.proofs.lemmas.List.Elements.{All-append}
 use Rattle.std.proofs.lemmas.Option.{get_or_from_slice_get, slice_get-get_or, slice_get_within}
+use Rattle.link_base.proofs.ListLemmas.{at_end}
 use Rattle.reach.specs.Paths.{LeadsTo, IsPath, IsKept}
 
 one_piece : (pieces piece : ℕ) → piece < pieces → All (λ (p : ℕ). p < pieces) (piece ∷ [])
 one_piece pieces piece lt zero d h = lt
 one_piece pieces piece lt (suc k) d h = absurd (omega arith)
-
-at_end : {X : Type 0} (xs : List X) (x d : X) → get_or (xs ++ x ∷ []) (length xs) d ≡ x
-at_end [] x d = refl
-at_end (y ∷ xs) x d = at_end xs x d
 
 -- a root is kept, if it is a piece
 pub root_kept : (pieces : ℕ) (edges : List (ℕ × ℕ)) (roots : List ℕ) (piece : ℕ) → Contains roots piece → piece < pieces → IsKept pieces edges roots piece

@@ -1,5 +1,5 @@
 -- Another base moves the fields that hold addresses and no others, and no value into its range or out of it.
-use Rattle.std.proofs.Common.{◌≡◌, ◌≢◌, ℕ, zero, suc, ◌+◌, ◌-◌, ◌<◌, ℤ, pos, ◌+ℤ◌, ◌-ℤ◌, List, [], length, Option, Some, None, Bool, true, false, ◌&&◌, ◌||◌, not, option_map, Result, Ok, Err, eqb, refl, sym, ap, ◌∙◌, inl, inr, ◌⊎◌, arith, nat_le, le-leb, subst, slice_index}
+use Rattle.std.proofs.Common.{◌≡◌, ◌≢◌, ℕ, ◌+◌, ◌-◌, ◌<◌, ℤ, pos, ◌+ℤ◌, ◌-ℤ◌, List, [], length, Option, Some, None, Bool, true, false, ◌&&◌, ◌||◌, not, option_map, Result, Ok, Err, eqb, refl, sym, ap, ◌∙◌, inl, inr, ◌⊎◌, arith, nat_le, le-leb, subst, slice_index}
 use Rattle.std.proofs.lemmas.Bool.{false≢true}
 use Rattle.std.proofs.lemmas.Bool.Decides.{eqb_tells}
 use Rattle.std.proofs.lemmas.Int.{ints}
@@ -8,10 +8,12 @@ use Rattle.std.proofs.lemmas.List.FromFn.{fill_by_all, length-map-range_with_len
 use Rattle.std.specs.List.{find}
 use Rattle.std.specs.Option.{is_some, is_none}
 use Rattle.link_base.specs.Bytes.{number_bytes}
-use Rattle.link_base.specs.Refusals.{shown, first_standing, first_refusal_below}
+use Rattle.link_base.specs.Refusals.{shown, first_standing}
 use Rattle.link_base.specs.declared.kinds.target.TargetFault.{TargetFault}
 use Rattle.link_base.specs.declared.kinds.target.TargetFault.TheVariants as fault
 use Rattle.link_base.specs.declared.kinds.target.RelocKind.TheVariants as kind
+use Rattle.link_base.proofs.RefusalLemmas.{none_below, same_below}
+use Rattle.link_base.proofs.OptionLemmas.{none_mapped, both_none}
 use Rattle.address_layout.specs.declared.layout.Layout.{Layout}
 use Rattle.relocate.specs.declared.fix.Fix.{Fix}
 use Rattle.relocate.specs.declared.fix.Target.{Target}
@@ -23,25 +25,21 @@ use Rattle.relocate.specs.FieldFaults.{leaves_body, own_fault, is_absolute, plac
 use Rattle.relocate.specs.Judged.{IsPatchable, AreTheFields, ArePatchable}
 use Rattle.relocate.specs.Value.{address_of, meant, field_value, value_fits, parts_of, value_of, fits, held}
 use Rattle.relocate.specs.PatchedBytes.{covers, byte_by, patched_byte, patched_bytes, range_of, range_fault, is_based, IsSuited, AreSuited, HaveNoBased}
-use Rattle.relocate.proofs.JudgeLemmas.{or_none, shown_none, passes}
+use Rattle.relocate.proofs.JudgeLemmas.{shown_none, passes}
 use Rattle.relocate.proofs.PatchableLemmas.{none_each, with_field}
 use Rattle.relocate.proofs.ValueLemmas.{row_addr64, row_addr32, row_addr32nb, row_section, row_secrel, row_rel32, fits_addr32}
 use Rattle.relocate.proofs.FindLemmas.{found_in, map_range_same}
 use Rattle.relocate.proofs.PatchedLemmas.{covers_is}
-use Rattle.relocate.proofs.OrderLemmas.{among_fields, none_below, no_range}
+use Rattle.relocate.proofs.OrderLemmas.{among_fields, no_range}
 
 -- ---- a target that suits its type
-
-mapped_none : {A B : Type 0} (f : A → B) (x : Option A) → option_map f x ≡ None → x ≡ None
-mapped_none f None e = refl
-mapped_none f (Some x) e = absurd cc
 
 pub suited : (large pdata : Bool) (fix : Fix) → IsSuited large pdata fix → (own_fault fix.target ≡ None) × (nat_le 3 fix.kind && is_absolute fix.target ≡ false)
 unfolding target_faults
 suited large pdata fix h =
-    let own = or_none (option_map (error.Target fix.index) (own_fault fix.target)) _ h.1 in
-    let relative = or_none (shown (nat_le 3 fix.kind && is_absolute fix.target) (error.Target fix.index fault.AbsRelative)) _ own.1 in
-    (mapped_none (error.Target fix.index) (own_fault fix.target) own.0, shown_none (nat_le 3 fix.kind && is_absolute fix.target) (error.Target fix.index fault.AbsRelative) relative.0)
+    let own = both_none (option_map (error.Target fix.index) (own_fault fix.target)) _ h.1 in
+    let relative = both_none (shown (nat_le 3 fix.kind && is_absolute fix.target) (error.Target fix.index fault.AbsRelative)) _ own.1 in
+    (none_mapped (error.Target fix.index) (own_fault fix.target) own.0, shown_none (nat_le 3 fix.kind && is_absolute fix.target) (error.Target fix.index fault.AbsRelative) relative.0)
 
 not_none : {A : Type 0} (x : Option A) → is_none x ≡ false → is_some x ≡ true
 not_none None e = absurd (false≢true (sym e))
@@ -50,9 +48,9 @@ not_none (Some x) e = refl
 has_symbol : (body_len : Option ℕ) (fix : Fix) → first_standing (place_faults body_len fix) ≡ None → is_some fix.target ≡ true
 unfolding place_faults
 has_symbol body_len fix e =
-    let first = or_none (shown (nat_le 12 fix.kind) (error.Reloc fix.index kind.Kind)) _ e in
-    let second = or_none (shown (leaves_body body_len fix) (error.Reloc fix.index kind.Field)) _ first.1 in
-    let third = or_none (shown (is_none fix.target) (error.Reloc fix.index kind.Index)) _ second.1 in
+    let first = both_none (shown (nat_le 12 fix.kind) (error.Reloc fix.index kind.Kind)) _ e in
+    let second = both_none (shown (leaves_body body_len fix) (error.Reloc fix.index kind.Field)) _ first.1 in
+    let third = both_none (shown (is_none fix.target) (error.Reloc fix.index kind.Index)) _ second.1 in
     not_none fix.target (shown_none (is_none fix.target) (error.Reloc fix.index kind.Index) third.0)
 
 -- relocations of which none has a fault
@@ -211,14 +209,6 @@ module _ (large pdata : Bool) (base other rva : ℕ) (layout : Layout) (owner by
 
 -- ---- all fields
 
-refusals_same : {A : Type 0} (n : ℕ) (first second : ℕ → Option A) → ((k : ℕ) → k < n → first k ≡ second k) → first_refusal_below n first ≡ first_refusal_below n second
-unfolding first_refusal_below
-refusals_same zero first second same = refl
-refusals_same (suc n) first second same =
-    let earlier = refusals_same n first second (λ k lt. same k (omega arith)) in
-    let here = same n (omega arith) in
-    rw (earlier, here) refl
-
 not_shown : {A : Type 0} (b : Bool) (x : A) → b ≡ true → shown b x ≡ None → ⊥
 not_shown b x stands e = false≢true (sym (shown_none b x e) ∙ stands)
 
@@ -249,7 +239,7 @@ module _ (large pdata : Bool) (base other rva : ℕ) (layout : Layout) (owner : 
   pub range_stays : AreSuited large pdata fixes → HaveNoBased fixes → range_fault base rva layout owner fixes bytes ≡ range_fault other rva layout owner fixes bytes
   unfolding range_fault
   range_stays all still =
-      refusals_same (length fixes) (λ k. range_of base rva layout owner bytes (fix_at fixes k)) (λ k. range_of other rva layout owner bytes (fix_at fixes k)) (λ k lt. by k lt (has_field (fix_at fixes k)) refl)
+      same_below (length fixes) (λ k. range_of base rva layout owner bytes (fix_at fixes k)) (λ k. range_of other rva layout owner bytes (fix_at fixes k)) (λ k lt. by k lt (has_field (fix_at fixes k)) refl)
     where
       by : (k : ℕ) → k < length fixes → (b : Bool) → has_field (fix_at fixes k) ≡ b → range_of base rva layout owner bytes (fix_at fixes k) ≡ range_of other rva layout owner bytes (fix_at fixes k)
       by k lt false nothing = rw nothing refl

@@ -6,11 +6,11 @@ use Rattle.std.proofs.lemmas.List.Elements.{filter_more, All-push, All-weaker, A
 use Rattle.std.proofs.lemmas.List.Quantifiers.{all_pairs_push}
 use Rattle.std.proofs.lemmas.List.{take_all, take_more, get_or_default}
 use Rattle.std.specs.List.{All, filter}
-use Rattle.std.specs.Option.{option_or, is_some}
+use Rattle.std.specs.Option.{is_some}
 use Rattle.link_base.specs.Refusals.{shown, first_standing, first_refusal_below}
-use Rattle.relocate.proofs.FaultLemmas.{standing_append}
 use Rattle.link_base.proofs.CallerLemmas.{first_below-all_fail}
-use Rattle.link_base.proofs.RefusalLemmas.{first_refusal_below-more, first_refusal_below-found}
+use Rattle.link_base.proofs.RefusalLemmas.{first_refusal_below-more, first_refusal_below-found, standing_append}
+use Rattle.link_base.proofs.OptionLemmas.{both_none}
 use Rattle.relocate.specs.declared.fix.Fix.{Fix}
 use Rattle.relocate.specs.declared.error.FieldError.{FieldError}
 use Rattle.relocate.specs.declared.error.FieldError.TheVariants.{Reloc, Target, Memory}
@@ -62,10 +62,6 @@ if_false : {A : Type 0} (b : Bool) (x : Option A) → cond b None x ≡ None →
 if_false true x e f = absurd cc
 if_false false x e f = e
 
-pub or_none : {A : Type 0} (a b : Option A) → option_or a b ≡ None → (a ≡ None) × (b ≡ None)
-or_none None b e = (refl, e)
-or_none (Some x) b e = absurd cc
-
 pub shown_none : {A : Type 0} (b : Bool) (x : A) → shown b x ≡ None → b ≡ false
 shown_none true x e = absurd cc
 shown_none false x e = refl
@@ -81,8 +77,8 @@ unfolding fault_of
 passes body_len large pdata fix overlaps e some =
     let nonzero : eqb fix.kind 0 ≡ false = grind (arith, nat_tests) in
     let all = if_false (eqb fix.kind 0) _ e nonzero in
-    let parts = or_none (first_standing (place_faults body_len fix)) _ (sym (standing_append (place_faults body_len fix) _) ∙ all) in
-    let rest = or_none (shown overlaps _) (first_standing (target_faults large pdata fix)) parts.1 in
+    let parts = both_none (first_standing (place_faults body_len fix)) _ (sym (standing_append (place_faults body_len fix) _) ∙ all) in
+    let rest = both_none (shown overlaps _) (first_standing (target_faults large pdata fix)) parts.1 in
     record { place = parts.0; apart = shown_none overlaps _ rest.0; target = rest.1 }
 
 wide : (a b : Bool) → 0 < cond a 8 (cond b 2 4)
@@ -94,7 +90,7 @@ wide false false = omega arith
 pub has_width : (body_len : Option ℕ) (fix : Fix) → first_standing (place_faults body_len fix) ≡ None → fix.kind ≢ 0 → 0 < field_width fix.kind
 unfolding place_faults field_width
 has_width body_len fix e some =
-    let linked = shown_none (nat_lt 11 fix.kind) _ (or_none (shown (nat_lt 11 fix.kind) _) _ e).0 in
+    let linked = shown_none (nat_lt 11 fix.kind) _ (both_none (shown (nat_lt 11 fix.kind) _) _ e).0 in
     let nonzero : eqb fix.kind 0 ≡ false = grind (arith, nat_tests) in
     let upto : nat_le fix.kind 11 ≡ true = grind (arith, nat_tests) in
     rw (nonzero, upto) (wide (eqb fix.kind 1) (eqb fix.kind 10))

@@ -1,4 +1,3 @@
-pub mod FaultLemmas
 pub mod JudgeLemmas
 pub mod TakenLemmas
 pub mod PatchableLemmas

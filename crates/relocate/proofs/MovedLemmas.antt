@@ -10,6 +10,7 @@ use Rattle.std.specs.List.{find}
 use Rattle.std.specs.Prelude.{unsigned_abs}
 use Rattle.link_base.specs.Bytes.{number_at, number_bytes}
 use Rattle.link_base.proofs.PutLemmas.{number_at-same}
+use Rattle.link_base.proofs.NumberLemmas.{far_enough}
 use Rattle.address_layout.specs.declared.layout.Layout.{Layout}
 use Rattle.relocate.specs.declared.fix.Fix.{Fix}
 use Rattle.relocate.specs.Field.{field_width, field_end, no_fix, fix_at}
@@ -82,12 +83,9 @@ number_patched base rva layout owner fixups bytes k patchable lt =
 
 -- ---- the number of a value that moves
 
-times : (a n : ℕ) → 0 < n → a ≤ a * n
-times a n some = grind arith
-
 reaches : (n : ℕ) (value : ℤ) → 0 < n → (k m : ℕ) × (value +ℤ pos (k * n) ≡ pos m)
 reaches n (pos a) some = (0, a, omega (arith, ints))
-reaches n (negsuc a) some = let le = times (suc a) n some in (suc a, suc a * n - suc a, omega (arith, ints))
+reaches n (negsuc a) some = let le = far_enough (suc a) n some in (suc a, suc a * n - suc a, omega (arith, ints))
 
 parted : (n p d : ℕ) → d ≡ d % (p * n) + p * (d / (p * n)) * n
 parted n p d = omega (arith, mod-add-div d (p * n))

@@ -16,11 +16,12 @@ use Rattle.relocate.specs.Field.{field_width, has_field}
 use Rattle.relocate.specs.declared.error.FieldError.TheVariants as error
 use Rattle.link_base.specs.declared.kinds.target.RelocKind.TheVariants as kind
 use Rattle.link_base.specs.Refusals.{shown}
+use Rattle.link_base.proofs.OptionLemmas.{both_none}
 use Rattle.relocate.specs.FieldFaults.{own_fault, place_faults}
 use Rattle.relocate.specs.Judged.{IsPatchable}
 use Rattle.relocate.specs.Value.{address_of, section_number, section_start, target_of, old_number, field_value, value_fits, parts_of, value_of, fits, lies_in, held}
 use Rattle.relocate.specs.Written.{IsNear, IsMeant, CountsElsewhere, number_in, number_of, written_over, patched_by, one_patched, value_outside}
-use Rattle.relocate.proofs.JudgeLemmas.{or_none, shown_none, absolute_width}
+use Rattle.relocate.proofs.JudgeLemmas.{shown_none, absolute_width}
 use Rattle.relocate.proofs.WriteLemmas.{width_other}
 use Rattle.relocate.proofs.BaseLemmas.{suited, patchable_suits, from_behind, relative_sum}
 
@@ -139,7 +140,7 @@ signed_is v w r e low high f = rw (f, sym e, low, high) refl
 pub linked_kind : (len : ℕ) (fix : Fix) → IsPatchable len fix → fix.kind ≤ 11
 unfolding place_faults
 linked_kind len fix patchable =
-    let first = or_none (shown (nat_lt 11 fix.kind) (error.Reloc fix.index kind.Kind)) _ patchable.place in
+    let first = both_none (shown (nat_lt 11 fix.kind) (error.Reloc fix.index kind.Kind)) _ patchable.place in
     let none = shown_none (nat_lt 11 fix.kind) (error.Reloc fix.index kind.Kind) first.0 in
     grind (arith, nat_tests)
 

@@ -1,12 +1,11 @@
 -- Relocations in the order of their indexes, and their fields in ascending order, patch the same bytes and have the same
 -- first value that does not fit.
-use Rattle.std.proofs.Common.{◌≡◌, ℕ, zero, suc, ◌<◌, ◌≤◌, ℤ, List, length, get_or, Option, Some, None, Bool, true, false, refl, sym, ap, ◌∙◌, inl, inr, arith}
+use Rattle.std.proofs.Common.{◌≡◌, ℕ, ◌<◌, ◌≤◌, ℤ, List, length, get_or, Some, None, Bool, true, false, refl, sym, ap, ◌∙◌, inl, inr, arith}
 use Rattle.std.proofs.lemmas.Bool.{cases_lt}
 use Rattle.std.proofs.lemmas.List.Elements.{All-from_get_or, All-filter, filter_passes}
 use Rattle.std.proofs.lemmas.List.Sorted.{IsPermutation-sym, All-permutation}
 use Rattle.std.specs.List.{All, find, filter}
-use Rattle.link_base.specs.Refusals.{first_refusal_below}
-use Rattle.link_base.proofs.RefusalLemmas.{first_refusal_below-found}
+use Rattle.link_base.proofs.RefusalLemmas.{first_refusal_below-found, none_below}
 use Rattle.address_layout.specs.declared.layout.Layout.{Layout}
 use Rattle.relocate.specs.declared.fix.Fix.{Fix}
 use Rattle.relocate.specs.declared.range.RelocRange.{RelocRange}
@@ -63,14 +62,6 @@ among_fields P fixes fixups k fields all lt some =
     All-unfilter P has_field fixes (All-permutation P fixups (filter has_field fixes) (IsPermutation-sym (filter has_field fixes) fixups fields) all) k no_fix lt some
 
 -- ---- ranges
-
-pub none_below : {A : Type 0} (n : ℕ) (refusal_at : ℕ → Option A) → ((k : ℕ) → k < n → refusal_at k ≡ None) → first_refusal_below n refusal_at ≡ None
-unfolding first_refusal_below
-none_below zero refusal_at none = refl
-none_below (suc n) refusal_at none =
-    let earlier = none_below n refusal_at (λ k lt. none k (omega arith)) in
-    let here = none n (omega arith) in
-    rw (earlier, here) refl
 
 -- no range where the value fits if there is a field
 pub no_range : (base rva : ℕ) (layout : Layout) (owner bytes : List ℕ) (fix : Fix) → (has_field fix ≡ true → fits base rva layout owner bytes fix ≡ true) → range_of base rva layout owner bytes fix ≡ None

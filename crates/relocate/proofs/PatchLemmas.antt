@@ -1,5 +1,5 @@
 -- Fields patched one after the other, in ascending order.
-use Rattle.std.proofs.Common.{◌≡◌, ℕ, ◌+◌, ◌<◌, ◌≤◌, List, length, slice_index, Option, Some, None, Bool, true, false, cond, refl, sym, ap, ◌∙◌, inl, inr, arith, lt-ltb, le-ltb, subst, nat_lt}
+use Rattle.std.proofs.Common.{◌≡◌, ℕ, ◌+◌, ◌<◌, ◌≤◌, List, length, slice_index, Option, Some, None, Bool, true, false, cond, refl, sym, ap, ◌∙◌, inl, inr, arith, lt-ltb, subst, nat_lt}
 use Rattle.std.proofs.lemmas.Bool.{cases_lt, false≢true}
 use Rattle.std.proofs.lemmas.List.Elements.{All-from_get_or}
 use Rattle.std.specs.List.{All}
@@ -8,10 +8,12 @@ use Rattle.link_base.specs.declared.kinds.target.RelocKind.TheVariants as kind
 use Rattle.relocate.specs.declared.error.FieldError.TheVariants as error
 use Rattle.relocate.specs.FieldFaults.{place_faults}
 use Rattle.relocate.specs.Judged.{IsPatchable, AreApart, ArePatchable}
-use Rattle.relocate.proofs.JudgeLemmas.{or_none, shown_none}
+use Rattle.relocate.proofs.JudgeLemmas.{shown_none}
 use Rattle.relocate.proofs.WriteLemmas.{length-written, written_before, written_behind, written_inside, written_there, held_fits}
 use Rattle.link_base.proofs.PutLemmas.{number_at-same}
 use Rattle.link_base.specs.Bytes.{number_at}
+use Rattle.link_base.proofs.NumberLemmas.{is_below}
+use Rattle.link_base.proofs.OptionLemmas.{both_none}
 use Rattle.address_layout.specs.declared.layout.Layout.{Layout}
 use Rattle.relocate.specs.declared.fix.Fix.{Fix}
 use Rattle.relocate.specs.declared.range.RelocRange.{RelocRange}
@@ -41,17 +43,13 @@ pub record PatchedTo (base rva : ℕ) (layout : Layout) (owner : List ℕ) (fixu
   pub others : (byte : ℕ) → ((j : ℕ) → j < k → IsOutside byte (fix_at fixups j)) → slice_index new byte ≡ slice_index old byte
   pub ranges : RangesTo base rva layout owner fixups k old least
 
-pub none_patched : (base rva : ℕ) (layout : Layout) (owner : List ℕ) (fixups : List Fix) (old : List ℕ) → PatchedTo base rva layout owner fixups 0 old old None
-none_patched base rva layout owner fixups old =
-    record { len = refl; hold = λ j lt. absurd (omega arith); inside = λ j byte lt. absurd (omega arith); others = λ byte outside. refl; ranges = λ j lt. absurd (omega arith) }
-
 -- ---- one more
 
 pub within_at : (len : ℕ) (fix : Fix) → IsPatchable len fix → field_end fix ≤ len
 unfolding place_faults
 within_at len fix patchable =
-    let first = or_none (shown (nat_lt 11 fix.kind) (error.Reloc fix.index kind.Kind)) _ patchable.place in
-    let second = or_none (shown (nat_lt len (field_end fix)) (error.Reloc fix.index kind.Field)) _ first.1 in
+    let first = both_none (shown (nat_lt 11 fix.kind) (error.Reloc fix.index kind.Kind)) _ patchable.place in
+    let second = both_none (shown (nat_lt len (field_end fix)) (error.Reloc fix.index kind.Field)) _ first.1 in
     let none = shown_none (nat_lt len (field_end fix)) (error.Reloc fix.index kind.Field) second.0 in
     elim (cases_lt len (field_end fix)) [
       | inl beyond ↦ absurd (false≢true (sym none ∙ lt-ltb _ _ beyond))
@@ -118,9 +116,6 @@ new_range base rva layout owner fixups k old misfit lower =
         | inr here ↦ let same : j ≡ k = omega arith in let e = ap (λ (i : ℕ). (fix_at fixups i).index) same in omega arith
       ];
     }
-
-is_below : (a b : ℕ) → nat_lt a b ≡ true → a < b
-is_below a b e = elim (cases_lt a b) [ inl lt ↦ lt | inr le ↦ absurd (false≢true (sym (le-ltb _ _ le) ∙ e)) ]
 
 chosen_range : (base rva : ℕ) (layout : Layout) (owner : List ℕ) (fixups : List Fix) (k : ℕ) (old : List ℕ) (range : RelocRange) (lower : Bool) → nat_lt (fix_at fixups k).index range.index ≡ lower → fits base rva layout owner old (fix_at fixups k) ≡ false → LeastBelow base rva layout owner fixups k old range
     → RangesTo base rva layout owner fixups (k + 1) old (cond lower (Some (record { index = (fix_at fixups k).index; value = value_of base rva layout owner old (fix_at fixups k) })) (Some range))

@@ -16,10 +16,11 @@ use Rattle.relocate.specs.declared.error.FieldError.TheVariants as error
 use Rattle.link_base.specs.declared.kinds.target.TargetFault.TheVariants as target
 use Rattle.link_base.specs.declared.kinds.target.RelocKind.TheVariants as kind
 use Rattle.link_base.proofs.RefusalLemmas.{neither_stands}
+use Rattle.link_base.proofs.OptionLemmas.{both_none}
 use Rattle.relocate.specs.Field.{field_width, field_end, has_field, ranges_meet, shares_byte, no_fix, fix_at}
 use Rattle.relocate.specs.FieldFaults.{own_fault, is_absolute, is_image_base, place_faults, target_faults, overlaps_earlier, fault_of, fault_at, field_fault}
 use Rattle.relocate.specs.Judged.{IsPatchable, AreApart, ArePatchable, size_of}
-use Rattle.relocate.proofs.JudgeLemmas.{absolute_width, or_none, passes}
+use Rattle.relocate.proofs.JudgeLemmas.{absolute_width, passes}
 use Rattle.relocate.proofs.TakenLemmas.{parted_from}
 
 -- none has a fault: each has none
@@ -27,7 +28,7 @@ pub none_each : {A : Type 0} (n : ℕ) (fault : ℕ → Option A) → first_refu
 unfolding first_refusal_below
 none_each zero fault none k lt = absurd (omega arith)
 none_each (suc n) fault none k lt =
-    let both = or_none (first_refusal_below n fault) (fault n) none in
+    let both = both_none (first_refusal_below n fault) (fault n) none in
     elim (cases_lt k n) [
       | inl below ↦ none_each n fault both.0 k below
       | inr above ↦ let same : k ≡ n = omega arith in ap fault same ∙ both.1
@@ -39,7 +40,7 @@ sized : (body_len : Option ℕ) (fix : Fix) → first_standing (place_faults bod
 unfolding place_faults
 sized (Some len) fix e = e
 sized None fix e =
-    let first = or_none (shown (nat_lt 11 fix.kind) (error.Reloc fix.index kind.Kind)) _ e in
+    let first = both_none (shown (nat_lt 11 fix.kind) (error.Reloc fix.index kind.Kind)) _ e in
     let bad : Some (error.Reloc fix.index kind.Field) ≡ None = first.1 in
     absurd cc
 
@@ -51,9 +52,9 @@ no_more false b c x y = refl
 suits : (large pdata : Bool) (fix : Fix) → first_standing (target_faults large pdata fix) ≡ None → first_standing (target_faults false false fix) ≡ None
 unfolding target_faults
 suits large pdata fix e =
-    let own = or_none (option_map (error.Target fix.index) (own_fault fix.target)) _ e in
-    let relative = or_none (shown (nat_le 3 fix.kind && is_absolute fix.target) (error.Target fix.index target.AbsRelative)) _ own.1 in
-    let section = or_none (shown (nat_le 10 fix.kind && is_image_base fix.target) (error.Target fix.index target.NoSection)) _ relative.1 in
+    let own = both_none (option_map (error.Target fix.index) (own_fault fix.target)) _ e in
+    let relative = both_none (shown (nat_le 3 fix.kind && is_absolute fix.target) (error.Target fix.index target.AbsRelative)) _ own.1 in
+    let section = both_none (shown (nat_le 10 fix.kind && is_image_base fix.target) (error.Target fix.index target.NoSection)) _ relative.1 in
     neither_stands _ _ own.0 (neither_stands _ _ relative.0 (neither_stands _ _ section.0 (no_more (eqb fix.kind 2) (not (is_absolute fix.target)) (not (eqb fix.kind 3)) (error.Target fix.index target.NeedsLow) (error.Target fix.index target.PdataField))))
 
 pub with_field : (fix : Fix) → has_field fix ≡ true → fix.kind ≡ 0 → ⊥

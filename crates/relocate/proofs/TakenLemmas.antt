@@ -1,5 +1,5 @@
 -- The places of fields that are taken, in the order of the relocations' indexes.
-use Rattle.std.proofs.Common.{◌≡◌, ◌≢◌, ℕ, ◌+◌, ◌-◌, ◌<◌, ◌≤◌, List, [], ◌∷◌, Option, Some, None, Bool, true, false, cond, refl, sym, ap, ◌∙◌, eqb, le-ltb, lt-ltb, inl, inr, arith, nat_le, subst}
+use Rattle.std.proofs.Common.{◌≡◌, ◌≢◌, ℕ, ◌+◌, ◌<◌, ◌≤◌, List, [], ◌∷◌, Option, Some, None, Bool, true, false, cond, refl, sym, ap, ◌∙◌, eqb, lt-ltb, inl, inr, arith, nat_le, subst}
 use Rattle.std.proofs.lemmas.Option.{same_Some}
 use Rattle.std.proofs.lemmas.Bool.{cases_lt, false≢true}
 use Rattle.std.proofs.lemmas.Bool.Decides.{nat_tests, eqb_tells}
@@ -11,6 +11,7 @@ use Rattle.std.specs.BTreeMap as tree
 use Rattle.std.specs.BTreeMap.{BTreeMap}
 use Rattle.link_base.specs.Bytes.{first_below}
 use Rattle.link_base.proofs.CallerLemmas.{first_below-all_fail, first_below-none}
+use Rattle.link_base.proofs.OptionLemmas.{none_is}
 use Rattle.relocate.specs.declared.fix.Fix.{Fix}
 use Rattle.relocate.specs.Field.{field_width, field_end, ranges_meet, shares_byte, fix_at}
 use Rattle.relocate.specs.FieldFaults.{overlaps_earlier}
@@ -41,18 +42,6 @@ narrow fixes k taken holds place width e =
     omega arith
 
 -- ---- overlaps
-
-pub none_met : (at end : ℕ) (taken : BTreeMap ℕ ℕ) → at ≤ end → AreNarrow taken → ((place width : ℕ) → at - 7 ≤ place → place < end → width_at taken place ≡ Some width → ranges_meet place (place + width) at end ≡ false)
-    → (place width : ℕ) → width_at taken place ≡ Some width → ranges_meet place (place + width) at end ≡ false
-none_met at end taken le narrow none place width e =
-    let small = narrow place width e in
-    elim (cases_lt place (at - 7)) [
-      | inl below ↦ le-ltb _ _ (omega arith)
-      | inr from ↦ elim (cases_lt place end) [
-        | inl within ↦ none place width from within e
-        | inr beyond ↦ le-ltb _ _ (omega arith)
-      ]
-    ]
 
 some_found : (n j : ℕ) (test : ℕ → Bool) (found : Option ℕ) → found ≡ first_below n test → j < n → test j ≡ true → is_some found ≡ true
 some_found n j test None e lt passes = absurd (false≢true (sym (first_below-none n test (sym e) j lt) ∙ passes))
@@ -105,16 +94,12 @@ holds_absolute fixes k taken holds absolute =
 other_key : (a b : ℕ) → a ≢ b → tree.is_at (nat_cmp a) b ≡ false
 other_key a b apart = grind (arith, nat_tests)
 
-not_some : (found : Option ℕ) → is_some found ≡ false → found ≡ None
-not_some None e = refl
-not_some (Some k) e = absurd cc
-
 distinct : (a v b w : ℕ) → 0 < v → 0 < w → ranges_meet a (a + v) b (b + w) ≡ false → a ≡ b → ⊥
 distinct a v b w some other h same = false≢true (sym h ∙ lt-ltb _ _ (omega arith))
 
 pub parted_from : (fixes : List Fix) (k j : ℕ) → overlaps_earlier fixes k ≡ false → j < k → shares_byte (fix_at fixes j) (fix_at fixes k) ≡ false
 unfolding overlaps_earlier
-parted_from fixes k j apart lt = first_below-none k (λ i. shares_byte (fix_at fixes i) (fix_at fixes k)) (not_some _ apart) j lt
+parted_from fixes k j apart lt = first_below-none k (λ i. shares_byte (fix_at fixes i) (fix_at fixes k)) (none_is _ apart) j lt
 
 holds_field : (fixes : List Fix) (k : ℕ) (old new : BTreeMap ℕ ℕ) → Holds fixes k old → overlaps_earlier fixes k ≡ false → 0 < field_width (fix_at fixes k).kind
     → tree.Updates nat_cmp old new (fix_at fixes k).at (Some (field_width (fix_at fixes k).kind)) → Holds fixes (k + 1) new

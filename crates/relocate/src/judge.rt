@@ -11,7 +11,7 @@ use link_base::RelocKind;
 use link_base::pe_format::REL_AMD64_ABSOLUTE;
 
 /// The first fault of a relocation whose field overlaps that of an earlier one, or does not.
-#[tactic(auto, using(crate::proofs::FaultLemmas::standing_append), unfolding(crate::specs::FieldFaults::fault_of))]
+#[tactic(auto, using(link_base::proofs::RefusalLemmas::standing_append), unfolding(crate::specs::FieldFaults::fault_of))]
 pub(crate) fn fault_of(
     body_len: Option<usize>,
     large: bool,

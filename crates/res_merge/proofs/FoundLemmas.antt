@@ -5,8 +5,9 @@ use Rattle.std.specs.Prelude.{count_by}
 use Rattle.std.specs.List.{flat_map, range_with_len, AllByRecursion}
 use Rattle.std.proofs.lemmas.List.{drop-drop}
 use Rattle.std.proofs.lemmas.List.Sums.{sum_by-cons}
-use Rattle.link_base.specs.Bytes.{number_at, number_bytes, u16_at, u32_at}
-use Rattle.link_base.proofs.CallerLemmas.{number_at-drop, number_at-number_bytes, length-number_bytes}
+use Rattle.link_base.specs.Bytes.{number_bytes, u16_at, u32_at}
+use Rattle.link_base.proofs.CallerLemmas.{length-number_bytes}
+use Rattle.link_base.proofs.PartLemmas.{number_there}
 use Rattle.res_merge.specs.declared.rows.Row.{Row}
 use Rattle.res_merge.specs.Tree.{row_bytes, is_text_row, table, table_header}
 use Rattle.res_merge.specs.Lookup.{row_at, row_count, rows_at}
@@ -17,12 +18,6 @@ use Rattle.res_merge.specs.Lookup.{row_at, row_count, rows_at}
 pub behind : (bytes part rest : List ℕ) (at size : ℕ) → drop at bytes ≡ part ++ rest → length part ≡ size → drop (at + size) bytes ≡ rest
 behind bytes part rest at size is len =
     sym (drop-drop size at bytes) ∙ ap (drop size) is ∙ ap (λ (n : ℕ). drop n (part ++ rest)) (sym len) ∙ drop-append_seam part rest
-
--- a number is read where its bytes stand
-pub number_there : (width number at : ℕ) (bytes rest : List ℕ) → drop at bytes ≡ number_bytes width number ++ rest → number < 256 ^ width → number_at width bytes at ≡ number
-number_there width number at bytes rest is fits =
-    let same : at ≡ at + 0 = omega arith in
-    ap (number_at width bytes) same ∙ sym (number_at-drop width at 0 bytes) ∙ ap (λ (xs : List ℕ). number_at width xs 0) is ∙ number_at-number_bytes width number rest fits
 
 -- ---- entries of a table
 

@@ -5,13 +5,14 @@ use Rattle.std.specs.Option.{option_map, option_and_then}
 use Rattle.std.proofs.lemmas.List.{length-replicate}
 use Rattle.link_base.specs.Bytes.{number_bytes, u32_at, has_bytes, bytes_at}
 use Rattle.link_base.proofs.CallerLemmas.{length-number_bytes}
+use Rattle.link_base.proofs.PartLemmas.{number_there}
 use Rattle.res_merge.specs.Entries.{Number, Entry}
 use Rattle.res_merge.specs.ResourceFile.{aligned}
 use Rattle.res_merge.specs.Tree.{HIGH_BIT, LEAF_SIZE, leaves, padding, data_from, language_rows}
 use Rattle.res_merge.specs.Lookup.{is_named, first_named, leaf_target, leaf_data}
 use Rattle.res_merge.specs.Found.{body_of}
 use Rattle.res_merge.proofs.WritingLemmas.{leaf_fields, aligned-above}
-use Rattle.res_merge.proofs.FoundLemmas.{behind, number_there}
+use Rattle.res_merge.proofs.FoundLemmas.{behind}
 
 -- the leaves of resources stand at an offset, and their data at another, behind so many zeros
 pub record Stand (part : List ℕ) (rva leaf place filling : ℕ) (entries : List Entry) : Type 0 where

@@ -1,34 +1,22 @@
 -- What an entry of a table names where its text stands.
-use Rattle.std.proofs.Common.{◌≡◌, ◌≢◌, ◌⊎◌, ℕ, ◌+◌, ◌-◌, ◌*◌, ◌/◌, ◌<◌, ◌≤◌, true, false, eqb, leb, List, [], ◌∷◌, ◌++◌, length, take, drop, refl, sym, ap, ◌∙◌, inl, inr, le-leb, append_assoc, length-append, length-drop, arith}
+use Rattle.std.proofs.Common.{◌≡◌, ◌≢◌, ◌⊎◌, ℕ, ◌+◌, ◌-◌, ◌*◌, ◌/◌, ◌<◌, ◌≤◌, true, false, eqb, leb, List, [], ◌++◌, length, take, drop, refl, sym, ap, ◌∙◌, inl, inr, le-leb, append_assoc, length-append, length-drop, arith}
 use Rattle.std.proofs.Math.Bool.{and-false}
 use Rattle.std.specs.Prelude.{replicate}
 use Rattle.std.specs.Cmp.Lexicographic.{unequal}
 use Rattle.std.proofs.lemmas.Bool.{cases_lt, eq-eqb}
-use Rattle.std.proofs.lemmas.Bool.Decides.{eqb_tells}
 use Rattle.link_base.specs.Bytes.{number_bytes, u16_at, has_bytes, bytes_at}
 use Rattle.link_base.specs.NameText.{same_name}
 use Rattle.link_base.proofs.CallerLemmas.{length-number_bytes}
+use Rattle.link_base.proofs.NumberLemmas.{eqb_apart}
+use Rattle.link_base.proofs.ListLemmas.{front_is}
+use Rattle.link_base.proofs.PartLemmas.{number_there}
 use Rattle.res_merge.specs.Entries.{Key, Number, Text}
 use Rattle.res_merge.specs.ResourceFile.{aligned}
 use Rattle.res_merge.specs.Order.{IsShort}
 use Rattle.res_merge.specs.Tree.{HIGH_BIT, text_bytes, row_id}
 use Rattle.res_merge.specs.Lookup.{is_text_at, is_named}
 use Rattle.res_merge.specs.Found.{IsSmallKey, equal_key}
-use Rattle.res_merge.proofs.FoundLemmas.{behind, number_there}
-
-other : (m n : ℕ) → m ≢ n → eqb m n ≡ false
-other m n apart =
-    elim (eqb_tells m n) [
-      | inl is ↦ absurd (apart is.1)
-      | inr differ ↦ differ.0
-    ]
-
-first_of : (xs ys : List ℕ) (n : ℕ) → n ≡ length xs → take n (xs ++ ys) ≡ xs
-first_of xs ys n is = ap (λ (k : ℕ). take k (xs ++ ys)) is ∙ go xs
-  where
-    go : (xs : List ℕ) → take (length xs) (xs ++ ys) ≡ xs
-    go [] = refl
-    go (x ∷ xs) = ap (λ (rest : List ℕ). x ∷ rest) (go xs)
+use Rattle.res_merge.proofs.FoundLemmas.{behind}
 
 abbrev pad : List ℕ → List ℕ
 pad units = replicate (aligned (2 + length units) - (2 + length units)) 0
@@ -52,13 +40,13 @@ module _ (part rest units wanted : List ℕ) (offset : ℕ) (is : drop offset pa
 
   apart : length units ≢ length wanted → is_text_at part offset wanted ≡ same_name units wanted
   apart differ =
-      rw (other (2 * u16_at part offset) (length wanted) (λ e. differ (sym read ∙ e))) (and-false (has_bytes part offset (2 + length wanted)) ∙ sym (unequal eqb units wanted differ))
+      rw (eqb_apart (2 * u16_at part offset) (length wanted) (λ e. differ (sym read ∙ e))) (and-false (has_bytes part offset (2 + length wanted)) ∙ sym (unequal eqb units wanted differ))
 
   same : length units ≡ length wanted → is_text_at part offset wanted ≡ same_name units wanted
   same e =
       let there : has_bytes part offset (2 + length wanted) ≡ true = le-leb _ _ (omega (arith, size_all)) in
       let counted : eqb (2 * u16_at part offset) (length wanted) ≡ true = eq-eqb _ _ (read ∙ e) in
-      let units_are : bytes_at part (offset + 2) (length wanted) ≡ units = ap (take (length wanted)) second ∙ first_of units (pad units ++ rest) (length wanted) (sym e) in
+      let units_are : bytes_at part (offset + 2) (length wanted) ≡ units = ap (take (length wanted)) second ∙ front_is units (pad units ++ rest) (length wanted) (sym e) in
       rw (there, counted, units_are) refl
 
   by_size : (length units < length wanted) ⊎ (length wanted ≤ length units) → (length wanted < length units) ⊎ (length units ≤ length wanted) → is_text_at part offset wanted ≡ same_name units wanted
@@ -73,7 +61,7 @@ module _ (part rest units wanted : List ℕ) (offset : ℕ) (is : drop offset pa
 pub named_as : (part rest : List ℕ) (wanted key : Key) (offset : ℕ) → drop offset part ≡ text_bytes key ++ rest → IsShort key → IsSmallKey key → IsSmallKey wanted → is_named part wanted (row_id offset key) ≡ equal_key wanted key
 unfolding is_named
 named_as part rest (Number n) (Number m) offset is short small also = refl
-named_as part rest (Number n) (Text units) offset is short small also = other (HIGH_BIT + offset) n (λ e. omega arith)
+named_as part rest (Number n) (Text units) offset is short small also = eqb_apart (HIGH_BIT + offset) n (λ e. omega arith)
 named_as part rest (Text wanted) (Number m) offset is short small also = rw (below) refl
   where
     below : leb HIGH_BIT m ≡ false

@@ -1,13 +1,14 @@
 -- The order of resources: how texts compare unit by unit, and that it is a total order.
-use Rattle.std.proofs.Common.{◌≡◌, ◌⊎◌, ℕ, lt-ltb, suc, ◌+◌, ◌-◌, ◌*◌, ◌/◌, ◌<◌, ◌≤◌, min, List, [], ◌∷◌, length, drop, get_or, refl, sym, ap, ◌∙◌, inl, inr, drop-cons, arith, rules}
+use Rattle.std.proofs.Common.{◌≡◌, ◌⊎◌, ℕ, suc, ◌+◌, ◌-◌, ◌*◌, ◌/◌, ◌<◌, ◌≤◌, min, List, [], ◌∷◌, length, drop, get_or, refl, sym, ap, ◌∙◌, inl, inr, drop-cons, arith, rules}
 use Rattle.std.specs.Ordering.{nat_cmp, ordering_then, MatchOrdering}
-use Rattle.std.specs.Cmp.{IsTotalOrder, nat_cmp_total, tied_itself, ranks}
+use Rattle.std.specs.Cmp.{IsTotalOrder, ranks}
 use Rattle.std.specs.Cmp.Rules.{comparing}
 use Rattle.std.specs.Cmp.Lexicographic.{slice_cmp}
 use Rattle.std.specs.declared.cmp.Ordering.{Ordering}
 use Rattle.std.specs.declared.cmp.Ordering.TheVariants.{Less, Equal, Greater}
 use Rattle.std.proofs.lemmas.Bool.{cases_lt}
 use Rattle.std.proofs.lemmas.List.{length-drop}
+use Rattle.link_base.proofs.OrderingLemmas.{less_number, equal_number}
 use Rattle.res_merge.specs.Order.{high_first, key_cmp, entry_cmp}
 
 pub key_total : IsTotalOrder key_cmp
@@ -46,21 +47,13 @@ unit_step left right k there also =
 
 -- units that are equal
 pub unit_level : (left right : List ℕ) (k : ℕ) (order : Ordering) → 2 * k + 2 ≤ length left → 2 * k + 2 ≤ length right → order ≡ unit_order left right k → order ≡ Equal → texts_cmp (drop (2 * k) left) (drop (2 * k) right) ≡ texts_cmp (drop (2 * (k + 1)) left) (drop (2 * (k + 1)) right)
-unit_level left right k order there also is level =
-    unit_step left right k there also ∙ ap (λ (o : Ordering). ordering_then o (texts_cmp (drop (2 * (k + 1)) left) (drop (2 * (k + 1)) right))) (sym is ∙ level)
+unit_level left right k order there also is equal_number =
+    unit_step left right k there also ∙ ap (λ (o : Ordering). ordering_then o (texts_cmp (drop (2 * (k + 1)) left) (drop (2 * (k + 1)) right))) (sym is ∙ equal_number)
 
 differs : (order rest : Ordering) → (order ≡ Equal → ⊥) → ordering_then order rest ≡ order
 differs Less rest n = refl
 differs Equal rest n = absurd (n refl)
 differs Greater rest n = refl
-
-pub unit_decides : (left right : List ℕ) (k : ℕ) (order : Ordering) → 2 * k + 2 ≤ length left → 2 * k + 2 ≤ length right → order ≡ unit_order left right k → (order ≡ Equal → ⊥) → order ≡ texts_cmp (drop (2 * k) left) (drop (2 * k) right)
-unit_decides left right k order there also is apart =
-    sym (unit_step left right k there also ∙ ap (λ (o : Ordering). ordering_then o (texts_cmp (drop (2 * (k + 1)) left) (drop (2 * (k + 1)) right))) (sym is) ∙ differs order _ apart)
-
--- no whole unit is left of one of them
-less : (m n : ℕ) → m < n → nat_cmp m n ≡ Less
-less m n lt = rw (lt-ltb m n lt) refl
 
 more : (m n : ℕ) → n < m → nat_cmp m n ≡ Greater
 more m n lt = go (nat_cmp m n) (ranks m n)
@@ -70,16 +63,13 @@ more m n lt = go (nat_cmp m n) (ranks m n)
     go Equal h = absurd (omega arith)
     go Greater h = refl
 
-level : (m n : ℕ) → m ≡ n → nat_cmp m n ≡ Equal
-level m n e = rw e (tied_itself nat_cmp_total n)
-
 ends : (left right : List ℕ) (k m n : ℕ) → m ≡ k + length left / 2 → n ≡ k + length right / 2 → (length left < 2) ⊎ (length right < 2) → nat_cmp m n ≡ texts_cmp left right
-ends [] [] k m n is also short = level m n (omega arith)
-ends [] (y ∷ []) k m n is also short = level m n (omega arith)
-ends [] (y ∷ z ∷ right) k m n is also short = less m n (omega arith)
-ends (x ∷ []) [] k m n is also short = level m n (omega arith)
-ends (x ∷ []) (y ∷ []) k m n is also short = level m n (omega arith)
-ends (x ∷ []) (y ∷ z ∷ right) k m n is also short = less m n (omega arith)
+ends [] [] k m n is also short = equal_number m n (omega arith)
+ends [] (y ∷ []) k m n is also short = equal_number m n (omega arith)
+ends [] (y ∷ z ∷ right) k m n is also short = less_number m n (omega arith)
+ends (x ∷ []) [] k m n is also short = equal_number m n (omega arith)
+ends (x ∷ []) (y ∷ []) k m n is also short = equal_number m n (omega arith)
+ends (x ∷ []) (y ∷ z ∷ right) k m n is also short = less_number m n (omega arith)
 ends (x ∷ w ∷ left) [] k m n is also short = more m n (omega arith)
 ends (x ∷ w ∷ left) (y ∷ []) k m n is also short = more m n (omega arith)
 ends (x ∷ w ∷ left) (y ∷ z ∷ right) k m n is also (inl short) = absurd (omega arith)

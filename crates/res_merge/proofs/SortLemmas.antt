@@ -6,19 +6,15 @@ use Rattle.std.specs.Ordering.{is_lt, is_eq, ordering_reverse}
 use Rattle.std.specs.Cmp.{IsTotalOrder, tied_itself}
 use Rattle.std.specs.declared.cmp.Ordering.{Ordering}
 use Rattle.std.specs.declared.cmp.Ordering.TheVariants.{Less, Equal, Greater}
-use Rattle.std.proofs.lemmas.Bool.{false≢true, true≢false}
+use Rattle.std.proofs.lemmas.Bool.{true≢false}
 use Rattle.std.proofs.lemmas.List.{length-map, get_or-map}
 use Rattle.std.proofs.lemmas.List.Elements.{recursion_from_All, All-from_recursion}
 use Rattle.std.proofs.lemmas.List.Sorted.{sorted_far, ranks_by, IsPermutation-refl, IsPermutation-sym, IsPermutation-trans, IsPermutation-cons, IsPermutation-middle, Contains-permutation, All-permutation}
 use Rattle.std.proofs.lemmas.Map.Keys.{IsDistinct-IsPermutation}
+use Rattle.link_base.proofs.OrderingLemmas.{is_less}
 use Rattle.res_merge.specs.Entries.{Entry}
 use Rattle.res_merge.specs.Order.{entry_cmp, same_resource, put_in_order, in_order}
 use Rattle.res_merge.proofs.OrderLemmas.{entry_total}
-
-less : (r : Ordering) → is_lt r ≡ true → r ≡ Less
-less Less e = refl
-less Equal e = absurd (false≢true e)
-less Greater e = absurd (false≢true e)
 
 abbrev pub EachAbove : {K : Type 0} → (K → K → Ordering) → K → List K → Type 0
 EachAbove R x xs = AllByRecursion (λ y. is_lt (R x y) ≡ true) xs
@@ -35,7 +31,7 @@ each_has P (y ∷ ys) x each (suc k, lt, is) = each_has P ys x each.1 (k, omega 
 
 module _ {K : Type 0} {R : K → K → Ordering} (o : IsTotalOrder R) where
   before_trans : (x y z : K) → is_lt (R x y) ≡ true → is_lt (R y z) ≡ true → is_lt (R x z) ≡ true
-  before_trans x y z p q = ap is_lt (o.trans x y z (less (R x y) p) (less (R y z) q))
+  before_trans x y z p q = ap is_lt (o.trans x y z (is_less (R x y) p) (is_less (R y z) q))
 
   pub not_itself : (x : K) → is_lt (R x x) ≡ true → ⊥
   not_itself x e = true≢false (sym e ∙ ap is_lt (tied_itself o x))

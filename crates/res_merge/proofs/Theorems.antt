@@ -8,10 +8,10 @@ use Rattle.std.specs.Cmp.{tied_itself}
 use Rattle.std.specs.declared.cmp.Ordering.{Ordering}
 use Rattle.std.specs.declared.cmp.Ordering.TheVariants.{Less, Equal, Greater}
 use Rattle.std.proofs.lemmas.Bool.{false≢true, true≢false, eqb-true, leb-true, and_parts}
-use Rattle.std.proofs.lemmas.List.{take-take, drop-drop, drop-take}
 use Rattle.std.proofs.lemmas.List.Elements.{recursion_from_All, All-from_recursion}
 use Rattle.std.proofs.lemmas.List.Sorted.{All-permutation}
 use Rattle.link_base.specs.Bytes.{u32_at, bytes_at}
+use Rattle.link_base.proofs.PartLemmas.{part_of_part}
 use Rattle.res_merge.specs.Entries.{Key, Entry}
 use Rattle.res_merge.specs.Order.{key_cmp, entry_cmp, same_resource, put_in_order, in_order, IsShort, AreMergeable}
 use Rattle.res_merge.specs.Runs.{names_of, kinds_of, same_name}
@@ -121,15 +121,6 @@ held_in_order list mergeable numbered = record {
 }
 
 -- ---- in a memory
-
-part_of_part : (bytes : List ℕ) (start size offset count : ℕ) → offset + count ≤ size → bytes_at (bytes_at bytes start size) offset count ≡ bytes_at bytes (start + offset) count
-part_of_part bytes start size offset count fits =
-    let rest = drop start bytes in
-    let whole : size ≡ offset + (size - offset) = omega arith in
-    ap (λ (n : ℕ). take count (drop offset (take n rest))) whole
-    ∙ ap (take count) (drop-take offset (size - offset) rest)
-    ∙ take-take count (size - offset) (drop offset rest) (omega arith)
-    ∙ ap (take count) (drop-drop offset start bytes)
 
 in_memory : (memory : List ℕ) (rva size : ℕ) (leaf : Option ℕ) → option_map (λ (place : ℕ × ℕ). bytes_at memory place.0 place.1) (option_and_then (leaf_data (bytes_at memory rva size) rva) leaf) ≡ option_map (λ (place : ℕ × ℕ). bytes_at (bytes_at memory rva size) (place.0 - rva) place.1) (option_and_then (leaf_data (bytes_at memory rva size) rva) leaf)
 unfolding leaf_data

@@ -84,6 +84,3 @@ left_behind bytes at some = by_test (eqb at 0) refl
 
 pub cut_short : (reader : Resources) → (eqb reader.at 0 && ltb (length reader.bytes.now) 32) ≡ true → length reader.bytes.now < 32
 cut_short reader cut = ltb-true (length reader.bytes.now) 32 (and_parts (eqb reader.at 0) (ltb (length reader.bytes.now) 32) cut).1
-
-pub fewer : {A : Type 0} (left rest : List A) (x : A) → left ≡ x ∷ rest → length rest < length left
-fewer left rest x e = omega (arith, ap length e)

@@ -1,7 +1,6 @@
 -- The parts of a tree as they are written, one after another.
 use Rattle.std.proofs.Common.{◌≡◌, ℕ, ◌+◌, ◌≤◌, List, [], ◌∷◌, ◌++◌, length, take, drop, sym, ap, ◌∙◌, append_assoc, append-nil, arith}
 use Rattle.std.specs.Prelude.{replicate}
-use Rattle.std.specs.List.{flat_map}
 use Rattle.std.proofs.lemmas.List.{length-append, length-replicate}
 use Rattle.link_base.specs.Fields.{fields}
 use Rattle.link_base.specs.declared.numbers.LeNumber.TheVariants.{U32}
@@ -9,23 +8,13 @@ use Rattle.res_merge.specs.declared.rows.Row.{Row}
 use Rattle.res_merge.specs.Entries.{Key, Entry}
 use Rattle.res_merge.specs.ResourceFile.{aligned}
 use Rattle.res_merge.specs.Runs.{Run}
-use Rattle.res_merge.specs.Tree.{table, tables, texts, text_bytes, leaves, padding, data_from}
+use Rattle.res_merge.specs.Tree.{table, tables, texts, leaves, padding, data_from}
 
 pub written : (out all part rest left : List ℕ) → out ++ left ≡ all → left ≡ part ++ rest → (out ++ part) ++ rest ≡ all
 written out all part rest left was is = append_assoc out part rest ∙ ap (λ (xs : List ℕ). out ++ xs) (sym is) ∙ was
 
 pub all_written : (out all left : List ℕ) → out ++ left ≡ all → left ≡ [] → out ≡ all
 all_written out all left was is = sym (append-nil out) ∙ ap (λ (xs : List ℕ). out ++ xs) (sym is) ∙ was
-
-pub flat_step : {X : Type 0} (f : X → List ℕ) (x : X) (rest left : List X) → left ≡ x ∷ rest → flat_map f left ≡ f x ++ flat_map f rest
-flat_step f x rest left is = ap (flat_map f) is
-
-pub flat_none : {X : Type 0} (f : X → List ℕ) (left : List X) → left ≡ [] → flat_map f left ≡ []
-flat_none f left is = ap (flat_map f) is
-
-pub texts_written : (key : Run → Key) (run : Run) (rest left : List Run) → left ≡ run ∷ rest → texts key left ≡ text_bytes (key run) ++ texts key rest
-unfolding texts
-texts_written key run rest left is = ap (texts key) is
 
 pub texts_end : (key : Run → Key) (left : List Run) → left ≡ [] → texts key left ≡ []
 unfolding texts
@@ -45,10 +34,6 @@ leaf_fields rva entry = fields (U32 rva ∷ U32 (length entry.body) ∷ U32 0 �
 pub leaves_written : (rva : ℕ) (entry : Entry) (rest left : List Entry) → left ≡ entry ∷ rest → leaves rva left ≡ fields (U32 rva ∷ U32 (length entry.body) ∷ U32 0 ∷ U32 0 ∷ []) ++ leaves (rva + aligned (length entry.body)) rest
 unfolding leaves
 leaves_written rva entry rest left is = ap (leaves rva) is
-
-pub leaves_end : (rva : ℕ) (left : List Entry) → left ≡ [] → leaves rva left ≡ []
-unfolding leaves
-leaves_end rva left is = ap (leaves rva) is
 
 pub data_written : (filling : ℕ) (entry : Entry) (rest left : List Entry) → left ≡ entry ∷ rest → data_from filling left ≡ replicate filling 0 ++ (entry.body ++ data_from (padding (length entry.body)) rest)
 unfolding data_from

@@ -1,8 +1,8 @@
 -- The entries of a resource file, one after another.
-use Rattle.std.proofs.Common.{◌≡◌, ℕ, ◌+◌, ◌≤◌, ◌<◌, suc, Bool, true, false, cond, List, [], ◌∷◌, ◌++◌, length, map, Option, Some, None, Result, Ok, Err, refl, sym, ap, ◌∙◌, append_assoc, arith}
+use Rattle.std.proofs.Common.{◌≡◌, ℕ, ◌+◌, Bool, true, false, cond, List, [], ◌∷◌, ◌++◌, length, map, Option, Some, None, Result, Ok, refl, sym, ap, ◌∙◌, append_assoc}
 use Rattle.std.proofs.lemmas.Option.{none-some}
 use Rattle.std.specs.Prelude.{filter_map, option_map}
-use Rattle.std.proofs.lemmas.List.{length-append, append-nil}
+use Rattle.std.proofs.lemmas.List.{append-nil}
 use Rattle.link_base.specs.Refusals.{first_standing}
 use Rattle.link_base.specs.declared.stop.Refusal.{Refusal}
 use Rattle.link_base.specs.declared.stop.Refusal.TheVariants as refusal
@@ -27,25 +27,6 @@ pub record CountsOn (all left : Items) (count : ℕ) : Type 0 where
   pub counted : count + length (entries_of left) ≡ length (entries_of all)
   pub errors : error_of left ≡ error_of all
 
-pub counts_none : (all left : Items) → left ≡ all → CountsOn all left 0
-counts_none all left same = record { counted = let count = ap (λ (items : Items). length (entries_of items)) same in omega (arith, count); errors = ap error_of same }
-
-pub counts_one : (all left rest : Items) (count : ℕ) (entry : Entry) → left ≡ Ok entry ∷ rest → CountsOn all left count → CountsOn all rest (count + 1)
-counts_one all left rest count entry is counts =
-    let one : length (entries_of left) ≡ suc (length (entries_of rest)) = ap (λ (items : Items). length (entries_of items)) is in
-    record {
-      counted = omega (arith, one, counts.counted);
-      errors = sym (ap error_of is) ∙ counts.errors;
-    }
-
-pub counts_error : (all left rest : Items) (count : ℕ) (error : ResError) → left ≡ Err error ∷ rest → CountsOn all left count → error_of all ≡ Some error
-counts_error all left rest count error is counts = sym counts.errors ∙ ap error_of is
-
-pub counts_all : (all left : Items) (count : ℕ) → left ≡ [] → CountsOn all left count → (count ≡ length (entries_of all)) × (error_of all ≡ None)
-counts_all all left count none counts =
-    let end : length (entries_of left) ≡ 0 = ap (λ (items : Items). length (entries_of items)) none in
-    (omega (arith, end, counts.counted), sym counts.errors ∙ ap error_of none)
-
 -- ---- they are added
 
 -- of the entries of a file, behind those before it, so many were added, and these items are left
@@ -53,19 +34,6 @@ pub record AddsOn (before all now : List Entry) (left : Items) : Type 0 where
   pub together : now ++ entries_of left ≡ before ++ all
   pub again : first_again now (entries_of left) ≡ first_again before all
   pub well : error_of left ≡ None
-
-pub adds_none : (before now : List Entry) (all left : Items) → now ≡ before → left ≡ all → error_of all ≡ None → AddsOn before (entries_of all) now left
-adds_none before now all left now_is left_is well = record {
-  together = ap (λ (es : List Entry). es ++ entries_of left) now_is ∙ ap (λ (items : Items). before ++ entries_of items) left_is;
-  again = ap (λ (es : List Entry). first_again es (entries_of left)) now_is ∙ ap (λ (items : Items). first_again before (entries_of items)) left_is;
-  well = ap error_of left_is ∙ well;
-}
-
-pub adds_within : (before all now : List Entry) (left rest : Items) (entry : Entry) (limit : ℕ) → left ≡ Ok entry ∷ rest → length before + length all ≤ limit → AddsOn before all now left → length now < limit
-adds_within before all now left rest entry limit is few adds =
-    let one : length (entries_of left) ≡ suc (length (entries_of rest)) = ap (λ (items : Items). length (entries_of items)) is in
-    let sum = ap (λ (es : List Entry). length es) adds.together in
-    omega (arith, one, sum, few, length-append now (entries_of left), length-append before all)
 
 pub adds_one : (before all now later : List Entry) (left rest : Items) (entry : Entry) → left ≡ Ok entry ∷ rest → later ≡ now ++ entry ∷ [] → is_again now entry ≡ false → AddsOn before all now left → AddsOn before all later rest
 unfolding first_again
@@ -98,9 +66,6 @@ refuses_again before all now left rest entry file (refusal.Fault fault) is adds 
     go true e said = ap (option_map (duplicate file)) (adds_again before all now left rest entry is e adds) ∙ said
     go false e said = absurd (none-some (fault_said fault) said)
 refuses_again before all now left rest entry file refusal.Memory is adds bad = tt
-
-pub adds_no_error : (before all now : List Entry) (left rest : Items) (error : ResError) → left ≡ Err error ∷ rest → AddsOn before all now left → ⊥
-adds_no_error before all now left rest error is adds = none-some error (sym adds.well ∙ ap error_of is)
 
 pub adds_all : (before all now : List Entry) (left : Items) → left ≡ [] → AddsOn before all now left → (now ≡ before ++ all) × (first_again before all ≡ None)
 unfolding first_again

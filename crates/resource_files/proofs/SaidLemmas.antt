@@ -3,17 +3,15 @@ use Rattle.std.proofs.Common.{◌≡◌, ℕ, zero, suc, ◌+◌, Bool, true, fa
 use Rattle.std.proofs.lemmas.Option.{same_Some}
 use Rattle.std.specs.Prelude.{option_map}
 use Rattle.std.specs.Option.{option_or}
-use Rattle.link_base.specs.Refusals.{first_refusal_below, RefusesFor}
+use Rattle.link_base.specs.Refusals.{first_refusal_below}
 use Rattle.link_base.specs.declared.fault.Fault.{Fault}
 use Rattle.link_base.specs.declared.fault.Fault.TheVariants as faults
-use Rattle.link_base.specs.declared.kinds.resource.ResName.{ResName}
 use Rattle.link_base.specs.declared.kinds.form.Kind.TheVariants.{SecondResource}
-use Rattle.link_base.specs.declared.stop.Refusal.{Refusal}
 use Rattle.link_base.specs.declared.stop.Refusal.TheVariants as refusal
 use Rattle.res_merge.specs.declared.resource.ResError.{ResError}
 use Rattle.res_merge.specs.Entries.{Key, Number, Text, Entry, key_of}
 use Rattle.file_search.specs.FoundFiles.{FoundFile}
-use Rattle.resource_files.specs.SaidFaults.{name_of, fault_said, RefusesSaid}
+use Rattle.resource_files.specs.SaidFaults.{name_of, fault_said}
 use Rattle.resource_files.specs.Held.{error_in, entries_in, bad_entry, first_again, duplicate, resource_fault}
 
 abbrev pub IsPlain : Option Fault → Type 0
@@ -21,11 +19,6 @@ IsPlain o = option_map fault_said o ≡ o
 
 pub plain_fault : (o : Option Fault) (fault : Fault) → IsPlain o → o ≡ Some fault → fault_said fault ≡ fault
 plain_fault o fault plain is = same_Some (fault_said fault) fault (sym (ap (option_map fault_said) is) ∙ plain ∙ is)
-
--- a refusal of such a fault says it
-pub refuses_said : (o : Option Fault) (r : Refusal) → IsPlain o → RefusesFor o r → RefusesSaid o r
-refuses_said o (refusal.Fault fault) plain is = is ∙ ap Some (sym (plain_fault o fault plain is))
-refuses_said o refusal.Memory plain is = tt
 
 -- ---- of several
 
@@ -63,10 +56,3 @@ resource_plain found brings entries =
         ap (λ kind. Some (faults.DuplicateResource found.file None kind (name_of (key_of (name_of entry.name))) entry.language)) (name_plain entry.kind)
         ∙ ap (λ name. Some (faults.DuplicateResource found.file None (name_of entry.kind) name entry.language)) (name_plain entry.name)
     of_duplicate None = refl
-
--- ---- what is shown of a fault
-
--- it is that of what the fault says, where that of a resource's type and name is
-pub shown_said : {A : Type 0} (show : Fault → A) → ((file : List ℕ) (member : Option (List ℕ)) (kind name : ResName) (language : ℕ) → show (faults.DuplicateResource file member (name_of (key_of kind)) (name_of (key_of name)) language) ≡ show (faults.DuplicateResource file member kind name language)) → (fault : Fault) → show (fault_said fault) ≡ show fault
-shown_said show same (faults.DuplicateResource file member kind name language) = same file member kind name language
-shown_said show same fault = refl

@@ -5,14 +5,15 @@ use Rattle.std.specs.Option.{option_map_or}
 use Rattle.std.specs.List.{position_or_len}
 use Rattle.std.specs.Map.{lookup, keys_of}
 use Rattle.std.proofs.lemmas.Bool.{false≢true, true≢false, or_parts, or_cases, not-true, not-false}
-use Rattle.std.proofs.Math.Nat.{mul-le-mul_left}
 use Rattle.std.proofs.lemmas.List.Sums.{passes_at_first}
 use Rattle.std.proofs.lemmas.Map.Entries.{length-keys_of}
+use Rattle.link_base.proofs.NameTextLemmas.{same_is, same_refl}
+use Rattle.link_base.proofs.NumberLemmas.{far_enough}
 use Rattle.section_group.specs.Merging.{target, led, next_name, all_merges, preset_merges, same_name, merge_at, final_name, names_reserved, ComesBack, HasOtherTarget, IsBadMerge, HasNoBadMerge}
 use Rattle.section_group.specs.Chains.{target_among, leads_elsewhere, goes_on, fails}
 use Rattle.std.specs.Option.{option_or}
-use Rattle.section_group.proofs.ChainLemmas.{target_among-append, same_is, same_refl, led-add}
-use Rattle.section_group.proofs.PigeonLemmas.{pigeon}
+use Rattle.section_group.proofs.ChainLemmas.{target_among-append, led-add}
+use Rattle.link_base.proofs.PigeonLemmas.{pigeon}
 
 some_there : (o : Option (List ℕ)) → is_some o ≡ true → IsSome o
 some_there None e = absurd (false≢true e)
@@ -98,9 +99,6 @@ round given name early gap again (suc turns) =
 there_is : (o : Option (List ℕ)) → IsSome o → is_some o ≡ true
 there_is None h = h
 there_is (Some x) h = refl
-
-far_enough : (n gap : ℕ) → 0 < gap → n ≤ n * gap
-far_enough n gap pos = omega (arith, mul-le-mul_left n pos)
 
 pub endless : (given : List (List ℕ × List ℕ)) (name : List ℕ) → ComesBack given name → (n : ℕ) → goes_on given n name ≡ true
 endless given name back n = go (goes_on given n name) refl

@@ -6,9 +6,8 @@ use Rattle.std.proofs.Math.ListN.{get_or-map}
 use Rattle.std.proofs.Math.Numerals.{one-add}
 use Rattle.std.specs.List.{position_or_len}
 use Rattle.std.proofs.lemmas.Bool.{cases_lt}
-use Rattle.std.proofs.lemmas.Bool.Decides.{same_from_decides}
-use Rattle.std.proofs.lemmas.Slice.Eq.{bytes_eq-Decides}
 use Rattle.std.specs.Map.{lookup, keys_of, values_of}
+use Rattle.link_base.proofs.NameTextLemmas.{same_is, same_flip}
 use Rattle.section_group.specs.Merging.{led, next_name, same_name}
 use Rattle.section_group.specs.Merging.{same_name}
 use Rattle.section_group.specs.Chains.{target_among, led_by, AreTargets, Leads}
@@ -28,18 +27,6 @@ target_among-append (x ∷ xs) ys q =
 pub or_else_assoc : (a b c : Option (List ℕ)) → option_or (option_or a b) c ≡ option_or a (option_or b c)
 or_else_assoc None b c = refl
 or_else_assoc (Some x) b c = refl
-
--- ---- equal names
-
-pub same_is : (a b : List ℕ) → same_name a b ≡ true → a ≡ b
-same_is a b e = (bytes_eq-Decides a b).0 e
-
-pub same_refl : (a : List ℕ) → same_name a a ≡ true
-same_refl a = (bytes_eq-Decides a a).1 refl
-
-pub same_flip : (a b : List ℕ) → same_name a b ≡ same_name b a
-same_flip a b =
-    same_from_decides (same_name a b) (same_name b a) (bytes_eq-Decides a b) (λ e. sym (same_is b a e), λ e. (bytes_eq-Decides b a).1 (sym e))
 
 -- ---- one more merge
 

@@ -1,16 +1,12 @@
 -- The pieces of each section, gathered piece by piece.
-use Rattle.std.proofs.Common.{◌≡◌, ◌≢◌, ◌⊎◌, eq-eqb, ℕ, ◌+◌, ◌<◌, Bool, true, false, cond, eqb, List, [], ◌∷◌, ◌++◌, length, get_or, set, filter, Option, Some, None, Vec, refl, sym, ap, ◌∙◌, inl, inr, arith}
+use Rattle.std.proofs.Common.{◌≡◌, ◌≢◌, ◌⊎◌, eq-eqb, ℕ, ◌+◌, ◌<◌, Bool, true, false, cond, eqb, List, [], ◌∷◌, ◌++◌, length, get_or, set, Option, Some, None, Vec, refl, sym, ap, ◌∙◌, inl, inr, arith}
 use Rattle.std.specs.declared.alloc.Global.{Global}
-use Rattle.std.specs.List.{range_with_len}
 use Rattle.std.proofs.Math.ListN.{length-set}
 use Rattle.std.proofs.lemmas.Bool.{eqb-true, eqb-false}
 use Rattle.std.proofs.lemmas.List.{append-nil, get_or-set_other, get_or-set_same}
-use Rattle.std.proofs.lemmas.List.Elements.{filter-append}
-use Rattle.link_base.proofs.RangeLemmas.{range_more}
+use Rattle.link_base.proofs.RangeLemmas.{filter_more}
+use Rattle.link_base.proofs.NumberLemmas.{eqb_apart}
 use Rattle.section_group.specs.Gathering.{has_number, members_of, AreMembers}
-
-pub filter_more : (p : ℕ → Bool) (n : ℕ) → filter p (range_with_len 0 (n + 1)) ≡ filter p (range_with_len 0 n) ++ cond (p n) (n ∷ []) []
-filter_more p n = ap (filter p) (range_more 0 n n (omega arith)) ∙ filter-append p (range_with_len 0 n) (n ∷ [])
 
 members_more : (numbers : List (Option ℕ)) (count number : ℕ) → members_of numbers (count + 1) number ≡ members_of numbers count number ++ cond (has_number number (get_or numbers count None)) (count ∷ []) []
 members_more numbers count number = filter_more (λ k. has_number number (get_or numbers k None)) count
@@ -24,13 +20,6 @@ more_unused numbers count sections members are none = record {
 
 eqb_refl : (n : ℕ) → eqb n n ≡ true
 eqb_refl n = eq-eqb n n refl
-
-eqb_apart : (n m : ℕ) → n ≢ m → eqb n m ≡ false
-eqb_apart n m apart = go (eqb n m) refl
-  where
-    go : (b : Bool) → eqb n m ≡ b → b ≡ false
-    go false e = refl
-    go true e = absurd (apart (eqb-true n m e))
 
 -- a used piece
 pub more_used : (numbers : List (Option ℕ)) (count sections at : ℕ) (members : List (Vec ℕ Global)) (old more : Vec ℕ Global) → AreMembers numbers count sections members → get_or numbers count None ≡ Some at → at < sections → old ≡ get_or members at old → more.items ≡ old.items ++ count ∷ [] → AreMembers numbers (count + 1) sections (set members at more)

@@ -11,13 +11,14 @@ use Rattle.std.proofs.lemmas.Bool.{false≢true, or_right}
 use Rattle.std.proofs.lemmas.List.{get_or_default}
 use Rattle.std.proofs.lemmas.List.Sorted.{Contains-permutation, IsPermutation-sym}
 use Rattle.std.proofs.lemmas.Option.{slice_get_cases}
+use Rattle.link_base.proofs.OrderingLemmas.{one_number}
 use Rattle.section_group.specs.declared.homes.Home.{Home}
 use Rattle.section_group.specs.declared.key.SectionKey.{SectionKey}
 use Rattle.section_group.specs.declared.piece.OutSection.{OutSection}
 use Rattle.section_group.specs.SectionOrder.{Input, piece_at, is_used, place_cmp, rank_of, IsFirstPiece, ComesBefore}
 use Rattle.section_group.specs.Placement.{goes_to, needs_place, IsSection, IsGrouping}
 use Rattle.section_group.specs.Sections.{Gathers, OrdersSections, IsKey, IsBuilt, AreBuilt, home_at, pieces_at}
-use Rattle.section_group.proofs.OrderLemmas.{then_level, level_numbers}
+use Rattle.section_group.proofs.OrderLemmas.{then_level}
 
 -- ---- some element passes
 
@@ -122,7 +123,7 @@ is_grouping input homes members keys sections gathered ordered are = record {
 
     level_at : (i j : ℕ) → i < length keys → j < length keys → ordering_then (nat_cmp (key i).rank (key j).rank) (ordering_then (nat_cmp (key i).module (key j).module) (ordering_then (nat_cmp (key i).number (key j).number) (nat_cmp (key i).index (key j).index))) ≡ Equal → nat_cmp (key i).section (key j).section ≡ Equal
     level_at i j lt lt' e =
-        let index = level_numbers (key i).index (key j).index (then_level (nat_cmp (key i).number (key j).number) _ (then_level (nat_cmp (key i).module (key j).module) _ (then_level (nat_cmp (key i).rank (key j).rank) _ e))) in
+        let index = one_number (key i).index (key j).index (then_level (nat_cmp (key i).number (key j).number) _ (then_level (nat_cmp (key i).module (key j).module) _ (then_level (nat_cmp (key i).rank (key j).rank) _ e))) in
         let here = (is_key i lt).first.among in
         let there = subst (Contains (pieces j)) (sym index) (is_key j lt').first.among in
         let same = gathered.apart (key i).section (key j).section (key i).index (is_key i lt).within (is_key j lt').within here there in

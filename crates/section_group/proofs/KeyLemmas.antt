@@ -8,19 +8,21 @@ use Rattle.std.specs.Cmp.Lexicographic.{slice_cmp}
 use Rattle.std.specs.Cmp.Rules.{comparing}
 use Rattle.std.specs.declared.cmp.Ordering.{Ordering}
 use Rattle.std.specs.declared.cmp.Ordering.TheVariants.{Equal}
-use Rattle.std.proofs.lemmas.Bool.{false≢true, eqb-true, cases_lt}
+use Rattle.std.proofs.lemmas.Bool.{false≢true, cases_lt}
 use Rattle.std.proofs.lemmas.Cmp.{nat_list_cmp_total}
 use Rattle.std.proofs.lemmas.List.{length-map, get_or_default}
 use Rattle.std.proofs.lemmas.List.Elements.{All-map}
 use Rattle.std.proofs.lemmas.List.Sorted.{All-permutation, IsPermutation-map}
 use Rattle.std.proofs.lemmas.Map.Keys.{apart_from_distinct, IsDistinct-IsPermutation}
 use Rattle.std.proofs.Math.ListN.{get_or-map}
+use Rattle.link_base.proofs.OrderingLemmas.{one_number}
+use Rattle.link_base.proofs.NumberLemmas.{eqb_flip}
 use Rattle.section_group.specs.declared.key.PieceKey.{PieceKey}
 use Rattle.section_group.specs.SectionOrder.{Input, piece_at, place_cmp, inside_cmp}
 use Rattle.section_group.specs.Keys.{piece_key, key_cmp, AscendUpTo}
 use Rattle.section_group.specs.declared.cut.Cut.{Cut}
 use Rattle.section_group.specs.Steps.{piece_cut}
-use Rattle.section_group.proofs.OrderLemmas.{ascends, before_trans, then_level, level_numbers}
+use Rattle.section_group.proofs.OrderLemmas.{ascends, before_trans, then_level}
 
 pub key_total : IsTotalOrder key_cmp
 key_total = search (comparing, rules) depth 12
@@ -30,7 +32,7 @@ index_of key = key.index
 
 level_keys : (a b : PieceKey) → key_cmp a b ≡ Equal → a.index ≡ b.index
 level_keys a b e =
-    level_numbers a.index b.index
+    one_number a.index b.index
     (then_level (nat_cmp a.number b.number) (nat_cmp a.index b.index)
     (then_level (nat_cmp a.module b.module) _
     (then_level (slice_cmp nat_cmp a.suffix b.suffix) _
@@ -53,15 +55,6 @@ keys_kept : (input : Input) (members : List ℕ) (keys sorted : List PieceKey) �
 keys_kept input members keys sorted is_keys moved =
     All-permutation (λ key. key ≡ piece_key input key.index) keys sorted moved
     (subst (All (λ key. key ≡ piece_key input key.index)) (sym is_keys) (All-map (λ key. key ≡ piece_key input key.index) (piece_key input) members (λ k d lt. refl)))
-
-pub eqb_flip : (x y : ℕ) → eqb x y ≡ eqb y x
-eqb_flip x y = go (eqb x y) (eqb y x) refl refl
-  where
-    go : (a b : Bool) → eqb x y ≡ a → eqb y x ≡ b → a ≡ b
-    go true true e f = refl
-    go false false e f = refl
-    go true false e f = absurd (false≢true (sym f ∙ eq-eqb y x (sym (eqb-true x y e))))
-    go false true e f = absurd (false≢true (sym e ∙ eq-eqb x y (sym (eqb-true y x f))))
 
 pub ordered_ascends : (input : Input) (members ordered : List ℕ) (keys sorted : List PieceKey) → keys ≡ map (piece_key input) members → IsPermutation keys sorted → IsSorted key_cmp sorted → ordered ≡ map (λ key. key.index) sorted → IsDistinct eqb members → AllPairs (λ j k. IsTrue (is_lt (inside_cmp input j k))) ordered
 ordered_ascends input members ordered keys sorted is_keys moved rises is_ordered distinct = λ i j d lt within.

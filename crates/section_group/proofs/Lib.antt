@@ -1,6 +1,5 @@
 pub mod ChainLemmas
 pub mod PlaceLemmas
-pub mod PigeonLemmas
 pub mod BadMergeLemmas
 pub mod PartLemmas
 pub mod OwnerLemmas

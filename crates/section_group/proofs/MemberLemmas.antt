@@ -13,10 +13,10 @@ use Rattle.section_group.specs.SectionOrder.{Input, is_used, section_name}
 use Rattle.section_group.specs.Placement.{goes_to, section_attributes}
 use Rattle.section_group.specs.Gathering.{home_of, has_number, IsNumberOf, AreNumbers, members_of, AreMembers}
 use Rattle.section_group.specs.Sections.{Gathers, home_at, pieces_at, same_home}
-use Rattle.section_group.proofs.ChainLemmas.{same_is, same_refl}
 use Rattle.section_group.proofs.PartLemmas.{used_within}
 use Rattle.section_group.proofs.SectionLemmas.{pieces_read}
 use Rattle.link_base.proofs.RangeLemmas.{Passes, range_passes, range_has, range_distinct}
+use Rattle.link_base.proofs.NameTextLemmas.{same_is, same_refl}
 
 -- the number of a piece is that of a section
 pub numbers_within : (input : Input) (homes : List Home) (count : ℕ) (numbers : List (Option ℕ)) → AreNumbers input homes count numbers → (k number : ℕ) → get_or numbers k None ≡ Some number → number < length homes

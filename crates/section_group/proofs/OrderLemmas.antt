@@ -1,18 +1,14 @@
 -- What follows from a total order, in the form of the test that one comes before another.
-use Rattle.std.proofs.Common.{◌≡◌, ◌≢◌, ℕ, ◌<◌, Bool, true, false, refl, sym, ap, ◌∙◌, subst, List, length, get_or, IsTrue, arith}
+use Rattle.std.proofs.Common.{◌≡◌, ◌≢◌, ℕ, ◌<◌, Bool, true, false, refl, sym, ap, ◌∙◌, List, length, get_or, IsTrue, arith}
 use Rattle.std.specs.List.{AllPairs}
 use Rattle.std.specs.List.Sorted.{IsSorted}
 use Rattle.std.proofs.lemmas.List.Sorted.{sorted_far, ranks_by}
-use Rattle.std.specs.Ordering.{is_lt, is_gt, nat_cmp, ordering_then, ordering_reverse, MatchOrdering}
-use Rattle.std.specs.Cmp.{IsTotalOrder, tied_itself, ranks}
+use Rattle.std.specs.Ordering.{is_lt, is_gt, ordering_then, ordering_reverse}
+use Rattle.std.specs.Cmp.{IsTotalOrder, tied_itself}
 use Rattle.std.specs.declared.cmp.Ordering.{Ordering}
 use Rattle.std.specs.declared.cmp.Ordering.TheVariants.{Less, Equal, Greater}
 use Rattle.std.proofs.lemmas.Bool.{false≢true, true≢false}
-
-pub is_less : (r : Ordering) → is_lt r ≡ true → r ≡ Less
-is_less Less e = refl
-is_less Equal e = absurd (false≢true e)
-is_less Greater e = absurd (false≢true e)
+use Rattle.link_base.proofs.OrderingLemmas.{is_less}
 
 module _ {K : Type 0} {R : K → K → Ordering} (o : IsTotalOrder R) where
   pub not_before_itself : (x : K) → is_lt (R x x) ≡ false
@@ -52,9 +48,6 @@ pub then_level : (r s : Ordering) → ordering_then r s ≡ Equal → s ≡ Equa
 then_level Less s e = absurd (true≢false (ap is_lt e))
 then_level Equal s e = e
 then_level Greater s e = absurd (true≢false (ap is_gt e))
-
-pub level_numbers : (x y : ℕ) → nat_cmp x y ≡ Equal → x ≡ y
-level_numbers x y e = subst (λ (r : Ordering). MatchOrdering r (x < y) (x ≡ y) (y < x)) e (ranks x y)
 
 -- ---- a sort of elements that differ
 

@@ -20,10 +20,10 @@ use Rattle.section_group.specs.declared.piece.OutSection.{OutSection}
 use Rattle.section_group.specs.SectionOrder.{Input}
 use Rattle.section_group.specs.Keys.{section_cmp}
 use Rattle.section_group.specs.Sections.{IsKey, AreKeys, OrdersSections, IsBuilt, AreBuilt, home_at, pieces_at, is_needed}
-use Rattle.section_group.proofs.OrderLemmas.{ascends, then_level, level_numbers}
-use Rattle.section_group.proofs.KeyLemmas.{eqb_flip}
-use Rattle.section_group.proofs.GatherLemmas.{filter_more}
-use Rattle.link_base.proofs.RangeLemmas.{range_has, range_distinct}
+use Rattle.section_group.proofs.OrderLemmas.{ascends, then_level}
+use Rattle.link_base.proofs.RangeLemmas.{range_has, range_distinct, filter_more}
+use Rattle.link_base.proofs.OrderingLemmas.{one_number}
+use Rattle.link_base.proofs.NumberLemmas.{eqb_flip}
 
 pub section_total : IsTotalOrder section_cmp
 section_total = search (comparing, rules) depth 9
@@ -55,7 +55,7 @@ keys_skip input homes members count keys are empty = record {
 
 level_sections : (a b : SectionKey) → section_cmp a b ≡ Equal → a.section ≡ b.section
 level_sections a b e =
-    level_numbers a.section b.section
+    one_number a.section b.section
     (then_level (nat_cmp a.index b.index) (nat_cmp a.section b.section)
     (then_level (nat_cmp a.number b.number) _
     (then_level (nat_cmp a.module b.module) _

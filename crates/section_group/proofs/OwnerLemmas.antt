@@ -1,5 +1,5 @@
 -- The first owner of a name, found piece by piece.
-use Rattle.std.proofs.Common.{◌≡◌, ℕ, zero, suc, ◌+◌, ◌-◌, ◌<◌, Bool, true, false, ◌&&◌, not, cond, IsTrue, List, length, Option, Some, None, refl, sym, ap, ◌∙◌, subst, inl, inr, arith, rules, add-one}
+use Rattle.std.proofs.Common.{◌≡◌, ℕ, ◌+◌, ◌-◌, ◌<◌, Bool, true, false, ◌&&◌, not, cond, IsTrue, List, length, Option, Some, None, refl, sym, ap, ◌∙◌, subst, inl, inr, arith, rules}
 use Rattle.std.specs.Option.{option_map_or}
 use Rattle.std.specs.Ordering.{is_lt, nat_cmp, ordering_then}
 use Rattle.std.specs.Cmp.{IsTotalOrder}
@@ -7,13 +7,14 @@ use Rattle.std.specs.Cmp.Rules.{comparing}
 use Rattle.std.specs.declared.cmp.Ordering.TheVariants.{Equal}
 use Rattle.std.proofs.lemmas.Bool.{cases_lt, false≢true, true≢false, and_from}
 use Rattle.link_base.specs.Bytes.{all_below}
-use Rattle.link_base.proofs.CallerLemmas.{first_below-found, first_below-all_fail, first_below-some, all_below-more, all_below-fails}
+use Rattle.link_base.proofs.CallerLemmas.{first_below-found, first_below-all_fail, first_below-some, all_below-fails, all_below-from_each}
+use Rattle.link_base.proofs.NameTextLemmas.{same_is}
+use Rattle.link_base.proofs.OrderingLemmas.{one_number}
 use Rattle.section_group.specs.SectionOrder.{Input, piece_at, is_used, base_name, place_cmp}
 use Rattle.section_group.specs.Placement.{is_owner, is_first_owner, first_owner}
 use Rattle.section_group.specs.Merging.{same_name}
 use Rattle.section_group.specs.Gathering.{IsFirstUpTo, FollowsAnOwner}
-use Rattle.section_group.proofs.ChainLemmas.{same_is}
-use Rattle.section_group.proofs.OrderLemmas.{not_before_itself, not_before_better, level, then_level, level_numbers}
+use Rattle.section_group.proofs.OrderLemmas.{not_before_itself, not_before_better, level, then_level}
 
 pub place_total : (input : Input) → IsTotalOrder (place_cmp input)
 place_total input = search (comparing, rules)
@@ -23,7 +24,7 @@ pub level_places : (input : Input) (j k : ℕ) → place_cmp input j k ≡ Equal
 level_places input j k e =
     let l = piece_at input j in
     let r = piece_at input k in
-    level_numbers j k (then_level (nat_cmp l.number r.number) (nat_cmp j k) (then_level (nat_cmp l.module r.module) (ordering_then (nat_cmp l.number r.number) (nat_cmp j k)) e))
+    one_number j k (then_level (nat_cmp l.number r.number) (nat_cmp j k) (then_level (nat_cmp l.module r.module) (ordering_then (nat_cmp l.number r.number) (nat_cmp j k)) e))
 
 -- ---- one more piece
 
@@ -71,13 +72,6 @@ first_taken input i name o first owns earlier = (
 
 -- ---- all pieces
 
-all_below_from : (n : ℕ) (test : ℕ → Bool) → ((k : ℕ) → k < n → test k ≡ true) → all_below n test ≡ true
-unfolding all_below
-all_below_from zero test each = refl
-all_below_from (suc n) test each =
-    ap (λ (k : ℕ). all_below k test) (sym (add-one n))
-    ∙ all_below-more n test (all_below_from n test (λ k lt. each k (omega arith))) (each n (omega arith))
-
 and_false : (a b : Bool) → (a ≡ true → b ≡ false) → (a && b) ≡ false
 and_false true b h = h refl
 and_false false b h = refl
@@ -115,7 +109,7 @@ first_is input name (Some f) first =
     let n = length input.pieces in
     let o = place_total input in
     let test = is_first_owner input name in
-    let passes = and_from (is_owner input name f) (all_below n (λ j. not (is_owner input name j && is_lt (place_cmp input j f)))) first.1 (all_below_from n (λ j. not (is_owner input name j && is_lt (place_cmp input j f))) (λ j lt. not_and (is_owner input name j) (is_lt (place_cmp input j f)) (λ owns. first.2 j lt owns))) in
+    let passes = and_from (is_owner input name f) (all_below n (λ j. not (is_owner input name j && is_lt (place_cmp input j f)))) first.1 (all_below-from_each n (λ j. not (is_owner input name j && is_lt (place_cmp input j f))) (λ j lt. not_and (is_owner input name j) (is_lt (place_cmp input j f)) (λ owns. first.2 j lt owns))) in
     let fails = λ (k : ℕ) (lt : k < f).
     and_false (is_owner input name k) (all_below n (λ j. not (is_owner input name j && is_lt (place_cmp input j k)))) (λ owns.
     all_below-fails n f (λ j. not (is_owner input name j && is_lt (place_cmp input j k))) first.0

@@ -2,7 +2,6 @@
 use Rattle.std.proofs.Common.{◌≡◌, ℕ, ◌+◌, ◌-◌, ◌<◌, ◌≤◌, Bool, true, false, ◌&&◌, ◌||◌, not, ltb, lt-ltb, IsTrue, List, [], ◌∷◌, ◌++◌, length, length-append, map, get_or, eqb, eq-eqb, refl, sym, ap, subst, ◌∙◌, inl, inr, codes, bit_and, if◌then◌else◌, Option, Some, None, unwrap_or, arith}
 use Rattle.std.specs.List.{slice_get, IsDistinct}
 use Rattle.std.proofs.lemmas.Map.Keys.{apart_from_distinct}
-use Rattle.section_group.proofs.ChainLemmas.{same_is, same_refl}
 use Rattle.std.proofs.lemmas.Bool.{ltb-true, false≢true, cases_lt, eqb-true}
 use Rattle.std.proofs.lemmas.List.{get_or_default, length-map}
 use Rattle.std.proofs.lemmas.Option.{get_or_from_slice_get, slice_get_within}
@@ -17,6 +16,7 @@ use Rattle.section_group.specs.Placement.{first_owner, follows_owner, section_at
 use Rattle.section_group.specs.Gathering.{home_of, AreNumbers, IsNumberOf, GoesWithItsLike}
 use Rattle.section_group.specs.declared.homes.Home.{Home}
 use Rattle.link_base.specs.PeFormat.{SCN_MEM_ATTRIBUTES}
+use Rattle.link_base.proofs.NameTextLemmas.{same_is, same_refl}
 
 -- a name's cut, by the name of its section
 abbrev cut_to : List ℕ → List ℕ → Cut

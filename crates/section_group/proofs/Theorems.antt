@@ -9,13 +9,13 @@ use Rattle.std.proofs.lemmas.Bool.{false≢true, eqb-true, and_parts}
 use Rattle.std.proofs.lemmas.List.{get_or_default, length-map}
 use Rattle.std.proofs.lemmas.Option.{slice_get_cases}
 use Rattle.std.proofs.Math.ListN.{get_or-map}
+use Rattle.link_base.proofs.NameTextLemmas.{same_is}
 use Rattle.section_group.proofs.KeyLemmas.{inside_total}
 use Rattle.section_group.specs.declared.piece.OutSection.{OutSection}
 use Rattle.section_group.specs.Merging.{same_name}
 use Rattle.section_group.specs.SectionOrder.{Input, is_used, section_name, place_cmp, inside_cmp, rank_of, IsFirstPiece, ComesBefore}
 use Rattle.section_group.specs.Placement.{goes_to, section_attributes, content_flags, IsSection, IsGrouping}
 use Rattle.section_group.specs.Uniqueness.{SectionRow, row_of, rows_of}
-use Rattle.section_group.proofs.ChainLemmas.{same_is}
 use Rattle.section_group.proofs.OrderLemmas.{not_after, level}
 use Rattle.section_group.proofs.OwnerLemmas.{place_total, level_places}
 

@@ -1,8 +1,7 @@
 -- What callers may cite of bytes that are a short import.
-use Rattle.std.proofs.Common.{◌≡◌, ℕ, ◌+◌, ◌<◌, ◌≤◌, Bool, true, false, not, eqb, List, length, slice_index, Option, None, Some, inl, inr, refl, sym, ap, ◌∙◌, arith}
+use Rattle.std.proofs.Common.{◌≡◌, ℕ, ◌+◌, ◌<◌, ◌≤◌, Bool, true, false, not, eqb, List, length, slice_index, Option, None, Some, refl, ap, ◌∙◌, arith}
 use Rattle.std.specs.Option.{option_or}
-use Rattle.std.proofs.lemmas.Bool.{false≢true, eqb-true, ltb-false, not-false}
-use Rattle.std.proofs.lemmas.Bool.Decides.{eqb_tells}
+use Rattle.std.proofs.lemmas.Bool.{eqb-true, ltb-false, not-false}
 use Rattle.std.proofs.lemmas.List.{length-take-le, length-drop}
 use Rattle.link_base.specs.Bytes.{bytes_at, is_nul}
 use Rattle.link_base.specs.declared.kinds.import.ImpFault.{ImpFault}
@@ -10,11 +9,13 @@ use Rattle.link_base.specs.declared.kinds.import.ImpFault.TheVariants as fault
 use Rattle.link_base.specs.PeFormat.{FILE_MACHINE_AMD64}
 use Rattle.link_base.specs.Refusals.{shown}
 use Rattle.link_base.proofs.TestLemmas.{or_left, or_right}
+use Rattle.link_base.proofs.NumberLemmas.{above_zero}
+use Rattle.link_base.proofs.PartLemmas.{part_of_part}
 use Rattle.short_import.specs.Constants.{IMPORT_CONST, IMPORT_NAME_UNDECORATE}
 use Rattle.short_import.specs.ShortImport.{machine_of, data_size, import_type, name_type, import_data, symbol_of, dll_of}
 use Rattle.short_import.specs.ImportFaults.{is_cut, is_other_machine, has_other_type, has_other_name_type, lacks_text, header_fault, import_fault}
 use Rattle.short_import.proofs.WholeLemmas.{data_whole}
-use Rattle.short_import.proofs.SpanLemmas.{text_from-span, bytes_at-bytes_at}
+use Rattle.short_import.proofs.SpanLemmas.{text_from-span}
 
 pub record IsShortImport (bytes : List ℕ) : Type 0 where
   pub machine : machine_of bytes ≡ FILE_MACHINE_AMD64
@@ -61,13 +62,6 @@ has_text : (bytes : List ℕ) → import_fault bytes ≡ None → (header_fault 
 unfolding import_fault
 has_text bytes e = no_row (header_fault bytes) (lacks_text bytes) e
 
-not_zero : (n : ℕ) → eqb n 0 ≡ false → 0 < n
-not_zero n e =
-    elim (eqb_tells n 0) [
-      | inl is ↦ absurd (false≢true (sym e ∙ is.0))
-      | inr other ↦ omega (arith, other.1)
-    ]
-
 same_machine : (n m : ℕ) → not (eqb n m) ≡ false → n ≡ m
 same_machine n m e = eqb-true n m (not-false (eqb n m) e)
 
@@ -84,8 +78,8 @@ import_read bytes e =
     let header = passes bytes parts.0 in
     let texts = import_data bytes in
     let size = data_length bytes header.cut in
-    let some_symbol = not_zero (length (symbol_of bytes)) (or_left (eqb (length (symbol_of bytes)) 0) _ parts.1) in
-    let some_dll = not_zero (length (dll_of bytes)) (or_right (eqb (length (symbol_of bytes)) 0) _ parts.1) in
+    let some_symbol = above_zero (length (symbol_of bytes)) (or_left (eqb (length (symbol_of bytes)) 0) _ parts.1) in
+    let some_dll = above_zero (length (dll_of bytes)) (or_right (eqb (length (symbol_of bytes)) 0) _ parts.1) in
     let symbol = text_from-span texts 0 in
     let dll = text_from-span texts (length (symbol_of bytes) + 1) in
     let symbol_ended = symbol.ended some_symbol in
@@ -94,9 +88,9 @@ import_read bytes e =
       machine = same_machine (machine_of bytes) FILE_MACHINE_AMD64 header.machine;
       type_known = ltb-false IMPORT_CONST (import_type bytes) header.type_known;
       name_type_known = ltb-false IMPORT_NAME_UNDECORATE (name_type bytes) header.name_type_known;
-      symbol = symbol.part ∙ bytes_at-bytes_at bytes 20 (data_size bytes) 0 (length (symbol_of bytes)) (omega arith);
+      symbol = symbol.part ∙ part_of_part bytes 20 (data_size bytes) 0 (length (symbol_of bytes)) (omega arith);
       dll = dll.part
-          ∙ bytes_at-bytes_at bytes 20 (data_size bytes) (length (symbol_of bytes) + 1) (length (dll_of bytes)) (omega arith)
+          ∙ part_of_part bytes 20 (data_size bytes) (length (symbol_of bytes) + 1) (length (dll_of bytes)) (omega arith)
           ∙ ap (λ (n : ℕ). bytes_at bytes n (length (dll_of bytes))) (omega arith);
       some_symbol = some_symbol;
       some_dll = some_dll;

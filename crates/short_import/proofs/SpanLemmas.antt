@@ -1,9 +1,9 @@
 -- Where a text stands in bytes, and in the bytes that those were taken from.
-use Rattle.std.proofs.Common.{◌≡◌, ℕ, ◌+◌, ◌-◌, ◌<◌, ◌≤◌, false, Option, Some, None, List, [], length, take, drop, slice_index, inl, inr, refl, sym, ap, subst, ◌∙◌, lt-ltb, le-ltb, arith}
+use Rattle.std.proofs.Common.{◌≡◌, ℕ, ◌+◌, ◌<◌, false, Option, Some, None, List, [], length, take, drop, slice_index, inl, inr, refl, sym, ap, subst, ◌∙◌, lt-ltb, le-ltb, arith}
 use Rattle.std.specs.Prelude.{unwrap_or}
 use Rattle.std.specs.List.{position_or_len}
 use Rattle.std.proofs.lemmas.Bool.{cases_lt}
-use Rattle.std.proofs.lemmas.List.{length-take-le, length-drop, get_or-take, take-take, drop-drop, drop-take}
+use Rattle.std.proofs.lemmas.List.{length-take-le, length-drop, get_or-take}
 use Rattle.std.proofs.lemmas.List.Sums.{fails_before_first}
 use Rattle.link_base.specs.Bytes.{bytes_at, is_nul, text_at}
 use Rattle.short_import.specs.ShortImport.{text_from}
@@ -65,13 +65,3 @@ text_from-span bytes offset =
       | inl lt ↦ rw (lt-ltb _ _ lt) (taken bytes offset (position_or_len is_nul rest) refl lt)
       | inr le ↦ rw (le-ltb _ _ le) (empty bytes [] offset refl)
     ]
-
--- a part of a part
-pub bytes_at-bytes_at : (bytes : List ℕ) (start size offset count : ℕ) → offset + count ≤ size → bytes_at (bytes_at bytes start size) offset count ≡ bytes_at bytes (start + offset) count
-bytes_at-bytes_at bytes start size offset count fits =
-    let rest = drop start bytes in
-    let whole : size ≡ offset + (size - offset) = omega arith in
-    ap (λ (n : ℕ). take count (drop offset (take n rest))) whole
-    ∙ ap (take count) (drop-take offset (size - offset) rest)
-    ∙ take-take count (size - offset) (drop offset rest) (omega arith)
-    ∙ ap (take count) (drop-drop offset start bytes)

@@ -7,6 +7,7 @@ use Rattle.std.proofs.lemmas.Option.{slice_get_within, get_or_from_slice_get, sa
 use Rattle.std.proofs.lemmas.Map.Keys.{apart_from_distinct}
 use Rattle.std.proofs.lemmas.Slice.Eq.{bytes_eq-Decides}
 use Rattle.link_base.specs.NameText.{same_name}
+use Rattle.link_base.proofs.NameTextLemmas.{same_is}
 use Rattle.module_view.specs.declared.definition.Definition.{Definition}
 use Rattle.module_view.specs.declared.definition.Common.{Common}
 use Rattle.module_view.specs.declared.reference.Weak.{Weak}
@@ -23,9 +24,6 @@ use Rattle.symbol_names.specs.References.{Asked}
 use Rattle.symbol_names.specs.Interning.{Numbers, KeepsNumbers, NotesDefinition, NotesCommon, NotesDefault, NotesWeak, NotesAlternate, NotesAsked, AreRecords}
 
 -- ---- names that are one text
-
-pub same_is : (a b : List ℕ) → same_name a b ≡ true → a ≡ b
-same_is a b e = (bytes_eq-Decides a b).0 e
 
 pub same_from : (a b : List ℕ) → a ≡ b → same_name a b ≡ true
 same_from a b e = (bytes_eq-Decides a b).1 e

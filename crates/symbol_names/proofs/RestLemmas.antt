@@ -5,7 +5,7 @@ use Rattle.std.proofs.lemmas.Option.{slice_get_within, slice_get-get_or}
 use Rattle.link_base.specs.NameText.{begins_import, behind_import}
 use Rattle.symbol_names.specs.Interning.{Numbers, KeepsNumbers}
 use Rattle.symbol_names.proofs.NumberLemmas.{one_name, keeps_both}
-use Rattle.symbol_names.specs.Rests.{IsNumbered, HasRests, HasRestsBut}
+use Rattle.symbol_names.specs.Rests.{IsNumbered, HasRestsBut}
 
 -- ---- one name more
 
@@ -28,23 +28,6 @@ pub record NotesRests (before names : List (List ℕ)) (number : ℕ) (rest : Li
   pub kept : KeepsNumbers before names
   pub long : length before ≤ length names
   pub noted : (count : ℕ) → count ≤ length before → HasRestsBut before number count → (k : ℕ) (name : List ℕ) → Numbers names k name → IsNear number count k → begins_import name ≡ true → IsNumbered names (behind_import name) ⊎ (name ≡ rest)
-
-pub rests_begin : (names : List (List ℕ)) (number : ℕ) (rest : List ℕ) → Numbers names number rest → NotesRests names names number rest
-rests_begin names number rest is = record {
-  kept = λ k name numbered. numbered;
-  long = omega arith;
-  noted = λ count le has k name numbered near begins. go count has k name numbered near begins;
-}
-  where
-    go : (count : ℕ) → HasRestsBut names number count → (k : ℕ) (name : List ℕ) → Numbers names k name → IsNear number count k → begins_import name ≡ true → IsNumbered names (behind_import name) ⊎ (name ≡ rest)
-    go count has k name numbered (inr high) begins = inl (has k name numbered (inr high) begins)
-    go count has k name numbered (inl low) begins = elim (cases_order k number) [
-      | inl same ↦ inr (one_name names number name rest (subst (λ (j : ℕ). Numbers names j name) same numbered) is)
-      | inr differ ↦ elim differ [
-        | inl below ↦ inl (has k name numbered (inl below) begins)
-        | inr above ↦ absurd (omega (arith, above, low))
-      ]
-    ]
 
 pub rests_more : (before names after : List (List ℕ)) (number : ℕ) (rest behind : List ℕ) (at : ℕ) → KeepsNumbers names after → length names ≤ length after → Numbers after at behind → ((k : ℕ) (other : List ℕ) → Numbers after k other → length names ≤ k → other ≡ behind) → behind ≡ behind_import rest → NotesRests before names number rest → NotesRests before after number behind
 rests_more before names after number rest behind at kept longer there alone is was = record {
@@ -85,26 +68,3 @@ pub record RestsSoFar (before names : List (List ℕ)) (number : ℕ) : Type 0 w
   pub kept : KeepsNumbers before names
   pub long : length before ≤ length names
   pub noted : HasRestsBut names number (length before)
-
-pub none_so_far : (names : List (List ℕ)) → RestsSoFar names names 0
-none_so_far names = record {
-  kept = λ k name numbered. numbered;
-  long = omega arith;
-  noted = λ k name numbered near begins. elim near [
-    | inl low ↦ absurd (omega (arith, low))
-    | inr high ↦ absurd (omega (arith, high, slice_get_within names k name numbered))
-  ];
-}
-
-pub all_rests : (before names : List (List ℕ)) (number : ℕ) → length before ≤ number → RestsSoFar before names number → HasRests names
-all_rests before names number all is = λ k name numbered begins.
-    is.noted k name numbered (near k) begins
-  where
-    near : (k : ℕ) → (k < number) ⊎ (length before ≤ k)
-    near k = elim (cases_order k number) [
-      | inl same ↦ inr (omega (arith, same, all))
-      | inr differ ↦ elim differ [
-        | inl below ↦ inl below
-        | inr above ↦ inr (omega (arith, above, all))
-      ]
-    ]

@@ -1,23 +1,19 @@
 -- The end of a chain is what a name means: a chain that has not ended after one step more than there are names that it can come
 -- to has come to a name twice.
-use Rattle.std.proofs.Common.{◌≡◌, ℕ, zero, suc, ◌+◌, ◌<◌, ◌≤◌, Bool, true, false, cond, eqb, ◌||◌, List, [], ◌∷◌, length, get_or, map, take, drop, ◌⊎◌, Option, None, Some, is_some, Result, Ok, Err, refl, sym, ap, ◌∙◌, subst, inl, inr, add-one, arith}
+use Rattle.std.proofs.Common.{◌≡◌, ℕ, zero, suc, ◌+◌, ◌<◌, ◌≤◌, Bool, true, false, cond, ◌||◌, List, [], ◌∷◌, length, map, take, drop, ◌⊎◌, Option, None, Some, is_some, Result, Ok, Err, refl, sym, ap, ◌∙◌, inl, inr, add-one, arith}
 use Rattle.std.specs.List.{range_with_len, list_any, find, position_or_len, slice_get, flat_map, cons_option}
 use Rattle.std.specs.Prelude.{filter_map}
 use Rattle.std.proofs.Math.Seq.{drop-drop}
-use Rattle.std.proofs.lemmas.Map.Keys.{IsDistinct-from_apart}
-use Rattle.std.proofs.lemmas.Map.Steps.{length-le_from_distinct_below}
-use Rattle.std.proofs.lemmas.Map.Views.{Contains-from_any}
 use Rattle.std.proofs.lemmas.List.{length-take, length-drop}
 use Rattle.std.proofs.lemmas.List.Folds.{find_at, list_any-append, list_any_at}
 use Rattle.link_base.specs.NameText.{same_name, import_prefix, begins_import, behind_import}
 use Rattle.symbol_names.specs.LinkView.{LinkView}
 use Rattle.symbol_names.specs.Alternates.{is_left, all_alternates, alternate_named}
 use Rattle.std.proofs.lemmas.List.FromFn.{get_or-map-range_with_len, length-map-range_with_len}
-use Rattle.std.proofs.lemmas.Bool.{false≢true, eqb-true, cases_eq, or_cases, or_left, or_right}
+use Rattle.std.proofs.lemmas.Bool.{false≢true, cases_eq, or_cases, or_left, or_right}
 use Rattle.std.proofs.lemmas.Option.{same_Some, slice_get_within}
 use Rattle.std.proofs.lemmas.Slice.Eq.{bytes_eq-Decides}
-use Rattle.link_base.specs.Bytes.{first_below}
-use Rattle.link_base.proofs.CallerLemmas.{first_below-some, first_below-none}
+use Rattle.link_base.proofs.PigeonLemmas.{pigeon}
 use Rattle.symbol_table.specs.declared.meaning.Meaning.{Meaning}
 use Rattle.symbol_table.specs.declared.meaning.Meaning.TheVariants as meaning
 use Rattle.symbol_table.specs.declared.meaning.NoMeaning.{NoMeaning}
@@ -28,55 +24,6 @@ use Rattle.symbol_names.specs.Lists.{Said, says, all_weaks}
 use Rattle.symbol_table.specs.Resolution.{Step, Ends, Leads, own_or, own_meaning, name_said, default_name, default_step, alternate_step, weak_step, weak_named, step, is_local_slot, passed_on, at_end, meaning_within, led_to, tails_of, names_ahead, meaning_of}
 use Rattle.symbol_table.specs.Links.{Settles}
 use Rattle.symbol_table.proofs.ChainLemmas.{passed_cycle}
-
--- ---- more numbers than places: two are at one place
-
--- two numbers below n at one place
-record Meet (f : ℕ → ℕ) (n : ℕ) : Type 0 where
-  early : ℕ
-  late : ℕ
-  apart : early < late
-  within : late < n
-  same : f early ≡ f late
-
-too_many : (f : ℕ → ℕ) (n : ℕ) → ((k : ℕ) → k ≤ n → f k < n) → ((i j : ℕ) → i < j → j < suc n → eqb (f i) (f j) ≡ false) → ⊥
-too_many f n fits apart =
-    let xs = map f (range_with_len 0 (suc n)) in
-    let len : length xs ≡ suc n = length-map-range_with_len f 0 (suc n) in
-    let at = λ (i d : ℕ) (lt : i < suc n). get_or-map-range_with_len f 0 (suc n) i i d lt (omega arith) in
-    let distinct = IsDistinct-from_apart eqb xs (λ i j d lt below. let lt' : j < suc n = omega (arith, len) in ap (λ (a : ℕ). eqb a (get_or xs j d)) (at i d (omega arith)) ∙ ap (eqb (f i)) (at j d lt') ∙ apart i j lt lt') in
-    let below = λ (q : ℕ) (e : list_any (eqb q) xs ≡ true). let found = Contains-from_any eqb-true q xs e in (let lt : found.0 < suc n = omega (arith, found.1, len) in subst (λ (k : ℕ). k < n) (sym (at found.0 q lt) ∙ found.2) (fits found.0 (omega arith))) in
-    absurd (omega (arith, length-le_from_distinct_below xs n distinct below, len))
-
--- the first number with the place of a later one
-twin : (ℕ → ℕ) → ℕ → Option ℕ
-twin f late = first_below late (λ early. eqb (f early) (f late))
-
-is_none : (o : Option ℕ) → is_some o ≡ false → o ≡ None
-is_none None e = refl
-is_none (Some k) e = absurd cc
-
--- of n + 1 numbers at n places two meet
-pigeon : (f : ℕ → ℕ) (n : ℕ) → ((k : ℕ) → k ≤ n → f k < n) → Meet f (suc n)
-unfolding twin
-pigeon f n fits = search_all (first_below (suc n) has_twin) refl
-  where
-    has_twin : ℕ → Bool
-    has_twin late = is_some (twin f late)
-
-    met_at : (late : ℕ) → late < suc n → (o : Option ℕ) → twin f late ≡ o → is_some o ≡ true → Meet f (suc n)
-    met_at late lt None e some = absurd (false≢true some)
-    met_at late lt (Some early) e some =
-        let found = first_below-some late early (λ k. eqb (f k) (f late)) e in
-        record { early = early; late = late; apart = found.0; within = lt; same = eqb-true (f early) (f late) found.1.0 }
-
-    search_all : (o : Option ℕ) → first_below (suc n) has_twin ≡ o → Meet f (suc n)
-    search_all (Some late) e =
-        let found = first_below-some (suc n) late has_twin e in
-        met_at late found.0 (twin f late) refl found.1.0
-    search_all None e =
-        absurd (too_many f n fits (λ early late lt below.
-        first_below-none late (λ k. eqb (f k) (f late)) (is_none (twin f late) (first_below-none (suc n) has_twin e late below)) early lt))
 
 -- ---- a step
 
@@ -368,9 +315,9 @@ never_ends view chosen name none steps =
     let start : IsTail (name ∷ led_to view) name = record { text = name; cut = 0; among = or_left (is_name name name) _ (is_itself name); within = omega arith; is = refl } in
     let there = λ (k : ℕ) (le : k ≤ count). stands_at ahead (nth k) (tail_ahead view name (nth k) (nth_tail view chosen name name k start (λ j less. lead j (omega (arith, less, le))))) in
     let met = pigeon place count (λ k le. slice_get_within ahead (place k) (nth k) (there k le)) in
-    let same : nth met.early ≡ nth met.late =
-    same_Some (nth met.early) (nth met.late) (sym (there met.early (omega (arith, met.apart, met.within))) ∙ ap (slice_get ahead) met.same ∙ there met.late (omega (arith, met.within))) in
-    endless view chosen name met.early met.late met.apart same (λ k less. lead k (omega (arith, less, met.within))) steps 0 (omega (arith, met.apart))
+    let same : nth met.first ≡ nth met.other =
+    same_Some (nth met.first) (nth met.other) (sym (there met.first (omega (arith, met.apart, met.within))) ∙ ap (slice_get ahead) met.same ∙ there met.other (omega (arith, met.within))) in
+    endless view chosen name met.first met.other met.apart same (λ k less. lead k (omega (arith, less, met.within))) steps 0 (omega (arith, met.apart))
 
 -- ---- a chain that has ended has ended at every later step
 

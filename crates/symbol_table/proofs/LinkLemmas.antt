@@ -1,5 +1,5 @@
 -- Where a name leads, by what the passes over the modules say of it.
-use Rattle.std.proofs.Common.{◌≡◌, ℕ, Bool, List, get_or, Option, Some, None, refl, sym, ap, subst, ◌∙◌}
+use Rattle.std.proofs.Common.{◌≡◌, ℕ, Bool, List, get_or, Option, Some, None, refl, ap, subst, ◌∙◌}
 use Rattle.std.specs.Prelude.{option_map}
 use Rattle.std.specs.Option.{option_or}
 use Rattle.module_view.specs.Module.{ModuleView}
@@ -39,6 +39,3 @@ step_is view chosen names firsts commons weaks alternates number name own link f
     subst (λ (o : Option Meaning). IsStep names (own_or o (weak_step chosen (weak_named view.modules name) (alternate_step name (alternate_named view name)))) link)
     (is ∙ own_is view.modules chosen names firsts commons number name first greatest numbered)
     (each (weak_named view.modules name) (alternate_named view name) (weak number name numbered) (alternate number name numbered))
-
-pub same_number : (names : List (List ℕ)) (number : ℕ) (name other : List ℕ) → Numbers names number name → Numbers names number other → name ≡ other
-same_number names number name other is was = let both : Some name ≡ Some other = sym is ∙ was in cc

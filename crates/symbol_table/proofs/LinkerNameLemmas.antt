@@ -3,7 +3,7 @@ use Rattle.std.proofs.Common.{◌≡◌, ℕ, Bool, true, false, not, ◌&&◌, 
 use Rattle.std.proofs.lemmas.Bool.{false≢true, cases_Bool, and_right}
 use Rattle.std.specs.List.{list_any}
 use Rattle.link_base.specs.NameText.{same_name, begins, begins_import, behind_import}
-use Rattle.symbol_names.proofs.NumberLemmas.{same_is}
+use Rattle.link_base.proofs.NameTextLemmas.{same_is}
 use Rattle.symbol_table.specs.LinkerNames.{image_base_name, zero_names, linker_meaning}
 
 -- it begins with two underscores, and not with the import prefix

@@ -1,5 +1,5 @@
 -- One more live definition: the first of its name, and the clash that it makes.
-use Rattle.std.proofs.Common.{◌≡◌, ℕ, zero, suc, ◌+◌, ◌<◌, Bool, true, false, cond, nat_eq, List, [], ◌∷◌, ◌++◌, length, map, take, get_or, replicate, Option, Some, None, refl, sym, ap, subst, ◌∙◌, add-one, eqb-true, arith}
+use Rattle.std.proofs.Common.{◌≡◌, ℕ, zero, suc, ◌+◌, ◌<◌, Bool, true, false, cond, nat_eq, List, [], ◌∷◌, ◌++◌, length, map, take, get_or, replicate, Option, Some, None, refl, sym, ap, subst, ◌∙◌, eqb-true, arith}
 use Rattle.std.proofs.Math.Seq.{take-length}
 use Rattle.std.proofs.Math.ListN.{set}
 use Rattle.std.specs.Prelude.{option_map, option_and_then, filter, is_some}
@@ -8,7 +8,8 @@ use Rattle.std.specs.List.{find, AllZip, IsDistinct}
 use Rattle.std.proofs.lemmas.List.{take-append-le, length-append, length-replicate}
 use Rattle.link_base.specs.NameText.{same_name}
 use Rattle.link_base.specs.Refusals.{first_refusal_below}
-use Rattle.link_base.proofs.RefusalLemmas.{or_none}
+use Rattle.link_base.proofs.RefusalLemmas.{or_none, same_below, one_more}
+use Rattle.link_base.proofs.OptionLemmas.{map_or}
 use Rattle.module_view.specs.declared.definition.Definition.{Definition}
 use Rattle.module_view.specs.declared.definition.Place.{Place}
 use Rattle.symbol_table.specs.declared.meaning.Clash.{Clash}
@@ -19,7 +20,7 @@ use Rattle.symbol_table.specs.Clash.{no_definition, entry_at, clash_with, clash_
 use Rattle.symbol_names.specs.Interning.{Numbers, NotesDefinition}
 use Rattle.symbol_table.specs.Passes.{live_of, AreFirst, AreLives, clash_with_first}
 use Rattle.symbol_names.proofs.NumberLemmas.{number_within, same_number, zip_at, zip_length}
-use Rattle.symbol_table.proofs.PassLemmas.{none_at, map_or, find_last, filtered_more, Changed, changed_set, changed_not}
+use Rattle.symbol_table.proofs.PassLemmas.{none_at, find_last, filtered_more, Changed, changed_set, changed_not}
 
 -- ---- names
 
@@ -39,16 +40,6 @@ first_more names earlier entry n old new distinct named was changed = λ m other
         ∙ ap (option_map live_of) (sym (or_none (find (has_name other) earlier)) ∙ sym (find_last (has_name other) earlier entry false (same_number names m n other entry.definition.name distinct is named ∙ e)))
 
 -- ---- clashes
-
-same_below : {A : Type 0} (n : ℕ) (f g : ℕ → Option A) → ((k : ℕ) → k < n → f k ≡ g k) → first_refusal_below n f ≡ first_refusal_below n g
-unfolding first_refusal_below
-same_below zero f g same = refl
-same_below (suc n) f g same =
-    rw (same_below n f g (λ k lt. same k (omega arith)), same n (omega arith)) refl
-
-one_more : {A : Type 0} (n : ℕ) (f : ℕ → Option A) → first_refusal_below (n + 1) f ≡ option_or (first_refusal_below n f) (f n)
-unfolding first_refusal_below
-one_more n f = rw add-one refl
 
 entry_before : (entries : List Provided) (entry : Provided) (k : ℕ) → k < length entries → entry_at (entries ++ entry ∷ []) k ≡ entry_at entries k
 entry_before [] entry k lt = absurd (omega arith)

@@ -1,14 +1,14 @@
 -- One more of a list: what is found in it, what stands at its number, and one more module.
 use Rattle.std.proofs.Common.{◌⊎◌, inl, inr, ◌≡◌, ℕ, zero, suc, ◌+◌, ◌<◌, ◌≤◌, Bool, false, cond, nat_eq, List, [], ◌∷◌, ◌++◌, length, map, take, get_or, replicate, Option, Some, None, refl, sym, ap, subst, ◌∙◌, add-one, append_assoc, arith}
 use Rattle.std.proofs.Math.ListN.{set}
-use Rattle.std.specs.Prelude.{option_map, filter, is_some, not, ◌==◌}
+use Rattle.std.specs.Prelude.{filter, not, ◌==◌}
 use Rattle.std.specs.Option.{option_or}
 use Rattle.std.specs.List.{find, list_any, flat_map, range_with_len, All, AllZip}
 use Rattle.std.proofs.lemmas.Bool.{true≢false, eqb-false, ne_eqb, or_parts}
 use Rattle.std.proofs.lemmas.List.{map-append, take_more, length-map, length-append, length-set, get_or-map, get_or-set_same, get_or-set_other, get_or_append_left, get_or_push}
 use Rattle.std.proofs.lemmas.List.Folds.{find-append}
 use Rattle.std.proofs.lemmas.List.Elements.{filter-append}
-use Rattle.link_base.proofs.RangeLemmas.{joined_more}
+use Rattle.link_base.proofs.RangeLemmas.{joined_more, same_joined}
 use Rattle.module_view.specs.Module.{ModuleView, no_module, module_at}
 use Rattle.symbol_names.specs.declared.noted.ModuleNames.{ModuleNames}
 use Rattle.symbol_names.specs.Lists.{of_each, of_all}
@@ -17,21 +17,9 @@ use Rattle.symbol_names.specs.Kept.{noted_view}
 
 -- ---- the first of two
 
-pub or_or : {A : Type 0} (a b c : Option A) → option_or (option_or a b) c ≡ option_or a (option_or b c)
-or_or None b c = refl
-or_or (Some x) b c = refl
-
-pub map_or : {A B : Type 0} (f : A → B) (a b : Option A) → option_map f (option_or a b) ≡ option_or (option_map f a) (option_map f b)
-map_or f None b = refl
-map_or f (Some x) b = refl
-
 pub none_or_some : {A : Type 0} (o : Option A) → (o ≡ None) ⊎ ((x : A) × (o ≡ Some x))
 none_or_some None = inl refl
 none_or_some (Some x) = inr (x, refl)
-
-pub none_from : {A : Type 0} (o : Option A) → is_some o ≡ false → o ≡ None
-none_from None e = refl
-none_from (Some x) e = absurd cc
 
 -- ---- one more
 
@@ -99,13 +87,6 @@ of_first_more list modules n m lt is = each_first_more (λ k (view : ModuleView)
 
 pub of_first_all : {A : Type 0} (list : ℕ → List ℕ → List A) (modules : List ModuleNames) (n : ℕ) → n ≡ length modules → of_first list (map noted_view modules) n ≡ of_all list (map noted_view modules)
 of_first_all list modules n is = each_first_all (λ k (view : ModuleView). list k view.bytes) modules n is
-
--- behind those of the modules before come those of one more
-same_joined : {A : Type 0} (f g : ℕ → List A) (a n : ℕ) → ((k : ℕ) → a ≤ k → k < a + n → f k ≡ g k) → flat_map f (range_with_len a n) ≡ flat_map g (range_with_len a n)
-same_joined f g a zero same = refl
-same_joined {A} f g a (suc n) same =
-    ap (λ (xs : List A). xs ++ flat_map f (range_with_len (a + 1) n)) (same a (omega arith) (omega arith))
-    ∙ ap (λ (ys : List A). g a ++ ys) (same_joined f g (a + 1) n (λ k low high. same k (omega arith) (omega arith)))
 
 pub of_all_push : {A : Type 0} (list : ℕ → List ℕ → List A) (modules : List ModuleNames) (m : ModuleNames) → of_all list (map noted_view (modules ++ m ∷ [])) ≡ of_all list (map noted_view modules) ++ list (length modules) m.bytes.now
 of_all_push {A} list modules m =

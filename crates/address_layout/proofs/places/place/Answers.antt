@@ -1,9 +1,10 @@
 use Rattle.std.proofs.Common.{◌≡◌, ◌+◌, ◌*◌, ◌≤◌, ℕ, Bool, true, false, cond, length, refl, sym, ap, subst, arith, ◌∙◌}
 use mir.Val.{bool_byte}
+use Rattle.link_base.proofs.ListLemmas.{front_is}
 use Rattle.address_layout.specs.Places.{section_count}
 use Rattle.address_layout.specs.Rounded.{rounded}
 use Rattle.address_layout.proofs.StandingLemmas.{pieces_few, pieces_fewer}
-use Rattle.address_layout.proofs.LayoutLemmas.{whole, sections_few, size_is, layout_is, can_grow}
+use Rattle.address_layout.proofs.LayoutLemmas.{sections_few, size_is, layout_is, can_grow}
 use Rattle.address_layout.proofs.places.place.Goals as goal
 
 byte_is : (b : Bool) → bool_byte b ≡ cond b 1 0
@@ -40,7 +41,7 @@ returns-clause-layout c =
     let headers = c.headers_len-headers.ensures.value ∙ ap (λ (n : ℕ). rounded 512 (328 + 40 * n)) count in
     let few : length sections ≤ 96 = omega (arith, c.if-count-gt-SECTION_LIMIT.false) in
     layout_is c.args.pieces.now sections c.args.reloc c.headers_len-headers.result c.in_ok-placed.end c.in_ok-placed.ensures.0 c.in_ok-placed.placed.items c.place_all.new.rvas _ c.requires.aligned c.requires.standing few headers c.in_ok-placed.ensures.1
-    refl refl (whole c.place_all.new.rvas _ _ (c.in_ok-rvas.ensures.len ∙ sym c.in_ok-placed.ensures.1.room)) c.round_up-image.ensures c.if-image-gt-MAX_IMAGE.false
+    refl refl (front_is c.place_all.new.rvas _ _ (c.in_ok-rvas.ensures.len ∙ sym c.in_ok-placed.ensures.1.room)) c.round_up-image.ensures c.if-image-gt-MAX_IMAGE.false
 
 pub returns-clause-growth : goal.returns-clause-growth
 returns-clause-growth c =
@@ -49,7 +50,7 @@ returns-clause-growth c =
     let headers = c.headers_len-headers.ensures.value ∙ ap (λ (n : ℕ). rounded 512 (328 + 40 * n)) count in
     let few : length sections ≤ 96 = omega (arith, c.if-count-gt-SECTION_LIMIT.false) in
     can_grow c.args.pieces.now sections c.args.reloc c.headers_len-headers.result c.in_ok-placed.end c.in_ok-placed.ensures.0 c.in_ok-placed.placed.items c.place_all.new.rvas _ c.requires.aligned c.requires.standing few headers c.in_ok-placed.ensures.1
-    refl refl (whole c.place_all.new.rvas _ _ (c.in_ok-rvas.ensures.len ∙ sym c.in_ok-placed.ensures.1.room)) c.round_up-image.ensures c.if-image-gt-MAX_IMAGE.false
+    refl refl (front_is c.place_all.new.rvas _ _ (c.in_ok-rvas.ensures.len ∙ sym c.in_ok-placed.ensures.1.room)) c.round_up-image.ensures c.if-image-gt-MAX_IMAGE.false
 
 pub returns-clause-few_sections : goal.returns-clause-few_sections
 returns-clause-few_sections c =

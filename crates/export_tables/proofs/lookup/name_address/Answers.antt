@@ -1,8 +1,9 @@
 use Rattle.std.proofs.Common.{refl, sym, ◌∙◌, ap, ◌≡◌, arith, ℕ}
 use Rattle.link_base.specs.Refusals.{first_refusal_below}
 use Rattle.link_base.proofs.RefusalLemmas.{first_refusal_below-more}
+use Rattle.link_base.proofs.OptionLemmas.{none_is}
 use Rattle.export_tables.specs.ExportDirectory.{named_address, name_address}
-use Rattle.export_tables.proofs.NameLemmas.{none_named, first_named, none_is}
+use Rattle.export_tables.proofs.NameLemmas.{none_named, first_named}
 use Rattle.export_tables.proofs.lookup.name_address.Goals as goal
 
 pub loop-index-init : goal.loop-index-init

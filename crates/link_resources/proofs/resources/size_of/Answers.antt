@@ -1,8 +1,9 @@
 use Rattle.std.proofs.Common.{◌≡◌, ℕ, length, subst, sym, ◌∙◌}
 use Rattle.std.specs.Result.{IfOk}
 use Rattle.std.proofs.lemmas.Bool.{eqb-true}
+use Rattle.link_base.proofs.NumberLemmas.{above_zero}
 use Rattle.res_merge.specs.Entries.{entry_of}
-use Rattle.link_resources.proofs.TreeLemmas.{above_zero, no_tree, has_tree}
+use Rattle.link_resources.proofs.TreeLemmas.{no_tree, has_tree}
 use Rattle.link_resources.proofs.resources.size_of.Goals as goal
 
 pub returns-then-is_empty : goal.returns-then-is_empty

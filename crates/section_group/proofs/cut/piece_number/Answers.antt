@@ -1,8 +1,8 @@
 use Rattle.std.proofs.Common.{Some, ap, sym, ◌∙◌, arith}
 use Rattle.std.proofs.lemmas.List.{get_or_default}
+use Rattle.link_base.proofs.NameTextLemmas.{same_is}
 use Rattle.section_group.specs.declared.piece.Piece.{Piece}
 use Rattle.section_group.specs.SectionOrder.{no_piece}
-use Rattle.section_group.proofs.ChainLemmas.{same_is}
 use Rattle.section_group.proofs.PartLemmas.{named_again, named_more}
 use Rattle.section_group.proofs.cut.piece_number.Goals as goal
 

@@ -1,8 +1,8 @@
 use Rattle.std.proofs.Common.{◌≡◌, ◌+◌, ◌*◌, ℕ, List, length, map, ap, sym, subst, arith, ◌∙◌}
 use Rattle.std.proofs.lemmas.List.{length-map}
+use Rattle.link_base.proofs.NameTextLemmas.{same_is}
 use Rattle.section_group.specs.Merging.{led}
 use Rattle.section_group.specs.Places.{later_place, AreOwnPlaces}
-use Rattle.section_group.proofs.ChainLemmas.{same_is}
 use Rattle.section_group.proofs.PlaceLemmas.{own_within, leads_own, leads_round, leads_far}
 use Rattle.section_group.proofs.places.follow_places.Goals as goal
 

@@ -1,8 +1,9 @@
 use Rattle.std.proofs.Common.{◌≡◌, ℕ, List, cond, Some, ap, sym, ◌∙◌}
 use Rattle.std.proofs.lemmas.Bool.{not-false}
 use Rattle.indexmap.specs.IndexMap.{get}
+use Rattle.link_base.proofs.NameTextLemmas.{same_is}
 use Rattle.section_group.specs.Merging.{same_name}
-use Rattle.section_group.proofs.ChainLemmas.{same_is, puts_again}
+use Rattle.section_group.proofs.ChainLemmas.{puts_again}
 use Rattle.section_group.proofs.targets.add_target.Goals as goal
 
 pub returns-else-ne : goal.returns-else-ne

@@ -2,9 +2,9 @@ use Rattle.std.specs.List.{All}
 use Rattle.std.proofs.Common.{refl, ◌≡◌, ◌+◌, ◌<◌, ◌≤◌, ℕ, Vec, Global, length, sym, ap, ◌∙◌, subst, arith}
 use Rattle.std.proofs.lemmas.List.{get_or_read}
 use Rattle.std.proofs.lemmas.Option.{slice_get_within}
+use Rattle.link_base.proofs.OptionLemmas.{none_is}
 use Rattle.symbol_table.specs.declared.link.Link.{Link}
 use Rattle.symbol_table.specs.Links.{no_link, link_at, next_of, LeadsBelow}
-use Rattle.symbol_table.proofs.PassLemmas.{none_from}
 use Rattle.symbol_table.proofs.ChainLemmas.{steps_known, known_end, AreSettled, settled_more, settled_same}
 use Rattle.symbol_table.proofs.chains.settle.Goals as goal
 use Rattle.symbol_table.proofs.chains.settle.Goals.{then-is_some+in_ok-follow, else-is_some}
@@ -45,7 +45,7 @@ loop-number-preserved c =
           (settled_more names start now w.follow.new.links.items number before followed.long followed.below followed.known followed.ended followed.stay)
       | else-is_some w ↦
           subst (λ (links : Vec Link Global). AreSettled names start links.items (number + 1)) (sym w.links-is)
-          (settled_same names start now number before (ap next_of (sym read) ∙ sym c.next_of.ensures ∙ none_from c.next_of.result (sym c.is_some.ensures ∙ w.if-is_some.false)))
+          (settled_same names start now number before (ap next_of (sym read) ∙ sym c.next_of.ensures ∙ none_is c.next_of.result (sym c.is_some.ensures ∙ w.if-is_some.false)))
     ]
 
 pub returns : goal.returns

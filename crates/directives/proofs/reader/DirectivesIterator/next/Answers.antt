@@ -1,8 +1,9 @@
 use Rattle.std.proofs.Common.{◌∙◌, ◌<◌, ap, sym, length, option_map, Some, Err, Result, List, ◌∷◌, arith}
+use Rattle.link_base.proofs.ListLemmas.{fewer}
 use Rattle.directives.specs.Said.{Said, said, item_said}
 use Rattle.directives.specs.declared.item.BadDirective.{BadDirective}
 use Rattle.directives.specs.Words.{word_len}
-use Rattle.directives.proofs.WalkLemmas.{blank_step, word_step, end_step, none_step, ok_step, err_step, fewer, word_len-more}
+use Rattle.directives.proofs.WalkLemmas.{blank_step, word_step, end_step, none_step, ok_step, err_step, word_len-more}
 use Rattle.directives.proofs.reader.DirectivesIterator.next.Goals as goal
 
 pub loop-self-preserved-then-is_blank : goal.loop-self-preserved-then-is_blank

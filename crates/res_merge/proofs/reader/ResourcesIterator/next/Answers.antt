@@ -1,8 +1,9 @@
 use Rattle.std.proofs.Common.{List, ◌∷◌, length, Ok, Err, Result, sym, ap, ◌∙◌, arith}
 use Rattle.link_base.specs.declared.kinds.resource.ResFault.TheVariants as bad
+use Rattle.link_base.proofs.ListLemmas.{fewer}
 use Rattle.res_merge.specs.declared.resource.ResError.{ResError}
 use Rattle.res_merge.specs.Entries.{Entry, entry_of}
-use Rattle.res_merge.proofs.WalkLemmas.{ok_step, err_step, end_step, left_cut, cut_short, left_at, left_behind, fewer}
+use Rattle.res_merge.proofs.WalkLemmas.{ok_step, err_step, end_step, left_cut, cut_short, left_at, left_behind}
 use Rattle.res_merge.proofs.reader.ResourcesIterator.next.Goals as goal
 
 pub returns-then-is_cut-clause-steps : goal.returns-then-is_cut-clause-steps
