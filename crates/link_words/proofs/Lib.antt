@@ -4,4 +4,3 @@ pub mod SettingLemmas
 pub mod WordLemmas
 pub mod LinkLemmas
 mod WorkedWords
-pub mod PdbNameLemmas

@@ -251,9 +251,3 @@ outputs_clash options =
 -- an import library names the image by what stands after the last slash, which has to be there
 unfoldable pub lacks_image_name : outcome.LinkOptions → Bool
 lacks_image_name options = is_some options.implib && ends_in_slash options.out
-
--- ---- the name of the program database
-
--- it is the one that it has where no word names it
-abbrev pub has_default_pdb : outcome.LinkOptions → Bool
-has_default_pdb options = bytes_eq options.pdb (with_extension options.out (codes ".pdb"))

@@ -2,12 +2,8 @@
 
 ghost use Rattle.std.specs.Prelude.{◌≡◌, ◌<◌, ◌≤◌, length, take, slice_index, IfOk};
 ghost use Rattle.std.specs.String.{string_bytes};
-ghost use Rattle.std.specs.Str.{bytes_eq};
 ghost use Rattle.link_words.specs.Extension.{stem, with_extension};
-ghost use Rattle.link_words.specs.Outcome.{options_said};
-ghost use Rattle.link_words.specs.Options.{has_default_pdb};
 
-use crate::options::Options;
 use memchr::{memrchr, memrchr2};
 use std::alloc::{AllocError, Global};
 
@@ -26,24 +22,6 @@ pub(crate) fn with_extension(
     let mut text = String::from_str(alloc, stem)?;
     text.push_str(extension)?;
     Ok(text)
-}
-
-/// Whether a link's program database has the name that it has where no word names it.
-pub fn has_default_pdb(options: &Options<'_>) -> bool
-    ensures { result ≡ has_default_pdb (options_said options.now) }
-{
-    has_name_with(options.pdb.as_bytes(), options.out.as_bytes(), b".pdb")
-}
-
-/// Whether a text is a name with this extension in place of its own.
-fn has_name_with(text: &[u8], name: &[u8], extension: &[u8]) -> bool
-    ensures { result ≡ bytes_eq text.now (with_extension name.now extension.now) }
-{
-    let (stem, _) = name.split_at(stem_len(name));
-    match text.strip_prefix(stem) {
-        Some(rest) => rest == extension,
-        None => false,
-    }
 }
 
 /// How long the name is without its extension.

@@ -19,5 +19,4 @@ mod words;
 
 pub use commands::read_words;
 pub use errors::{UsageKind, WordsError, usage_word};
-pub use extension::has_default_pdb;
 pub use options::{Command, Options};
