@@ -1,3 +1,4 @@
 pub mod Reach
 pub mod Standing
 pub mod Named
+pub mod LookedUp

@@ -1,6 +1,6 @@
 //! What of a link is kept in any case.
 
-ghost use Rattle.std.specs.Prelude.{◌≡◌, ◌++◌, ◌∷◌, ◌&&◌, ◌<◌, ◌≤◌, ◌^◌, [], not, length, map, filter_map, None, IfOk, OnOk, option_and_then, if◌then◌else◌};
+ghost use Rattle.std.specs.Prelude.{◌≡◌, ◌++◌, ◌∷◌, ◌&&◌, ◌<◌, ◌≤◌, ◌^◌, [], not, length, map, filter_map, None, IfOk, IfSome, OnOk, option_and_then, if◌then◌else◌};
 ghost use Rattle.std.specs.List.{cons_option, flat_map};
 ghost use Rattle.link_base.specs.Bytes.{has_flag};
 ghost use Rattle.link_base.specs.PeFormat as pe;
@@ -15,6 +15,7 @@ ghost use Rattle.link_fields.specs.Targets.{piece_in};
 ghost use Rattle.link_fields.specs.Entry.{entry_place, piece_of_place};
 ghost use Rattle.link_fields.specs.ExportTargets.{export_targets};
 ghost use Rattle.link_keeping.specs.Reach.{node_of, name_node, named_nodes, included, included_by, included_names, plain_sections, link_roots};
+ghost use Rattle.link_keeping.specs.LookedUp.{MeansNode};
 
 use directives::Directive;
 use link_base::pe_format::SCN_LNK_COMDAT;
@@ -26,6 +27,13 @@ use module_view::Module;
 use relocate::Target;
 use section_group::Piece;
 use std::alloc::Global;
+
+/// A name, and what it means.
+#[derive(Drop)]
+struct NamedNode<'a> {
+    name: Name<'a>,
+    node: Option<u32>,
+}
 
 /// What the entry, the exports and the names that the loader of a program looks for mean: pieces, and imports by their numbers
 /// behind these.
@@ -177,26 +185,53 @@ fn push_included_by<'a>(
     requires { IsPieceIndex names.now index.now }
     ensures { OnOk result (nodes.new.items ≡ nodes.old.items ++ filter_map (name_node names.now) (filter_map included (map said directives.now))) }
 {
+    let mut last = None;
     for directive in directives {
-        push_if(nodes, names, index, included(directive))?;
+        push_if(nodes, names, index, included(directive), &mut last)?;
     }
     Ok(())
 }
 
-/// Appends what a name means, where there is one.
+/// Appends what a name means, where there is one, and notes it as the last one.
 fn push_if<'a>(
     nodes: &mut Vec<u32>,
     names: &LinkNames<'a>,
     index: &PieceIndex<'a>,
     name: Option<Name<'a>>,
+    last: &mut Option<NamedNode<'a>>,
 ) -> Result<(), Memory>
-    requires { IsPieceIndex names.now index.now }
-    ensures { OnOk result (nodes.new.items ≡ nodes.old.items ++ filter_map (name_node names.now) (cons_option name.entry [])) }
+    requires index { IsPieceIndex names.now index.now }
+    requires last { IfSome last.old (MeansNode names.now) }
+    ensures nodes { OnOk result (nodes.new.items ≡ nodes.old.items ++ filter_map (name_node names.now) (cons_option name.entry [])) }
+    ensures last { IfSome last.new (MeansNode names.now) }
 {
     match name {
-        Some(name) => push_name(nodes, names, index, name),
+        Some(name) => {
+            let node = node_again(names, index, last, &name);
+            *last = Some(NamedNode { name, node });
+            push_node(nodes, node)
+        }
         None => Ok(()),
     }
+}
+
+/// What a name means, which directives often say more than once in a row: then it is not looked up again.
+fn node_again<'a>(
+    names: &LinkNames<'a>,
+    index: &PieceIndex<'a>,
+    last: &Option<NamedNode<'a>>,
+    name: &Name<'a>,
+) -> Option<u32>
+    requires index { IsPieceIndex names.now index.now }
+    requires last { IfSome last.now (MeansNode names.now) }
+    ensures { result ≡ name_node names.now name.now }
+{
+    if let Some(one) = last {
+        if one.name == *name {
+            return one.node;
+        }
+    }
+    node_of(meant_target(index, names.resolve(name.again())))
 }
 
 /// The name that a directive includes.

@@ -6,7 +6,7 @@ ghost use Rattle.directives.specs.Said.{said};
 ghost use Rattle.symbol_names.specs.Alternates.{alternate_said};
 ghost use Rattle.symbol_names.specs.Interning.{KeepsNumbers, NotesAlternate};
 
-use crate::interning::number_of;
+use crate::interning::number_again;
 use crate::noted::NotedAlternate;
 use directives::Directive;
 use indexmap::IndexSet;
@@ -66,10 +66,25 @@ pub(crate) fn note_alternates<'a>(
     ensures noted { IfOk result (λ noted. AllZip (NotesAlternate names.new.keys) pairs.now noted.items) }
 {
     let mut noted = Vec::with_capacity(alloc, pairs.len())?;
+    let mut last = None;
     for pair in pairs {
-        let left = number_of(names, &pair.0)?;
-        let right = number_of(names, &pair.1)?;
-        noted.push(NotedAlternate { left, right })?;
+        let one = note_pair(names, last, pair)?;
+        noted.push(one)?;
+        last = Some(one);
     }
     Ok(noted)
+}
+
+/// An alternate, by the numbers of its names, which may be those of the one before.
+fn note_pair<'a>(
+    names: &mut IndexSet<Name<'a>>,
+    last: Option<NotedAlternate>,
+    pair: &(Name<'a>, Name<'a>),
+) -> Result<NotedAlternate, Memory>
+    ensures kept { KeepsNumbers names.old.keys names.new.keys }
+    ensures noted { IfOk result (λ noted. NotesAlternate names.new.keys pair.now noted) }
+{
+    let left = number_again(names, last.map(|noted| noted.left), &pair.0)?;
+    let right = number_again(names, last.map(|noted| noted.right), &pair.1)?;
+    Ok(NotedAlternate { left, right })
 }

@@ -1,6 +1,6 @@
 //! How names get numbers.
 
-ghost use Rattle.std.specs.Prelude.{◌≡◌, ◌<◌, ℕ, List, length, IfOk, OnOk};
+ghost use Rattle.std.specs.Prelude.{◌≡◌, ◌<◌, ℕ, List, length, IfOk, OnOk, IsTrue};
 ghost use Rattle.symbol_names.specs.Interning.{NO_NUMBER, Numbers, KeepsNumbers, AreRecords, IsNamedSo};
 
 use crate::records::{NO_NUMBER, note_record};
@@ -18,6 +18,33 @@ pub(crate) fn number_of<'a>(names: &mut IndexSet<Name<'a>>, name: &Name<'a>) -> 
         return Err(Memory);
     }
     Ok(number as u32)
+}
+
+/// The number of a name: an earlier one, where that is its own, as directives often say one name again; or as above.
+pub(crate) fn number_again<'a>(
+    names: &mut IndexSet<Name<'a>>,
+    earlier: Option<u32>,
+    name: &Name<'a>,
+) -> Result<u32, Memory>
+    ensures kept { KeepsNumbers names.old.keys names.new.keys }
+    ensures numbered { IfOk result (λ number. Numbers names.new.keys number name.now) }
+{
+    if let Some(number) = earlier {
+        if is_number_of(names, number, name) {
+            return Ok(number);
+        }
+    }
+    number_of(names, name)
+}
+
+/// Whether a number is that of a name.
+fn is_number_of<'a>(names: &IndexSet<Name<'a>>, number: u32, name: &Name<'a>) -> bool
+    ensures { IsTrue result → Numbers names.now.keys number name.now }
+{
+    match names.get_index(number as usize) {
+        Some(own) => own == name,
+        None => false,
+    }
 }
 
 /// The number of the name of a symbol, which is noted at its record.

@@ -7,7 +7,7 @@ ghost use Rattle.symbol_names.specs.References.{Asked, asked_by_name, asked_by_s
 ghost use Rattle.symbol_names.specs.Interning.{KeepsNumbers, AreRecords, IsNamedSo, NotesAsked};
 
 use crate::exports::internal_name;
-use crate::interning::{number_of, number_symbol};
+use crate::interning::{number_again, number_of, number_symbol};
 use crate::noted::NotedAsked;
 use directives::Directive;
 use indexmap::IndexSet;
@@ -118,9 +118,17 @@ fn note_one<'a>(
     ensures noted { OnOk result ((earlier : List Asked) → AllZip (NotesAsked names.old.keys) earlier noted.old.items
         → AllZip (NotesAsked names.new.keys) (earlier ++ asked_by_name name.now ∷ []) noted.new.items) }
 {
-    let name = number_of(names, name)?;
+    let name = number_again(names, last_name(noted), name)?;
     noted.push(NotedAsked { name, search: true })?;
     Ok(())
+}
+
+/// The name that was noted last, by its number.
+fn last_name(noted: &[NotedAsked]) -> Option<u32> {
+    match noted.last() {
+        Some(last) => Some(last.name),
+        None => None,
+    }
 }
 
 /// The name that a directive asks for: one that it includes, or that stands behind an export.

@@ -8,5 +8,9 @@ use Rattle.link_keeping.proofs.roots.push_included_by.Goals as goal
 pub loop-directive-preserved : goal.loop-directive-preserved
 loop-directive-preserved c =
     let node = name_node c.args.names.now in
-    included_next node c.args.directives.now c.loop-directive.directive-index c.directive-item.result c.args.nodes.now.items c.loop-directive.nodes.items c.push_if.new.nodes.items (omega arith) c.directive-item.is c.loop-directive.invariant
-    (c.in_ok-push_if.ensures ∙ ap (λ (name : Option (List ℕ)). c.loop-directive.nodes.items ++ filter_map node (cons_option name [])) c.included.ensures)
+    record {
+      nodes =
+          included_next node c.args.directives.now c.loop-directive.directive-index c.directive-item.result c.args.nodes.now.items c.loop-directive.nodes.items c.push_if.new.nodes.items (omega arith) c.directive-item.is c.loop-directive.invariant.nodes
+          (c.in_ok-push_if.ensures.nodes ∙ ap (λ (name : Option (List ℕ)). c.loop-directive.nodes.items ++ filter_map node (cons_option name [])) c.included.ensures);
+      last = c.push_if.ensures.last;
+    }

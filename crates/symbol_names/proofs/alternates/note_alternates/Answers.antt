@@ -11,25 +11,19 @@ loop-pair-init c = record {
   noted = subst (AllZip (NotesAlternate c.args.names.now.keys) []) (sym c.in_ok-noted.ensures.items) tt;
 }
 
-pub returns-in_err-left-clause-kept : goal.returns-in_err-left-clause-kept
-returns-in_err-left-clause-kept c = keeps_both _ _ _ c.loop-pair.invariant.kept c.in_err-left.ensures.kept
-
-pub returns-in_err-right-clause-kept : goal.returns-in_err-right-clause-kept
-returns-in_err-right-clause-kept c =
-    keeps_both _ _ _ c.loop-pair.invariant.kept (keeps_both _ _ _ c.in_ok-left.ensures.kept c.in_err-right.ensures.kept)
+pub returns-in_err-one-clause-kept : goal.returns-in_err-one-clause-kept
+returns-in_err-one-clause-kept c = keeps_both _ _ _ c.loop-pair.invariant.kept c.note_pair.ensures.kept
 
 pub returns-in_err-push-clause-kept : goal.returns-in_err-push-clause-kept
-returns-in_err-push-clause-kept c =
-    keeps_both _ _ _ c.loop-pair.invariant.kept (keeps_both _ _ _ c.in_ok-left.ensures.kept c.in_ok-right.ensures.kept)
+returns-in_err-push-clause-kept c = keeps_both _ _ _ c.loop-pair.invariant.kept c.note_pair.ensures.kept
 
 pub loop-pair-preserved : goal.loop-pair-preserved
 loop-pair-preserved c =
     let before = c.loop-pair.names.keys in
-    let after = c.number_of-in-loop-pair.new.names.keys in
-    let grown = keeps_both _ _ _ c.in_ok-left.ensures.kept c.in_ok-right.ensures.kept in
+    let after = c.note_pair.new.names.keys in
     record {
-      kept = keeps_both _ _ _ c.loop-pair.invariant.kept grown;
-      noted = zip_more (NotesAlternate before) (NotesAlternate after) c.args.pairs.now c.loop-pair.pair-index c.pair-item.result c.loop-pair.noted.items c.push.new.self.items _ (alternate_kept before after grown) (omega arith) c.pair-item.is c.loop-pair.invariant.noted (record { left = c.in_ok-right.ensures.kept _ _ c.in_ok-left.ensures.numbered; right = c.in_ok-right.ensures.numbered }) c.in_ok-push.ensures.items;
+      kept = keeps_both _ _ _ c.loop-pair.invariant.kept c.note_pair.ensures.kept;
+      noted = zip_more (NotesAlternate before) (NotesAlternate after) c.args.pairs.now c.loop-pair.pair-index c.pair-item.result c.loop-pair.noted.items c.push.new.self.items _ (alternate_kept before after c.note_pair.ensures.kept) (omega arith) c.pair-item.is c.loop-pair.invariant.noted c.in_ok-one.ensures.noted c.in_ok-push.ensures.items;
     }
 
 pub returns-clause-kept : goal.returns-clause-kept
