@@ -1,19 +1,15 @@
 -- The fields of a candidate, section by section.
-use Rattle.std.proofs.Common.{◌≡◌, ℕ, ◌+◌, ◌-◌, ◌<◌, inl, inr, false, List, [], ◌++◌, length, get_or, map, Vec, Option, Some, option_map, unwrap_or, slice_get, length-append, refl, sym, ap, ◌∙◌, subst, arith}
+use Rattle.std.proofs.Common.{◌≡◌, ℕ, ◌+◌, ◌-◌, ◌<◌, inl, inr, List, [], ◌++◌, length, get_or, map, Vec, Option, Some, slice_get, length-append, refl, sym, ap, ◌∙◌, subst, arith}
 use Rattle.std.specs.declared.alloc.Global.{Global}
-use Rattle.std.specs.List.{AllPairs, Contains, filter}
-use Rattle.std.specs.List.Sorted.{IsPermutation}
+use Rattle.std.specs.List.{AllPairs, Contains}
 use Rattle.std.proofs.lemmas.Bool.{cases_lt}
 use Rattle.std.proofs.lemmas.List.{length-map, get_or-map}
 use Rattle.std.proofs.lemmas.List.Elements.{Contains-get_or, Contains-append_left, Contains-append_right, Contains-append_cases}
-use Rattle.std.proofs.lemmas.List.Sorted.{Contains-permutation, IsPermutation-sym}
-use Rattle.std.proofs.lemmas.Option.{slice_get-get_or}
 use Rattle.std.proofs.Math.ListN.{get_or-append}
 use Rattle.std.proofs.Math.Seq.{get_or-append_right}
 use Rattle.link_base.proofs.ListLemmas.{contains_map}
 use Rattle.relocate.specs.declared.fix.Fix.{Fix}
-use Rattle.relocate.specs.Field.{has_field, no_fix}
-use Rattle.relocate.specs.FieldFaults.{overlaps_earlier}
+use Rattle.relocate.specs.Field.{no_fix}
 use Rattle.icf.specs.declared.candidate.FoldCandidate.{FoldCandidate}
 use Rattle.icf.specs.declared.field.Owner.{Owner}
 use Rattle.icf.specs.declared.field.Field.{Field}

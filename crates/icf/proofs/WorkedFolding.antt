@@ -1,5 +1,5 @@
 -- The definitions on small inputs: two functions that call each other fold, and two that read different data do not.
-use Rattle.std.proofs.Common.{◌≡◌, ℕ, zero, suc, ◌<◌, ◌≤◌, inl, inr, lit<, true, false, List, [], ◌∷◌, length, get_or, Vec, Some, Ok, refl, sym, ap, ◌∙◌, subst, arith}
+use Rattle.std.proofs.Common.{◌≡◌, ℕ, zero, suc, ◌<◌, ◌≤◌, inl, inr, lit<, true, List, [], ◌∷◌, length, get_or, Vec, Some, Ok, refl, sym, ap, ◌∙◌, subst, arith}
 use Rattle.std.specs.declared.alloc.Global.{Global}
 use Rattle.std.specs.Borrow.{Bor}
 use Rattle.std.specs.List.{AllPairs, Contains}

@@ -1,5 +1,5 @@
 -- The order of listings: it is total, and listings that tie are one.
-use Rattle.std.proofs.Common.{◌≡◌, List, [], rules}
+use Rattle.std.proofs.Common.{◌≡◌, List, rules}
 use Rattle.std.specs.List.Sorted.{IsSorted, IsPermutation}
 use Rattle.std.specs.Ordering.{nat_cmp}
 use Rattle.std.specs.Cmp.{IsTotalOrder}

@@ -1,5 +1,5 @@
 -- What is whole in a directory, by its tests that do not stand.
-use Rattle.std.proofs.Common.{◌≡◌, ℕ, ◌+◌, ◌<◌, ◌≤◌, Bool, true, false, not, ltb, List, length, sym}
+use Rattle.std.proofs.Common.{◌≡◌, ℕ, ◌+◌, ◌<◌, ◌≤◌, Bool, true, false, ltb, List, length, sym}
 use Rattle.std.proofs.lemmas.Bool.{false≢true, ltb-true, leb-true, and_parts, ltb-false, not-false}
 use Rattle.link_base.specs.Bytes.{all_below}
 use Rattle.link_base.proofs.CallerLemmas.{all_below-each}

@@ -1,13 +1,9 @@
 -- The first alternate that leads to a member.
-use Rattle.std.proofs.Common.{◌≡◌, ℕ, ◌+◌, ◌<◌, List, [], ◌∷◌, ◌++◌, length, map, take, drop, get_or, Option, Some, None, refl, sym, ap, ◌∙◌}
+use Rattle.std.proofs.Common.{◌≡◌, ℕ, ◌+◌, ◌<◌, List, [], ◌∷◌, ◌++◌, length, map, take, drop, get_or, Option, Some, None, sym, ap, ◌∙◌}
 use Rattle.std.specs.Option.{option_or}
 use Rattle.std.proofs.lemmas.List.{map-append, take_more, take-append-drop}
 use Rattle.link_base.specs.Refusals.{first_standing}
 use Rattle.link_base.proofs.RefusalLemmas.{or_none, standing_append}
-
-or_or : {A : Type 0} (a b c : Option A) → option_or (option_or a b) c ≡ option_or a (option_or b c)
-or_or None b c = refl
-or_or (Some x) b c = refl
 
 -- of some things that each give something or nothing
 abbrev pub first_of : {X A : Type 0} → (X → Option A) → List X → Option A

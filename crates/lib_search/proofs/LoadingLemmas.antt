@@ -33,9 +33,6 @@ use Rattle.lib_search.specs.LoadingSteps.{state_now, modules_now, KeepsLoading, 
 
 -- ---- files that stay as they are
 
-pub untouched : (files : FilesView) → AreUntouched files files
-untouched files = record { store = refl; reads = refl; writes = refl }
-
 pub untouched_further : (before after later : FilesView) → AreUntouched before after → AreUntouched after later → AreUntouched before later
 untouched_further before after later first second = record {
   store = second.store ∙ first.store;

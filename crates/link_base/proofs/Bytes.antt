@@ -1,5 +1,5 @@
 -- Numbers and texts at a place of a list of bytes, and the least number that passes.
-use Rattle.std.proofs.Common.{◌≡◌, ℕ, Some, None, option_map, le-leb, lt-ltb, le-ltb, inl, inr, List, take, sym, subst, drop, zero, suc, ◌+◌, ◌*◌, ◌<◌, ◌≤◌, List, length, drop, slice_index, refl, ap, ◌∙◌, arith}
+use Rattle.std.proofs.Common.{◌≡◌, ℕ, Some, None, option_map, le-leb, lt-ltb, List, take, sym, subst, drop, zero, suc, ◌+◌, ◌*◌, ◌<◌, ◌≤◌, List, length, drop, slice_index, refl, ap, ◌∙◌, arith}
 use Rattle.std.proofs.lemmas.List.{get_or-drop}
 use Rattle.memchr.specs.Find.{IsFirstByte}
 use Rattle.std.proofs.lemmas.List.{length-drop}

@@ -1,7 +1,7 @@
 -- What callers may cite: the least number that passes, in a loop that counts up, and what all numbers below one pass.
 use Rattle.std.proofs.Common.{List, ◌++◌, length, drop, ◌^◌, ◌≡◌, ℕ, zero, suc, ◌+◌, ◌<◌, Bool, true, false, cond, Option, Some, None, refl, sym, ap, ◌∙◌, inl, inr, ◌⊎◌, add-one, arith}
 use Rattle.std.proofs.lemmas.Option.{same_Some}
-use Rattle.std.proofs.lemmas.Bool.{false≢true, cases_lt, and_parts, and_right}
+use Rattle.std.proofs.lemmas.Bool.{cases_lt, and_parts, and_right}
 use Rattle.byteorder.specs.Numbers.{little_number-reads_back, length-bytes_low_first}
 use Rattle.std.specs.Option.{option_or}
 use Rattle.link_base.specs.Bytes.{all_below, first_below, number_at, number_bytes}

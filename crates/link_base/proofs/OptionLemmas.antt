@@ -1,5 +1,5 @@
 -- Options: where there is none, and the first of two.
-use Rattle.std.proofs.Common.{◌≡◌, Bool, false, Option, Some, None, is_some, option_map, refl}
+use Rattle.std.proofs.Common.{◌≡◌, false, Option, Some, None, is_some, option_map, refl}
 use Rattle.std.specs.Option.{option_or}
 
 -- one that is not some is none

@@ -1,9 +1,9 @@
 -- Bytes put over those of a list, and what a number is of: its bytes.
-use Rattle.std.proofs.Common.{◌≡◌, ℕ, zero, suc, ◌+◌, ◌-◌, ◌*◌, ◌^◌, ◌<◌, ◌≤◌, List, ◌++◌, length, take, drop, slice_index, refl, sym, ap, ◌∙◌, length-append, length-drop, arith}
+use Rattle.std.proofs.Common.{◌≡◌, ℕ, zero, suc, ◌+◌, ◌-◌, ◌^◌, ◌<◌, ◌≤◌, List, ◌++◌, length, take, drop, slice_index, refl, sym, ap, ◌∙◌, length-append, length-drop, arith}
 use Rattle.std.proofs.lemmas.List.{get_or_append_left, get_or-append_right, get_or-take, get_or-drop, drop_at, length-take-le}
 use Rattle.byteorder.specs.Endian.{little_from}
 use Rattle.link_base.specs.Bytes.{number_at, number_bytes}
-use Rattle.link_base.proofs.CallerLemmas.{number_at-drop, number_at-number_bytes, length-number_bytes}
+use Rattle.link_base.proofs.CallerLemmas.{number_at-drop, number_at-number_bytes}
 
 -- ---- bytes put over others
 

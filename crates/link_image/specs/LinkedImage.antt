@@ -6,7 +6,7 @@ use Rattle.link_base.specs.Limits.{SECTION_LIMIT, IMAGE_LIMIT}
 use Rattle.link_base.specs.PeFormat.{SCN_CNT_INITIALIZED_DATA, SCN_MEM_DISCARDABLE, SCN_MEM_READ, DIRECTORY_ENTRY_EXPORT, DIRECTORY_ENTRY_IMPORT, DIRECTORY_ENTRY_RESOURCE}
 use Rattle.section_group.specs.declared.piece.Piece.{Piece}
 use Rattle.section_group.specs.declared.piece.OutSection.{OutSection}
-use Rattle.section_group.specs.SectionOrder.{Input, input_from, no_piece}
+use Rattle.section_group.specs.SectionOrder.{Input, input_from}
 use Rattle.section_group.specs.Merging.{HasNoBadMerge}
 use Rattle.section_group.specs.Placement.{IsGrouping}
 use Rattle.section_group.specs.Uniqueness.{SectionRow, rows_of}

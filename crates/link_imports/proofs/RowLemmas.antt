@@ -8,7 +8,7 @@ use Rattle.std.proofs.lemmas.List.Elements.{filter_map-append}
 use Rattle.std.proofs.lemmas.List.FromFn.{length-map-range_with_len}
 use Rattle.module_view.specs.Module.{ModuleView, module_at}
 use Rattle.import_tables.specs.declared.row.ImportRow.{ImportRow}
-use Rattle.import_tables.specs.ImportShape.{name_len, slot_offset as row_offset, slots_of, AreWithinLimits}
+use Rattle.import_tables.specs.ImportShape.{slot_offset as row_offset, slots_of}
 use Rattle.link_imports.specs.Imports.{row_if, row_at, rows_below, import_rows, import_slots, slot_offset}
 
 -- ---- rows

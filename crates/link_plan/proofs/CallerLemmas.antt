@@ -40,13 +40,13 @@ use Rattle.link_fields.specs.Targets.{piece_in}
 use Rattle.link_fields.proofs.EntryLemmas.{loader_target}
 use Rattle.link_fields.proofs.PdataLemmas.{fixes_suited, pdata_no_based}
 use Rattle.link_fields.proofs.CallerLemmas.{IsWithin, IsImportNode, fields_within, exports_within, fixes_numbered}
-use Rattle.link_keeping.specs.Reach.{node_count, child_edges, link_edges, link_roots, named_nodes, node_of, name_node, loader_names}
+use Rattle.link_keeping.specs.Reach.{node_count, child_edges, named_nodes, node_of, name_node, loader_names}
 use Rattle.link_keeping.specs.Named.{is_at, leads_there}
 use Rattle.link_keeping.specs.Standing.{AreStanding}
 use Rattle.link_keeping.proofs.CallerLemmas.{length_standing, place_inside, place_behind, place_from, next_stands, root_stands}
 use Rattle.link_plan.specs.PlanFaults.{fields_fault}
 use Rattle.link_plan.specs.Planned.{is_kept, is_meant, is_sought, is_shared, used_pieces, planned_piece, plan_pieces, slot_offsets, slot_table, placed_target, placed_fix, fixes_if, planned_fixes, planned_target, planned_targets, placed_entry, planned_entry, planned_loader}
-use Rattle.link_plan.proofs.PlacedLemmas.{IsPlaced, placed_some}
+use Rattle.link_plan.proofs.PlacedLemmas.{placed_some}
 
 -- ---- the pieces of a plan
 

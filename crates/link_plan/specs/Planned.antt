@@ -1,6 +1,6 @@
 -- The pieces of a plan, once it is known what is kept: which of them stand in a section even where they have no bytes, and their
 -- fields. Own.
-use Rattle.std.specs.Prelude.{◌≡◌, ◌<◌, ℕ, Bool, true, false, ◌&&◌, ◌||◌, ◌==◌, nat_lt, if◌then◌else◌, List, [], ◌++◌, length, map, take, replicate, slice_index_or, Option, option_map, unwrap_or}
+use Rattle.std.specs.Prelude.{◌≡◌, ◌<◌, ℕ, Bool, true, false, ◌&&◌, ◌||◌, nat_lt, if◌then◌else◌, List, [], ◌++◌, length, map, take, replicate, slice_index_or, Option, option_map, unwrap_or}
 use Rattle.std.specs.List.{range_with_len, list_any}
 use Rattle.section_group.specs.declared.piece.Piece.{Piece}
 use Rattle.relocate.specs.declared.fix.Fix.{Fix}
@@ -10,7 +10,6 @@ use Rattle.relocate.specs.Redirected.{place_of, redirected, redirected_fix}
 use Rattle.synthetic_sections.specs.LinkerPieces.{SLOTS}
 use Rattle.link_imports.specs.Imports.{slot_offset}
 use Rattle.link_words.specs.Outcome.{LinkOptions}
-use Rattle.link_pieces.specs.LinkParts.{LinkParts}
 use Rattle.link_pieces.specs.Pieces.{link_pieces}
 use Rattle.link_pieces.specs.TablePieces.{KeptParts, kept_imports, tables_of, whole_contents, table_index}
 use Rattle.link_fields.specs.declared.entry.EntryPlace.{EntryPlace}

@@ -1,6 +1,6 @@
 -- The resources of an image: those of the resource files of a link, in one tree (PE Format, "The .rsrc Section"; that there is
 -- no tree without a resource is own).
-use Rattle.std.specs.Prelude.{◌≡◌, ℕ, ◌<◌, ◌==◌, if◌then◌else◌, List, [], ◌∷◌}
+use Rattle.std.specs.Prelude.{◌≡◌, ℕ, ◌==◌, if◌then◌else◌, List, [], ◌∷◌}
 use Rattle.res_merge.specs.Entries.{Entry}
 use Rattle.res_merge.specs.Order.{in_order}
 use Rattle.res_merge.specs.Tree.{tree_of, tree_size}

@@ -1,5 +1,5 @@
 -- What an entry of a table names where its text stands.
-use Rattle.std.proofs.Common.{◌≡◌, ◌≢◌, ◌⊎◌, ℕ, ◌+◌, ◌-◌, ◌*◌, ◌/◌, ◌<◌, ◌≤◌, true, false, eqb, leb, List, [], ◌++◌, length, take, drop, refl, sym, ap, ◌∙◌, inl, inr, le-leb, append_assoc, length-append, length-drop, arith}
+use Rattle.std.proofs.Common.{◌≡◌, ◌≢◌, ◌⊎◌, ℕ, ◌+◌, ◌-◌, ◌*◌, ◌/◌, ◌<◌, ◌≤◌, true, false, eqb, leb, List, ◌++◌, length, take, drop, refl, sym, ap, ◌∙◌, inl, inr, le-leb, append_assoc, length-append, length-drop, arith}
 use Rattle.std.proofs.Math.Bool.{and-false}
 use Rattle.std.specs.Prelude.{replicate}
 use Rattle.std.specs.Cmp.Lexicographic.{unequal}

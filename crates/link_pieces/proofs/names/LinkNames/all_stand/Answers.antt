@@ -1,7 +1,7 @@
-use Rattle.std.proofs.Common.{List, Bool, subst}
+use Rattle.std.proofs.Common.{subst}
 use Rattle.std.specs.List.{All}
 use Rattle.symbol_table.specs.Meant.{AllStand}
-use Rattle.link_pieces.specs.LinkParts.{LinkParts, parts_of, names_in}
+use Rattle.link_pieces.specs.LinkParts.{LinkParts, parts_of}
 use Rattle.link_pieces.specs.LocalSlots.{modules_asked}
 use Rattle.link_pieces.specs.NameMeaning.{StandsIn}
 use Rattle.link_pieces.proofs.StandLemmas.{asked_stand}
